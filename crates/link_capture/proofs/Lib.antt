@@ -1,0 +1,3 @@
+pub mod Parts
+pub mod LinkBody
+pub mod Commands

@@ -1,0 +1,14 @@
+-- the frames before `at` are legal, and their texts are written
+use Rattle.std.proofs.Common.{◌≡◌, ◌++◌, ◌-◌, length, take}
+use Rattle.link_capture_grammar.specs.Captures.{texts}
+use Rattle.link_capture_grammar.proofs.Frames.{Passed}
+use Rattle.link_capture.proofs.normalize.normalize_bytes.Given as goal
+
+abbrev pub invariant-loop-at : goal.invariant-loop-at
+invariant-loop-at l = record {
+  passed : Passed l.limit l.bytes l.at;
+  written : l.out.items ≡ l.fn.out.items ++ texts l.limit (take l.at l.bytes);
+}
+
+abbrev pub decreases-loop-at : goal.decreases-loop-at
+decreases-loop-at l = length l.bytes - l.at

@@ -1,0 +1,4 @@
+pub mod LinkBody
+pub mod Judged
+pub mod Bodies
+pub mod Commands

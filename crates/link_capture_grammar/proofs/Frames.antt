@@ -1,0 +1,694 @@
+-- Laws of the definitions of frames.
+use Rattle.std.proofs.Common.{◌≡◌, ◌≢◌, ℕ, zero, suc, ◌+◌, ◌-◌, ◌%◌, ◌<◌, ◌≤◌, ltb, cond, true, false, Bool, Result, Option, min, List, [], ◌∷◌, ◌++◌, length, take, drop, Some, None, Ok, Err, refl, sym, ap, subst, ◌∙◌, ◌⊎◌, inl, inr, arith, length-append, length-drop, append_assoc, zero-add}
+use Rattle.std.proofs.lemmas.List.{take-append-le, drop-append-le, drop_all, length-take, append-nil, drop_at, take-replicate, take-append-drop}
+use Rattle.std.proofs.Math.Seq.{take-add}
+use Rattle.std.proofs.lemmas.Bool.Decides.{nat_tests}
+use Rattle.std.proofs.lemmas.Bool.{le-ltb, lt-ltb, ltb-false, ltb-true, cases_lt}
+use Rattle.netlink_packet_core_grammar.specs.Attributes.{nla_align, zeros}
+use Rattle.netlink_packet_core_grammar.specs.Numbers.{u16_at, u32_at, le4}
+use Rattle.netlink_packet_core_grammar.specs.Frames.{frame_length, frame_type, frame_body, frame_text}
+use Rattle.netlink_packet_core_grammar.proofs.Numbers.{u16_at-append, u32_at-append, u16_at-drop_4}
+use Rattle.link_capture_grammar.specs.declared.fault.FaultKind.{FaultKind}
+use Rattle.link_capture_grammar.specs.declared.fault.FaultKind.TheVariants.{Cut, ShortLength, OverLimit, Refused, EmptyPorts, Unfit, TextOverLimit}
+use Rattle.link_capture_grammar.specs.declared.fault.CaptureFault.{CaptureFault}
+use Rattle.link_capture_grammar.specs.Bodies.{Refusal, refused, empty_ports, unfit, body_text}
+use Rattle.link_capture_grammar.specs.Captures.{Judged, first_frame, judged_text, tested, next_fault, next_texts, raised, fault_after, texts_after, first_fault, texts, IsLegal, IsOfFrames}
+
+-- the chain of tests
+pub guard : {A : Type 0} (b : Bool) (x y z : A) → cond b x y ≡ z → ((b ≡ true) × (x ≡ z)) ⊎ ((b ≡ false) × (y ≡ z))
+guard b x y z = elim b as (λ v. cond v x y ≡ z → ((v ≡ true) × (x ≡ z)) ⊎ ((v ≡ false) × (y ≡ z))) [ true ↦ (λ h. inl (refl, h)) | false ↦ (λ h. inr (refl, h)) ]
+
+-- the frame is all there: what is judged of it doesn't depend on how much more is there
+pub tested_whole : (limit size claimed : ℕ) (j : Judged) → 16 ≤ size → claimed ≤ size → tested limit size claimed j ≡ cond (ltb claimed 16) (Err ShortLength) (cond (ltb limit claimed) (Err OverLimit) j)
+tested_whole limit size claimed j h k = rw (le-ltb size 16 h, le-ltb size claimed k)
+
+tested_short : (limit size claimed : ℕ) (j : Judged) → size < 16 → tested limit size claimed j ≡ Err Cut
+tested_short limit size claimed j h = rw (lt-ltb size 16 h)
+
+tested_more : (limit size more claimed : ℕ) (j k : Judged) → size ≤ more → (claimed ≤ size → k ≡ j) → tested limit size claimed j ≢ Err Cut → tested limit more claimed k ≡ tested limit size claimed j
+tested_more limit size more claimed j k h e n = grind (arith, nat_tests)
+
+-- an accepted body's frame has the length that its header tells
+judged : (limit : ℕ) (c : List ℕ) (r : Result (List ℕ) Refusal) (frame : ℕ × List ℕ) → judged_text limit c r ≡ Ok frame → frame_length c ≡ frame.0
+judged limit c (Err why) frame h = cc
+judged limit c (Ok body) frame h =
+    elim (guard (ltb limit (16 + length body)) _ _ _ h) [ inl a ↦ cc | inr a ↦ (let e = a.1 in cc) ]
+
+-- what an accepted frame is
+pub record Accepted (limit : ℕ) (c : List ℕ) (frame : ℕ × List ℕ) : Type 0 where
+  pub header : 16 ≤ length c
+  pub low : 16 ≤ frame.0
+  pub high : frame.0 ≤ limit
+  pub whole : frame.0 ≤ length c
+  pub is : frame_length c ≡ frame.0
+
+pub accepted : (limit : ℕ) (c : List ℕ) (frame : ℕ × List ℕ) → first_frame limit c ≡ Ok frame → Accepted limit c frame
+unfolding first_frame
+accepted limit c frame h =
+    elim (guard (ltb (length c) 16) _ _ _ h) [
+      | inl a ↦ cc
+      | inr a ↦
+          elim (guard (ltb (frame_length c) 16) _ _ _ a.1) [
+            | inl b ↦ cc
+            | inr b ↦
+                elim (guard (ltb limit (frame_length c)) _ _ _ b.1) [
+                  | inl d ↦ cc
+                  | inr d ↦
+                      elim (guard (ltb (length c) (frame_length c)) _ _ _ d.1) [
+                        | inl e ↦ cc
+                        | inr e ↦
+                            let g = judged limit c (body_text (frame_type c) (frame_body c)) frame e.1 in
+                            record {
+                              header = ltb-false _ _ a.0;
+                              low = subst (λ n. 16 ≤ n) g (ltb-false _ _ b.0);
+                              high = subst (λ n. n ≤ limit) g (ltb-false _ _ d.0);
+                              whole = subst (λ n. n ≤ length c) g (ltb-false _ _ e.0);
+                              is = g;
+                            }
+                      ]
+                ]
+          ]
+    ]
+
+frame_text-more : (c d body : List ℕ) → 16 ≤ length c → frame_text (c ++ d) body ≡ frame_text c body
+unfolding frame_text
+frame_text-more c d body h =
+    let e : drop 4 (c ++ d) ≡ drop 4 c ++ d = drop-append-le 4 c d (omega arith) in
+    let f : take 12 (drop 4 c ++ d) ≡ take 12 (drop 4 c) = take-append-le 12 (drop 4 c) d (omega (arith, length-drop 4 c)) in
+    rw (e, f)
+
+frame_type-more : (c d : List ℕ) → 16 ≤ length c → frame_type (c ++ d) ≡ frame_type c
+frame_type-more c d h =
+    let e : drop 4 (c ++ d) ≡ drop 4 c ++ d = drop-append-le 4 c d (omega arith) in
+    u16_at-drop_4 (c ++ d) ∙ ap (u16_at 0) e ∙ u16_at-append (drop 4 c) d (omega (arith, length-drop 4 c)) ∙ sym (u16_at-drop_4 c)
+
+frame_body-more : (c d : List ℕ) → 16 ≤ length c → frame_length c ≤ length c → frame_body (c ++ d) ≡ frame_body c
+frame_body-more c d h k =
+    let e : drop 16 (c ++ d) ≡ drop 16 c ++ d = drop-append-le 16 c d h in
+    let n : u32_at 0 (c ++ d) ≡ u32_at 0 c = u32_at-append c d (omega arith) in
+    rw (e, n) (take-append-le (u32_at 0 c - 16) (drop 16 c) d (omega (arith, length-drop 16 c)))
+
+judged_text-more : (limit : ℕ) (c d : List ℕ) (r : Result (List ℕ) Refusal) → 16 ≤ length c → judged_text limit (c ++ d) r ≡ judged_text limit c r
+judged_text-more limit c d (Err why) h = refl
+judged_text-more limit c d (Ok body) h = rw (u32_at-append c d (omega arith), frame_text-more c d body h)
+
+judged-more : (limit : ℕ) (c d : List ℕ) → 16 ≤ length c → frame_length c ≤ length c → judged_text limit (c ++ d) (body_text (frame_type (c ++ d)) (frame_body (c ++ d))) ≡ judged_text limit c (body_text (frame_type c) (frame_body c))
+judged-more limit c d h k =
+    ap (λ t. judged_text limit (c ++ d) (body_text t (frame_body (c ++ d)))) (frame_type-more c d h)
+    ∙ ap (λ b. judged_text limit (c ++ d) (body_text (frame_type c) b)) (frame_body-more c d h k)
+    ∙ judged_text-more limit c d (body_text (frame_type c) (frame_body c)) h
+
+-- what is judged of the frame, once it is there
+unfoldable pub judgement : ℕ → List ℕ → Judged
+judgement limit c = judged_text limit c (body_text (frame_type c) (frame_body c))
+
+pub first_frame_is : (limit : ℕ) (c : List ℕ) → first_frame limit c ≡ tested limit (length c) (frame_length c) (judgement limit c)
+unfolding first_frame judgement
+first_frame_is limit c = refl
+
+judgement-more : (limit : ℕ) (c d : List ℕ) → 16 ≤ length c → frame_length c ≤ length c → judgement limit (c ++ d) ≡ judgement limit c
+unfolding judgement
+judgement-more limit c d h k = judged-more limit c d h k
+
+-- What is judged of a string, unless it is cut, is judged of it whatever follows.
+pub first_frame-more : (limit : ℕ) (c d : List ℕ) → first_frame limit c ≢ Err Cut → first_frame limit (c ++ d) ≡ first_frame limit c
+first_frame-more limit c d h =
+    elim (cases_lt (length c) 16) [
+      | inl a ↦ absurd (h (first_frame_is limit c ∙ tested_short limit (length c) (frame_length c) (judgement limit c) a))
+      | inr a ↦
+          first_frame_is limit (c ++ d)
+          ∙ ap (λ n. tested limit (length (c ++ d)) n (judgement limit (c ++ d))) (u32_at-append c d (omega arith))
+          ∙ tested_more limit (length c) (length (c ++ d)) (frame_length c) (judgement limit c) (judgement limit (c ++ d)) (omega (arith, length-append c d)) (judgement-more limit c d a) (λ e. h (first_frame_is limit c ∙ e))
+          ∙ sym (first_frame_is limit c)
+    ]
+
+pub first_frame_whole : (limit : ℕ) (c d : List ℕ) → 16 ≤ length c → frame_length c ≤ length c → first_frame limit (c ++ d) ≡ first_frame limit c
+first_frame_whole limit c d h k =
+    first_frame_is limit (c ++ d)
+    ∙ ap (λ n. tested limit (length (c ++ d)) n (judgement limit (c ++ d))) (u32_at-append c d (omega arith))
+    ∙ ap (λ j. tested limit (length (c ++ d)) (frame_length c) j) (judgement-more limit c d h k)
+    ∙ tested_whole limit (length (c ++ d)) (frame_length c) (judgement limit c) (omega (arith, length-append c d)) (omega (arith, length-append c d))
+    ∙ sym (tested_whole limit (length c) (frame_length c) (judgement limit c) h k)
+    ∙ sym (first_frame_is limit c)
+
+-- An accepted frame is the same where at least its bytes are there.
+pub first_frame-take : (limit : ℕ) (c : List ℕ) (n : ℕ) (frame : ℕ × List ℕ) → first_frame limit c ≡ Ok frame → frame.0 ≤ n → first_frame limit (take n c) ≡ Ok frame
+first_frame-take limit c n frame h k =
+    let a = accepted limit c frame h in
+    let e : List ℕ = take n c in
+    let r : List ℕ = drop n c in
+    let whole : e ++ r ≡ c = take-append-drop n c in
+    let size : length e ≡ min n (length c) = length-take n c in
+    let claimed : frame_length c ≡ frame_length e = ap (u32_at 0) (sym whole) ∙ u32_at-append e r (omega arith) in
+    sym (first_frame_whole limit e r (omega arith) (omega (arith, a.is, claimed))) ∙ ap (first_frame limit) whole ∙ h
+
+-- the two recursions after so many bytes
+pub raised_zero : (f : Option CaptureFault) → raised 0 f ≡ f
+raised_zero None = refl
+raised_zero (Some f) = ap (λ n. Some (record { kind = f.kind; offset = n })) (zero-add f.offset)
+
+pub raised_add : (a b n : ℕ) (f : Option CaptureFault) → a + b ≡ n → raised a (raised b f) ≡ raised n f
+raised_add a b n None e = refl
+raised_add a b n (Some f) e = let k : a + (b + f.offset) ≡ n + f.offset = omega arith in ap (λ m. Some (record { kind = f.kind; offset = m })) k
+
+pub texts_skip : (limit skip : ℕ) (c : List ℕ) → texts_after limit skip c ≡ texts limit (drop skip c)
+unfolding texts_after
+texts_skip limit zero c = refl
+texts_skip limit (suc skip) [] = refl
+texts_skip limit (suc skip) (b ∷ c) = texts_skip limit skip c
+
+pub fault_skip : (limit skip : ℕ) (c : List ℕ) → fault_after limit skip c ≡ raised skip (first_fault limit (drop skip c))
+unfolding fault_after
+fault_skip limit zero c = sym (raised_zero (first_fault limit c))
+fault_skip limit (suc skip) [] = refl
+fault_skip limit (suc skip) (b ∷ c) =
+    ap (raised 1) (fault_skip limit skip c) ∙ raised_add 1 skip (suc skip) (first_fault limit (drop skip c)) (omega arith)
+
+-- one step of the two recursions
+step_fault : (limit : ℕ) (b : ℕ) (c : List ℕ) (frame : ℕ × List ℕ) → first_frame limit (b ∷ c) ≡ Ok frame → first_fault limit (b ∷ c) ≡ raised 1 (fault_after limit (nla_align frame.0 - 1) c)
+unfolding fault_after
+step_fault limit b c frame h = ap (λ j. next_fault j (λ skip. fault_after limit skip c)) h
+
+pub step_texts : (limit : ℕ) (b : ℕ) (c : List ℕ) (frame : ℕ × List ℕ) → first_frame limit (b ∷ c) ≡ Ok frame → texts limit (b ∷ c) ≡ frame.1 ++ texts_after limit (nla_align frame.0 - 1) c
+unfolding texts_after
+step_texts limit b c frame h = ap (λ j. next_texts j (λ skip. texts_after limit skip c)) h
+
+stop_fault : (limit : ℕ) (b : ℕ) (c : List ℕ) (kind : FaultKind) → first_frame limit (b ∷ c) ≡ Err kind → first_fault limit (b ∷ c) ≡ Some (record { kind = kind; offset = 0 })
+unfolding fault_after
+stop_fault limit b c kind h = ap (λ j. next_fault j (λ skip. fault_after limit skip c)) h
+
+pub stop_texts : (limit : ℕ) (b : ℕ) (c : List ℕ) (kind : FaultKind) → first_frame limit (b ∷ c) ≡ Err kind → texts limit (b ∷ c) ≡ []
+unfolding texts_after
+stop_texts limit b c kind h = ap (λ j. next_texts j (λ skip. texts_after limit skip c)) h
+
+-- the first fault and the texts of nothing
+pub fault_nil : (limit skip : ℕ) → fault_after limit skip [] ≡ None
+unfolding fault_after
+fault_nil limit skip = refl
+
+pub texts_nil : (limit skip : ℕ) → texts_after limit skip [] ≡ []
+unfolding texts_after
+texts_nil limit skip = refl
+
+-- An accepted frame in front: what is left of the string after it has the rest.
+pub texts_step : (limit : ℕ) (c : List ℕ) (frame : ℕ × List ℕ) → first_frame limit c ≡ Ok frame → texts limit c ≡ frame.1 ++ texts limit (drop (nla_align frame.0) c)
+texts_step limit [] frame h = let a = accepted limit [] frame h in absurd (omega (arith, a.header))
+texts_step limit (b ∷ c) frame h =
+    let a = accepted limit (b ∷ c) frame h in
+    let e : nla_align frame.0 ≡ suc (nla_align frame.0 - 1) = omega arith in
+    step_texts limit b c frame h ∙ ap (λ t. frame.1 ++ t) (texts_skip limit (nla_align frame.0 - 1) c) ∙ ap (λ n. frame.1 ++ texts limit (drop n (b ∷ c))) (sym e)
+
+pub fault_step : (limit : ℕ) (c : List ℕ) (frame : ℕ × List ℕ) → first_frame limit c ≡ Ok frame → first_fault limit c ≡ raised (nla_align frame.0) (first_fault limit (drop (nla_align frame.0) c))
+fault_step limit [] frame h = let a = accepted limit [] frame h in absurd (omega (arith, a.header))
+fault_step limit (b ∷ c) frame h =
+    let a = accepted limit (b ∷ c) frame h in
+    let e : nla_align frame.0 ≡ suc (nla_align frame.0 - 1) = omega arith in
+    step_fault limit b c frame h ∙ ap (raised 1) (fault_skip limit (nla_align frame.0 - 1) c)
+    ∙ raised_add 1 (nla_align frame.0 - 1) (nla_align frame.0) _ (omega arith)
+    ∙ ap (λ n. raised (nla_align frame.0) (first_fault limit (drop n (b ∷ c)))) (sym e)
+
+-- A fault in front.
+pub fault_stop : (limit : ℕ) (c : List ℕ) (kind : FaultKind) → 0 < length c → first_frame limit c ≡ Err kind → first_fault limit c ≡ Some (record { kind = kind; offset = 0 })
+fault_stop limit [] kind p h = absurd (omega arith)
+fault_stop limit (b ∷ c) kind p h = stop_fault limit b c kind h
+
+pub texts_stop : (limit : ℕ) (c : List ℕ) (kind : FaultKind) → first_frame limit c ≡ Err kind → texts limit c ≡ []
+texts_stop limit [] kind h = texts_nil limit 0
+texts_stop limit (b ∷ c) kind h = stop_texts limit b c kind h
+
+-- How far the whole frames reach, with the padding that the last one is owed: where the first fault stands, or would stand if more came.
+abbrev next_place : Judged → (ℕ → ℕ) → ℕ
+next_place (Ok frame) after = suc (after (nla_align frame.0 - 1))
+next_place (Err kind) after = 0
+
+pub place_after : ℕ → ℕ → List ℕ → ℕ
+place_after limit skip [] = skip
+place_after limit (suc skip) (b ∷ c) = suc (place_after limit skip c)
+place_after limit zero (b ∷ c) = next_place (first_frame limit (b ∷ c)) (λ skip. place_after limit skip c)
+
+abbrev pub place : ℕ → List ℕ → ℕ
+place limit c = place_after limit 0 c
+
+step_place : (limit : ℕ) (b : ℕ) (c : List ℕ) (frame : ℕ × List ℕ) → first_frame limit (b ∷ c) ≡ Ok frame → place limit (b ∷ c) ≡ suc (place_after limit (nla_align frame.0 - 1) c)
+unfolding place_after
+step_place limit b c frame h = ap (λ j. next_place j (λ skip. place_after limit skip c)) h
+
+stop_place : (limit : ℕ) (b : ℕ) (c : List ℕ) (kind : FaultKind) → first_frame limit (b ∷ c) ≡ Err kind → place limit (b ∷ c) ≡ 0
+unfolding place_after
+stop_place limit b c kind h = ap (λ j. next_place j (λ skip. place_after limit skip c)) h
+
+-- which way a judgement went
+pub seen : (j : Judged) → ((frame : ℕ × List ℕ) × (j ≡ Ok frame)) ⊎ ((kind : FaultKind) × (j ≡ Err kind))
+seen (Ok frame) = inl (frame, refl)
+seen (Err kind) = inr (kind, refl)
+
+suc_add : (m n : ℕ) → suc (m + n) ≡ suc m + n
+suc_add m n = omega arith
+
+place_skip : (limit skip : ℕ) (c : List ℕ) → place_after limit skip c ≡ skip + place limit (drop skip c)
+unfolding place_after
+place_skip limit zero c = sym (zero-add (place limit c))
+place_skip limit (suc skip) [] = omega arith
+place_skip limit (suc skip) (b ∷ c) = ap suc (place_skip limit skip c) ∙ suc_add skip (place limit (drop skip c))
+
+raised_one : (kind : FaultKind) (n : ℕ) → raised 1 (Some (record { kind = kind; offset = n })) ≡ Some (record { kind = kind; offset = suc n })
+raised_one kind n = let e : 1 + n ≡ suc n = omega arith in ap (λ m. Some (record { kind = kind; offset = m })) e
+
+pub not_cut : (j : Judged) (frame : ℕ × List ℕ) → j ≡ Ok frame → j ≢ Err Cut
+not_cut j frame h e = cc
+
+-- a frame in front stays one, whatever follows
+frame-more : (limit b : ℕ) (s p : List ℕ) (frame : ℕ × List ℕ) → first_frame limit (b ∷ s) ≡ Ok frame → first_frame limit (b ∷ (s ++ p)) ≡ Ok frame
+frame-more limit b s p frame h = first_frame-more limit (b ∷ s) p (not_cut (first_frame limit (b ∷ s)) frame h) ∙ h
+
+-- The texts of a longer string: those of its front, and those of what the front's whole frames leave.
+pub texts-append : (limit skip : ℕ) (s p : List ℕ) → texts_after limit skip (s ++ p) ≡ texts_after limit skip s ++ texts limit (drop (place_after limit skip s) (s ++ p))
+unfolding place_after texts_after
+texts-append limit skip [] p = texts_skip limit skip p
+texts-append limit (suc skip) (b ∷ s) p = texts-append limit skip s p
+texts-append limit zero (b ∷ s) p =
+    elim (seen (first_frame limit (b ∷ s))) [
+      | inl w ↦
+          let frame = w.0 in
+          step_texts limit b (s ++ p) frame (frame-more limit b s p frame w.1)
+          ∙ ap (λ t. frame.1 ++ t) (texts-append limit (nla_align frame.0 - 1) s p)
+          ∙ sym (append_assoc frame.1 _ _)
+          ∙ ap (λ t. t ++ texts limit (drop (place_after limit (nla_align frame.0 - 1) s) (s ++ p))) (sym (step_texts limit b s frame w.1))
+          ∙ ap (λ n. texts limit (b ∷ s) ++ texts limit (drop n (b ∷ (s ++ p)))) (sym (step_place limit b s frame w.1))
+      | inr w ↦
+          ap (λ n. texts limit (drop n (b ∷ (s ++ p)))) (sym (stop_place limit b s w.0 w.1))
+          ∙ ap (λ t. t ++ texts limit (drop (place limit (b ∷ s)) (b ∷ (s ++ p)))) (sym (stop_texts limit b s w.0 w.1))
+    ]
+
+-- its first fault is that of what the front's whole frames leave
+pub fault-append : (limit skip : ℕ) (s p : List ℕ) → fault_after limit skip (s ++ p) ≡ raised (place_after limit skip s) (first_fault limit (drop (place_after limit skip s) (s ++ p)))
+unfolding place_after fault_after
+fault-append limit skip [] p = fault_skip limit skip p
+fault-append limit (suc skip) (b ∷ s) p =
+    ap (raised 1) (fault-append limit skip s p) ∙ raised_add 1 (place_after limit skip s) (suc (place_after limit skip s)) _ (omega arith)
+fault-append limit zero (b ∷ s) p =
+    elim (seen (first_frame limit (b ∷ s))) [
+      | inl w ↦
+          let frame = w.0 in
+          step_fault limit b (s ++ p) frame (frame-more limit b s p frame w.1)
+          ∙ ap (raised 1) (fault-append limit (nla_align frame.0 - 1) s p)
+          ∙ raised_add 1 (place_after limit (nla_align frame.0 - 1) s) (suc (place_after limit (nla_align frame.0 - 1) s)) _ (omega arith)
+          ∙ ap (λ n. raised n (first_fault limit (drop n (b ∷ (s ++ p))))) (sym (step_place limit b s frame w.1))
+      | inr w ↦
+          sym (raised_zero (first_fault limit (b ∷ (s ++ p))))
+          ∙ ap (λ n. raised n (first_fault limit (drop n (b ∷ (s ++ p))))) (sym (stop_place limit b s w.0 w.1))
+    ]
+
+-- and its whole frames reach as much further
+pub place-append : (limit skip : ℕ) (s p : List ℕ) → place_after limit skip (s ++ p) ≡ place_after limit skip s + place limit (drop (place_after limit skip s) (s ++ p))
+unfolding place_after
+place-append limit skip [] p = place_skip limit skip p
+place-append limit (suc skip) (b ∷ s) p = let e = place-append limit skip s p in omega (arith, e)
+place-append limit zero (b ∷ s) p =
+    elim (seen (first_frame limit (b ∷ s))) [
+      | inl w ↦
+          let frame = w.0 in
+          step_place limit b (s ++ p) frame (frame-more limit b s p frame w.1)
+          ∙ ap suc (place-append limit (nla_align frame.0 - 1) s p)
+          ∙ suc_add (place_after limit (nla_align frame.0 - 1) s) _
+          ∙ ap (λ n. n + place limit (drop n (b ∷ (s ++ p)))) (sym (step_place limit b s frame w.1))
+      | inr w ↦
+          sym (zero-add (place limit (b ∷ (s ++ p))))
+          ∙ ap (λ n. n + place limit (drop n (b ∷ (s ++ p)))) (sym (stop_place limit b s w.0 w.1))
+    ]
+
+-- whole frames reach at least over what is passed over
+place_low : (limit skip : ℕ) (s : List ℕ) → skip ≤ place_after limit skip s
+unfolding place_after
+place_low limit skip [] = omega arith
+place_low limit (suc skip) (b ∷ s) = let h = place_low limit skip s in omega (arith, h)
+place_low limit zero (b ∷ s) = omega arith
+
+-- What stands before the place is legal, and has the texts.
+pub base_fault : (limit skip : ℕ) (s p : List ℕ) → fault_after limit skip (take (place_after limit skip s) (s ++ p)) ≡ None
+unfolding place_after fault_after
+base_fault limit skip [] p =
+    fault_skip limit skip (take skip p)
+    ∙ ap (λ c. raised skip (first_fault limit c)) (drop_all skip (take skip p) (omega (arith, length-take skip p)))
+base_fault limit (suc skip) (b ∷ s) p = ap (raised 1) (base_fault limit skip s p)
+base_fault limit zero (b ∷ s) p =
+    elim (seen (first_frame limit (b ∷ s))) [
+      | inl w ↦
+          let frame = w.0 in
+          let reach : ℕ = place_after limit (nla_align frame.0 - 1) s in
+          let low = place_low limit (nla_align frame.0 - 1) s in
+          let h = first_frame-take limit (b ∷ (s ++ p)) (suc reach) frame (frame-more limit b s p frame w.1) (omega (arith, low)) in
+          ap (λ n. first_fault limit (take n (b ∷ (s ++ p)))) (step_place limit b s frame w.1)
+          ∙ step_fault limit b (take reach (s ++ p)) frame h
+          ∙ ap (raised 1) (base_fault limit (nla_align frame.0 - 1) s p)
+      | inr w ↦ ap (λ n. first_fault limit (take n (b ∷ (s ++ p)))) (stop_place limit b s w.0 w.1)
+    ]
+
+pub base_texts : (limit skip : ℕ) (s p : List ℕ) → texts_after limit skip (take (place_after limit skip s) (s ++ p)) ≡ texts_after limit skip s
+unfolding place_after texts_after
+base_texts limit skip [] p =
+    texts_skip limit skip (take skip p)
+    ∙ ap (λ c. texts limit c) (drop_all skip (take skip p) (omega (arith, length-take skip p)))
+base_texts limit (suc skip) (b ∷ s) p = base_texts limit skip s p
+base_texts limit zero (b ∷ s) p =
+    elim (seen (first_frame limit (b ∷ s))) [
+      | inl w ↦
+          let frame = w.0 in
+          let reach : ℕ = place_after limit (nla_align frame.0 - 1) s in
+          let low = place_low limit (nla_align frame.0 - 1) s in
+          let h = first_frame-take limit (b ∷ (s ++ p)) (suc reach) frame (frame-more limit b s p frame w.1) (omega (arith, low)) in
+          ap (λ n. texts limit (take n (b ∷ (s ++ p)))) (step_place limit b s frame w.1)
+          ∙ step_texts limit b (take reach (s ++ p)) frame h
+          ∙ ap (λ t. frame.1 ++ t) (base_texts limit (nla_align frame.0 - 1) s p)
+          ∙ sym (step_texts limit b s frame w.1)
+      | inr w ↦ ap (λ n. texts limit (take n (b ∷ (s ++ p)))) (stop_place limit b s w.0 w.1) ∙ sym (stop_texts limit b s w.0 w.1)
+    ]
+
+-- the place is a multiple of 4, where c starts at a place a
+pub place_start : (limit a skip : ℕ) (s : List ℕ) → (a + skip) % 4 ≡ 0 → (a + place_after limit skip s) % 4 ≡ 0
+unfolding place_after
+place_start limit a skip [] h = h
+place_start limit a (suc skip) (b ∷ s) h = let k = place_start limit (a + 1) skip s (omega arith) in omega (arith, k)
+place_start limit a zero (b ∷ s) h =
+    elim (seen (first_frame limit (b ∷ s))) [
+      | inl w ↦
+          let frame = w.0 in
+          let f = accepted limit (b ∷ s) frame w.1 in
+          let k = place_start limit (a + 1) (nla_align frame.0 - 1) s (omega (arith, f.low)) in
+          rw (step_place limit b s frame w.1) (omega (arith, k))
+      | inr w ↦ rw (stop_place limit b s w.0 w.1) h
+    ]
+
+-- and at most 3 past the end
+pub place_near : (limit skip : ℕ) (s : List ℕ) → skip ≤ length s + 3 → place_after limit skip s ≤ length s + 3
+unfolding place_after
+place_near limit skip [] h = h
+place_near limit (suc skip) (b ∷ s) h = let k = place_near limit skip s (omega arith) in omega (arith, k)
+place_near limit zero (b ∷ s) h =
+    elim (seen (first_frame limit (b ∷ s))) [
+      | inl w ↦
+          let frame = w.0 in
+          let f = accepted limit (b ∷ s) frame w.1 in
+          let k = place_near limit (nla_align frame.0 - 1) s (omega (arith, f.whole)) in
+          rw (step_place limit b s frame w.1) (omega (arith, k))
+      | inr w ↦ rw (stop_place limit b s w.0 w.1) (omega arith)
+    ]
+
+-- What stands at the place: nothing more, or a fault.
+pub record Stuck (limit skip : ℕ) (s : List ℕ) (kind : FaultKind) : Type 0 where
+  pub inside : place_after limit skip s < length s
+  pub first_frame_is : first_frame limit (drop (place_after limit skip s) s) ≡ Err kind
+  pub fault_is : fault_after limit skip s ≡ Some (record { kind = kind; offset = place_after limit skip s })
+
+pub record Over (limit skip : ℕ) (s : List ℕ) : Type 0 where
+  pub outside : length s ≤ place_after limit skip s
+  pub fault_is : fault_after limit skip s ≡ None
+
+pub stops : (limit skip : ℕ) (s : List ℕ) → Over limit skip s ⊎ ((kind : FaultKind) × Stuck limit skip s kind)
+unfolding place_after fault_after
+stops limit skip [] = inl (record { outside = omega arith; fault_is = refl })
+stops limit (suc skip) (b ∷ s) =
+    elim (stops limit skip s) [
+      | inl w ↦ inl (record { outside = omega (arith, w.outside); fault_is = ap (raised 1) w.fault_is })
+      | inr w ↦ inr (
+        w.0,
+        record {
+          inside = omega (arith, w.1.inside);
+          first_frame_is = w.1.first_frame_is;
+          fault_is = ap (raised 1) w.1.fault_is ∙ raised_one w.0 (place_after limit skip s);
+        },
+      )
+    ]
+stops limit zero (b ∷ s) =
+    elim (seen (first_frame limit (b ∷ s))) [
+      | inl w ↦
+          let frame = w.0 in
+          let reach : ℕ = place_after limit (nla_align frame.0 - 1) s in
+          let at = step_place limit b s frame w.1 in
+          elim (stops limit (nla_align frame.0 - 1) s) [
+            | inl v ↦ inl (record { outside = omega (arith, v.outside, at); fault_is = step_fault limit b s frame w.1 ∙ ap (raised 1) v.fault_is })
+            | inr v ↦ inr (
+              v.0,
+              record {
+                inside = omega (arith, v.1.inside, at);
+                first_frame_is = ap (λ n. first_frame limit (drop n (b ∷ s))) at ∙ v.1.first_frame_is;
+                fault_is = step_fault limit b s frame w.1 ∙ ap (raised 1) v.1.fault_is ∙ raised_one v.0 reach ∙ ap (λ n. Some (record { kind = v.0; offset = n })) (sym at);
+              },
+            )
+          ]
+      | inr w ↦
+          let at = stop_place limit b s w.0 w.1 in
+          inr (
+            w.0,
+            record {
+              inside = omega (arith, at);
+              first_frame_is = ap (λ n. first_frame limit (drop n (b ∷ s))) at ∙ w.1;
+              fault_is = stop_fault limit b s w.0 w.1 ∙ ap (λ n. Some (record { kind = w.0; offset = n })) (sym at);
+            },
+          )
+    ]
+
+-- A legal string reaches up to the next multiple of 4.
+pub place_legal : (limit : ℕ) (c : List ℕ) → IsLegal limit c → place limit c ≡ nla_align (length c)
+place_legal limit c h =
+    let near = place_near limit 0 c (omega arith) in
+    let start = place_start limit 0 0 c refl in
+    elim (stops limit 0 c) [
+      | inl w ↦ omega (arith, w.outside, near, start)
+      | inr w ↦ (let f = w.1.fault_is in cc)
+    ]
+
+-- What follows a legal string of a multiple of 4 bytes is judged by itself.
+pub joined_texts : (limit : ℕ) (a b : List ℕ) → IsLegal limit a → length a % 4 ≡ 0 → texts limit (a ++ b) ≡ texts limit a ++ texts limit b
+joined_texts limit a b h m =
+    let e : place limit a ≡ length a = place_legal limit a h ∙ omega arith in
+    texts-append limit 0 a b ∙ ap (λ n. texts limit a ++ texts limit (drop n (a ++ b))) e ∙ ap (λ c. texts limit a ++ texts limit c) (drop_at a b (length a) refl)
+
+pub joined_fault : (limit : ℕ) (a b : List ℕ) → IsLegal limit a → length a % 4 ≡ 0 → first_fault limit (a ++ b) ≡ raised (length a) (first_fault limit b)
+joined_fault limit a b h m =
+    let e : place limit a ≡ length a = place_legal limit a h ∙ omega arith in
+    fault-append limit 0 a b ∙ ap (λ n. raised n (first_fault limit (drop n (a ++ b)))) e ∙ ap (λ c. raised (length a) (first_fault limit c)) (drop_at a b (length a) refl)
+
+-- one accepted frame with its padding, or as much of that as is there
+pub one_fault : (limit : ℕ) (c : List ℕ) (frame : ℕ × List ℕ) → first_frame limit c ≡ Ok frame → first_fault limit (take (nla_align frame.0) c) ≡ None
+one_fault limit c frame h =
+    let n : ℕ = nla_align frame.0 in
+    fault_step limit (take n c) frame (first_frame-take limit c n frame h (omega arith))
+    ∙ ap (λ x. raised n (first_fault limit x)) (drop_all n (take n c) (omega (arith, length-take n c)))
+    ∙ ap (raised n) (fault_nil limit 0)
+
+pub one_text : (limit : ℕ) (c : List ℕ) (frame : ℕ × List ℕ) → first_frame limit c ≡ Ok frame → texts limit (take (nla_align frame.0) c) ≡ frame.1
+one_text limit c frame h =
+    let n : ℕ = nla_align frame.0 in
+    texts_step limit (take n c) frame (first_frame-take limit c n frame h (omega arith))
+    ∙ ap (λ x. frame.1 ++ texts limit x) (drop_all n (take n c) (omega (arith, length-take n c)))
+    ∙ ap (λ t. frame.1 ++ t) (texts_nil limit 0)
+    ∙ append-nil frame.1
+
+-- How far a walk over the frames of c has come: what it passed is legal.
+pub record Passed (limit : ℕ) (c : List ℕ) (at : ℕ) : Type 0 where
+  pub inside : at ≤ length c
+  pub start : at % 4 ≡ 0
+  pub legal : IsLegal limit (take at c)
+
+pub passed_none : (limit : ℕ) (c : List ℕ) → Passed limit c 0
+passed_none limit c = record { inside = omega arith; start = refl; legal = fault_nil limit 0 }
+
+-- one frame further
+pub passed_fault : (limit : ℕ) (c : List ℕ) (at : ℕ) (frame : ℕ × List ℕ) → Passed limit c at → first_frame limit (drop at c) ≡ Ok frame → IsLegal limit (take (at + nla_align frame.0) c)
+passed_fault limit c at frame w h =
+    let n : length (take at c) ≡ at = length-take at c ∙ omega (arith, w.inside) in
+    ap (first_fault limit) (take-add at (nla_align frame.0) c)
+    ∙ joined_fault limit (take at c) (take (nla_align frame.0) (drop at c)) w.legal (ap (λ m. m % 4) n ∙ w.start)
+    ∙ ap (raised (length (take at c))) (one_fault limit (drop at c) frame h)
+
+pub passed_texts : (limit : ℕ) (c : List ℕ) (at : ℕ) (frame : ℕ × List ℕ) → Passed limit c at → first_frame limit (drop at c) ≡ Ok frame → texts limit (take (at + nla_align frame.0) c) ≡ texts limit (take at c) ++ frame.1
+passed_texts limit c at frame w h =
+    let n : length (take at c) ≡ at = length-take at c ∙ omega (arith, w.inside) in
+    ap (texts limit) (take-add at (nla_align frame.0) c)
+    ∙ joined_texts limit (take at c) (take (nla_align frame.0) (drop at c)) w.legal (ap (λ m. m % 4) n ∙ w.start)
+    ∙ ap (λ t. texts limit (take at c) ++ t) (one_text limit (drop at c) frame h)
+
+-- a fault there
+pub passed_stop_fault : (limit : ℕ) (c : List ℕ) (at : ℕ) (kind : FaultKind) → Passed limit c at → at < length c → first_frame limit (drop at c) ≡ Err kind → first_fault limit c ≡ Some (record { kind = kind; offset = at })
+passed_stop_fault limit c at kind w l h =
+    let n : length (take at c) ≡ at = length-take at c ∙ omega (arith, w.inside) in
+    let z : length (take at c) + 0 ≡ at = omega (arith, n) in
+    ap (first_fault limit) (sym (take-append-drop at c))
+    ∙ joined_fault limit (take at c) (drop at c) w.legal (ap (λ m. m % 4) n ∙ w.start)
+    ∙ ap (raised (length (take at c))) (fault_stop limit (drop at c) kind (omega (arith, length-drop at c)) h)
+    ∙ ap (λ m. Some (record { kind = kind; offset = m })) z
+
+pub passed_stop_texts : (limit : ℕ) (c : List ℕ) (at : ℕ) (kind : FaultKind) → Passed limit c at → first_frame limit (drop at c) ≡ Err kind → texts limit c ≡ texts limit (take at c)
+passed_stop_texts limit c at kind w h =
+    let n : length (take at c) ≡ at = length-take at c ∙ omega (arith, w.inside) in
+    ap (texts limit) (sym (take-append-drop at c))
+    ∙ joined_texts limit (take at c) (drop at c) w.legal (ap (λ m. m % 4) n ∙ w.start)
+    ∙ ap (λ t. texts limit (take at c) ++ t) (texts_stop limit (drop at c) kind h)
+    ∙ append-nil (texts limit (take at c))
+
+-- a frame's text, part by part
+pub parts : (old header body : List ℕ) (claimed : ℕ) (a b c d : List ℕ) → claimed ≡ 16 + length body
+    → a ≡ old ++ le4 claimed → b ≡ a ++ take 12 (drop 4 header) → c ≡ b ++ body → d ≡ c ++ take (nla_align claimed - claimed) (0 ∷ 0 ∷ 0 ∷ [])
+    → d ≡ old ++ frame_text header body
+unfolding frame_text
+parts old header body claimed a b c d t ea eb ec ed =
+    let z : take (nla_align claimed - claimed) (zeros 3) ≡ zeros (nla_align claimed - claimed) = take-replicate (nla_align claimed - claimed) 3 0 (omega arith) in
+    ed ∙ ap (λ x. c ++ x) z ∙ ap (λ x. x ++ zeros (nla_align claimed - claimed)) (ec ∙ ap (λ x. x ++ body) (eb ∙ ap (λ x. x ++ take 12 (drop 4 header)) ea))
+    ∙ simp append_assoc
+    (ap (λ n. old ++ (le4 n ++ (take 12 (drop 4 header) ++ (body ++ zeros (nla_align n - n))))) t)
+
+-- what is written grows by t
+pub grown : (old w t : List ℕ) {out new v : List ℕ} → out ≡ old ++ w → new ≡ out ++ t → v ≡ w ++ t → new ≡ old ++ v
+grown old w t {out} {new} {v} d e f = e ∙ ap (λ x. x ++ t) d ∙ append_assoc old w t ∙ ap (λ x. old ++ x) (sym f)
+
+-- no body is cut
+judged_not_cut : (limit : ℕ) (c : List ℕ) (r : Result (List ℕ) Refusal) → judged_text limit c r ≢ Err Cut
+judged_not_cut limit c (Err refused) h = cc
+judged_not_cut limit c (Err empty_ports) h = cc
+judged_not_cut limit c (Err unfit) h = cc
+judged_not_cut limit c (Ok body) h = grind (arith, nat_tests)
+
+judgement_not_cut : (limit : ℕ) (c : List ℕ) → judgement limit c ≢ Err Cut
+unfolding judgement
+judgement_not_cut limit c h = judged_not_cut limit c (body_text (frame_type c) (frame_body c)) h
+
+-- What is cut is too short for its header, or for the length that this tells.
+pub record CutInBody (limit : ℕ) (c : List ℕ) : Type 0 where
+  pub header : 16 ≤ length c
+  pub low : 16 ≤ u32_at 0 c
+  pub high : u32_at 0 c ≤ limit
+  pub short : length c < u32_at 0 c
+
+pub cut_cases : (limit : ℕ) (c : List ℕ) → first_frame limit c ≡ Err Cut → (length c < 16) ⊎ CutInBody limit c
+cut_cases limit c h =
+    let t : tested limit (length c) (frame_length c) (judgement limit c) ≡ Err Cut = sym (first_frame_is limit c) ∙ h in
+    elim (guard (ltb (length c) 16) _ _ _ t) [
+      | inl a ↦ inl (ltb-true _ _ a.0)
+      | inr a ↦
+          elim (guard (ltb (frame_length c) 16) _ _ _ a.1) [
+            | inl b ↦ (let e = b.1 in cc)
+            | inr b ↦
+                elim (guard (ltb limit (frame_length c)) _ _ _ b.1) [
+                  | inl d ↦ (let e = d.1 in cc)
+                  | inr d ↦
+                      elim (guard (ltb (length c) (frame_length c)) _ _ _ d.1) [
+                        | inl e ↦ inr (record { header = ltb-false _ _ a.0; low = ltb-false _ _ b.0; high = ltb-false _ _ d.0; short = ltb-true _ _ e.0 })
+                        | inr e ↦ absurd (judgement_not_cut limit c e.1)
+                      ]
+                ]
+          ]
+    ]
+
+pub not_cut_short : (limit : ℕ) (c : List ℕ) → 16 ≤ length c → (u32_at 0 c < 16) ⊎ (limit < u32_at 0 c) ⊎ (u32_at 0 c ≤ length c) → first_frame limit c ≢ Err Cut
+not_cut_short limit c h w e =
+    elim (cut_cases limit c e) [
+      | inl a ↦ omega arith
+      | inr a ↦ elim w [ inl b ↦ omega (arith, a.low) | inr b ↦ elim b [ inl d ↦ omega (arith, a.high) | inr d ↦ omega (arith, a.short) ] ]
+    ]
+
+-- nothing is cut
+pub cut_nil : (limit : ℕ) → first_frame limit [] ≡ Err Cut
+unfolding first_frame
+cut_nil limit = refl
+
+-- What stands before the first fault is legal, and has the texts.
+pub fault_place : (limit : ℕ) (c : List ℕ) (fault : CaptureFault) → first_fault limit c ≡ Some fault → place limit c ≡ fault.offset
+fault_place limit c fault h =
+    elim (stops limit 0 c) [
+      | inl w ↦ (let f = w.fault_is in cc)
+      | inr w ↦ (let f = w.1.fault_is in cc)
+    ]
+
+pub before_fault : (limit : ℕ) (c : List ℕ) (fault : CaptureFault) → first_fault limit c ≡ Some fault → IsLegal limit (take fault.offset c) × (texts limit (take fault.offset c) ≡ texts limit c)
+before_fault limit c fault h =
+    let at = fault_place limit c fault h in
+    let whole : c ++ [] ≡ c = append-nil c in (
+      ap (first_fault limit) (ap (λ n. take n c) (sym at) ∙ ap (take (place limit c)) (sym whole)) ∙ base_fault limit 0 c [],
+      ap (texts limit) (ap (λ n. take n c) (sym at) ∙ ap (take (place limit c)) (sym whole)) ∙ base_texts limit 0 c [],
+    )
+
+pub fault_inside : (limit : ℕ) (c : List ℕ) (fault : CaptureFault) → first_fault limit c ≡ Some fault → (fault.offset < length c) × (fault.offset % 4 ≡ 0)
+fault_inside limit c fault h =
+    let at = fault_place limit c fault h in
+    let start = place_start limit 0 0 c refl in
+    elim (stops limit 0 c) [
+      | inl w ↦ (let f = w.fault_is in cc)
+      | inr w ↦ (omega (arith, w.1.inside, at), omega (arith, start, at))
+    ]
+
+-- a body's faults are a frame's
+judged_kinds : (limit : ℕ) (c : List ℕ) (r : Result (List ℕ) Refusal) (kind : FaultKind) → judged_text limit c r ≡ Err kind → IsOfFrames kind
+judged_kinds limit c (Err refused) kind h = let e : Refused ≡ kind = cc in subst IsOfFrames e tt
+judged_kinds limit c (Err empty_ports) kind h = let e : EmptyPorts ≡ kind = cc in subst IsOfFrames e tt
+judged_kinds limit c (Err unfit) kind h = let e : Unfit ≡ kind = cc in subst IsOfFrames e tt
+judged_kinds limit c (Ok body) kind h =
+    elim (guard (ltb limit (16 + length body)) _ _ _ h) [
+      | inl a ↦ (let e : TextOverLimit ≡ kind = (let f = a.1 in cc) in subst IsOfFrames e tt)
+      | inr a ↦ (let f = a.1 in absurd (cc))
+    ]
+
+first_frame_kinds : (limit : ℕ) (c : List ℕ) (kind : FaultKind) → first_frame limit c ≡ Err kind → IsOfFrames kind
+unfolding judgement
+first_frame_kinds limit c kind h =
+    let t : tested limit (length c) (frame_length c) (judgement limit c) ≡ Err kind = sym (first_frame_is limit c) ∙ h in
+    elim (guard (ltb (length c) 16) _ _ _ t) [
+      | inl a ↦ (let e : Cut ≡ kind = (let f = a.1 in cc) in subst IsOfFrames e tt)
+      | inr a ↦
+          elim (guard (ltb (frame_length c) 16) _ _ _ a.1) [
+            | inl b ↦ (let e : ShortLength ≡ kind = (let f = b.1 in cc) in subst IsOfFrames e tt)
+            | inr b ↦
+                elim (guard (ltb limit (frame_length c)) _ _ _ b.1) [
+                  | inl d ↦ (let e : OverLimit ≡ kind = (let f = d.1 in cc) in subst IsOfFrames e tt)
+                  | inr d ↦
+                      elim (guard (ltb (length c) (frame_length c)) _ _ _ d.1) [
+                        | inl e ↦ (let g : Cut ≡ kind = (let f = e.1 in cc) in subst IsOfFrames g tt)
+                        | inr e ↦ judged_kinds limit c (body_text (frame_type c) (frame_body c)) kind e.1
+                      ]
+                ]
+          ]
+    ]
+
+pub fault_kinds : (limit : ℕ) (c : List ℕ) (fault : CaptureFault) → first_fault limit c ≡ Some fault → IsOfFrames fault.kind
+fault_kinds limit c fault h =
+    elim (stops limit 0 c) [
+      | inl w ↦ (let f = w.fault_is in absurd (cc))
+      | inr w ↦ (let f = w.1.fault_is in let e : w.0 ≡ fault.kind = cc in subst IsOfFrames e (first_frame_kinds limit _ w.0 w.1.first_frame_is))
+    ]
+
+-- a fault of a front, unless it is cut
+pub fault_more : (limit : ℕ) (a b : List ℕ) (fault : CaptureFault) → first_fault limit a ≡ Some fault → fault.kind ≢ Cut → first_fault limit (a ++ b) ≡ Some fault
+fault_more limit a b fault h n =
+    elim (stops limit 0 a) [
+      | inl w ↦ (let f = w.fault_is in absurd (cc))
+      | inr w ↦
+          let at : ℕ = place limit a in
+          let f = w.1.fault_is in
+          let k : w.0 ≡ fault.kind = cc in
+          let o : at ≡ fault.offset = cc in
+          let d = drop at a in
+          let kept : first_frame limit (d ++ b) ≡ Err w.0 = first_frame-more limit d b (λ e. n (let g = w.1.first_frame_is in cc)) ∙ w.1.first_frame_is in
+          let z : at + 0 ≡ fault.offset = omega (arith, o) in
+          fault-append limit 0 a b
+          ∙ ap (λ x. raised at (first_fault limit x)) (drop-append-le at a b (omega (arith, w.1.inside)))
+          ∙ ap (raised at) (fault_stop limit (d ++ b) w.0 (omega (arith, length-append d b, length-drop at a, w.1.inside)) kept)
+          ∙ ap (λ x. Some (record { kind = w.0; offset = x })) z
+          ∙ ap (λ x. Some (record { kind = x; offset = fault.offset })) k
+    ]
+
+-- the texts behind such a fault are none
+pub texts_more : (limit : ℕ) (a b : List ℕ) (fault : CaptureFault) → first_fault limit a ≡ Some fault → fault.kind ≢ Cut → texts limit (a ++ b) ≡ texts limit a
+texts_more limit a b fault h n =
+    elim (stops limit 0 a) [
+      | inl w ↦ (let f = w.fault_is in absurd (cc))
+      | inr w ↦
+          let at : ℕ = place limit a in
+          let f = w.1.fault_is in
+          let k : w.0 ≡ fault.kind = cc in
+          let d = drop at a in
+          let kept : first_frame limit (d ++ b) ≡ Err w.0 = first_frame-more limit d b (λ e. n (let g = w.1.first_frame_is in cc)) ∙ w.1.first_frame_is in
+          texts-append limit 0 a b
+          ∙ ap (λ x. texts limit a ++ texts limit x) (drop-append-le at a b (omega (arith, w.1.inside)))
+          ∙ ap (λ t. texts limit a ++ t) (texts_stop limit (d ++ b) w.0 kept)
+          ∙ append-nil (texts limit a)
+    ]

@@ -1,0 +1,4 @@
+pub mod Frames
+pub mod Normal
+pub mod Small
+pub mod Together

@@ -1,0 +1,224 @@
+-- The normal text is legal, and its own normal text.
+use Rattle.std.proofs.Common.{◌≡◌, ℕ, zero, suc, ◌+◌, ◌-◌, ◌*◌, ◌^◌, ◌<◌, ◌≤◌, ltb, eqb, true, false, cond, Result, List, [], ◌∷◌, ◌++◌, length, take, drop, Ok, Err, refl, sym, ap, subst, ◌∙◌, inl, inr, arith, length-append, length-drop, append_assoc}
+use Rattle.std.proofs.lemmas.List.{take_at, drop_at, length-take, length-replicate, drop-drop, take-append-drop}
+use Rattle.std.proofs.lemmas.Bool.{le-ltb, ltb-false}
+use Rattle.netlink_packet_core_grammar.specs.Attributes.{nla_align, zeros}
+use Rattle.netlink_packet_core_grammar.specs.Numbers.{u16_at, u32_at, le4}
+use Rattle.netlink_packet_core_grammar.specs.Frames.{frame_length, frame_type, frame_body, frame_text}
+use Rattle.netlink_packet_core_grammar.proofs.Numbers.{u16_at-append, u16_at-drop_4, u32_at-le4}
+use Rattle.netlink_packet_core_grammar.proofs.Sizes.{length-le4}
+use Rattle.link_info_grammar.specs.Rules.{Rule, Lawful}
+use Rattle.link_info_grammar.proofs.Tables.{bytes_peer_lawful}
+use Rattle.link_info_grammar.specs.Peers.{bytes_peer}
+use Rattle.link_message_grammar.specs.Body.{link_body}
+use Rattle.link_message_grammar.proofs.Body.{body_lawful, body_size}
+use Rattle.link_capture_grammar.specs.declared.fault.FaultKind.TheVariants.{TextOverLimit}
+use Rattle.link_capture_grammar.specs.Bodies.{Refusal, error_text, done_text, ruled_text, is_link_type, body_text}
+use Rattle.link_capture_grammar.specs.Captures.{Judged, first_frame, judged_text, tested, raised, texts_after, first_fault, texts, IsLegal}
+use Rattle.link_capture_grammar.proofs.Frames.{accepted, first_frame_is, judgement, seen, step_texts, stop_texts, fault_step, texts_step, fault_nil, texts_nil, guard}
+
+-- ---- a body's text is its own
+
+error_again : (bytes text : List ℕ) → error_text bytes ≡ Ok text → error_text text ≡ Ok text
+error_again bytes text h =
+    elim (guard (ltb (length bytes) 4) _ _ _ h) [
+      | inl b ↦ (let f = b.1 in absurd (cc))
+      | inr b ↦ (let e : bytes ≡ text = (let f = b.1 in cc) in subst (λ x. error_text x ≡ Ok text) e h)
+    ]
+
+done_again : (bytes text : List ℕ) → done_text bytes ≡ Ok text → done_text text ≡ Ok text
+done_again bytes text h =
+    elim (guard (eqb (length bytes) 0) _ _ _ h) [
+      | inl a ↦ (let e : (0 ∷ 0 ∷ 0 ∷ 0 ∷ []) ≡ text = (let f = a.1 in cc) in subst (λ x. done_text x ≡ Ok x) e refl)
+      | inr a ↦
+          elim (guard (ltb (length bytes) 4) _ _ _ a.1) [
+            | inl b ↦ (let f = b.1 in absurd (cc))
+            | inr b ↦ (let e : bytes ≡ text = (let f = b.1 in cc) in subst (λ x. done_text x ≡ Ok text) e h)
+          ]
+    ]
+
+-- what an accepted body is
+pub record Ruled (r : Rule) (b text : List ℕ) : Type 0 where
+  pub accepted : r.accepted b ≡ true
+  pub emptied : r.emptied b ≡ false
+  pub fits : r.fits b ≡ true
+  pub is : r.canonical b ≡ text
+
+pub ruled : (r : Rule) (b text : List ℕ) → ruled_text r b ≡ Ok text → Ruled r b text
+ruled r b text h =
+    elim (guard (r.accepted b) _ _ _ h) [
+      | inl a ↦
+          elim (guard (r.emptied b) _ _ _ a.1) [
+            | inl m ↦ (let f = m.1 in absurd (cc))
+            | inr m ↦
+                elim (guard (r.fits b) _ _ _ m.1) [
+                  | inl k ↦ record { accepted = a.0; emptied = m.0; fits = k.0; is = (let f = k.1 in cc) }
+                  | inr k ↦ (let f = k.1 in absurd (cc))
+                ]
+          ]
+      | inr a ↦ (let f = a.1 in absurd (cc))
+    ]
+
+ruled_again : (r : Rule) → Lawful r → (b text : List ℕ) → ruled_text r b ≡ Ok text → ruled_text r text ≡ Ok text
+ruled_again r l b text h =
+    let k = ruled r b text h in
+    let o = l.again b k.accepted k.emptied in
+    let again : ruled_text r (r.canonical b) ≡ Ok (r.canonical b) = rw (o.0, o.1, l.fits_again b k.accepted k.fits, l.itself b k.accepted) refl in
+    subst (λ x. ruled_text r x ≡ Ok x) k.is again
+
+pub link_body_lawful : Lawful link_body
+unfolding link_body
+link_body_lawful = body_lawful bytes_peer bytes_peer_lawful
+
+pub link_body_size : (b : List ℕ) → link_body.accepted b ≡ true → length (link_body.canonical b) ≤ 77 * length b
+unfolding link_body
+link_body_size b a = body_size bytes_peer bytes_peer_lawful b a
+
+pub body_again : (t : ℕ) (bytes text : List ℕ) → body_text t bytes ≡ Ok text → body_text t text ≡ Ok text
+unfolding body_text
+body_again t bytes text h =
+    elim (guard (eqb t 1) _ _ _ h) [
+      | inl a ↦ rw a.0 a.1
+      | inr a ↦ rw a.0 (elim (guard (eqb t 2) _ _ _ a.1) [
+        | inl b ↦ rw b.0 (error_again bytes text b.1)
+        | inr b ↦ rw b.0 (elim (guard (eqb t 3) _ _ _ b.1) [
+          | inl c ↦ rw c.0 (done_again bytes text c.1)
+          | inr c ↦ rw c.0 (elim (guard (is_link_type t) _ _ _ c.1) [
+            | inl d ↦ rw d.0 (ruled_again link_body link_body_lawful bytes text d.1)
+            | inr d ↦ rw d.0 refl
+          ])
+        ])
+      ])
+    ]
+
+-- the text of an accepted frame
+pub record Texted (limit : ℕ) (c : List ℕ) (frame : ℕ × List ℕ) : Type 0 where
+  pub body : List ℕ
+  pub body_is : body_text (frame_type c) (frame_body c) ≡ Ok body
+  pub text_is : frame.1 ≡ frame_text c body
+  pub fits : 16 + length body ≤ limit
+
+judged_texted : (limit : ℕ) (c : List ℕ) (r : Result (List ℕ) Refusal) (frame : ℕ × List ℕ) → judged_text limit c r ≡ Ok frame → (body : List ℕ) × (r ≡ Ok body) × (frame.1 ≡ frame_text c body) × (16 + length body ≤ limit)
+judged_texted limit c (Err why) frame h = absurd (cc)
+judged_texted limit c (Ok body) frame h =
+    elim (guard (ltb limit (16 + length body)) _ _ _ h) [
+      | inl a ↦ (let e = a.1 in absurd (cc))
+      | inr a ↦ (let e : (frame_length c, frame_text c body) ≡ frame = (let f = a.1 in cc) in (body, refl, ap (λ (p : ℕ × List ℕ). p.1) (sym e), ltb-false _ _ a.0))
+    ]
+
+tested_ok : (limit size claimed : ℕ) (j : Judged) → 16 ≤ size → claimed ≤ size → 16 ≤ claimed → claimed ≤ limit → tested limit size claimed j ≡ j
+tested_ok limit size claimed j a b c d = rw (le-ltb size 16 a, le-ltb size claimed b, le-ltb claimed 16 c, le-ltb limit claimed d)
+
+pub texted : (limit : ℕ) (c : List ℕ) (frame : ℕ × List ℕ) → first_frame limit c ≡ Ok frame → Texted limit c frame
+unfolding judgement
+texted limit c frame h =
+    let a = accepted limit c frame h in
+    let t : judgement limit c ≡ Ok frame = sym (tested_ok limit (length c) (frame_length c) (judgement limit c) a.header (omega (arith, a.is, a.whole)) (omega (arith, a.is, a.low)) (omega (arith, a.is, a.high))) ∙ sym (first_frame_is limit c) ∙ h in
+    let q = judged_texted limit c (body_text (frame_type c) (frame_body c)) frame t in
+    record { body = q.0; body_is = q.1; text_is = q.2; fits = q.3 }
+
+-- a frame's text: how long it is, and what its parts are
+pub frame_text_size : (c body : List ℕ) → 16 ≤ length c → length (frame_text c body) ≡ nla_align (16 + length body)
+unfolding frame_text
+frame_text_size c body h =
+    simp (length-append, length-le4, length-take, length-drop, length-replicate) (omega arith)
+
+text_length : (c body r : List ℕ) → 16 + length body < 2 ^ 32 → frame_length (frame_text c body ++ r) ≡ 16 + length body
+unfolding frame_text
+text_length c body r h = ap (u32_at 0) (append_assoc (le4 (16 + length body)) _ r) ∙ u32_at-le4 (16 + length body) _ h
+
+-- what stands behind the first four bytes
+after_length : (c body r : List ℕ) → drop 4 (frame_text c body ++ r) ≡ take 12 (drop 4 c) ++ (body ++ zeros (nla_align (16 + length body) - (16 + length body)) ++ r)
+unfolding frame_text
+after_length c body r = ap (drop 4) (append_assoc (le4 (16 + length body)) _ r) ∙ drop_at (le4 (16 + length body)) _ 4 (length-le4 (16 + length body)) ∙ simp append_assoc
+
+header_size : (c : List ℕ) → 16 ≤ length c → length (take 12 (drop 4 c)) ≡ 12
+header_size c h = length-take 12 (drop 4 c) ∙ omega (arith, length-drop 4 c)
+
+text_header : (c body r : List ℕ) → 16 ≤ length c → take 12 (drop 4 (frame_text c body ++ r)) ≡ take 12 (drop 4 c)
+text_header c body r h = ap (take 12) (after_length c body r) ∙ take_at (take 12 (drop 4 c)) _ 12 (header_size c h)
+
+text_type : (c body r : List ℕ) → 16 ≤ length c → frame_type (frame_text c body ++ r) ≡ frame_type c
+text_type c body r h =
+    u16_at-drop_4 (frame_text c body ++ r)
+    ∙ ap (u16_at 0) (after_length c body r)
+    ∙ u16_at-append (take 12 (drop 4 c)) _ (omega (arith, header_size c h))
+    ∙ sym (u16_at-append (take 12 (drop 4 c)) (drop 12 (drop 4 c)) (omega (arith, header_size c h)))
+    ∙ ap (u16_at 0) (take-append-drop 12 (drop 4 c))
+    ∙ sym (u16_at-drop_4 c)
+
+text_body : (c body r : List ℕ) → 16 ≤ length c → 16 + length body < 2 ^ 32 → frame_body (frame_text c body ++ r) ≡ body
+text_body c body r h l =
+    let x = frame_text c body ++ r in
+    let pad = zeros (nla_align (16 + length body) - (16 + length body)) in
+    ap (λ n. take (n - 16) (drop 16 x)) (text_length c body r l)
+    ∙ ap (take (16 + length body - 16)) (sym (drop-drop 12 4 x) ∙ ap (drop 12) (after_length c body r) ∙ drop_at (take 12 (drop 4 c)) _ 12 (header_size c h))
+    ∙ ap (take (16 + length body - 16)) (append_assoc body pad r)
+    ∙ take_at body _ (16 + length body - 16) (omega arith)
+
+text_again : (c body r : List ℕ) → 16 ≤ length c → frame_text (frame_text c body ++ r) body ≡ frame_text c body
+unfolding frame_text
+text_again c body r h =
+    ap (λ x. le4 (16 + length body) ++ (x ++ (body ++ zeros (nla_align (16 + length body) - (16 + length body))))) (text_header c body r h)
+
+-- A frame's text in front is accepted, and is its own text.
+pub first_frame_again : (limit : ℕ) (c : List ℕ) (frame : ℕ × List ℕ) (r : List ℕ) → limit < 2 ^ 32 → first_frame limit c ≡ Ok frame → (n : ℕ) × (first_frame limit (frame.1 ++ r) ≡ Ok (n, frame.1)) × (drop (nla_align n) (frame.1 ++ r) ≡ r)
+unfolding judgement
+first_frame_again limit c frame r l h =
+    let a = accepted limit c frame h in
+    let t = texted limit c frame h in
+    let x = frame_text c t.body ++ r in
+    let n : ℕ = 16 + length t.body in
+    let size = frame_text_size c t.body a.header in
+    let total = length-append (frame_text c t.body) r in
+    let claimed = text_length c t.body r (omega (arith, t.fits)) in
+    let again : body_text (frame_type x) (frame_body x) ≡ Ok t.body =
+    ap (λ k. body_text k (frame_body x)) (text_type c t.body r a.header) ∙ ap (body_text (frame_type c)) (text_body c t.body r a.header (omega (arith, t.fits)))
+    ∙ body_again (frame_type c) (frame_body c) t.body t.body_is in
+    let judged : judgement limit x ≡ Ok (n, frame_text c t.body) =
+    ap (judged_text limit x) again
+    ∙ ap (λ b. cond b (Err TextOverLimit) (Ok (frame_length x, frame_text x t.body))) (le-ltb limit n t.fits)
+    ∙ ap (λ m. Ok (m, frame_text x t.body)) claimed
+    ∙ ap (λ y. Ok (n, y)) (text_again c t.body r a.header) in
+    let whole : first_frame limit x ≡ Ok (n, frame_text c t.body) =
+    first_frame_is limit x
+    ∙ tested_ok limit (length x) (frame_length x) (judgement limit x) (omega (arith, size, total)) (omega (arith, size, total, claimed)) (omega (arith, claimed)) (omega (arith, claimed, t.fits))
+    ∙ judged in
+    let e = t.text_is in
+    (n, subst (λ (y : List ℕ). first_frame limit (y ++ r) ≡ Ok (n, y)) (sym e) whole, subst (λ (y : List ℕ). drop (nla_align n) (y ++ r) ≡ r) (sym e) (drop_at (frame_text c t.body) r (nla_align n) size))
+
+-- The normal text is legal, whatever it is the text of, and is its own normal text.
+pub texts_legal : (limit skip : ℕ) (c : List ℕ) → limit < 2 ^ 32 → IsLegal limit (texts_after limit skip c)
+unfolding texts_after
+texts_legal limit skip [] l = fault_nil limit 0
+texts_legal limit (suc skip) (b ∷ c) l = texts_legal limit skip c l
+texts_legal limit zero (b ∷ c) l =
+    elim (seen (first_frame limit (b ∷ c))) [
+      | inl w ↦
+          let frame = w.0 in
+          let rest : List ℕ = texts_after limit (nla_align frame.0 - 1) c in
+          let f = first_frame_again limit (b ∷ c) frame rest l w.1 in
+          ap (first_fault limit) (step_texts limit b c frame w.1)
+          ∙ fault_step limit (frame.1 ++ rest) (f.0, frame.1) f.1
+          ∙ ap (λ x. raised (nla_align f.0) (first_fault limit x)) f.2
+          ∙ ap (raised (nla_align f.0)) (texts_legal limit (nla_align frame.0 - 1) c l)
+      | inr w ↦ ap (first_fault limit) (stop_texts limit b c w.0 w.1) ∙ fault_nil limit 0
+    ]
+
+pub texts_again : (limit skip : ℕ) (c : List ℕ) → limit < 2 ^ 32 → texts limit (texts_after limit skip c) ≡ texts_after limit skip c
+unfolding texts_after
+texts_again limit skip [] l = texts_nil limit 0
+texts_again limit (suc skip) (b ∷ c) l = texts_again limit skip c l
+texts_again limit zero (b ∷ c) l =
+    elim (seen (first_frame limit (b ∷ c))) [
+      | inl w ↦
+          let frame = w.0 in
+          let rest : List ℕ = texts_after limit (nla_align frame.0 - 1) c in
+          let f = first_frame_again limit (b ∷ c) frame rest l w.1 in
+          ap (texts limit) (step_texts limit b c frame w.1)
+          ∙ texts_step limit (frame.1 ++ rest) (f.0, frame.1) f.1
+          ∙ ap (λ x. frame.1 ++ texts limit x) f.2
+          ∙ ap (λ x. frame.1 ++ x) (texts_again limit (nla_align frame.0 - 1) c l)
+          ∙ sym (step_texts limit b c frame w.1)
+      | inr w ↦ ap (texts limit) (stop_texts limit b c w.0 w.1) ∙ texts_nil limit 0 ∙ sym (stop_texts limit b c w.0 w.1)
+    ]

@@ -1,0 +1,5 @@
+use Rattle.link_capture_grammar.proofs.Together.{texts_are_legal}
+use Rattle.link_capture_grammar.proofs.laws.texts_are_legal.Goals as goal
+
+pub returns : goal.returns
+returns c = texts_are_legal

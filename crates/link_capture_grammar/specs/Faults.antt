@@ -1,0 +1,24 @@
+-- The words of faults.
+use Rattle.std.specs.Prelude.{ℕ, List, ◌++◌, codes}
+use Rattle.std.specs.Fmt.{decimal}
+use Rattle.link_capture_grammar.specs.declared.fault.FaultKind.{FaultKind}
+use Rattle.link_capture_grammar.specs.declared.fault.FaultKind.TheVariants.{Cut, ShortLength, OverLimit, Refused, EmptyPorts, Unfit, TextOverLimit, Memory, Read, Write, TooLong, Failed}
+use Rattle.link_capture_grammar.specs.declared.fault.CaptureFault.{CaptureFault}
+
+abbrev pub words : FaultKind → List ℕ
+words Cut = codes "cut frame"
+words ShortLength = codes "length under 16"
+words OverLimit = codes "frame over the limit"
+words Refused = codes "refused body"
+words EmptyPorts = codes "ports with foreign entries alone"
+words Unfit = codes "attribute over 65535"
+words TextOverLimit = codes "normal text over the limit"
+words Memory = codes "no memory"
+words Read = codes "read failed"
+words Write = codes "write failed"
+words TooLong = codes "capture too long"
+words Failed = codes "failed before"
+
+-- the words, and the place in decimal
+abbrev pub fault_text : CaptureFault → List ℕ
+fault_text x = words x.kind ++ (codes " at " ++ decimal x.offset)

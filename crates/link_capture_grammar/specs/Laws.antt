@@ -1,0 +1,44 @@
+-- The laws of captures, as the functions of `laws` state them.
+use Rattle.std.specs.Prelude.{◌≡◌, ◌≢◌, ℕ, ◌*◌, ◌%◌, ◌^◌, ◌<◌, ◌≤◌, ◌↔◌, List, ◌++◌, length, Some}
+use Rattle.link_capture_grammar.specs.declared.fault.CaptureFault.{CaptureFault}
+use Rattle.link_capture_grammar.specs.declared.fault.FaultKind.TheVariants.{Cut}
+use Rattle.link_capture_grammar.specs.Captures.{first_fault, texts, raised, IsLegal, IsOfFrames}
+
+-- a limit is a number of 32 bits
+abbrev pub IsLimit : ℕ → Type 0
+IsLimit limit = limit < 2 ^ 32
+
+-- the texts of any bytes are legal under the same limit
+abbrev pub TextsAreLegal : Type 0
+TextsAreLegal = (limit : ℕ) (c : List ℕ) → IsLimit limit → IsLegal limit (texts limit c)
+
+-- and are their own normal text
+abbrev pub TextsAreNormal : Type 0
+TextsAreNormal = (limit : ℕ) (c : List ℕ) → IsLimit limit → texts limit (texts limit c) ≡ texts limit c
+
+-- what follows a legal capture whose size is a multiple of 4 is judged by itself
+abbrev pub JoinedFaults : Type 0
+JoinedFaults = (limit : ℕ) (a b : List ℕ) → IsLegal limit a → length a % 4 ≡ 0 → first_fault limit (a ++ b) ≡ raised (length a) (first_fault limit b)
+
+abbrev pub JoinedLegal : Type 0
+JoinedLegal = (limit : ℕ) (a b : List ℕ) → IsLegal limit a → length a % 4 ≡ 0 → IsLegal limit (a ++ b) ↔ IsLegal limit b
+
+-- and is written by itself
+abbrev pub JoinedTexts : Type 0
+JoinedTexts = (limit : ℕ) (a b : List ℕ) → IsLegal limit a → length a % 4 ≡ 0 → texts limit (a ++ b) ≡ texts limit a ++ texts limit b
+
+-- a first fault of a prefix, other than a cut frame, is that of the whole
+abbrev pub PrefixFaults : Type 0
+PrefixFaults = (limit : ℕ) (a b : List ℕ) (fault : CaptureFault) → first_fault limit a ≡ Some fault → fault.kind ≢ Cut → first_fault limit (a ++ b) ≡ Some fault
+
+-- the texts of a prefix begin the texts of the whole
+abbrev pub PrefixTexts : Type 0
+PrefixTexts = (limit : ℕ) (a b : List ℕ) → (rest : List ℕ) × (texts limit (a ++ b) ≡ texts limit a ++ rest)
+
+-- texts are at most 77 times as long
+abbrev pub TextsAreSmall : Type 0
+TextsAreSmall = (limit : ℕ) (c : List ℕ) → length (texts limit c) ≤ 77 * length c
+
+-- a fault stands at the start of a frame, inside the capture, and is one that a frame can have
+abbrev pub FaultsStand : Type 0
+FaultsStand = (limit : ℕ) (c : List ℕ) (fault : CaptureFault) → first_fault limit c ≡ Some fault → (fault.offset < length c) × (fault.offset % 4 ≡ 0) × IsOfFrames fault.kind

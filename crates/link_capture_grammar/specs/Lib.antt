@@ -1,0 +1,4 @@
+pub mod Faults
+pub mod Bodies
+pub mod Captures
+pub mod Laws

@@ -1,0 +1,49 @@
+//! Facts of the definitions. No function here makes a call.
+
+ghost use Rattle.link_capture_grammar.specs.Laws.{TextsAreLegal, TextsAreNormal, JoinedFaults, JoinedLegal};
+ghost use Rattle.link_capture_grammar.specs.Laws.{JoinedTexts, PrefixFaults, PrefixTexts, TextsAreSmall, FaultsStand};
+
+/// The texts of any bytes are legal under the same limit.
+pub fn texts_are_legal()
+    ensures { TextsAreLegal }
+{}
+
+/// The texts of any bytes are their own normal text.
+pub fn texts_are_normal()
+    ensures { TextsAreNormal }
+{}
+
+/// The first fault of what follows a legal capture, whose size is a multiple of 4, is found as if it stood alone.
+pub fn joined_captures_have_the_faults_of_the_second()
+    ensures { JoinedFaults }
+{}
+
+/// A legal capture, whose size is a multiple of 4, followed by another is legal exactly where the other is.
+pub fn joined_captures_are_legal()
+    ensures { JoinedLegal }
+{}
+
+/// Their texts are the two joined.
+pub fn joined_captures_have_joined_texts()
+    ensures { JoinedTexts }
+{}
+
+/// A first fault of a prefix, other than a cut frame, is that of the whole.
+pub fn faults_of_a_prefix_stay()
+    ensures { PrefixFaults }
+{}
+
+/// The texts of a prefix begin the texts of the whole.
+pub fn texts_of_a_prefix_stay()
+    ensures { PrefixTexts }
+{}
+
+/// Texts are at most 77 times as long as the capture.
+pub fn texts_are_small()
+    ensures { TextsAreSmall }
+{}
+
+/// A first fault stands inside the capture, at a multiple of 4, and is of a kind that a frame can have.
+pub fn faults_stand_at_frames()
+    ensures { FaultsStand }
+{}

@@ -1,0 +1,5 @@
+// The grammar of captures: frames, faults, normal texts, and its laws.
+#![tactic(auto)]
+
+pub mod fault;
+pub mod laws;

@@ -1,0 +1,11 @@
+pub mod Shapes
+pub mod Attributes
+pub mod Sizes
+pub mod Lists
+pub mod Tables
+pub mod Walk
+pub mod Texts
+pub mod FlatWalk
+pub mod FlatText
+pub mod Renewed
+pub mod Together

@@ -1,0 +1,300 @@
+-- Worked bodies: the definitions compute on them what an independent reading of the rules gives.
+use Rattle.std.proofs.Common.{◌≡◌, ℕ, true, false, List, [], ◌∷◌, length, refl}
+use Rattle.std.specs.Str.{is_utf8, chars}
+use lib.Utf8.{encode}
+use Rattle.netlink_packet_core_grammar.specs.Attributes.{attribute_text, list_text, first_attribute, attributes_within}
+use Rattle.link_info_grammar.specs.Lists.{all_accepted, some_emptied, rewritten, all_fit, count_inside, all_same}
+use Rattle.link_message_grammar.specs.Body.{is_listed, body_rule, link_body}
+
+-- all that has to compute
+everything : ℕ
+unfolding is_utf8 chars encode attribute_text list_text first_attribute attributes_within all_accepted some_emptied rewritten all_fit count_inside all_same is_listed body_rule link_body
+everything = 0
+
+-- a header alone
+abbrev no_attributes : List ℕ
+no_attributes = (0 ∷ 0 ∷ 0 ∷ 0 ∷ 0 ∷ 0 ∷ 0 ∷ 0 ∷ 0 ∷ 0 ∷ 0 ∷ 0 ∷ 0 ∷ 0 ∷ 0 ∷ 0 ∷ [])
+
+no_attributes-accepted : link_body.accepted no_attributes ≡ true
+unfolding everything
+no_attributes-accepted = refl
+
+no_attributes-count : link_body.count no_attributes ≡ 0
+unfolding everything
+no_attributes-count = refl
+
+no_attributes-fits : link_body.fits no_attributes ≡ true
+unfolding everything
+no_attributes-fits = refl
+
+no_attributes-text : link_body.canonical no_attributes ≡ (0 ∷ 0 ∷ 0 ∷ 0 ∷ 0 ∷ 0 ∷ 0 ∷ 0 ∷ 0 ∷ 0 ∷ 0 ∷ 0 ∷ 0 ∷ 0 ∷ 0 ∷ 0 ∷ [])
+unfolding everything
+no_attributes-text = refl
+
+no_attributes-same : link_body.same no_attributes (0 ∷ 0 ∷ 0 ∷ 0 ∷ 0 ∷ 0 ∷ 0 ∷ 0 ∷ 0 ∷ 0 ∷ 0 ∷ 0 ∷ 0 ∷ 0 ∷ 0 ∷ 0 ∷ []) ≡ true
+unfolding everything
+no_attributes-same = refl
+
+-- flag bits of a name are dropped, and its padding is zeros
+abbrev name_with_flag_bits : List ℕ
+name_with_flag_bits = (0 ∷ 0 ∷ 0 ∷ 0 ∷ 0 ∷ 0 ∷ 0 ∷ 0 ∷ 0 ∷ 0 ∷ 0 ∷ 0 ∷ 0 ∷ 0 ∷ 0 ∷ 0 ∷ 8 ∷ 0 ∷ 29 ∷ 0 ∷ 9 ∷ 0 ∷ 0 ∷ 0 ∷ 7 ∷ 0 ∷ 3 ∷ 128 ∷ 108 ∷ 111 ∷ 0 ∷ 255 ∷ [])
+
+name_with_flag_bits-accepted : link_body.accepted name_with_flag_bits ≡ true
+unfolding everything
+name_with_flag_bits-accepted = refl
+
+name_with_flag_bits-count : link_body.count name_with_flag_bits ≡ 2
+unfolding everything
+name_with_flag_bits-count = refl
+
+name_with_flag_bits-fits : link_body.fits name_with_flag_bits ≡ true
+unfolding everything
+name_with_flag_bits-fits = refl
+
+name_with_flag_bits-text : link_body.canonical name_with_flag_bits ≡ (0 ∷ 0 ∷ 0 ∷ 0 ∷ 0 ∷ 0 ∷ 0 ∷ 0 ∷ 0 ∷ 0 ∷ 0 ∷ 0 ∷ 0 ∷ 0 ∷ 0 ∷ 0 ∷ 8 ∷ 0 ∷ 29 ∷ 0 ∷ 9 ∷ 0 ∷ 0 ∷ 0 ∷ 7 ∷ 0 ∷ 3 ∷ 0 ∷ 108 ∷ 111 ∷ 0 ∷ 0 ∷ [])
+unfolding everything
+name_with_flag_bits-text = refl
+
+name_with_flag_bits-same : link_body.same name_with_flag_bits (0 ∷ 0 ∷ 0 ∷ 0 ∷ 0 ∷ 0 ∷ 0 ∷ 0 ∷ 0 ∷ 0 ∷ 0 ∷ 0 ∷ 0 ∷ 0 ∷ 0 ∷ 0 ∷ 8 ∷ 0 ∷ 29 ∷ 0 ∷ 9 ∷ 0 ∷ 0 ∷ 0 ∷ 7 ∷ 0 ∷ 3 ∷ 0 ∷ 108 ∷ 111 ∷ 0 ∷ 0 ∷ []) ≡ true
+unfolding everything
+name_with_flag_bits-same = refl
+
+-- a name gains its NUL; its last padding may be missing
+abbrev name_without_nul : List ℕ
+name_without_nul = (0 ∷ 0 ∷ 0 ∷ 0 ∷ 0 ∷ 0 ∷ 0 ∷ 0 ∷ 0 ∷ 0 ∷ 0 ∷ 0 ∷ 0 ∷ 0 ∷ 0 ∷ 0 ∷ 6 ∷ 0 ∷ 3 ∷ 0 ∷ 108 ∷ 111 ∷ [])
+
+name_without_nul-accepted : link_body.accepted name_without_nul ≡ true
+unfolding everything
+name_without_nul-accepted = refl
+
+name_without_nul-count : link_body.count name_without_nul ≡ 1
+unfolding everything
+name_without_nul-count = refl
+
+name_without_nul-fits : link_body.fits name_without_nul ≡ true
+unfolding everything
+name_without_nul-fits = refl
+
+name_without_nul-text : link_body.canonical name_without_nul ≡ (0 ∷ 0 ∷ 0 ∷ 0 ∷ 0 ∷ 0 ∷ 0 ∷ 0 ∷ 0 ∷ 0 ∷ 0 ∷ 0 ∷ 0 ∷ 0 ∷ 0 ∷ 0 ∷ 7 ∷ 0 ∷ 3 ∷ 0 ∷ 108 ∷ 111 ∷ 0 ∷ 0 ∷ [])
+unfolding everything
+name_without_nul-text = refl
+
+name_without_nul-same : link_body.same name_without_nul (0 ∷ 0 ∷ 0 ∷ 0 ∷ 0 ∷ 0 ∷ 0 ∷ 0 ∷ 0 ∷ 0 ∷ 0 ∷ 0 ∷ 0 ∷ 0 ∷ 0 ∷ 0 ∷ 7 ∷ 0 ∷ 3 ∷ 0 ∷ 108 ∷ 111 ∷ 0 ∷ 0 ∷ []) ≡ true
+unfolding everything
+name_without_nul-same = refl
+
+-- an empty name is a NUL alone
+abbrev empty_name : List ℕ
+empty_name = (0 ∷ 0 ∷ 0 ∷ 0 ∷ 0 ∷ 0 ∷ 0 ∷ 0 ∷ 0 ∷ 0 ∷ 0 ∷ 0 ∷ 0 ∷ 0 ∷ 0 ∷ 0 ∷ 4 ∷ 0 ∷ 3 ∷ 0 ∷ [])
+
+empty_name-accepted : link_body.accepted empty_name ≡ true
+unfolding everything
+empty_name-accepted = refl
+
+empty_name-count : link_body.count empty_name ≡ 1
+unfolding everything
+empty_name-count = refl
+
+empty_name-fits : link_body.fits empty_name ≡ true
+unfolding everything
+empty_name-fits = refl
+
+empty_name-text : link_body.canonical empty_name ≡ (0 ∷ 0 ∷ 0 ∷ 0 ∷ 0 ∷ 0 ∷ 0 ∷ 0 ∷ 0 ∷ 0 ∷ 0 ∷ 0 ∷ 0 ∷ 0 ∷ 0 ∷ 0 ∷ 5 ∷ 0 ∷ 3 ∷ 0 ∷ 0 ∷ 0 ∷ 0 ∷ 0 ∷ [])
+unfolding everything
+empty_name-text = refl
+
+empty_name-same : link_body.same empty_name (0 ∷ 0 ∷ 0 ∷ 0 ∷ 0 ∷ 0 ∷ 0 ∷ 0 ∷ 0 ∷ 0 ∷ 0 ∷ 0 ∷ 0 ∷ 0 ∷ 0 ∷ 0 ∷ 5 ∷ 0 ∷ 3 ∷ 0 ∷ 0 ∷ 0 ∷ 0 ∷ 0 ∷ []) ≡ true
+unfolding everything
+empty_name-same = refl
+
+-- of two NULs at the end one is dropped
+abbrev inner_nul_kept : List ℕ
+inner_nul_kept = (0 ∷ 0 ∷ 0 ∷ 0 ∷ 0 ∷ 0 ∷ 0 ∷ 0 ∷ 0 ∷ 0 ∷ 0 ∷ 0 ∷ 0 ∷ 0 ∷ 0 ∷ 0 ∷ 6 ∷ 0 ∷ 3 ∷ 0 ∷ 0 ∷ 0 ∷ [])
+
+inner_nul_kept-accepted : link_body.accepted inner_nul_kept ≡ true
+unfolding everything
+inner_nul_kept-accepted = refl
+
+inner_nul_kept-count : link_body.count inner_nul_kept ≡ 1
+unfolding everything
+inner_nul_kept-count = refl
+
+inner_nul_kept-fits : link_body.fits inner_nul_kept ≡ true
+unfolding everything
+inner_nul_kept-fits = refl
+
+inner_nul_kept-text : link_body.canonical inner_nul_kept ≡ (0 ∷ 0 ∷ 0 ∷ 0 ∷ 0 ∷ 0 ∷ 0 ∷ 0 ∷ 0 ∷ 0 ∷ 0 ∷ 0 ∷ 0 ∷ 0 ∷ 0 ∷ 0 ∷ 6 ∷ 0 ∷ 3 ∷ 0 ∷ 0 ∷ 0 ∷ 0 ∷ 0 ∷ [])
+unfolding everything
+inner_nul_kept-text = refl
+
+inner_nul_kept-same : link_body.same inner_nul_kept (0 ∷ 0 ∷ 0 ∷ 0 ∷ 0 ∷ 0 ∷ 0 ∷ 0 ∷ 0 ∷ 0 ∷ 0 ∷ 0 ∷ 0 ∷ 0 ∷ 0 ∷ 0 ∷ 6 ∷ 0 ∷ 3 ∷ 0 ∷ 0 ∷ 0 ∷ 0 ∷ 0 ∷ []) ≡ true
+unfolding everything
+inner_nul_kept-same = refl
+
+-- bytes that are no text
+abbrev name_not_utf8 : List ℕ
+name_not_utf8 = (0 ∷ 0 ∷ 0 ∷ 0 ∷ 0 ∷ 0 ∷ 0 ∷ 0 ∷ 0 ∷ 0 ∷ 0 ∷ 0 ∷ 0 ∷ 0 ∷ 0 ∷ 0 ∷ 6 ∷ 0 ∷ 3 ∷ 0 ∷ 255 ∷ 0 ∷ [])
+
+name_not_utf8-accepted : link_body.accepted name_not_utf8 ≡ false
+unfolding everything
+name_not_utf8-accepted = refl
+
+-- a surrogate is no text
+abbrev surrogate : List ℕ
+surrogate = (0 ∷ 0 ∷ 0 ∷ 0 ∷ 0 ∷ 0 ∷ 0 ∷ 0 ∷ 0 ∷ 0 ∷ 0 ∷ 0 ∷ 0 ∷ 0 ∷ 0 ∷ 0 ∷ 7 ∷ 0 ∷ 3 ∷ 0 ∷ 237 ∷ 160 ∷ 128 ∷ [])
+
+surrogate-accepted : link_body.accepted surrogate ≡ false
+unfolding everything
+surrogate-accepted = refl
+
+-- a raw kind keeps both flag bits
+abbrev raw_kind_keeps_flags : List ℕ
+raw_kind_keeps_flags = (0 ∷ 0 ∷ 0 ∷ 0 ∷ 0 ∷ 0 ∷ 0 ∷ 0 ∷ 0 ∷ 0 ∷ 0 ∷ 0 ∷ 0 ∷ 0 ∷ 0 ∷ 0 ∷ 5 ∷ 0 ∷ 70 ∷ 192 ∷ 1 ∷ 0 ∷ 0 ∷ 0 ∷ [])
+
+raw_kind_keeps_flags-accepted : link_body.accepted raw_kind_keeps_flags ≡ true
+unfolding everything
+raw_kind_keeps_flags-accepted = refl
+
+raw_kind_keeps_flags-count : link_body.count raw_kind_keeps_flags ≡ 1
+unfolding everything
+raw_kind_keeps_flags-count = refl
+
+raw_kind_keeps_flags-fits : link_body.fits raw_kind_keeps_flags ≡ true
+unfolding everything
+raw_kind_keeps_flags-fits = refl
+
+raw_kind_keeps_flags-text : link_body.canonical raw_kind_keeps_flags ≡ (0 ∷ 0 ∷ 0 ∷ 0 ∷ 0 ∷ 0 ∷ 0 ∷ 0 ∷ 0 ∷ 0 ∷ 0 ∷ 0 ∷ 0 ∷ 0 ∷ 0 ∷ 0 ∷ 5 ∷ 0 ∷ 70 ∷ 192 ∷ 1 ∷ 0 ∷ 0 ∷ 0 ∷ [])
+unfolding everything
+raw_kind_keeps_flags-text = refl
+
+raw_kind_keeps_flags-same : link_body.same raw_kind_keeps_flags (0 ∷ 0 ∷ 0 ∷ 0 ∷ 0 ∷ 0 ∷ 0 ∷ 0 ∷ 0 ∷ 0 ∷ 0 ∷ 0 ∷ 0 ∷ 0 ∷ 0 ∷ 0 ∷ 5 ∷ 0 ∷ 70 ∷ 192 ∷ 1 ∷ 0 ∷ 0 ∷ 0 ∷ []) ≡ true
+unfolding everything
+raw_kind_keeps_flags-same = refl
+
+-- so far link info is raw
+abbrev nested_kind_is_raw : List ℕ
+nested_kind_is_raw = (0 ∷ 0 ∷ 0 ∷ 0 ∷ 0 ∷ 0 ∷ 0 ∷ 0 ∷ 0 ∷ 0 ∷ 0 ∷ 0 ∷ 0 ∷ 0 ∷ 0 ∷ 0 ∷ 4 ∷ 0 ∷ 18 ∷ 0 ∷ [])
+
+nested_kind_is_raw-accepted : link_body.accepted nested_kind_is_raw ≡ true
+unfolding everything
+nested_kind_is_raw-accepted = refl
+
+nested_kind_is_raw-count : link_body.count nested_kind_is_raw ≡ 1
+unfolding everything
+nested_kind_is_raw-count = refl
+
+nested_kind_is_raw-fits : link_body.fits nested_kind_is_raw ≡ true
+unfolding everything
+nested_kind_is_raw-fits = refl
+
+nested_kind_is_raw-text : link_body.canonical nested_kind_is_raw ≡ (0 ∷ 0 ∷ 0 ∷ 0 ∷ 0 ∷ 0 ∷ 0 ∷ 0 ∷ 0 ∷ 0 ∷ 0 ∷ 0 ∷ 0 ∷ 0 ∷ 0 ∷ 0 ∷ 4 ∷ 0 ∷ 18 ∷ 0 ∷ [])
+unfolding everything
+nested_kind_is_raw-text = refl
+
+nested_kind_is_raw-same : link_body.same nested_kind_is_raw (0 ∷ 0 ∷ 0 ∷ 0 ∷ 0 ∷ 0 ∷ 0 ∷ 0 ∷ 0 ∷ 0 ∷ 0 ∷ 0 ∷ 0 ∷ 0 ∷ 0 ∷ 0 ∷ 4 ∷ 0 ∷ 18 ∷ 0 ∷ []) ≡ true
+unfolding everything
+nested_kind_is_raw-same = refl
+
+-- a layer type without a name is void, and the second byte is 0
+abbrev unnamed_layer_type : List ℕ
+unnamed_layer_type = (0 ∷ 5 ∷ 9 ∷ 0 ∷ 0 ∷ 0 ∷ 0 ∷ 0 ∷ 0 ∷ 0 ∷ 0 ∷ 0 ∷ 0 ∷ 0 ∷ 0 ∷ 0 ∷ [])
+
+unnamed_layer_type-accepted : link_body.accepted unnamed_layer_type ≡ true
+unfolding everything
+unnamed_layer_type-accepted = refl
+
+unnamed_layer_type-count : link_body.count unnamed_layer_type ≡ 0
+unfolding everything
+unnamed_layer_type-count = refl
+
+unnamed_layer_type-fits : link_body.fits unnamed_layer_type ≡ true
+unfolding everything
+unnamed_layer_type-fits = refl
+
+unnamed_layer_type-text : link_body.canonical unnamed_layer_type ≡ (0 ∷ 0 ∷ 255 ∷ 255 ∷ 0 ∷ 0 ∷ 0 ∷ 0 ∷ 0 ∷ 0 ∷ 0 ∷ 0 ∷ 0 ∷ 0 ∷ 0 ∷ 0 ∷ [])
+unfolding everything
+unnamed_layer_type-text = refl
+
+unnamed_layer_type-same : link_body.same unnamed_layer_type (0 ∷ 0 ∷ 255 ∷ 255 ∷ 0 ∷ 0 ∷ 0 ∷ 0 ∷ 0 ∷ 0 ∷ 0 ∷ 0 ∷ 0 ∷ 0 ∷ 0 ∷ 0 ∷ []) ≡ true
+unfolding everything
+unnamed_layer_type-same = refl
+
+-- a layer type with a name is kept
+abbrev named_layer_type : List ℕ
+named_layer_type = (10 ∷ 0 ∷ 4 ∷ 3 ∷ 1 ∷ 0 ∷ 0 ∷ 0 ∷ 2 ∷ 0 ∷ 0 ∷ 0 ∷ 3 ∷ 0 ∷ 0 ∷ 0 ∷ [])
+
+named_layer_type-accepted : link_body.accepted named_layer_type ≡ true
+unfolding everything
+named_layer_type-accepted = refl
+
+named_layer_type-count : link_body.count named_layer_type ≡ 0
+unfolding everything
+named_layer_type-count = refl
+
+named_layer_type-fits : link_body.fits named_layer_type ≡ true
+unfolding everything
+named_layer_type-fits = refl
+
+named_layer_type-text : link_body.canonical named_layer_type ≡ (10 ∷ 0 ∷ 4 ∷ 3 ∷ 1 ∷ 0 ∷ 0 ∷ 0 ∷ 2 ∷ 0 ∷ 0 ∷ 0 ∷ 3 ∷ 0 ∷ 0 ∷ 0 ∷ [])
+unfolding everything
+named_layer_type-text = refl
+
+named_layer_type-same : link_body.same named_layer_type (10 ∷ 0 ∷ 4 ∷ 3 ∷ 1 ∷ 0 ∷ 0 ∷ 0 ∷ 2 ∷ 0 ∷ 0 ∷ 0 ∷ 3 ∷ 0 ∷ 0 ∷ 0 ∷ []) ≡ true
+unfolding everything
+named_layer_type-same = refl
+
+-- fifteen bytes
+abbrev short_body : List ℕ
+short_body = (0 ∷ 0 ∷ 0 ∷ 0 ∷ 0 ∷ 0 ∷ 0 ∷ 0 ∷ 0 ∷ 0 ∷ 0 ∷ 0 ∷ 0 ∷ 0 ∷ 0 ∷ [])
+
+short_body-accepted : link_body.accepted short_body ≡ false
+unfolding everything
+short_body-accepted = refl
+
+-- a list ends inside a header
+abbrev cut_header : List ℕ
+cut_header = (0 ∷ 0 ∷ 0 ∷ 0 ∷ 0 ∷ 0 ∷ 0 ∷ 0 ∷ 0 ∷ 0 ∷ 0 ∷ 0 ∷ 0 ∷ 0 ∷ 0 ∷ 0 ∷ 4 ∷ [])
+
+cut_header-accepted : link_body.accepted cut_header ≡ false
+unfolding everything
+cut_header-accepted = refl
+
+-- a length below its header
+abbrev length_of_three : List ℕ
+length_of_three = (0 ∷ 0 ∷ 0 ∷ 0 ∷ 0 ∷ 0 ∷ 0 ∷ 0 ∷ 0 ∷ 0 ∷ 0 ∷ 0 ∷ 0 ∷ 0 ∷ 0 ∷ 0 ∷ 3 ∷ 0 ∷ 3 ∷ 0 ∷ [])
+
+length_of_three-accepted : link_body.accepted length_of_three ≡ false
+unfolding everything
+length_of_three-accepted = refl
+
+-- a length over the bytes left
+abbrev length_too_great : List ℕ
+length_too_great = (0 ∷ 0 ∷ 0 ∷ 0 ∷ 0 ∷ 0 ∷ 0 ∷ 0 ∷ 0 ∷ 0 ∷ 0 ∷ 0 ∷ 0 ∷ 0 ∷ 0 ∷ 0 ∷ 9 ∷ 0 ∷ 3 ∷ 0 ∷ 97 ∷ 97 ∷ 97 ∷ 97 ∷ [])
+
+length_too_great-accepted : link_body.accepted length_too_great ≡ false
+unfolding everything
+length_too_great-accepted = refl
+
+-- two attributes, the last padding partly there
+abbrev two_attributes : List ℕ
+two_attributes = (0 ∷ 0 ∷ 0 ∷ 0 ∷ 0 ∷ 0 ∷ 0 ∷ 0 ∷ 0 ∷ 0 ∷ 0 ∷ 0 ∷ 0 ∷ 0 ∷ 0 ∷ 0 ∷ 5 ∷ 0 ∷ 1 ∷ 0 ∷ 97 ∷ 255 ∷ 255 ∷ 255 ∷ 5 ∷ 0 ∷ 2 ∷ 0 ∷ 98 ∷ 255 ∷ [])
+
+two_attributes-accepted : link_body.accepted two_attributes ≡ true
+unfolding everything
+two_attributes-accepted = refl
+
+two_attributes-count : link_body.count two_attributes ≡ 2
+unfolding everything
+two_attributes-count = refl
+
+two_attributes-fits : link_body.fits two_attributes ≡ true
+unfolding everything
+two_attributes-fits = refl
+
+two_attributes-text : link_body.canonical two_attributes ≡ (0 ∷ 0 ∷ 0 ∷ 0 ∷ 0 ∷ 0 ∷ 0 ∷ 0 ∷ 0 ∷ 0 ∷ 0 ∷ 0 ∷ 0 ∷ 0 ∷ 0 ∷ 0 ∷ 5 ∷ 0 ∷ 1 ∷ 0 ∷ 97 ∷ 0 ∷ 0 ∷ 0 ∷ 5 ∷ 0 ∷ 2 ∷ 0 ∷ 98 ∷ 0 ∷ 0 ∷ 0 ∷ [])
+unfolding everything
+two_attributes-text = refl
+
+two_attributes-same : link_body.same two_attributes (0 ∷ 0 ∷ 0 ∷ 0 ∷ 0 ∷ 0 ∷ 0 ∷ 0 ∷ 0 ∷ 0 ∷ 0 ∷ 0 ∷ 0 ∷ 0 ∷ 0 ∷ 0 ∷ 5 ∷ 0 ∷ 1 ∷ 0 ∷ 97 ∷ 0 ∷ 0 ∷ 0 ∷ 5 ∷ 0 ∷ 2 ∷ 0 ∷ 98 ∷ 0 ∷ 0 ∷ 0 ∷ []) ≡ true
+unfolding everything
+two_attributes-same = refl

@@ -1,0 +1,4 @@
+pub mod Tables
+pub mod Body
+pub mod Together
+pub mod Cases

@@ -1,0 +1,62 @@
+-- The body of a link message: a header of 16 bytes and a list of attributes.
+use Rattle.std.specs.Prelude.{ℕ, ◌+◌, ◌*◌, ◌==◌, ◌&&◌, not, nat_le, Bool, cond, List, [], ◌∷◌, ◌++◌, length, take, drop, bytes_eq, slice_index}
+use Rattle.std.specs.List.{list_any}
+use Rattle.link_info_grammar.specs.Rules.{Rule}
+use Rattle.link_info_grammar.specs.Lists.{any}
+use Rattle.link_info_grammar.specs.Peers.{Peer, bytes_peer}
+use Rattle.link_info_grammar.specs.Tables.{Payload.list, rule}
+use Rattle.link_message_grammar.specs.LinkMessage.{Family, family_of, attributes}
+
+abbrev pub layer_types : List ℕ
+layer_types =
+    0 ∷ 1 ∷ 2 ∷ 3 ∷ 4 ∷ 5 ∷ 6 ∷ 7 ∷ 8 ∷ 15 ∷ 19 ∷ 23 ∷ 24 ∷ 27 ∷ 32 ∷ 256 ∷ 257 ∷ 258 ∷ 259 ∷ 260 ∷ 264 ∷ 270 ∷ 271 ∷ 272 ∷ 280 ∷ 290
+    ∷ 512 ∷ 513 ∷ 516 ∷ 517 ∷ 518 ∷ 519 ∷ 768 ∷ 769 ∷ 770 ∷ 771 ∷ 772 ∷ 773 ∷ 774 ∷ 775 ∷ 776 ∷ 777 ∷ 778 ∷ 779 ∷ 780 ∷ 781 ∷ 782 ∷ 783
+    ∷ 784 ∷ 785 ∷ 786 ∷ 787 ∷ 800 ∷ 801 ∷ 802 ∷ 803 ∷ 804 ∷ 805 ∷ 820 ∷ 821 ∷ 822 ∷ 823 ∷ 824 ∷ 825 ∷ 826 ∷ 65534 ∷ 65535 ∷ []
+
+unfoldable pub is_listed : ℕ → Bool
+is_listed n = list_any (λ m. m == n) layer_types
+
+-- the two bytes of a layer type; one that isn't listed is void
+abbrev pub layer_type_text : ℕ → ℕ → List ℕ
+layer_type_text a b = cond (is_listed (a + 256 * b)) (a ∷ b ∷ []) (255 ∷ 255 ∷ [])
+
+-- the header as it is written: family, 0, layer type, index, flags, change mask
+abbrev pub header_text : List ℕ → List ℕ
+header_text (family ∷ x ∷ a ∷ b ∷ rest) = family ∷ 0 ∷ layer_type_text a b ++ take 12 rest
+header_text _ = []
+
+abbrev pub attribute_bytes : List ℕ → List ℕ
+attribute_bytes b = drop 16 b
+
+abbrev pub family : List ℕ → Family
+family b = family_of (slice_index b 0)
+
+-- the attributes of a body of this family
+abbrev pub attributes_rule : Peer → Family → Rule
+attributes_rule p f = rule p (list any (attributes f))
+
+unfoldable pub body_rule : Peer → Rule
+body_rule p = record {
+  accepted = λ b. nat_le 16 (length b) && (attributes_rule p (family b)).accepted (attribute_bytes b);
+  same = λ a b. bytes_eq (header_text a) (header_text b) && (attributes_rule p (family a)).same (attribute_bytes a) (attribute_bytes b);
+  canonical = λ b. header_text b ++ (attributes_rule p (family b)).canonical (attribute_bytes b);
+  count = λ b. (attributes_rule p (family b)).count (attribute_bytes b);
+  fits = λ b. (attributes_rule p (family b)).fits (attribute_bytes b);
+  emptied = λ b. (attributes_rule p (family b)).emptied (attribute_bytes b);
+}
+
+-- a peer that is itself a link body, whose own peers are bytes
+abbrev pub link_peer_of : Rule → Peer
+link_peer_of r = record {
+  accepted = λ b. r.accepted b && not (r.emptied b) && r.fits b;
+  same = r.same;
+  canonical = r.canonical;
+  count = r.count;
+}
+
+abbrev pub link_peer : Peer
+link_peer = link_peer_of (body_rule bytes_peer)
+
+-- the rule of link bodies in force: peers are bytes
+unfoldable pub link_body : Rule
+link_body = body_rule bytes_peer

@@ -1,0 +1,3 @@
+pub mod LinkMessage
+pub mod Body
+pub mod Laws

@@ -1,0 +1,44 @@
+//! Facts of the definitions. No function here makes a call.
+
+ghost use Rattle.link_message_grammar.specs.Laws.{AttributesAreLawful, KindsRise, BodiesAreLawful, BodiesAreSmall};
+ghost use Rattle.link_message_grammar.specs.Laws.{LinkPeersAreLawful, BodiesTellMeanings, BodiesKeepMeanings, OldBodiesAreRenewed};
+
+/// Lists of link attributes are lawful, under each address family.
+pub fn attributes_are_lawful()
+    ensures { AttributesAreLawful }
+{}
+
+/// The kinds of each table rise, so none stands twice.
+pub fn kinds_rise()
+    ensures { KindsRise }
+{}
+
+/// Link bodies are lawful.
+pub fn bodies_are_lawful()
+    ensures { BodiesAreLawful }
+{}
+
+/// The canonical text of a link body is at most 77 times as long.
+pub fn bodies_are_small()
+    ensures { BodiesAreSmall }
+{}
+
+/// Peers that are link bodies are lawful.
+pub fn link_peers_are_lawful()
+    ensures { LinkPeersAreLawful }
+{}
+
+/// Two accepted bodies mean the same exactly where they have one canonical text.
+pub fn bodies_tell_meanings()
+    ensures { BodiesTellMeanings }
+{}
+
+/// A canonical text means what the body means.
+pub fn bodies_keep_meanings()
+    ensures { BodiesKeepMeanings }
+{}
+
+/// Under a rule of peers an old text becomes what the first bytes become.
+pub fn old_bodies_are_renewed()
+    ensures { OldBodiesAreRenewed }
+{}

@@ -1,0 +1,186 @@
+//! Captures, and what their normalisation gives.
+
+use hex::{decode, encode};
+use link_capture::normalize::normalize_bytes;
+use std::alloc::Global;
+use std::test::Fail;
+
+/// The texts that a capture gives, in hex, and behind them the display of its fault, if it has one.
+fn normalized(alloc: Global, capture: &[u8], limit: u32) -> Result<String, Fail> {
+    let mut out = Vec::new(alloc);
+    let outcome = normalize_bytes(alloc, capture, limit.max(16), &mut out);
+    let mut text = encode(alloc, out.as_slice())?;
+    if let Err(fault) = outcome {
+        text.push_str(format!(in alloc; " {fault}")?.as_str())?;
+    }
+    Ok(text)
+}
+
+/// The same of a capture in hex.
+fn of_hex(alloc: Global, capture: &str, limit: u32) -> Result<String, Fail> {
+    let Ok(bytes) = decode(alloc, capture) else {
+        return Err(Fail::from("not hex"));
+    };
+    normalized(alloc, bytes.as_slice(), limit)
+}
+
+/// A capture in hex, and what its normalisation is to give.
+pub struct Case {
+    pub name: &'static str,
+    pub capture: &'static str,
+    pub limit: u32,
+    pub wanted: &'static str,
+}
+
+/// The name of the first case that gives something else, if there is one.
+pub fn first_wrong(alloc: Global, cases: &[Case]) -> Result<Option<&'static str>, Fail> {
+    for case in cases {
+        let text = of_hex(alloc, case.capture, case.limit)?;
+        if text.as_str() != case.wanted {
+            return Ok(Some(case.name));
+        }
+    }
+    Ok(None)
+}
+
+/// Cases worked by hand.
+const WORKED: [Case; 14] = [
+    Case {
+        name: "no bytes are legal and have no text",
+        capture: "",
+        limit: 1000,
+        wanted: "",
+    },
+    Case {
+        name: "a canonical request is its own normal text",
+        capture: "3000000012000103340ef95a000000000000000000000000000000000000000008001d0009000000\
+            070003006c6f0000",
+        limit: 1000,
+        wanted: "3000000012000103340ef95a000000000000000000000000000000000000000008001d0009000000\
+            070003006c6f0000",
+    },
+    Case {
+        name: "flag bits and padding of a name are renewed",
+        capture: "3000000012000103340ef95a000000000000000000000000000000000000000008001d0009000000\
+            070003806c6f00ff",
+        limit: 1000,
+        wanted: "3000000012000103340ef95a000000000000000000000000000000000000000008001d0009000000\
+            070003006c6f0000",
+    },
+    Case {
+        name: "the last padding may be missing",
+        capture: "2e00000012000103340ef95a000000000000000000000000000000000000000008001d0009000000\
+            060003006c6f",
+        limit: 1000,
+        wanted: "3000000012000103340ef95a000000000000000000000000000000000000000008001d0009000000\
+            070003006c6f0000",
+    },
+    Case {
+        name: "the body of a noop is dropped",
+        capture: "14000000010000000100000000000000aabbccdd",
+        limit: 1000,
+        wanted: "10000000010000000100000000000000",
+    },
+    Case {
+        name: "an empty done gains its code and a short length stops",
+        capture: "1000000003000200010000000000000008000000030000000000000000000000",
+        limit: 1000,
+        wanted: "1400000003000200010000000000000000000000 length under 16 at 16",
+    },
+    Case {
+        name: "a text may be over the limit where its frame is not",
+        capture: "10000000030002000100000000000000",
+        limit: 16,
+        wanted: " normal text over the limit at 0",
+    },
+    Case {
+        name: "a header over the limit is not cut",
+        capture: "e9030000140000000000000000000000",
+        limit: 1000,
+        wanted: " frame over the limit at 0",
+    },
+    Case {
+        name: "a cut frame has no text",
+        capture: "3000000012000103340ef95a000000000000000000000000000000000000",
+        limit: 1000,
+        wanted: " cut frame at 0",
+    },
+    Case {
+        name: "an unknown type is kept and padded",
+        capture: "1100000014000000000000000000000061",
+        limit: 1000,
+        wanted: "1100000014000000000000000000000061000000",
+    },
+    Case {
+        name: "a raw kind keeps both flag bits",
+        capture: "2800000010000000000000000000000000000000000000000000000000000000050046c001000000",
+        limit: 1000,
+        wanted: "2800000010000000000000000000000000000000000000000000000000000000050046c001000000",
+    },
+    Case {
+        name: "the second byte and an unnamed layer type are renewed",
+        capture: "2000000010000000000000000000000000050900000000000000000000000000",
+        limit: 1000,
+        wanted: "200000001000000000000000000000000000ffff000000000000000000000000",
+    },
+    Case {
+        name: "a done body of two bytes is refused",
+        capture: "120000000300000000000000000000000000",
+        limit: 1000,
+        wanted: " refused body at 0",
+    },
+    Case {
+        name: "two frames are written one after the other",
+        capture: "3000000012000103340ef95a000000000000000000000000000000000000000008001d0009000000\
+            070003006c6f00003000000012000103340ef95a0000000000000000000000000000000000000000\
+            08001d0009000000070003006c6f0000",
+        limit: 1000,
+        wanted: "3000000012000103340ef95a000000000000000000000000000000000000000008001d0009000000\
+            070003006c6f00003000000012000103340ef95a0000000000000000000000000000000000000000\
+            08001d0009000000070003006c6f0000",
+    },
+];
+
+#[test]
+fn worked_captures(rt: HostRuntime) -> Result<(), Fail> {
+    assert_eq!(rt; first_wrong(rt.alloc(), &WORKED)?, None);
+    Ok(())
+}
+
+/// A new link whose name has so many bytes `a`, and then this last byte, under a limit of 1000000.
+fn long_name(alloc: Global, last: u8) -> Result<Vec<u8>, Fail> {
+    let mut capture = Vec::new(alloc);
+    capture.extend_from_slice(&[0x1f, 0, 1, 0, 16, 0, 0, 0, 0, 0, 0, 0, 0, 0, 0, 0])?;
+    capture.extend_from_slice(&[0; 16])?;
+    capture.extend_from_slice(&[0xff, 0xff, 3, 0])?;
+    capture.resize(65566, 0x61)?;
+    capture.push(last)?;
+    Ok(capture)
+}
+
+#[test]
+fn a_name_of_65531_bytes_does_not_fit(rt: HostRuntime) -> Result<(), Fail> {
+    let capture = long_name(rt.alloc(), 0x61)?;
+    let text = normalized(rt.alloc(), capture.as_slice(), 1000000)?;
+    assert_eq!(rt; text.as_str(), " attribute over 65535 at 0");
+    Ok(())
+}
+
+#[test]
+fn a_name_of_65530_bytes_fits(rt: HostRuntime) -> Result<(), Fail> {
+    let capture = long_name(rt.alloc(), 0)?;
+    let mut out = Vec::new(rt.alloc());
+    let outcome = normalize_bytes(rt.alloc(), capture.as_slice(), 1000000, &mut out);
+    assert!(rt; outcome.is_ok());
+    assert_eq!(rt; out.len(), 65568);
+    assert_eq!(rt;
+        &out.as_slice()[..8],
+        [0x20u8, 0, 1, 0, 16, 0, 0, 0].as_slice()
+    );
+    assert_eq!(rt;
+        &out.as_slice()[32..40],
+        [0xffu8, 0xff, 3, 0, 0x61, 0x61, 0x61, 0x61].as_slice()
+    );
+    assert_eq!(rt; &out.as_slice()[65564..], [0x61u8, 0x61, 0, 0].as_slice());
+    Ok(())
+}

@@ -1,0 +1,9 @@
+// Worked cases across the crates, as tests. The wanted values come from outside this project's code.
+#![tactic(auto)]
+
+#[cfg(test)]
+mod captures;
+#[cfg(test)]
+mod vectors;
+#[cfg(test)]
+mod words;

@@ -1,0 +1,68 @@
+-- Lists of attributes: a length, a kind, that many bytes, and zeros up to a multiple of 4.
+use Rattle.std.specs.Prelude.{◌≡◌, ℕ, zero, suc, ◌+◌, ◌-◌, ◌*◌, ◌/◌, ◌%◌, ◌&&◌, nat_le, List, [], ◌∷◌, ◌++◌, length, take, drop, replicate, Option, Some, None, option_map, cond}
+
+-- the least multiple of 4 not below n
+abbrev pub nla_align : ℕ → ℕ
+nla_align n = (n + 3) / 4 * 4
+
+pub record Attribute : Type 0 where
+  pub kind : ℕ
+  pub payload : List ℕ
+
+-- the kind without its two flag bits
+abbrev pub proper_kind : ℕ → ℕ
+proper_kind k = k % 0x4000
+
+-- the size that the header tells, and the attribute's bytes with their padding
+abbrev pub attribute_length : Attribute → ℕ
+attribute_length e = 4 + length e.payload
+
+abbrev pub zeros : ℕ → List ℕ
+zeros n = replicate n 0
+
+-- two numbers of two bytes, the lower byte first
+abbrev pub attribute_header : ℕ → ℕ → List ℕ
+attribute_header size kind = size % 256 ∷ size / 256 ∷ kind % 256 ∷ kind / 256 ∷ []
+
+-- an attribute as it is written
+unfoldable pub attribute_text : Attribute → List ℕ
+attribute_text e = attribute_header (attribute_length e) e.kind ++ (e.payload ++ zeros (nla_align (attribute_length e) - attribute_length e))
+
+unfoldable pub list_text : List Attribute → List ℕ
+list_text [] = []
+list_text (e ∷ es) = attribute_text e ++ list_text es
+
+-- the size of a list's text
+abbrev pub list_size : List Attribute → ℕ
+list_size [] = 0
+list_size (e ∷ es) = nla_align (attribute_length e) + list_size es
+
+-- the attribute of this size and kind in front of these bytes, with what comes after its padding
+abbrev pub cut_attribute : ℕ → ℕ → List ℕ → Option (Attribute × List ℕ)
+cut_attribute size kind bytes =
+    cond (nat_le 4 size && nat_le size (4 + length bytes))
+    (Some (record { kind = kind; payload = take (size - 4) bytes }, drop (nla_align size - 4) bytes))
+    None
+
+-- the attribute that begins the bytes, with what comes after its padding
+unfoldable pub first_attribute : List ℕ → Option (Attribute × List ℕ)
+first_attribute (a ∷ b ∷ c ∷ d ∷ bytes) = cut_attribute (a + 256 * b) (c + 256 * d) bytes
+first_attribute _ = None
+
+-- the bytes are a list of these attributes
+abbrev pub IsAttributeList : List ℕ → List Attribute → Type 0
+IsAttributeList bytes [] = bytes ≡ []
+IsAttributeList bytes (e ∷ es) = (rest : List ℕ) × (first_attribute bytes ≡ Some (e, rest)) × IsAttributeList rest es
+
+abbrev pub if_some : {A B : Type 0} → Option A → (A → Option B) → Option B
+if_some None f = None
+if_some (Some x) f = f x
+
+-- the attributes of which the bytes are a list, in at most so many steps
+unfoldable pub attributes_within : ℕ → List ℕ → Option (List Attribute)
+attributes_within n [] = Some []
+attributes_within zero (b ∷ bytes) = None
+attributes_within (suc n) (b ∷ bytes) = if_some (first_attribute (b ∷ bytes)) (λ x. option_map (λ es. x.0 ∷ es) (attributes_within n x.1))
+
+abbrev pub attributes_of : List ℕ → Option (List Attribute)
+attributes_of bytes = attributes_within (length bytes) bytes

@@ -1,0 +1,9 @@
+pub mod Attributes
+pub mod Bytes
+pub mod Numbers
+pub mod AttributeViews
+pub mod Texts
+pub mod Truths
+pub mod Frames
+pub mod Fits
+pub mod Laws

@@ -1,3 +1,4 @@
-pub mod Parts
 pub mod LinkBody
+pub mod Messages
+pub mod Judging
 pub mod Commands

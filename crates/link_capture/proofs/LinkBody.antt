@@ -25,6 +25,7 @@ use Rattle.link_capture_grammar.specs.Bodies.{ruled_text}
 use Rattle.link_capture_grammar.specs.Captures.{faulty}
 use Rattle.link_capture.specs.LinkBody.{link_row, link_attributes}
 use Rattle.link_capture.specs.Judged.{IsJudged}
+use Rattle.link_capture.specs.Bodies.{HasText}
 
 abbrev pub Met : List ℕ → Measure → List ℕ → Type 0
 Met bytes m rest = SoFar bytes_peer (attributes unspec) bytes m rest
@@ -218,3 +219,7 @@ not_false false h = absurd cc
 -- a judged body has its canonical text
 pub ruled_ok : (b : List ℕ) (n : ℕ) → IsJudged b n → ruled_text link_body b ≡ Ok (link_body.canonical b)
 ruled_ok b n j = rw (j.accepted, j.emptied, j.fits) refl
+
+-- and that text has the length that was judged
+pub judged_text : (b : List ℕ) (n : ℕ) → IsJudged b n → HasText (ruled_text link_body b) n
+judged_text b n j = (link_body.canonical b, ruled_ok b n j, j.length_is)

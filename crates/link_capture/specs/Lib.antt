@@ -1,4 +1,6 @@
 pub mod LinkBody
 pub mod Judged
+pub mod Parts
 pub mod Bodies
+pub mod CanonicalBodies
 pub mod Commands

@@ -7,7 +7,6 @@ pub mod command;
 mod frames;
 mod link_body;
 pub mod normalize;
-mod numbers;
 
 pub use command::{Command, read_words, status_norm};
 pub use link_capture_grammar::fault::{CaptureFault, FaultKind};

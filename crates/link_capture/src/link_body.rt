@@ -1,7 +1,7 @@
 //! The body of a link message, judged and written on its bytes.
 
 ghost use Rattle.std.specs.Prelude.{◌≡◌, ◌+◌, ◌*◌, ◌^◌, ◌≤◌, ◌<◌, ◌++◌, true, option_map, length, take, IfSome, IfOk, IfErr, OnOk, OnErr, Err};
-ghost use Rattle.netlink_packet_core_grammar.specs.Attributes.{attribute_text, Attribute, proper_kind};
+ghost use Rattle.netlink_packet_core.specs.Attributes.{attribute_text, Attribute, proper_kind};
 ghost use Rattle.link_info_grammar.specs.Shapes.{text};
 ghost use Rattle.link_info_grammar.specs.Rules.{shape_rule};
 ghost use Rattle.link_info_grammar.specs.Lists.{rewrite};
@@ -12,7 +12,9 @@ ghost use Rattle.link_capture_grammar.specs.Captures.{faulty};
 ghost use Rattle.link_capture.specs.LinkBody.{view, link_row, link_attributes};
 ghost use Rattle.link_capture.specs.Judged.{IsJudged};
 
-use super::attributes::{RawAttribute, first_attribute, push_attribute, without_nul};
+use super::attributes::{
+    AttributeParts, RawAttribute, first_attribute, push_attribute, without_nul,
+};
 use link_capture_grammar::fault::FaultKind;
 use std::alloc::AllocError;
 
@@ -22,19 +24,19 @@ const IFLA_IFNAME: u16 = 3;
 /// How long a text is, its attribute headers, and whether each of its lengths fits a header.
 #[derive(Clone, Copy)]
 pub(crate) struct TextMeasure {
-    pub text_len: u64,
+    pub text_len: u128,
     pub attributes: u64,
     pub fits: bool,
 }
 
 /// The measure of a payload of so many bytes that holds no attributes.
-fn payload_of(text_len: usize) -> TextMeasure
+fn payload_of(text_len: u128) -> TextMeasure
     ensures length { result.text_len ≡ text_len }
     ensures none { result.attributes ≡ 0 }
     ensures fits { result.fits ≡ true }
 {
     TextMeasure {
-        text_len: text_len as u64,
+        text_len,
         attributes: 0,
         fits: true,
     }
@@ -46,7 +48,7 @@ fn check_text(payload: &[u8]) -> Option<TextMeasure>
 {
     let text = without_nul(payload);
     match str::from_utf8(text) {
-        Ok(_) => Some(payload_of(text.len() + 1)),
+        Ok(_) => Some(payload_of(text.len() as u128 + 1)),
         Err(_) => None,
     }
 }
@@ -59,14 +61,14 @@ fn check_payload(kind: u16, payload: &[u8]) -> Option<TextMeasure>
     if kind == IFLA_IFNAME {
         check_text(payload)
     } else {
-        Some(payload_of(payload.len()))
+        Some(payload_of(payload.len() as u128))
     }
 }
 
 /// The measure of a list with one attribute more.
 fn with_attribute(total: TextMeasure, inside: TextMeasure) -> TextMeasure
-    requires length { total.text_len + inside.text_len < 2 ^ 60 }
-    requires attributes { total.attributes + inside.attributes < 2 ^ 60 }
+    requires length { total.text_len + inside.text_len < 2 ^ 100 }
+    requires attributes { total.attributes + inside.attributes < 2 ^ 63 }
     ensures { view result ≡ plus (view total) (with_header (view inside)) }
 {
     let size = 4 + inside.text_len;
@@ -79,7 +81,6 @@ fn with_attribute(total: TextMeasure, inside: TextMeasure) -> TextMeasure
 
 /// Judges a list of link attributes.
 fn check_attributes(bytes: &[u8]) -> Option<TextMeasure>
-    requires { length bytes.now < 2 ^ 32 }
     ensures measure { option_map view result ≡ measure link_attributes bytes.now }
     ensures small { IfSome result (λ m. m.text_len ≤ 77 * length bytes.now) }
 {
@@ -122,11 +123,21 @@ fn push_row(attribute: RawAttribute<'_>, out: &mut Vec<u8>) -> Result<(), AllocE
         ++ attribute_text (rewrite (link_row (proper_kind attribute.entry.kind)) (record { kind = attribute.entry.kind; payload = attribute.entry.payload.now }))) }
     ensures err { OnErr result (take (length out.old.items) out.new.items ≡ out.old.items) }
 {
-    if attribute.kind % 0x4000 == IFLA_IFNAME {
-        push_attribute(IFLA_IFNAME, without_nul(attribute.payload), &[0], out)
+    let payload = attribute.payload;
+    let parts = if attribute.kind % 0x4000 == IFLA_IFNAME {
+        AttributeParts {
+            kind: IFLA_IFNAME,
+            payload: without_nul(payload),
+            payload_end: &[0],
+        }
     } else {
-        push_attribute(attribute.kind, attribute.payload, &[], out)
-    }
+        AttributeParts {
+            kind: attribute.kind,
+            payload,
+            payload_end: &[],
+        }
+    };
+    push_attribute(&parts, out)
 }
 
 /// The link layer types that have a name (if_arp.h, ARPHRD_*). Any other is written as ARPHRD_VOID.
@@ -173,14 +184,13 @@ fn push_header(bytes: &[u8], out: &mut Vec<u8>) -> Result<(), AllocError>
 #[derive(Clone, Copy)]
 pub(crate) struct LinkBody<'a> {
     pub bytes: &'a [u8],
-    pub text_len: usize,
+    pub text_len: u128,
     pub ghost judged: { IsJudged bytes.now text_len },
 }
 
 impl<'a> LinkBody<'a> {
     /// Judges the body of a link message.
     pub(crate) fn read(bytes: &'a [u8]) -> Result<Self, FaultKind>
-        requires { length bytes.now < 2 ^ 32 }
         ensures ok { IfOk result (λ b. b.bytes.now ≡ bytes.now) }
         ensures err { IfErr result (λ kind. faulty (ruled_text link_body bytes.now) ≡ Err kind) }
     {
@@ -195,7 +205,7 @@ impl<'a> LinkBody<'a> {
         }
         Ok(LinkBody {
             bytes,
-            text_len: 16 + measure.text_len as usize,
+            text_len: 16 + measure.text_len,
         })
     }
 

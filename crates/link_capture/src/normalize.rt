@@ -1,11 +1,11 @@
 //! The normal text of a whole capture.
 
 ghost use Rattle.std.specs.Prelude.{◌≡◌, ◌≢◌, ◌+◌, ◌≤◌, ◌<◌, ◌%◌, ◌++◌, length, take, None, Some, IfErr, OnOk};
-ghost use Rattle.link_capture_grammar.specs.Captures.{first_fault, texts, StopsAt};
+ghost use Rattle.link_capture_grammar.specs.Captures.{first_fault, texts, IsLegal, StopsAt};
 
 use super::frames::push_frame;
-use super::numbers::aligned;
 use link_capture_grammar::fault::{CaptureFault, FaultKind};
+use netlink_packet_core::nla_align;
 use std::alloc::Global;
 
 /// Writes the normal text of a capture at the end of `out`.
@@ -15,7 +15,7 @@ use std::alloc::Global;
 /// normal text. Otherwise the answer is the first fault with its place, and `out` gains the texts of the messages
 /// before it; for want of memory the place is that of some message, and what stands before it is legal.
 pub fn normalize_bytes(
-    _alloc: Global,
+    alloc: Global,
     bytes: &[u8],
     limit: u32,
     out: &mut Vec<u8>,
@@ -27,14 +27,16 @@ pub fn normalize_bytes(
     ensures fault { IfErr result (λ fault. fault.kind ≢ FaultKind.Memory → (first_fault limit bytes.now ≡ Some fault) × (out.new.items ≡ out.old.items ++ texts limit bytes.now)) }
     // A fault stands at a frame's start.
     ensures place { IfErr result (λ fault. (fault.offset < length bytes.now) × (fault.offset % 4 ≡ 0)) }
+    // A normal text is legal, and its own normal text.
+    ensures normal { IsLegal limit (texts limit bytes.now) × (texts limit (texts limit bytes.now) ≡ texts limit bytes.now) }
     // Where memory ran out, what stands before the place is legal, and has been written.
     ensures memory { IfErr result (λ fault. fault.kind ≡ FaultKind.Memory → StopsAt limit bytes.now fault.offset × (out.new.items ≡ out.old.items ++ texts limit (take fault.offset bytes.now))) }
 {
     let mut at = 0usize;
     while at < bytes.len() {
-        match push_frame(&bytes[at..], limit, out) {
+        match push_frame(alloc, &bytes[at..], limit, out) {
             Ok(length) => {
-                let size = aligned(length as u32);
+                let size = nla_align(length);
                 if size >= bytes.len() - at {
                     return Ok(());
                 }

@@ -106,7 +106,7 @@ judged_texted limit c (Ok body) frame h =
       | inr a ↦ (let e : (frame_length c, frame_text c body) ≡ frame = (let f = a.1 in cc) in (body, refl, ap (λ (p : ℕ × List ℕ). p.1) (sym e), ltb-false _ _ a.0))
     ]
 
-tested_ok : (limit size claimed : ℕ) (j : Judged) → 16 ≤ size → claimed ≤ size → 16 ≤ claimed → claimed ≤ limit → tested limit size claimed j ≡ j
+pub tested_ok : (limit size claimed : ℕ) (j : Judged) → 16 ≤ size → claimed ≤ size → 16 ≤ claimed → claimed ≤ limit → tested limit size claimed j ≡ j
 tested_ok limit size claimed j a b c d = rw (le-ltb size 16 a, le-ltb size claimed b, le-ltb claimed 16 c, le-ltb limit claimed d)
 
 pub texted : (limit : ℕ) (c : List ℕ) (frame : ℕ × List ℕ) → first_frame limit c ≡ Ok frame → Texted limit c frame

@@ -9,3 +9,8 @@ pub mod FlatWalk
 pub mod FlatText
 pub mod Renewed
 pub mod Together
+pub mod FlatTables
+pub mod Readings
+pub mod Named
+pub mod Names
+pub mod Families

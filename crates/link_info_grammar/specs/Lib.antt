@@ -4,5 +4,8 @@ pub mod Lists
 pub mod Peers
 pub mod Tables
 pub mod Rows
+pub mod FlatTables
+pub mod Families
+pub mod Readings
 pub mod Walk
 pub mod Laws

@@ -4,6 +4,8 @@
 #[cfg(test)]
 mod captures;
 #[cfg(test)]
+mod core_calls;
+#[cfg(test)]
 mod vectors;
 #[cfg(test)]
 mod words;

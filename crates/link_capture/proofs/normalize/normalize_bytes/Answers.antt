@@ -4,6 +4,7 @@ use Rattle.std.proofs.lemmas.List.{append-nil, take_all, take_rest}
 use Rattle.netlink_packet_core_grammar.specs.Attributes.{nla_align}
 use Rattle.link_capture_grammar.specs.Captures.{first_frame, first_fault, texts}
 use Rattle.link_capture_grammar.proofs.Frames.{passed_none, passed_fault, passed_texts, passed_stop_fault, passed_stop_texts, texts_nil, grown}
+use Rattle.link_capture_grammar.proofs.Normal.{texts_legal, texts_again}
 use Rattle.link_capture.proofs.normalize.normalize_bytes.Goals as goal
 
 pub loop-at-init : goal.loop-at-init
@@ -14,7 +15,7 @@ loop-at-preserved c =
     let ok = c.in-Ok.ensures.ok in
     let frame = ap (first_frame c.args.limit) (sym (take_rest c.args.bytes.now c.loop-at.at)) ∙ ok.1 in
     let w = c.loop-at.invariant in
-    let size : c.aligned-size.result ≡ nla_align c.in-Ok.length = c.aligned-size.ensures in
+    let size : c.nla_align-size.result ≡ nla_align c.in-Ok.length = c.nla_align-size.ensures in
     record {
       passed = record {
         inside = omega arith;
@@ -29,7 +30,7 @@ returns-then-size-bytes-clause-legal c =
     let ok = c.in-Ok.ensures.ok in
     let frame = ap (first_frame c.args.limit) (sym (take_rest c.args.bytes.now c.loop-at.at)) ∙ ok.1 in
     let w = c.loop-at.invariant in
-    let size : c.aligned-size.result ≡ nla_align c.in-Ok.length = c.aligned-size.ensures in
+    let size : c.nla_align-size.result ≡ nla_align c.in-Ok.length = c.nla_align-size.ensures in
     let whole : take (c.loop-at.at + nla_align c.in-Ok.length) c.args.bytes.now ≡ c.args.bytes.now = take_all _ _ (omega arith) in (
       ap (first_fault c.args.limit) (sym whole) ∙ passed_fault c.args.limit c.args.bytes.now c.loop-at.at (c.in-Ok.length, ok.0) w.passed frame,
       grown c.args.out.now.items (texts c.args.limit (take c.loop-at.at c.args.bytes.now)) ok.0 w.written ok.2 (ap (texts c.args.limit) (sym whole) ∙ passed_texts c.args.limit c.args.bytes.now c.loop-at.at (c.in-Ok.length, ok.0) w.passed frame),
@@ -42,3 +43,12 @@ returns-in-Err-clause-fault c = λ n.
       passed_stop_fault c.args.limit c.args.bytes.now c.loop-at.at c.in-Err.kind w.passed (omega arith) stuck,
       c.in-Err.ensures.err ∙ w.written ∙ ap (λ t. c.args.out.now.items ++ t) (sym (passed_stop_texts c.args.limit c.args.bytes.now c.loop-at.at c.in-Err.kind w.passed stuck)),
     )
+
+pub returns-then-size-bytes-clause-normal : goal.returns-then-size-bytes-clause-normal
+returns-then-size-bytes-clause-normal c = (texts_legal c.args.limit 0 c.args.bytes.now c.ranges.limit.fits, texts_again c.args.limit 0 c.args.bytes.now c.ranges.limit.fits)
+
+pub returns-in-Err-clause-normal : goal.returns-in-Err-clause-normal
+returns-in-Err-clause-normal c = (texts_legal c.args.limit 0 c.args.bytes.now c.ranges.limit.fits, texts_again c.args.limit 0 c.args.bytes.now c.ranges.limit.fits)
+
+pub returns-clause-normal : goal.returns-clause-normal
+returns-clause-normal c = (texts_legal c.args.limit 0 c.args.bytes.now c.ranges.limit.fits, texts_again c.args.limit 0 c.args.bytes.now c.ranges.limit.fits)

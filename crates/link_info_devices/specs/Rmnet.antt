@@ -1,0 +1,25 @@
+-- The data of rmnet: the kind and the payload of each value.
+use Rattle.std.specs.Prelude.{ℕ, List, ◌++◌}
+use Rattle.netlink_packet_core.specs.Attributes.{Attribute, proper_kind}
+use Rattle.netlink_packet_core.specs.Numbers.{le2, le4}
+use Rattle.link_info_types.specs.RmNetTypes.{rm_net_flags_bits}
+use Rattle.link_info_grammar.specs.Families.{rmnet_rows}
+use Rattle.link_info_grammar.specs.FlatTables.{has_no_row}
+use Rattle.link_info_lists.specs.Families.{attribute}
+use Rattle.link_info_devices.specs.declared.rmnet.InfoRmNet.{InfoRmNet}
+use Rattle.link_info_devices.specs.declared.rmnet.InfoRmNet.TheVariants.{MuxId, Flags, Other}
+use Rattle.link_info_devices.specs.declared.rmnet.InfoRmNetFlags.{InfoRmNetFlags}
+
+-- the flags, then their mask
+abbrev pub flags_bytes : InfoRmNetFlags → List ℕ
+flags_bytes f = le4 (rm_net_flags_bits f.flags) ++ le4 (rm_net_flags_bits f.mask)
+
+abbrev pub rmnet_entry : InfoRmNet → Attribute
+rmnet_entry (MuxId n) = attribute 1 (le2 n)
+rmnet_entry (Flags f) = attribute 2 (flags_bytes f)
+rmnet_entry (Other a) = a
+
+-- no kind that has a row is read as another attribute
+abbrev pub rmnet_names_row : InfoRmNet → Type 0
+rmnet_names_row (Other a) = has_no_row rmnet_rows (proper_kind a.kind)
+rmnet_names_row _ = Unit {0}

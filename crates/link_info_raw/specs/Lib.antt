@@ -1,0 +1,2 @@
+pub mod RawRows
+pub mod RawData

@@ -1,0 +1,391 @@
+//! Numbers, texts and flags of GRE and ERSPAN.
+
+ghost use Rattle.std.specs.Prelude.{◌≡◌, Some, ⊤};
+ghost use Rattle.link_info_tunnel_types.specs.GreTypes.{gre_io_flags_bits, gre_io_flags_table, gre_encap_flags_bits, gre_encap_flags_table, gre_encap_type_number, gre_encap_type_of, gre_encap_type_text, er_span_dir_number, er_span_dir_of, er_span_dir_text};
+
+use bitflags::{Flag, Flags};
+use std::fmt;
+
+const GRE_CSUM: u16 = 0x8000;
+
+const GRE_ROUTING: u16 = 0x4000;
+
+const GRE_KEY: u16 = 0x2000;
+
+const GRE_SEQ: u16 = 0x1000;
+
+const GRE_STRICT: u16 = 0x0800;
+
+const GRE_REC: u16 = 0x0700;
+
+const GRE_ACK: u16 = 0x0080;
+
+const GRE_FLAGS: u16 = 0x0078;
+
+const GRE_VERSION: u16 = 0x0007;
+
+/// The flags of a GRE header, `GRE_*` of `linux/if_tunnel.h`. On the wire 2 bytes, big-endian; all
+/// bits are kept.
+#[derive(Debug, Clone, Copy, PartialEq, Eq)]
+pub struct GreIOFlags(u16);
+
+impl GreIOFlags {
+    /// There is a checksum: `GRE_CSUM`.
+    pub const Checksum: Self = Self(GRE_CSUM);
+    /// There is routing information: `GRE_ROUTING`.
+    pub const Routing: Self = Self(GRE_ROUTING);
+    /// There is a key: `GRE_KEY`.
+    pub const Key: Self = Self(GRE_KEY);
+    /// There is a sequence number: `GRE_SEQ`.
+    pub const Seq: Self = Self(GRE_SEQ);
+    /// The source route is strict: `GRE_STRICT`.
+    pub const Strict0: Self = Self(GRE_STRICT);
+    /// The bits of recursion control: `GRE_REC`.
+    pub const Rec: Self = Self(GRE_REC);
+    /// There is an acknowledgment number: `GRE_ACK`.
+    pub const Ack: Self = Self(GRE_ACK);
+    /// The bits that are reserved: `GRE_FLAGS`.
+    pub const Flags: Self = Self(GRE_FLAGS);
+    /// The bits of the version: `GRE_VERSION`.
+    pub const Version: Self = Self(GRE_VERSION);
+
+    const FLAGS: [Flag<GreIOFlags>; 9] = [
+        Flag {
+            name: "Checksum",
+            value: Self::Checksum,
+        },
+        Flag {
+            name: "Routing",
+            value: Self::Routing,
+        },
+        Flag {
+            name: "Key",
+            value: Self::Key,
+        },
+        Flag {
+            name: "Seq",
+            value: Self::Seq,
+        },
+        Flag {
+            name: "Strict0",
+            value: Self::Strict0,
+        },
+        Flag {
+            name: "Rec",
+            value: Self::Rec,
+        },
+        Flag {
+            name: "Ack",
+            value: Self::Ack,
+        },
+        Flag {
+            name: "Flags",
+            value: Self::Flags,
+        },
+        Flag {
+            name: "Version",
+            value: Self::Version,
+        },
+    ];
+}
+
+impl Flags for GreIOFlags {
+    type Bits = u16;
+
+    ghost exact = { ⊤ };
+
+    ghost table = { gre_io_flags_table };
+
+    ghost set_of = { gre_io_flags_bits };
+
+    fn flags<'a>() -> &'a [Flag<GreIOFlags>] {
+        &GreIOFlags::FLAGS
+    }
+
+    fn bits(&self) -> u16 {
+        self.0
+    }
+
+    fn from_bits_retain(bits: u16) -> GreIOFlags {
+        GreIOFlags(bits)
+    }
+}
+
+impl Default for GreIOFlags {
+    ghost is_default = { λ f. gre_io_flags_bits f ≡ 0 };
+
+    fn default() -> Self {
+        Self::empty()
+    }
+}
+
+const TUNNEL_ENCAP_FLAG_CSUM: u16 = 0x01;
+
+const TUNNEL_ENCAP_FLAG_CSUM6: u16 = 0x02;
+
+const TUNNEL_ENCAP_FLAG_REMCSUM: u16 = 0x04;
+
+/// What the outer UDP header of a GRE tunnel holds, `TUNNEL_ENCAP_FLAG_*` of `linux/if_tunnel.h`.
+/// On the wire 2 bytes in native order; all bits are kept.
+#[derive(Debug, Clone, Copy, PartialEq, Eq)]
+pub struct GreEncapFlags(u16);
+
+impl GreEncapFlags {
+    /// A checksum over IPv4: `TUNNEL_ENCAP_FLAG_CSUM`.
+    pub const Checksum: Self = Self(TUNNEL_ENCAP_FLAG_CSUM);
+    /// A checksum over IPv6: `TUNNEL_ENCAP_FLAG_CSUM6`.
+    pub const Checksum6: Self = Self(TUNNEL_ENCAP_FLAG_CSUM6);
+    /// A remote checksum: `TUNNEL_ENCAP_FLAG_REMCSUM`.
+    pub const RemoteChecksum: Self = Self(TUNNEL_ENCAP_FLAG_REMCSUM);
+
+    const FLAGS: [Flag<GreEncapFlags>; 3] = [
+        Flag {
+            name: "Checksum",
+            value: Self::Checksum,
+        },
+        Flag {
+            name: "Checksum6",
+            value: Self::Checksum6,
+        },
+        Flag {
+            name: "RemoteChecksum",
+            value: Self::RemoteChecksum,
+        },
+    ];
+}
+
+impl Flags for GreEncapFlags {
+    type Bits = u16;
+
+    ghost exact = { ⊤ };
+
+    ghost table = { gre_encap_flags_table };
+
+    ghost set_of = { gre_encap_flags_bits };
+
+    fn flags<'a>() -> &'a [Flag<GreEncapFlags>] {
+        &GreEncapFlags::FLAGS
+    }
+
+    fn bits(&self) -> u16 {
+        self.0
+    }
+
+    fn from_bits_retain(bits: u16) -> GreEncapFlags {
+        GreEncapFlags(bits)
+    }
+}
+
+impl Default for GreEncapFlags {
+    ghost is_default = { λ f. gre_encap_flags_bits f ≡ 0 };
+
+    fn default() -> Self {
+        Self::empty()
+    }
+}
+
+const TUNNEL_ENCAP_NONE: u16 = 0;
+
+const TUNNEL_ENCAP_FOU: u16 = 1;
+
+const TUNNEL_ENCAP_GUE: u16 = 2;
+
+/// What a GRE tunnel is wrapped in, `TUNNEL_ENCAP_*` of `linux/if_tunnel.h`. On the wire 2 bytes in
+/// native order.
+#[derive(Debug, PartialEq, Eq, Clone, Copy, Default)]
+pub enum GreEncapType {
+    /// Nothing: `TUNNEL_ENCAP_NONE`, 0.
+    #[default]
+    None,
+    /// UDP, directly: `TUNNEL_ENCAP_FOU`, 1.
+    Fou,
+    /// Generic UDP encapsulation: `TUNNEL_ENCAP_GUE`, 2.
+    Gue,
+    /// Every other number.
+    Other(u16),
+}
+
+impl From<u16> for GreEncapType {
+    ghost from_gives = { λ n t. t ≡ gre_encap_type_of n };
+
+    fn from(number: u16) -> Self
+        ensures named { result ≡ gre_encap_type_of number }
+        ensures keeps_the_number { gre_encap_type_number result ≡ number }
+    {
+        match number {
+            TUNNEL_ENCAP_NONE => Self::None,
+            TUNNEL_ENCAP_FOU => Self::Fou,
+            TUNNEL_ENCAP_GUE => Self::Gue,
+            _ => Self::Other(number),
+        }
+    }
+}
+
+impl From<&GreEncapType> for u16 {
+    ghost from_gives = { λ t n. n ≡ gre_encap_type_number t.now };
+
+    fn from(value: &GreEncapType) -> Self {
+        match value {
+            GreEncapType::None => TUNNEL_ENCAP_NONE,
+            GreEncapType::Fou => TUNNEL_ENCAP_FOU,
+            GreEncapType::Gue => TUNNEL_ENCAP_GUE,
+            GreEncapType::Other(number) => *number,
+        }
+    }
+}
+
+impl fmt::Display for GreEncapType {
+    ghost output = { λ t. Some (gre_encap_type_text t) };
+
+    fn fmt<W: fmt::Write>(&self, f: &mut fmt::Formatter<W>) -> fmt::Result {
+        match self {
+            Self::None => f.write_str("none"),
+            Self::Fou => f.write_str("fou"),
+            Self::Gue => f.write_str("gue"),
+            Self::Other(number) => write!(f, "other({number})"),
+        }
+    }
+}
+
+const ERSPAN_DIR_INGRESS: u8 = 0;
+
+const ERSPAN_DIR_EGRESS: u8 = 1;
+
+/// Which frames an ERSPAN tunnel of version 2 mirrors, as in `IFLA_GRE_ERSPAN_DIR`. On the wire 1
+/// byte.
+#[derive(Debug, PartialEq, Eq, Clone, Copy, Default)]
+pub enum ErSpanDir {
+    /// Those that come in: 0.
+    #[default]
+    Ingress,
+    /// Those that go out: 1.
+    Egress,
+    /// Every other number.
+    Other(u8),
+}
+
+impl From<u8> for ErSpanDir {
+    ghost from_gives = { λ n d. d ≡ er_span_dir_of n };
+
+    fn from(number: u8) -> Self
+        ensures named { result ≡ er_span_dir_of number }
+        ensures keeps_the_number { er_span_dir_number result ≡ number }
+    {
+        match number {
+            ERSPAN_DIR_INGRESS => Self::Ingress,
+            ERSPAN_DIR_EGRESS => Self::Egress,
+            _ => Self::Other(number),
+        }
+    }
+}
+
+impl From<&ErSpanDir> for u8 {
+    ghost from_gives = { λ d n. n ≡ er_span_dir_number d.now };
+
+    fn from(value: &ErSpanDir) -> Self {
+        match value {
+            ErSpanDir::Ingress => ERSPAN_DIR_INGRESS,
+            ErSpanDir::Egress => ERSPAN_DIR_EGRESS,
+            ErSpanDir::Other(number) => *number,
+        }
+    }
+}
+
+impl fmt::Display for ErSpanDir {
+    ghost output = { λ d. Some (er_span_dir_text d) };
+
+    fn fmt<W: fmt::Write>(&self, f: &mut fmt::Formatter<W>) -> fmt::Result {
+        match self {
+            Self::Ingress => f.write_str("ingress"),
+            Self::Egress => f.write_str("egress"),
+            Self::Other(number) => write!(f, "other({number})"),
+        }
+    }
+}
+
+#[cfg(test)]
+mod tests {
+    use super::*;
+    use std::test::Fail;
+
+    #[test]
+    fn gre_io_flags_keep_all_bits(rt: HostRuntime) {
+        let listed = [
+            (GreIOFlags::Checksum, 0x8000),
+            (GreIOFlags::Routing, 0x4000),
+            (GreIOFlags::Key, 0x2000),
+            (GreIOFlags::Seq, 0x1000),
+            (GreIOFlags::Strict0, 0x0800),
+            (GreIOFlags::Rec, 0x0700),
+            (GreIOFlags::Ack, 0x0080),
+            (GreIOFlags::Flags, 0x0078),
+            (GreIOFlags::Version, 0x0007),
+        ];
+        for (flag, bits) in listed {
+            assert_eq!(rt; flag.bits(), bits);
+            assert_eq!(rt; GreIOFlags::from_bits_retain(bits), flag);
+        }
+        let two = GreIOFlags::Checksum.union(GreIOFlags::Routing);
+        assert_eq!(rt; two.bits(), 0xc000);
+        assert!(rt; two.contains(GreIOFlags::Routing));
+        assert!(rt; !two.contains(GreIOFlags::Key));
+        assert_eq!(rt; GreIOFlags::from_bits_retain(u16::MAX).bits(), u16::MAX);
+        assert!(rt; GreIOFlags::empty().is_empty());
+        assert_eq!(rt; GreIOFlags::default(), GreIOFlags::empty());
+    }
+
+    #[test]
+    fn gre_encap_flags_keep_all_bits(rt: HostRuntime) {
+        let listed = [
+            (GreEncapFlags::Checksum, 0x01),
+            (GreEncapFlags::Checksum6, 0x02),
+            (GreEncapFlags::RemoteChecksum, 0x04),
+        ];
+        for (flag, bits) in listed {
+            assert_eq!(rt; flag.bits(), bits);
+            assert_eq!(rt; GreEncapFlags::from_bits_retain(bits), flag);
+        }
+        let two = GreEncapFlags::Checksum.union(GreEncapFlags::Checksum6);
+        assert_eq!(rt; two.bits(), 0x3);
+        assert!(rt; two.contains(GreEncapFlags::Checksum6));
+        assert!(rt; !two.contains(GreEncapFlags::RemoteChecksum));
+        assert_eq!(rt; GreEncapFlags::from_bits_retain(u16::MAX).bits(), u16::MAX);
+        assert!(rt; GreEncapFlags::empty().is_empty());
+        assert_eq!(rt; GreEncapFlags::default(), GreEncapFlags::empty());
+    }
+
+    #[test]
+    fn gre_encap_type_numbers_and_texts(rt: HostRuntime) -> Result<(), Fail> {
+        let listed = [
+            (0, GreEncapType::None, "none"),
+            (1, GreEncapType::Fou, "fou"),
+            (2, GreEncapType::Gue, "gue"),
+            (3, GreEncapType::Other(3), "other(3)"),
+            (0xffff, GreEncapType::Other(0xffff), "other(65535)"),
+        ];
+        for (number, encap, text) in listed {
+            assert_eq!(rt; GreEncapType::from(number), encap);
+            assert_eq!(rt; u16::from(&encap), number);
+            assert_eq!(rt; format!(in rt.alloc(); "{encap}")?.as_str(), text);
+        }
+        assert_eq!(rt; GreEncapType::default(), GreEncapType::None);
+        Ok(())
+    }
+
+    #[test]
+    fn er_span_dir_numbers_and_texts(rt: HostRuntime) -> Result<(), Fail> {
+        let listed = [
+            (0, ErSpanDir::Ingress, "ingress"),
+            (1, ErSpanDir::Egress, "egress"),
+            (2, ErSpanDir::Other(2), "other(2)"),
+            (0xff, ErSpanDir::Other(0xff), "other(255)"),
+        ];
+        for (number, direction, text) in listed {
+            assert_eq!(rt; ErSpanDir::from(number), direction);
+            assert_eq!(rt; u8::from(&direction), number);
+            assert_eq!(rt; format!(in rt.alloc(); "{direction}")?.as_str(), text);
+        }
+        assert_eq!(rt; ErSpanDir::default(), ErSpanDir::Ingress);
+        Ok(())
+    }
+}

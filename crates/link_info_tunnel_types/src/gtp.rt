@@ -1,0 +1,89 @@
+//! Numbers and texts of GTP.
+
+ghost use Rattle.std.specs.Prelude.{◌≡◌, Some};
+ghost use Rattle.link_info_tunnel_types.specs.GtpTypes.{gtp_role_number, gtp_role_of, gtp_role_text};
+
+use std::fmt;
+
+const GTP_ROLE_GGSN: u32 = 0;
+
+const GTP_ROLE_SGSN: u32 = 1;
+
+/// Which end of a GTP tunnel the device is, `GTP_ROLE_*` of `linux/if_link.h`. On the wire 4 bytes
+/// in native order.
+#[derive(Debug, PartialEq, Eq, Clone, Copy, Default)]
+pub enum GtpRole {
+    /// The gateway: `GTP_ROLE_GGSN`, 0.
+    #[default]
+    Ggsn,
+    /// The serving node: `GTP_ROLE_SGSN`, 1.
+    Sgsn,
+    /// Every other number.
+    Other(u32),
+}
+
+impl From<u32> for GtpRole {
+    ghost from_gives = { λ n r. r ≡ gtp_role_of n };
+
+    fn from(number: u32) -> Self
+        ensures named { result ≡ gtp_role_of number }
+        ensures keeps_the_number { gtp_role_number result ≡ number }
+    {
+        match number {
+            GTP_ROLE_GGSN => Self::Ggsn,
+            GTP_ROLE_SGSN => Self::Sgsn,
+            _ => Self::Other(number),
+        }
+    }
+}
+
+impl From<GtpRole> for u32 {
+    ghost from_gives = { λ r n. n ≡ gtp_role_number r };
+
+    fn from(value: GtpRole) -> Self {
+        match value {
+            GtpRole::Ggsn => GTP_ROLE_GGSN,
+            GtpRole::Sgsn => GTP_ROLE_SGSN,
+            GtpRole::Other(number) => number,
+        }
+    }
+}
+
+impl fmt::Display for GtpRole {
+    ghost output = { λ r. Some (gtp_role_text r) };
+
+    fn fmt<W: fmt::Write>(&self, f: &mut fmt::Formatter<W>) -> fmt::Result {
+        match self {
+            Self::Ggsn => f.write_str("ggsn"),
+            Self::Sgsn => f.write_str("sgsn"),
+            Self::Other(number) => write!(f, "unknown({number})"),
+        }
+    }
+}
+
+#[cfg(test)]
+mod tests {
+    use super::*;
+    use std::test::Fail;
+
+    #[test]
+    fn gtp_role_numbers_and_texts(rt: HostRuntime) -> Result<(), Fail> {
+        let listed = [
+            (0, GtpRole::Ggsn, "ggsn"),
+            (1, GtpRole::Sgsn, "sgsn"),
+            (2, GtpRole::Other(2), "unknown(2)"),
+            (
+                0xffffffff,
+                GtpRole::Other(0xffffffff),
+                "unknown(4294967295)",
+            ),
+        ];
+        for (number, role, text) in listed {
+            assert_eq!(rt; GtpRole::from(number), role);
+            assert_eq!(rt; u32::from(role), number);
+            assert_eq!(rt; format!(in rt.alloc(); "{role}")?.as_str(), text);
+        }
+        assert_eq!(rt; GtpRole::default(), GtpRole::Ggsn);
+        Ok(())
+    }
+}

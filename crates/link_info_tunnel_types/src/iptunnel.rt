@@ -1,0 +1,319 @@
+//! Numbers, texts and flags of tunnels over IP.
+
+ghost use Rattle.std.specs.Prelude.{◌≡◌, Some, ⊤};
+ghost use Rattle.link_info_tunnel_types.specs.IpTunnelTypes.{tunnel_encap_type_number, tunnel_encap_type_of, tunnel_encap_type_text, tunnel_encap_flags_bits, tunnel_encap_flags_table, ip6_tunnel_flags_bits, ip6_tunnel_flags_table};
+
+use bitflags::{Flag, Flags};
+use std::fmt;
+
+const TUNNEL_ENCAP_NONE: u16 = 0;
+
+const TUNNEL_ENCAP_FOU: u16 = 1;
+
+const TUNNEL_ENCAP_GUE: u16 = 2;
+
+const TUNNEL_ENCAP_MPLS: u16 = 3;
+
+/// What an IP tunnel is wrapped in, `TUNNEL_ENCAP_*` of `linux/if_tunnel.h`. On the wire 2 bytes in
+/// native order.
+#[derive(Debug, PartialEq, Eq, Clone, Copy)]
+pub enum TunnelEncapType {
+    /// Nothing: `TUNNEL_ENCAP_NONE`, 0.
+    None,
+    /// UDP, directly: `TUNNEL_ENCAP_FOU`, 1.
+    Fou,
+    /// Generic UDP encapsulation: `TUNNEL_ENCAP_GUE`, 2.
+    Gue,
+    /// MPLS: `TUNNEL_ENCAP_MPLS`, 3.
+    Mpls,
+    /// Every other number.
+    Other(u16),
+}
+
+impl From<u16> for TunnelEncapType {
+    ghost from_gives = { λ n t. t ≡ tunnel_encap_type_of n };
+
+    fn from(number: u16) -> Self
+        ensures named { result ≡ tunnel_encap_type_of number }
+        ensures keeps_the_number { tunnel_encap_type_number result ≡ number }
+    {
+        match number {
+            TUNNEL_ENCAP_NONE => Self::None,
+            TUNNEL_ENCAP_FOU => Self::Fou,
+            TUNNEL_ENCAP_GUE => Self::Gue,
+            TUNNEL_ENCAP_MPLS => Self::Mpls,
+            _ => Self::Other(number),
+        }
+    }
+}
+
+impl From<TunnelEncapType> for u16 {
+    ghost from_gives = { λ t n. n ≡ tunnel_encap_type_number t };
+
+    fn from(value: TunnelEncapType) -> Self {
+        match value {
+            TunnelEncapType::None => TUNNEL_ENCAP_NONE,
+            TunnelEncapType::Fou => TUNNEL_ENCAP_FOU,
+            TunnelEncapType::Gue => TUNNEL_ENCAP_GUE,
+            TunnelEncapType::Mpls => TUNNEL_ENCAP_MPLS,
+            TunnelEncapType::Other(number) => number,
+        }
+    }
+}
+
+impl fmt::Display for TunnelEncapType {
+    ghost output = { λ t. Some (tunnel_encap_type_text t) };
+
+    fn fmt<W: fmt::Write>(&self, f: &mut fmt::Formatter<W>) -> fmt::Result {
+        match self {
+            Self::None => f.write_str("none"),
+            Self::Fou => f.write_str("fou"),
+            Self::Gue => f.write_str("gue"),
+            Self::Mpls => f.write_str("mpls"),
+            Self::Other(number) => write!(f, "{number}"),
+        }
+    }
+}
+
+const TUNNEL_ENCAP_FLAG_CSUM: u16 = 0x01;
+
+const TUNNEL_ENCAP_FLAG_CSUM6: u16 = 0x02;
+
+const TUNNEL_ENCAP_FLAG_REMCSUM: u16 = 0x04;
+
+/// What the outer UDP header of an IP tunnel holds, `TUNNEL_ENCAP_FLAG_*` of `linux/if_tunnel.h`.
+/// On the wire 2 bytes in native order; all bits are kept.
+#[derive(Debug, Clone, Copy, PartialEq, Eq, Hash)]
+pub struct TunnelEncapFlags(u16);
+
+impl TunnelEncapFlags {
+    /// A checksum over IPv4: `TUNNEL_ENCAP_FLAG_CSUM`.
+    pub const CSum: Self = Self(TUNNEL_ENCAP_FLAG_CSUM);
+    /// A checksum over IPv6: `TUNNEL_ENCAP_FLAG_CSUM6`.
+    pub const CSum6: Self = Self(TUNNEL_ENCAP_FLAG_CSUM6);
+    /// A remote checksum: `TUNNEL_ENCAP_FLAG_REMCSUM`.
+    pub const RemCSum: Self = Self(TUNNEL_ENCAP_FLAG_REMCSUM);
+
+    const FLAGS: [Flag<TunnelEncapFlags>; 3] = [
+        Flag {
+            name: "CSum",
+            value: Self::CSum,
+        },
+        Flag {
+            name: "CSum6",
+            value: Self::CSum6,
+        },
+        Flag {
+            name: "RemCSum",
+            value: Self::RemCSum,
+        },
+    ];
+}
+
+impl Flags for TunnelEncapFlags {
+    type Bits = u16;
+
+    ghost exact = { ⊤ };
+
+    ghost table = { tunnel_encap_flags_table };
+
+    ghost set_of = { tunnel_encap_flags_bits };
+
+    fn flags<'a>() -> &'a [Flag<TunnelEncapFlags>] {
+        &TunnelEncapFlags::FLAGS
+    }
+
+    fn bits(&self) -> u16 {
+        self.0
+    }
+
+    fn from_bits_retain(bits: u16) -> TunnelEncapFlags {
+        TunnelEncapFlags(bits)
+    }
+}
+
+const IP6_TNL_F_IGN_ENCAP_LIMIT: u32 = 0x01;
+
+const IP6_TNL_F_USE_ORIG_TCLASS: u32 = 0x02;
+
+const IP6_TNL_F_USE_ORIG_FLOWLABEL: u32 = 0x04;
+
+const IP6_TNL_F_MIP6_DEV: u32 = 0x08;
+
+const IP6_TNL_F_RCV_DSCP_COPY: u32 = 0x10;
+
+const IP6_TNL_F_USE_ORIG_FWMARK: u32 = 0x20;
+
+const IP6_TNL_F_ALLOW_LOCAL_REMOTE: u32 = 0x40;
+
+const IP6_TNL_F_CAP_XMIT: u32 = 0x10000;
+
+const IP6_TNL_F_CAP_RCV: u32 = 0x20000;
+
+const IP6_TNL_F_CAP_PER_PACKET: u32 = 0x40000;
+
+/// How an IPv6 tunnel makes its outer header and what it may do, `IP6_TNL_F_*` of
+/// `linux/ip6_tunnel.h`, the last three of the kernel's `net/ip6_tunnel.h`. On the wire 4 bytes in
+/// native order; all bits are kept.
+#[derive(Debug, Clone, Copy, PartialEq, Eq, Hash)]
+pub struct Ip6TunnelFlags(u32);
+
+impl Ip6TunnelFlags {
+    /// No encapsulation limit is added: `IP6_TNL_F_IGN_ENCAP_LIMIT`.
+    pub const IgnEncapLimit: Self = Self(IP6_TNL_F_IGN_ENCAP_LIMIT);
+    /// The traffic class is that of the inner packet: `IP6_TNL_F_USE_ORIG_TCLASS`.
+    pub const UseOrigTclass: Self = Self(IP6_TNL_F_USE_ORIG_TCLASS);
+    /// The flow label is that of the inner packet: `IP6_TNL_F_USE_ORIG_FLOWLABEL`.
+    pub const UseOrigFlowlabel: Self = Self(IP6_TNL_F_USE_ORIG_FLOWLABEL);
+    /// The device serves mobile IPv6: `IP6_TNL_F_MIP6_DEV`.
+    pub const Mip6Dev: Self = Self(IP6_TNL_F_MIP6_DEV);
+    /// The DSCP of the outer packet is copied at the end of the tunnel: `IP6_TNL_F_RCV_DSCP_COPY`.
+    pub const RcvDscpCopy: Self = Self(IP6_TNL_F_RCV_DSCP_COPY);
+    /// The firewall mark is that of the inner packet: `IP6_TNL_F_USE_ORIG_FWMARK`.
+    pub const UseOrigFwMark: Self = Self(IP6_TNL_F_USE_ORIG_FWMARK);
+    /// The other end may be on this host: `IP6_TNL_F_ALLOW_LOCAL_REMOTE`.
+    pub const AllowLocalRemote: Self = Self(IP6_TNL_F_ALLOW_LOCAL_REMOTE);
+    /// The tunnel can send: `IP6_TNL_F_CAP_XMIT`.
+    pub const CapXmit: Self = Self(IP6_TNL_F_CAP_XMIT);
+    /// The tunnel can receive: `IP6_TNL_F_CAP_RCV`.
+    pub const CapRcv: Self = Self(IP6_TNL_F_CAP_RCV);
+    /// What it can do is decided for each packet: `IP6_TNL_F_CAP_PER_PACKET`.
+    pub const CapPerPacket: Self = Self(IP6_TNL_F_CAP_PER_PACKET);
+
+    const FLAGS: [Flag<Ip6TunnelFlags>; 10] = [
+        Flag {
+            name: "IgnEncapLimit",
+            value: Self::IgnEncapLimit,
+        },
+        Flag {
+            name: "UseOrigTclass",
+            value: Self::UseOrigTclass,
+        },
+        Flag {
+            name: "UseOrigFlowlabel",
+            value: Self::UseOrigFlowlabel,
+        },
+        Flag {
+            name: "Mip6Dev",
+            value: Self::Mip6Dev,
+        },
+        Flag {
+            name: "RcvDscpCopy",
+            value: Self::RcvDscpCopy,
+        },
+        Flag {
+            name: "UseOrigFwMark",
+            value: Self::UseOrigFwMark,
+        },
+        Flag {
+            name: "AllowLocalRemote",
+            value: Self::AllowLocalRemote,
+        },
+        Flag {
+            name: "CapXmit",
+            value: Self::CapXmit,
+        },
+        Flag {
+            name: "CapRcv",
+            value: Self::CapRcv,
+        },
+        Flag {
+            name: "CapPerPacket",
+            value: Self::CapPerPacket,
+        },
+    ];
+}
+
+impl Flags for Ip6TunnelFlags {
+    type Bits = u32;
+
+    ghost exact = { ⊤ };
+
+    ghost table = { ip6_tunnel_flags_table };
+
+    ghost set_of = { ip6_tunnel_flags_bits };
+
+    fn flags<'a>() -> &'a [Flag<Ip6TunnelFlags>] {
+        &Ip6TunnelFlags::FLAGS
+    }
+
+    fn bits(&self) -> u32 {
+        self.0
+    }
+
+    fn from_bits_retain(bits: u32) -> Ip6TunnelFlags {
+        Ip6TunnelFlags(bits)
+    }
+}
+
+#[cfg(test)]
+mod tests {
+    use super::*;
+    use std::test::Fail;
+
+    #[test]
+    fn tunnel_encap_type_numbers_and_texts(rt: HostRuntime) -> Result<(), Fail> {
+        let listed = [
+            (0, TunnelEncapType::None, "none"),
+            (1, TunnelEncapType::Fou, "fou"),
+            (2, TunnelEncapType::Gue, "gue"),
+            (3, TunnelEncapType::Mpls, "mpls"),
+            (4, TunnelEncapType::Other(4), "4"),
+            (0xffff, TunnelEncapType::Other(0xffff), "65535"),
+        ];
+        for (number, encap, text) in listed {
+            assert_eq!(rt; TunnelEncapType::from(number), encap);
+            assert_eq!(rt; u16::from(encap), number);
+            assert_eq!(rt; format!(in rt.alloc(); "{encap}")?.as_str(), text);
+        }
+        Ok(())
+    }
+
+    #[test]
+    fn tunnel_encap_flags_keep_all_bits(rt: HostRuntime) {
+        let listed = [
+            (TunnelEncapFlags::CSum, 0x01),
+            (TunnelEncapFlags::CSum6, 0x02),
+            (TunnelEncapFlags::RemCSum, 0x04),
+        ];
+        for (flag, bits) in listed {
+            assert_eq!(rt; flag.bits(), bits);
+            assert_eq!(rt; TunnelEncapFlags::from_bits_retain(bits), flag);
+        }
+        let two = TunnelEncapFlags::CSum.union(TunnelEncapFlags::CSum6);
+        assert_eq!(rt; two.bits(), 0x3);
+        assert!(rt; two.contains(TunnelEncapFlags::CSum6));
+        assert!(rt; !two.contains(TunnelEncapFlags::RemCSum));
+        assert_eq!(rt;
+            TunnelEncapFlags::from_bits_retain(u16::MAX).bits(),
+            u16::MAX
+        );
+        assert!(rt; TunnelEncapFlags::empty().is_empty());
+    }
+
+    #[test]
+    fn ip6_tunnel_flags_keep_all_bits(rt: HostRuntime) {
+        let listed = [
+            (Ip6TunnelFlags::IgnEncapLimit, 0x01),
+            (Ip6TunnelFlags::UseOrigTclass, 0x02),
+            (Ip6TunnelFlags::UseOrigFlowlabel, 0x04),
+            (Ip6TunnelFlags::Mip6Dev, 0x08),
+            (Ip6TunnelFlags::RcvDscpCopy, 0x10),
+            (Ip6TunnelFlags::UseOrigFwMark, 0x20),
+            (Ip6TunnelFlags::AllowLocalRemote, 0x40),
+            (Ip6TunnelFlags::CapXmit, 0x10000),
+            (Ip6TunnelFlags::CapRcv, 0x20000),
+            (Ip6TunnelFlags::CapPerPacket, 0x40000),
+        ];
+        for (flag, bits) in listed {
+            assert_eq!(rt; flag.bits(), bits);
+            assert_eq!(rt; Ip6TunnelFlags::from_bits_retain(bits), flag);
+        }
+        let two = Ip6TunnelFlags::IgnEncapLimit.union(Ip6TunnelFlags::UseOrigTclass);
+        assert_eq!(rt; two.bits(), 0x3);
+        assert!(rt; two.contains(Ip6TunnelFlags::UseOrigTclass));
+        assert!(rt; !two.contains(Ip6TunnelFlags::UseOrigFlowlabel));
+        assert_eq!(rt; Ip6TunnelFlags::from_bits_retain(u32::MAX).bits(), u32::MAX);
+        assert!(rt; Ip6TunnelFlags::empty().is_empty());
+    }
+}

@@ -1,0 +1,3 @@
+pub mod Bareudp
+pub mod Vti
+pub mod Xfrm

@@ -1,0 +1,23 @@
+-- The data of vti: the kind and the payload of each value.
+use Rattle.netlink_packet_core.specs.Attributes.{Attribute, proper_kind}
+use Rattle.netlink_packet_core.specs.Numbers.{be4, le4}
+use Rattle.netlink_packet_core.specs.Addresses.{ip_octets}
+use Rattle.link_info_grammar.specs.Families.{vti_rows}
+use Rattle.link_info_grammar.specs.FlatTables.{has_no_row}
+use Rattle.link_info_lists.specs.Families.{attribute}
+use Rattle.link_info_tunnels.specs.declared.vti.InfoVti.{InfoVti}
+use Rattle.link_info_tunnels.specs.declared.vti.InfoVti.TheVariants.{Link, IKey, OKey, Local, Remote, FwMark, Other}
+
+abbrev pub vti_entry : InfoVti → Attribute
+vti_entry (Link n) = attribute 1 (le4 n)
+vti_entry (IKey n) = attribute 2 (be4 n)
+vti_entry (OKey n) = attribute 3 (be4 n)
+vti_entry (Local a) = attribute 4 (ip_octets a)
+vti_entry (Remote a) = attribute 5 (ip_octets a)
+vti_entry (FwMark n) = attribute 6 (le4 n)
+vti_entry (Other a) = a
+
+-- no kind that has a row is read as another attribute
+abbrev pub vti_names_row : InfoVti → Type 0
+vti_names_row (Other a) = has_no_row vti_rows (proper_kind a.kind)
+vti_names_row _ = Unit {0}

@@ -1,0 +1,66 @@
+//! Numbers of IP over InfiniBand.
+
+ghost use Rattle.std.specs.Prelude.{◌≡◌};
+ghost use Rattle.link_info_types.specs.IpoibTypes.{ipoib_mode_number, ipoib_mode_of};
+
+const IPOIB_MODE_DATAGRAM: u16 = 0;
+
+const IPOIB_MODE_CONNECTED: u16 = 1;
+
+/// How IP over InfiniBand sends its packets, `IPOIB_MODE_*` of `linux/if_link.h`. On the wire 2
+/// bytes in native order.
+#[derive(Debug, PartialEq, Eq, Clone, Copy)]
+pub enum IpoibMode {
+    /// Over unreliable datagrams: `IPOIB_MODE_DATAGRAM`, 0.
+    Datagram,
+    /// Over reliable connections: `IPOIB_MODE_CONNECTED`, 1.
+    Connected,
+    /// Every other number.
+    Other(u16),
+}
+
+impl From<u16> for IpoibMode {
+    ghost from_gives = { λ n m. m ≡ ipoib_mode_of n };
+
+    fn from(number: u16) -> Self
+        ensures named { result ≡ ipoib_mode_of number }
+        ensures keeps_the_number { ipoib_mode_number result ≡ number }
+    {
+        match number {
+            IPOIB_MODE_DATAGRAM => Self::Datagram,
+            IPOIB_MODE_CONNECTED => Self::Connected,
+            _ => Self::Other(number),
+        }
+    }
+}
+
+impl From<IpoibMode> for u16 {
+    ghost from_gives = { λ m n. n ≡ ipoib_mode_number m };
+
+    fn from(value: IpoibMode) -> Self {
+        match value {
+            IpoibMode::Datagram => IPOIB_MODE_DATAGRAM,
+            IpoibMode::Connected => IPOIB_MODE_CONNECTED,
+            IpoibMode::Other(number) => number,
+        }
+    }
+}
+
+#[cfg(test)]
+mod tests {
+    use super::*;
+
+    #[test]
+    fn ipoib_mode_numbers(rt: HostRuntime) {
+        let listed = [
+            (0, IpoibMode::Datagram),
+            (1, IpoibMode::Connected),
+            (0x1234, IpoibMode::Other(0x1234)),
+            (0xffff, IpoibMode::Other(0xffff)),
+        ];
+        for (number, mode) in listed {
+            assert_eq!(rt; IpoibMode::from(number), mode);
+            assert_eq!(rt; u16::from(mode), number);
+        }
+    }
+}

@@ -1,0 +1,295 @@
+//! Numbers, texts and flags of MACVLAN and MACVTAP.
+
+ghost use Rattle.std.specs.Prelude.{◌≡◌, Some, false, IfOk, IfErr, ⊤};
+ghost use Rattle.std.specs.Result.{result_ok};
+ghost use Rattle.netlink_packet_core.specs.Errors.{is_memory};
+ghost use Rattle.link_info_types.specs.MacVlanTypes.{mac_vlan_mode_number, mac_vlan_mode_of, mac_vlan_mode_text, mac_vlan_mode_named, mac_vlan_flags_bits, mac_vlan_flags_table, mac_vlan_mac_address_mode_number, mac_vlan_mac_address_mode_of};
+
+use bitflags::{Flag, Flags};
+use netlink_packet_core::DecodeError;
+use std::fmt;
+use std::str::FromStr;
+
+const MACVLAN_MODE_PRIVATE: u32 = 1;
+
+const MACVLAN_MODE_VEPA: u32 = 2;
+
+const MACVLAN_MODE_BRIDGE: u32 = 4;
+
+const MACVLAN_MODE_PASSTHRU: u32 = 8;
+
+const MACVLAN_MODE_SOURCE: u32 = 16;
+
+/// How the MACVLAN devices of one parent reach one another, `MACVLAN_MODE_*` of `linux/if_link.h`.
+/// On the wire 4 bytes in native order.
+#[derive(Debug, PartialEq, Eq, Clone, Copy)]
+pub enum MacVlanMode {
+    /// Not at all: `MACVLAN_MODE_PRIVATE`, 1.
+    Private,
+    /// By way of a switch outside: `MACVLAN_MODE_VEPA`, 2.
+    Vepa,
+    /// Directly: `MACVLAN_MODE_BRIDGE`, 4.
+    Bridge,
+    /// There is one device, which takes the parent over: `MACVLAN_MODE_PASSTHRU`, 8.
+    Passthrough,
+    /// By a list of source addresses: `MACVLAN_MODE_SOURCE`, 16.
+    Source,
+    /// Every other number.
+    Other(u32),
+}
+
+impl From<u32> for MacVlanMode {
+    ghost from_gives = { λ n m. m ≡ mac_vlan_mode_of n };
+
+    fn from(number: u32) -> Self
+        ensures named { result ≡ mac_vlan_mode_of number }
+        ensures keeps_the_number { mac_vlan_mode_number result ≡ number }
+    {
+        match number {
+            MACVLAN_MODE_PRIVATE => Self::Private,
+            MACVLAN_MODE_VEPA => Self::Vepa,
+            MACVLAN_MODE_BRIDGE => Self::Bridge,
+            MACVLAN_MODE_PASSTHRU => Self::Passthrough,
+            MACVLAN_MODE_SOURCE => Self::Source,
+            _ => Self::Other(number),
+        }
+    }
+}
+
+impl From<MacVlanMode> for u32 {
+    ghost from_gives = { λ m n. n ≡ mac_vlan_mode_number m };
+
+    fn from(value: MacVlanMode) -> Self {
+        match value {
+            MacVlanMode::Private => MACVLAN_MODE_PRIVATE,
+            MacVlanMode::Vepa => MACVLAN_MODE_VEPA,
+            MacVlanMode::Bridge => MACVLAN_MODE_BRIDGE,
+            MacVlanMode::Passthrough => MACVLAN_MODE_PASSTHRU,
+            MacVlanMode::Source => MACVLAN_MODE_SOURCE,
+            MacVlanMode::Other(number) => number,
+        }
+    }
+}
+
+impl fmt::Display for MacVlanMode {
+    ghost output = { λ m. Some (mac_vlan_mode_text m) };
+
+    fn fmt<W: fmt::Write>(&self, f: &mut fmt::Formatter<W>) -> fmt::Result {
+        match self {
+            Self::Private => f.write_str("private"),
+            Self::Vepa => f.write_str("vepa"),
+            Self::Bridge => f.write_str("bridge"),
+            Self::Passthrough => f.write_str("passthru"),
+            Self::Source => f.write_str("source"),
+            Self::Other(number) => write!(f, "{number}"),
+        }
+    }
+}
+
+impl FromStr for MacVlanMode {
+    type Err = DecodeError;
+
+    ghost from_str_gives = { λ s r. result_ok r ≡ mac_vlan_mode_named s };
+
+    fn from_str(s: &str) -> Result<Self, Self::Err>
+        ensures named { result_ok result ≡ mac_vlan_mode_named s.now }
+        ensures ok { IfOk result (λ m. mac_vlan_mode_text m ≡ s.now) }
+        ensures err { IfErr result (λ e. is_memory e ≡ false) }
+    {
+        match s {
+            "private" => Ok(Self::Private),
+            "vepa" => Ok(Self::Vepa),
+            "bridge" => Ok(Self::Bridge),
+            "passthru" => Ok(Self::Passthrough),
+            "source" => Ok(Self::Source),
+            _ => Err(DecodeError::from("unknown MAC VLAN mode")),
+        }
+    }
+}
+
+/// The mode of a MACVTAP device, which has the numbers of MACVLAN.
+pub type MacVtapMode = MacVlanMode;
+
+/// The flags of a MACVTAP device, which are those of MACVLAN.
+pub type MacVtapFlags = MacVlanFlags;
+
+const MACVLAN_FLAG_NOPROMISC: u16 = 1;
+
+const MACVLAN_FLAG_NODST: u16 = 2;
+
+/// How a MACVLAN device treats its parent, `MACVLAN_FLAG_*` of `linux/if_link.h`. On the wire 2
+/// bytes in native order; all bits are kept.
+#[derive(Debug, Clone, Copy, PartialEq, Eq)]
+pub struct MacVlanFlags(u16);
+
+impl MacVlanFlags {
+    /// The parent isn't made promiscuous: `MACVLAN_FLAG_NOPROMISC`.
+    pub const NoPromisc: Self = Self(MACVLAN_FLAG_NOPROMISC);
+    /// What a device with the source address takes isn't delivered by its destination:
+    /// `MACVLAN_FLAG_NODST`.
+    pub const NoDst: Self = Self(MACVLAN_FLAG_NODST);
+
+    const FLAGS: [Flag<MacVlanFlags>; 2] = [
+        Flag {
+            name: "NoPromisc",
+            value: Self::NoPromisc,
+        },
+        Flag {
+            name: "NoDst",
+            value: Self::NoDst,
+        },
+    ];
+}
+
+impl Flags for MacVlanFlags {
+    type Bits = u16;
+
+    ghost exact = { ⊤ };
+
+    ghost table = { mac_vlan_flags_table };
+
+    ghost set_of = { mac_vlan_flags_bits };
+
+    fn flags<'a>() -> &'a [Flag<MacVlanFlags>] {
+        &MacVlanFlags::FLAGS
+    }
+
+    fn bits(&self) -> u16 {
+        self.0
+    }
+
+    fn from_bits_retain(bits: u16) -> MacVlanFlags {
+        MacVlanFlags(bits)
+    }
+}
+
+const MACVLAN_MACADDR_ADD: u32 = 0;
+
+const MACVLAN_MACADDR_DEL: u32 = 1;
+
+const MACVLAN_MACADDR_FLUSH: u32 = 2;
+
+const MACVLAN_MACADDR_SET: u32 = 3;
+
+/// What is done to the list of source addresses of a MACVLAN device, `MACVLAN_MACADDR_*` of
+/// `linux/if_link.h`. On the wire 4 bytes in native order.
+#[derive(Debug, PartialEq, Eq, Clone, Copy)]
+pub enum MacVlanMacAddressMode {
+    /// One address is added: `MACVLAN_MACADDR_ADD`, 0.
+    Add,
+    /// One address is taken away: `MACVLAN_MACADDR_DEL`, 1.
+    Del,
+    /// All addresses are taken away: `MACVLAN_MACADDR_FLUSH`, 2.
+    Flush,
+    /// The list is replaced: `MACVLAN_MACADDR_SET`, 3.
+    Set,
+    /// Every other number.
+    Other(u32),
+}
+
+impl From<u32> for MacVlanMacAddressMode {
+    ghost from_gives = { λ n m. m ≡ mac_vlan_mac_address_mode_of n };
+
+    fn from(number: u32) -> Self
+        ensures named { result ≡ mac_vlan_mac_address_mode_of number }
+        ensures keeps_the_number { mac_vlan_mac_address_mode_number result ≡ number }
+    {
+        match number {
+            MACVLAN_MACADDR_ADD => Self::Add,
+            MACVLAN_MACADDR_DEL => Self::Del,
+            MACVLAN_MACADDR_FLUSH => Self::Flush,
+            MACVLAN_MACADDR_SET => Self::Set,
+            _ => Self::Other(number),
+        }
+    }
+}
+
+impl From<MacVlanMacAddressMode> for u32 {
+    ghost from_gives = { λ m n. n ≡ mac_vlan_mac_address_mode_number m };
+
+    fn from(value: MacVlanMacAddressMode) -> Self {
+        match value {
+            MacVlanMacAddressMode::Add => MACVLAN_MACADDR_ADD,
+            MacVlanMacAddressMode::Del => MACVLAN_MACADDR_DEL,
+            MacVlanMacAddressMode::Flush => MACVLAN_MACADDR_FLUSH,
+            MacVlanMacAddressMode::Set => MACVLAN_MACADDR_SET,
+            MacVlanMacAddressMode::Other(number) => number,
+        }
+    }
+}
+
+/// What is done to the list of source addresses of a MACVTAP device.
+pub type MacVtapMacAddressMode = MacVlanMacAddressMode;
+
+#[cfg(test)]
+mod tests {
+    use super::*;
+    use std::test::Fail;
+
+    #[test]
+    fn mac_vlan_mode_numbers_and_texts(rt: HostRuntime) -> Result<(), Fail> {
+        let listed = [
+            (1, MacVlanMode::Private, "private"),
+            (2, MacVlanMode::Vepa, "vepa"),
+            (4, MacVlanMode::Bridge, "bridge"),
+            (8, MacVlanMode::Passthrough, "passthru"),
+            (16, MacVlanMode::Source, "source"),
+            (3, MacVlanMode::Other(3), "3"),
+            (0xffffffff, MacVlanMode::Other(0xffffffff), "4294967295"),
+        ];
+        for (number, mode, text) in listed {
+            assert_eq!(rt; MacVlanMode::from(number), mode);
+            assert_eq!(rt; u32::from(mode), number);
+            assert_eq!(rt; format!(in rt.alloc(); "{mode}")?.as_str(), text);
+        }
+        Ok(())
+    }
+
+    #[test]
+    fn mac_vlan_mode_from_texts(rt: HostRuntime) {
+        let listed = [
+            ("private", MacVlanMode::Private),
+            ("vepa", MacVlanMode::Vepa),
+            ("bridge", MacVlanMode::Bridge),
+            ("passthru", MacVlanMode::Passthrough),
+            ("source", MacVlanMode::Source),
+        ];
+        for (text, mode) in listed {
+            assert_eq!(rt; MacVlanMode::from_str(text), Ok(mode));
+        }
+        for text in ["Bridge", "passthrough", ""] {
+            assert!(rt; MacVlanMode::from_str(text).is_err());
+        }
+    }
+
+    #[test]
+    fn mac_vlan_flags_keep_all_bits(rt: HostRuntime) {
+        let listed = [(MacVlanFlags::NoPromisc, 1), (MacVlanFlags::NoDst, 2)];
+        for (flag, bits) in listed {
+            assert_eq!(rt; flag.bits(), bits);
+            assert_eq!(rt; MacVlanFlags::from_bits_retain(bits), flag);
+        }
+        let two = MacVlanFlags::NoPromisc.union(MacVlanFlags::NoDst);
+        assert_eq!(rt; two.bits(), 0x3);
+        assert!(rt; two.contains(MacVlanFlags::NoDst));
+        assert!(rt; !two.contains(MacVlanFlags::from_bits_retain(4)));
+        assert_eq!(rt; MacVlanFlags::from_bits_retain(u16::MAX).bits(), u16::MAX);
+        assert!(rt; MacVlanFlags::empty().is_empty());
+    }
+
+    #[test]
+    fn mac_vlan_mac_address_mode_numbers(rt: HostRuntime) {
+        let listed = [
+            (0, MacVlanMacAddressMode::Add),
+            (1, MacVlanMacAddressMode::Del),
+            (2, MacVlanMacAddressMode::Flush),
+            (3, MacVlanMacAddressMode::Set),
+            (4, MacVlanMacAddressMode::Other(4)),
+            (0xffffffff, MacVlanMacAddressMode::Other(0xffffffff)),
+        ];
+        for (number, mode) in listed {
+            assert_eq!(rt; MacVlanMacAddressMode::from(number), mode);
+            assert_eq!(rt; u32::from(mode), number);
+        }
+    }
+}

@@ -1,0 +1,221 @@
+//! Numbers of MACsec.
+
+ghost use Rattle.std.specs.Prelude.{◌≡◌};
+ghost use Rattle.link_info_types.specs.MacSecTypes.{mac_sec_cipher_id_number, mac_sec_cipher_id_of, mac_sec_validate_number, mac_sec_validate_of, mac_sec_offload_number, mac_sec_offload_of};
+
+const MACSEC_DEFAULT_CIPHER_ID: u64 = 0x0080020001000001;
+
+const MACSEC_CIPHER_ID_GCM_AES_128: u64 = 0x0080C20001000001;
+
+const MACSEC_CIPHER_ID_GCM_AES_256: u64 = 0x0080C20001000002;
+
+const MACSEC_CIPHER_ID_GCM_AES_XPN_128: u64 = 0x0080C20001000003;
+
+const MACSEC_CIPHER_ID_GCM_AES_XPN_256: u64 = 0x0080C20001000004;
+
+/// The cipher suite of a MACsec device, `MACSEC_CIPHER_ID_*` of `linux/if_macsec.h`. On the wire 8
+/// bytes in native order.
+#[derive(Debug, PartialEq, Eq, Clone, Copy)]
+pub enum MacSecCipherId {
+    /// The number that GCM-AES-128 had before the standard's: `MACSEC_DEFAULT_CIPHER_ID`.
+    DefaultGcmAes128,
+    /// GCM-AES-128: `MACSEC_CIPHER_ID_GCM_AES_128`.
+    GcmAes128,
+    /// GCM-AES-256: `MACSEC_CIPHER_ID_GCM_AES_256`.
+    GcmAes256,
+    /// GCM-AES-XPN-128, packet numbers of 64 bits: `MACSEC_CIPHER_ID_GCM_AES_XPN_128`.
+    GcmAesXpn128,
+    /// GCM-AES-XPN-256, packet numbers of 64 bits: `MACSEC_CIPHER_ID_GCM_AES_XPN_256`.
+    GcmAesXpn256,
+    /// Every other number.
+    Other(u64),
+}
+
+impl From<u64> for MacSecCipherId {
+    ghost from_gives = { λ n m. m ≡ mac_sec_cipher_id_of n };
+
+    fn from(number: u64) -> Self
+        ensures named { result ≡ mac_sec_cipher_id_of number }
+        ensures keeps_the_number { mac_sec_cipher_id_number result ≡ number }
+    {
+        match number {
+            MACSEC_DEFAULT_CIPHER_ID => Self::DefaultGcmAes128,
+            MACSEC_CIPHER_ID_GCM_AES_128 => Self::GcmAes128,
+            MACSEC_CIPHER_ID_GCM_AES_256 => Self::GcmAes256,
+            MACSEC_CIPHER_ID_GCM_AES_XPN_128 => Self::GcmAesXpn128,
+            MACSEC_CIPHER_ID_GCM_AES_XPN_256 => Self::GcmAesXpn256,
+            _ => Self::Other(number),
+        }
+    }
+}
+
+impl From<MacSecCipherId> for u64 {
+    ghost from_gives = { λ m n. n ≡ mac_sec_cipher_id_number m };
+
+    fn from(value: MacSecCipherId) -> Self {
+        match value {
+            MacSecCipherId::DefaultGcmAes128 => MACSEC_DEFAULT_CIPHER_ID,
+            MacSecCipherId::GcmAes128 => MACSEC_CIPHER_ID_GCM_AES_128,
+            MacSecCipherId::GcmAes256 => MACSEC_CIPHER_ID_GCM_AES_256,
+            MacSecCipherId::GcmAesXpn128 => MACSEC_CIPHER_ID_GCM_AES_XPN_128,
+            MacSecCipherId::GcmAesXpn256 => MACSEC_CIPHER_ID_GCM_AES_XPN_256,
+            MacSecCipherId::Other(number) => number,
+        }
+    }
+}
+
+const MACSEC_VALIDATE_DISABLED: u8 = 0;
+
+const MACSEC_VALIDATE_CHECK: u8 = 1;
+
+const MACSEC_VALIDATE_STRICT: u8 = 2;
+
+/// How strictly received frames are validated, `MACSEC_VALIDATE_*` of `linux/if_link.h`. On the
+/// wire 1 byte.
+#[derive(Debug, PartialEq, Eq, Clone, Copy)]
+pub enum MacSecValidate {
+    /// They aren't: `MACSEC_VALIDATE_DISABLED`, 0.
+    Disabled,
+    /// They are, and those that fail are counted: `MACSEC_VALIDATE_CHECK`, 1.
+    Check,
+    /// They are, and those that fail are dropped: `MACSEC_VALIDATE_STRICT`, 2.
+    Strict,
+    /// Every other number.
+    Other(u8),
+}
+
+impl From<u8> for MacSecValidate {
+    ghost from_gives = { λ n m. m ≡ mac_sec_validate_of n };
+
+    fn from(number: u8) -> Self
+        ensures named { result ≡ mac_sec_validate_of number }
+        ensures keeps_the_number { mac_sec_validate_number result ≡ number }
+    {
+        match number {
+            MACSEC_VALIDATE_DISABLED => Self::Disabled,
+            MACSEC_VALIDATE_CHECK => Self::Check,
+            MACSEC_VALIDATE_STRICT => Self::Strict,
+            _ => Self::Other(number),
+        }
+    }
+}
+
+impl From<MacSecValidate> for u8 {
+    ghost from_gives = { λ m n. n ≡ mac_sec_validate_number m };
+
+    fn from(value: MacSecValidate) -> Self {
+        match value {
+            MacSecValidate::Disabled => MACSEC_VALIDATE_DISABLED,
+            MacSecValidate::Check => MACSEC_VALIDATE_CHECK,
+            MacSecValidate::Strict => MACSEC_VALIDATE_STRICT,
+            MacSecValidate::Other(number) => number,
+        }
+    }
+}
+
+const MACSEC_OFFLOAD_OFF: u8 = 0;
+
+const MACSEC_OFFLOAD_PHY: u8 = 1;
+
+const MACSEC_OFFLOAD_MAC: u8 = 2;
+
+/// Which part of the hardware does the work, `MACSEC_OFFLOAD_*` of `linux/if_link.h`. On the wire 1
+/// byte.
+#[derive(Debug, PartialEq, Eq, Clone, Copy)]
+pub enum MacSecOffload {
+    /// None: `MACSEC_OFFLOAD_OFF`, 0.
+    Off,
+    /// The physical layer: `MACSEC_OFFLOAD_PHY`, 1.
+    Phy,
+    /// The media access controller: `MACSEC_OFFLOAD_MAC`, 2.
+    Mac,
+    /// Every other number.
+    Other(u8),
+}
+
+impl From<u8> for MacSecOffload {
+    ghost from_gives = { λ n m. m ≡ mac_sec_offload_of n };
+
+    fn from(number: u8) -> Self
+        ensures named { result ≡ mac_sec_offload_of number }
+        ensures keeps_the_number { mac_sec_offload_number result ≡ number }
+    {
+        match number {
+            MACSEC_OFFLOAD_OFF => Self::Off,
+            MACSEC_OFFLOAD_PHY => Self::Phy,
+            MACSEC_OFFLOAD_MAC => Self::Mac,
+            _ => Self::Other(number),
+        }
+    }
+}
+
+impl From<MacSecOffload> for u8 {
+    ghost from_gives = { λ m n. n ≡ mac_sec_offload_number m };
+
+    fn from(value: MacSecOffload) -> Self {
+        match value {
+            MacSecOffload::Off => MACSEC_OFFLOAD_OFF,
+            MacSecOffload::Phy => MACSEC_OFFLOAD_PHY,
+            MacSecOffload::Mac => MACSEC_OFFLOAD_MAC,
+            MacSecOffload::Other(number) => number,
+        }
+    }
+}
+
+#[cfg(test)]
+mod tests {
+    use super::*;
+
+    #[test]
+    fn mac_sec_cipher_id_numbers(rt: HostRuntime) {
+        let listed = [
+            (0x0080020001000001, MacSecCipherId::DefaultGcmAes128),
+            (0x0080C20001000001, MacSecCipherId::GcmAes128),
+            (0x0080C20001000002, MacSecCipherId::GcmAes256),
+            (0x0080C20001000003, MacSecCipherId::GcmAesXpn128),
+            (0x0080C20001000004, MacSecCipherId::GcmAesXpn256),
+            (
+                0x0080C20001000005,
+                MacSecCipherId::Other(0x0080C20001000005),
+            ),
+            (
+                0xffffffffffffffff,
+                MacSecCipherId::Other(0xffffffffffffffff),
+            ),
+        ];
+        for (number, cipher) in listed {
+            assert_eq!(rt; MacSecCipherId::from(number), cipher);
+            assert_eq!(rt; u64::from(cipher), number);
+        }
+    }
+
+    #[test]
+    fn mac_sec_validate_numbers(rt: HostRuntime) {
+        let listed = [
+            (0, MacSecValidate::Disabled),
+            (1, MacSecValidate::Check),
+            (2, MacSecValidate::Strict),
+            (0x7f, MacSecValidate::Other(0x7f)),
+            (0xff, MacSecValidate::Other(0xff)),
+        ];
+        for (number, validate) in listed {
+            assert_eq!(rt; MacSecValidate::from(number), validate);
+            assert_eq!(rt; u8::from(validate), number);
+        }
+    }
+
+    #[test]
+    fn mac_sec_offload_numbers(rt: HostRuntime) {
+        let listed = [
+            (0, MacSecOffload::Off),
+            (1, MacSecOffload::Phy),
+            (2, MacSecOffload::Mac),
+            (0x7f, MacSecOffload::Other(0x7f)),
+            (0xff, MacSecOffload::Other(0xff)),
+        ];
+        for (number, offload) in listed {
+            assert_eq!(rt; MacSecOffload::from(number), offload);
+            assert_eq!(rt; u8::from(offload), number);
+        }
+    }
+}

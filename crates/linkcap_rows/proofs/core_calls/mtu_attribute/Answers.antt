@@ -1,0 +1,17 @@
+-- an attribute of four bytes takes eight
+use Rattle.std.proofs.Common.{refl, ◌∙◌, arith}
+use Rattle.netlink_packet_core.specs.Numbers.{le4}
+use Rattle.netlink_packet_core.specs.Attributes.{attribute_text}
+use Rattle.linkcap_rows.proofs.core_calls.mtu_attribute.Goals as goal
+
+pub emit-requires-clause-fits : goal.emit-requires-clause-fits
+unfolding le4
+emit-requires-clause-fits c = refl
+
+pub emit-requires-clause-room : goal.emit-requires-clause-room
+unfolding le4
+emit-requires-clause-room c = omega arith
+
+pub returns : goal.returns
+unfolding attribute_text le4
+returns c = c.emit.ensures ∙ refl

@@ -1,0 +1,29 @@
+pub mod Ethernet
+pub use Rattle.netlink_packet_core_grammar.specs.AttributeViews
+pub use Rattle.netlink_packet_core_grammar.specs.Attributes
+pub use Rattle.netlink_packet_core_grammar.specs.Bytes
+pub use Rattle.netlink_packet_core_grammar.specs.Fits
+pub use Rattle.netlink_packet_core_grammar.specs.Frames
+pub use Rattle.netlink_packet_core_grammar.specs.Laws
+pub use Rattle.netlink_packet_core_grammar.specs.Numbers
+pub use Rattle.netlink_packet_core_grammar.specs.Texts
+pub use Rattle.netlink_packet_core_grammar.specs.Truths
+pub use Rattle.netlink_packet_core_numbers.specs.Addresses
+pub use Rattle.netlink_packet_core_numbers.specs.Errors
+pub use Rattle.netlink_packet_core_numbers.specs.Laws as NumberLaws
+pub use Rattle.netlink_packet_core_attributes.specs.Kinds
+pub use Rattle.netlink_packet_core_attributes.specs.Laws as AttributeLaws
+pub use Rattle.netlink_packet_core_attributes.specs.Lists
+pub use Rattle.netlink_packet_core_attributes.specs.NlaBuffers
+pub use Rattle.netlink_packet_core_attributes.specs.Stores
+pub use Rattle.netlink_packet_core_attributes.specs.Walks
+pub use Rattle.netlink_packet_core_buffers.specs.Codes
+pub use Rattle.netlink_packet_core_buffers.specs.DoneBuffers
+pub use Rattle.netlink_packet_core_buffers.specs.ErrorBuffers
+pub use Rattle.netlink_packet_core_buffers.specs.NetlinkBuffers
+pub use Rattle.netlink_packet_core_messages.specs.ControlMessages
+pub use Rattle.netlink_packet_core_messages.specs.Headers
+pub use Rattle.netlink_packet_core_messages.specs.Messages
+pub use Rattle.netlink_packet_core_messages.specs.Payloads
+pub use Rattle.netlink_packet_core_messages.specs.Refusals
+pub use Rattle.netlink_packet_core_messages.specs.TypedBodies

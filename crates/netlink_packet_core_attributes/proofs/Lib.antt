@@ -1,0 +1,5 @@
+pub mod Flags
+pub mod Headers
+pub mod Walks
+pub mod WalkLaws
+pub mod Emits

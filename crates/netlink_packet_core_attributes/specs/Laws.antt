@@ -1,0 +1,29 @@
+-- The laws of walks and of written attributes, as the functions of `laws` state them.
+use Rattle.std.specs.Prelude.{◌≡◌, ◌↔◌, ◌≤◌, ◌+◌, ◌*◌, ℕ, List, [], ◌∷◌, ◌++◌, length, map, Option, Some, None}
+use Rattle.netlink_packet_core_grammar.specs.Attributes.{Attribute, attribute_text, list_text, attributes_of}
+use Rattle.netlink_packet_core_grammar.specs.AttributeViews.{attribute_of, IsAttribute}
+use Rattle.netlink_packet_core_attributes.specs.Walks.{IsWalk, attribute_walk}
+
+-- what the function computes is the relation
+abbrev pub WalkIsTheRelation : Type 0
+WalkIsTheRelation = (bytes : List ℕ) (items : List (Option Attribute)) → (attribute_walk bytes ≡ items) ↔ IsWalk bytes items
+
+-- a list is walked without a fault, and gives its attributes
+abbrev pub ListsAreWalked : Type 0
+ListsAreWalked = (bytes : List ℕ) (es : List Attribute) → (attributes_of bytes ≡ Some es) ↔ (attribute_walk bytes ≡ map (λ e. Some e) es)
+
+-- bytes that are no list are walked to one fault at the end
+abbrev pub OthersEndInAFault : Type 0
+OthersEndInAFault = (bytes : List ℕ) → attributes_of bytes ≡ None → (es : List Attribute) × (attribute_walk bytes ≡ map (λ e. Some e) es ++ None ∷ [])
+
+-- the walk over a written list gives its attributes, and goes on behind it
+abbrev pub TextsAreWalked : Type 0
+TextsAreWalked = (es : List Attribute) (bytes : List ℕ) → attribute_walk (list_text es ++ bytes) ≡ map (λ e. Some e) es ++ attribute_walk bytes
+
+-- a written attribute is read as it was
+abbrev pub TextsAreReadBack : Type 0
+TextsAreReadBack = (e : Attribute) (bytes : List ℕ) → IsAttribute (attribute_text e ++ bytes) × (attribute_of (attribute_text e ++ bytes) ≡ e)
+
+-- a walk has one item for every 4 bytes at most, the last 4 counted whole
+abbrev pub WalksAreShort : Type 0
+WalksAreShort = (bytes : List ℕ) → 4 * length (attribute_walk bytes) ≤ length bytes + 3

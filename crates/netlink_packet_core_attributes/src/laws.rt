@@ -1,0 +1,33 @@
+//! Facts of the definitions. No function here makes a call.
+
+ghost use Rattle.netlink_packet_core_attributes.specs.Laws.{WalkIsTheRelation, ListsAreWalked, OthersEndInAFault, TextsAreWalked, TextsAreReadBack, WalksAreShort};
+
+/// The walk that the function computes is the one of the relation.
+pub fn walks_are_the_relation()
+    ensures { WalkIsTheRelation }
+{}
+
+/// A list is walked without a fault, and gives its attributes.
+pub fn lists_are_walked()
+    ensures { ListsAreWalked }
+{}
+
+/// Bytes that are no list are walked to one fault, which comes last.
+pub fn others_end_in_a_fault()
+    ensures { OthersEndInAFault }
+{}
+
+/// The walk over a written list gives its attributes, and then goes on behind it.
+pub fn texts_are_walked()
+    ensures { TextsAreWalked }
+{}
+
+/// A written attribute is read with the kind and the payload that it had.
+pub fn texts_are_read_back()
+    ensures { TextsAreReadBack }
+{}
+
+/// A walk has one item for every 4 bytes at most, the last 4 counted whole.
+pub fn walks_are_short()
+    ensures { WalksAreShort }
+{}

@@ -1,0 +1,253 @@
+ghost use Rattle.std.specs.Prelude.{◌≡◌, ◌==◌, ◌&&◌, ◌+◌, ◌≤◌, ◌++◌, Bool, true, length, drop};
+ghost use Rattle.std.specs.Ordering.{on, eq_of_both};
+ghost use Rattle.std.specs.Cmp.Lexicographic.{pointwise};
+ghost use Rattle.std.specs.Cmp.Rules.{comparing};
+ghost use Rattle.std.proofs.Common.{rules};
+ghost use Rattle.netlink_packet_core_grammar.specs.Attributes.{nla_align, Attribute, attribute_length, attribute_text};
+ghost use Rattle.netlink_packet_core_grammar.specs.AttributeViews.{attribute_of, IsAttribute};
+ghost use Rattle.netlink_packet_core_grammar.specs.Fits.{attribute_fits};
+ghost use Rattle.netlink_packet_core_grammar.specs.Numbers.{as_usize};
+ghost use Rattle.netlink_packet_core_attributes.specs.Kinds.{has_nested_flag, has_byte_order_flag};
+ghost use Rattle.netlink_packet_core_attributes.specs.NlaBuffers.{storage};
+
+use super::nla_buffer::NlaBuffer;
+use super::traits::Parseable;
+use netlink_packet_core_numbers::error::DecodeError;
+use std::alloc::Global;
+use std::marker::Model;
+
+/// The flag of a kind whose payload is a list of attributes (netlink.h).
+pub const NLA_F_NESTED: u16 = 0x8000;
+/// The flag of a kind whose payload is a number in network byte order (netlink.h).
+pub const NLA_F_NET_BYTEORDER: u16 = 0x4000;
+/// The 14 bits of a kind that are no flags.
+pub const NLA_TYPE_MASK: u16 = 0x3fff;
+/// Attributes begin at multiples of this many bytes.
+pub const NLA_ALIGNTO: usize = 4;
+/// The bytes of an attribute's header: length and kind.
+pub const NLA_HEADER_SIZE: usize = 4;
+
+/// The least multiple of 4 not below `n`.
+pub fn nla_align(n: usize) -> usize
+    requires { n ≤ 18446744073709551611 }
+    ensures { result ≡ nla_align n }
+{
+    (n + NLA_ALIGNTO - 1) / NLA_ALIGNTO * NLA_ALIGNTO
+}
+
+/// A value that is written as an attribute: a header of 4 bytes, the payload, and zeros up to a
+/// multiple of 4 (netlink.h, `struct nlattr`).
+pub trait Nla {
+    /// The kind with its flags, and the bytes of the payload.
+    ghost entry: { Self → Attribute };
+
+    /// Whether each attribute inside the payload fits its header.
+    ghost inside_fits: { Self → Bool };
+
+    /// The bytes of the payload; `usize::MAX` stands for more.
+    fn value_len(&self) -> usize
+        ensures { result ≡ as_usize (length (entry self.now).payload) };
+
+    /// The kind, all 16 bits.
+    fn kind(&self) -> u16
+        ensures { result ≡ (entry self.now).kind };
+
+    /// Writes the payload into a buffer of its size.
+    fn emit_value(&self, buffer: &mut [u8])
+        requires fits { inside_fits self.now ≡ true }
+        requires room { length buffer.old ≡ length (entry self.now).payload }
+        ensures { buffer.new ≡ (entry self.now).payload };
+
+    /// Whether each attribute inside the payload fits its header; true where there is none.
+    fn contents_fit(&self) -> bool
+        ensures { result ≡ inside_fits self.now };
+
+    /// Whether the kind has the nested flag.
+    fn is_nested(&self) -> bool
+        ensures { result ≡ has_nested_flag (entry self.now).kind }
+    {
+        self.kind() & NLA_F_NESTED != 0
+    }
+
+    /// Whether the kind has the flag of network byte order.
+    #[tactic(auto, using(crate::proofs::Flags::byte_order_flag))]
+    fn is_network_byteorder(&self) -> bool
+        ensures { result ≡ has_byte_order_flag (entry self.now).kind }
+    {
+        self.kind() & NLA_F_NET_BYTEORDER != 0
+    }
+
+    /// Whether the length fits the 2 bytes of the header, here and in each attribute inside.
+    fn fits(&self) -> bool
+        ensures { result ≡ (attribute_fits (entry self.now) && inside_fits self.now) }
+    {
+        self.value_len() <= u16::MAX as usize - NLA_HEADER_SIZE && self.contents_fit()
+    }
+
+    /// The bytes of header, payload and padding; `usize::MAX` stands for more.
+    fn buffer_len(&self) -> usize
+        ensures { result ≡ as_usize (nla_align (attribute_length (entry self.now))) }
+    {
+        let length = self.value_len();
+        // Beyond the greatest multiple of 4 that leaves room for a header.
+        if length > usize::MAX - 7 {
+            return usize::MAX;
+        }
+        NLA_HEADER_SIZE + nla_align(length)
+    }
+
+    /// Writes header, payload and padding into the front of a buffer, and leaves the rest of the
+    /// buffer alone.
+    #[tactic(auto, using(crate::proofs::Headers::headers), unfolding(netlink_packet_core_grammar::specs::Attributes::attribute_text))]
+    fn emit(&self, buffer: &mut [u8])
+        requires fits { (attribute_fits (entry self.now) && inside_fits self.now) ≡ true }
+        requires room { nla_align (attribute_length (entry self.now)) ≤ length buffer.old }
+        ensures { buffer.new
+            ≡ attribute_text (entry self.now) ++ drop (nla_align (attribute_length (entry self.now))) buffer.old }
+    {
+        let size = self.value_len();
+        let (front, _) = buffer.split_at_mut(NLA_HEADER_SIZE + nla_align(size));
+        let (header, rest) = front.split_at_mut(NLA_HEADER_SIZE);
+        let (length, kind) = header.split_at_mut(2);
+        length.copy_from_slice(&((NLA_HEADER_SIZE + size) as u16).to_le_bytes());
+        kind.copy_from_slice(&self.kind().to_le_bytes());
+        let (value, padding) = rest.split_at_mut(size);
+        self.emit_value(value);
+        padding.fill(0);
+    }
+}
+
+/// An attribute kept as it is: all 16 bits of its kind, and its payload.
+#[derive(Clone, Debug, Drop)]
+pub struct DefaultNla {
+    kind: u16,
+    value: Vec<u8>,
+}
+
+impl Model for DefaultNla {
+    ghost Value = { Attribute };
+
+    ghost view = { λ a. record { kind = a.kind; payload = a.value.items } };
+}
+
+impl PartialEq for DefaultNla {
+    ghost eq = { eq_of_both (on (λ a. a.kind) ◌==◌) (on (λ a. a.payload) (pointwise ◌==◌)) };
+
+    ghost laws = { Prim.search (comparing, rules) };
+
+    fn eq(&self, other: &DefaultNla) -> bool {
+        self.kind == other.kind && self.value == other.value
+    }
+}
+
+impl Eq for DefaultNla {
+    ghost laws = { Prim.search (comparing, rules) };
+}
+
+impl DefaultNla {
+    /// An attribute of this kind, flags included, and this payload.
+    pub fn new(kind: u16, value: Vec<u8>) -> Self
+        ensures { result ≡ record { kind = kind; payload = value.items } }
+    {
+        DefaultNla { kind, value }
+    }
+
+    /// The payload.
+    pub fn value(&self) -> &[u8]
+        ensures { result.now ≡ self.now.payload }
+    {
+        self.value.as_slice()
+    }
+}
+
+impl Nla for DefaultNla {
+    ghost entry = { λ a. a };
+
+    ghost inside_fits = { λ _. true };
+
+    fn value_len(&self) -> usize {
+        self.value.len()
+    }
+
+    fn kind(&self) -> u16 {
+        self.kind
+    }
+
+    fn emit_value(&self, buffer: &mut [u8]) {
+        buffer.copy_from_slice(self.value());
+    }
+
+    fn contents_fit(&self) -> bool {
+        true
+    }
+}
+
+impl<'a> Parseable<NlaBuffer<&'a [u8]>> for DefaultNla {
+    ghost can_parse = { λ b. IsAttribute (storage b).now };
+
+    ghost accepts = { λ _. true };
+
+    ghost may_want_memory = { λ _. true };
+
+    ghost gives = { λ b v. v ≡ attribute_of (storage b).now };
+
+    fn parse(alloc: Global, buf: &NlaBuffer<&'a [u8]>) -> Result<Self, DecodeError> {
+        let value = Vec::from_slice(alloc, buf.value())?;
+        Ok(DefaultNla::new(buf.raw_kind(), value))
+    }
+}
+
+#[cfg(test)]
+mod tests {
+    use super::*;
+    use std::test::Fail;
+
+    #[test]
+    fn lengths_are_aligned(rt: HostRuntime) {
+        assert_eq!(rt; nla_align(13), 16);
+        assert_eq!(rt; nla_align(16), 16);
+        assert_eq!(rt; nla_align(0), 0);
+        assert_eq!(rt; nla_align(1), 4);
+        assert_eq!(rt; nla_align(usize::MAX - 4), usize::MAX - 3);
+    }
+
+    #[test]
+    fn an_attribute_is_kept_and_written(rt: HostRuntime) -> Result<(), Fail> {
+        let bytes: &[u8] = &[5, 0, 0x46, 0xc0, 1, 0xff, 0xff, 0xff];
+        let Ok(view) = NlaBuffer::new_checked(bytes) else {
+            return Err(Fail::from("refused"));
+        };
+        let Ok(kept) = DefaultNla::parse(rt.alloc(), &view) else {
+            return Err(Fail::from("refused"));
+        };
+        assert!(rt; kept == DefaultNla::new(0xc046, [1u8].to_vec(rt.alloc())?));
+        assert!(rt; kept.clone()? == kept);
+        assert_eq!(rt; kept.kind(), 0xc046);
+        assert_eq!(rt; kept.value(), [1u8].as_slice());
+        assert_eq!(rt; kept.value_len(), 1);
+        assert_eq!(rt; kept.buffer_len(), 8);
+        assert!(rt; kept.is_nested() && kept.is_network_byteorder());
+        assert!(rt; kept.contents_fit());
+        let mut value = [9u8];
+        kept.emit_value(&mut value);
+        assert_eq!(rt; value[0], 1);
+        let mut buffer = [9u8; 9];
+        kept.emit(&mut buffer);
+        assert_eq!(rt;
+            buffer.as_slice(),
+            [5u8, 0, 0x46, 0xc0, 1, 0, 0, 0, 9].as_slice()
+        );
+        Ok(())
+    }
+
+    #[test]
+    fn an_attribute_of_65535_bytes_fits(rt: HostRuntime) -> Result<(), Fail> {
+        let largest = DefaultNla::new(1, Vec::from_elem(rt.alloc(), 0u8, 65531)?);
+        assert!(rt; largest.fits());
+        assert!(rt; !largest.is_nested() && !largest.is_network_byteorder());
+        let larger = DefaultNla::new(1, Vec::from_elem(rt.alloc(), 0u8, 65532)?);
+        assert!(rt; !larger.fits());
+        assert!(rt; larger != largest);
+        Ok(())
+    }
+}

@@ -1,0 +1,346 @@
+ghost use Rattle.std.specs.Prelude.{◌≡◌, ◌↔◌, ◌-◌, ◌≤◌, length, false, IfOk, IfErr, IsOk};
+ghost use Rattle.std.specs.Borrow.{Lends, Array, sem, u8};
+ghost use Rattle.netlink_packet_core_grammar.specs.Attributes.{proper_kind};
+ghost use Rattle.netlink_packet_core_grammar.specs.AttributeViews.{length_of, raw_kind_of, payload_of, IsAttribute};
+ghost use Rattle.netlink_packet_core_grammar.specs.Bytes.{put_at};
+ghost use Rattle.netlink_packet_core_grammar.specs.Numbers.{le2};
+ghost use Rattle.netlink_packet_core_numbers.specs.Errors.{is_memory};
+ghost use Rattle.netlink_packet_core_attributes.specs.Kinds.{has_nested_flag, has_byte_order_flag, with_nested_flag, with_byte_order_flag};
+ghost use Rattle.netlink_packet_core_attributes.specs.NlaBuffers.{storage, view_of, with_value};
+
+use super::nla::{NLA_F_NESTED, NLA_F_NET_BYTEORDER, NLA_HEADER_SIZE, NLA_TYPE_MASK};
+use super::view::{ByteLend, ByteView, ByteViewMut, read_u16, write_u16};
+use netlink_packet_core_numbers::error::DecodeError;
+
+/// The bytes of one attribute: a little-endian length of 2 bytes, which counts the header, a
+/// little-endian kind of 2 bytes (netlink.h, `struct nlattr`), and the payload.
+#[derive(Clone, Copy, Debug, PartialEq, Eq, Drop)]
+pub struct NlaBuffer<T> {
+    buffer: T,
+}
+
+impl<T> NlaBuffer<T> {
+    /// A view of some storage, whatever it holds.
+    pub fn new(buffer: T) -> Self
+        ensures { storage result ≡ buffer }
+    {
+        NlaBuffer { buffer }
+    }
+
+    /// The storage.
+    pub fn into_inner(self) -> T
+        ensures { result ≡ storage self }
+    {
+        self.buffer
+    }
+
+    /// The storage, to be read.
+    pub fn inner(&self) -> &T
+        ensures { result.now ≡ storage self.now }
+    {
+        &self.buffer
+    }
+
+    ghost use Rattle.netlink_packet_core_attributes.specs.contracts.nla_buffer.NlaBuffer.{the_row};
+
+    /// The storage, to be written.
+    pub fn inner_mut(&mut self) -> &mut T
+        ensures* writes_back { sem 𝓛 (Lends (the_row T.row) T.row self.entry result view_of) }
+        ensures value { result.now ≡ storage self.old }
+    {
+        &mut self.buffer
+    }
+}
+
+impl<T: ByteView> NlaBuffer<T> {
+    /// A view of storage that begins with a whole attribute: at least 4 bytes, with a length of at
+    /// least 4 and at most the bytes there.
+    pub fn new_checked(buffer: T) -> Result<Self, DecodeError>
+    where
+        T: Drop,
+        ensures whole { IsOk result ↔ IsAttribute (T.bytes buffer) }
+        ensures ok { IfOk result (λ view. storage view ≡ buffer) }
+        ensures err { IfErr result (λ e. is_memory e ≡ false) }
+    {
+        let view = NlaBuffer::new(buffer);
+        view.check_buffer_length()?;
+        Ok(view)
+    }
+
+    /// Whether the storage begins with a whole attribute, as the readers of the payload ask.
+    pub fn check_buffer_length(&self) -> Result<(), DecodeError>
+        ensures whole { IsOk result ↔ IsAttribute (T.bytes (storage self.now)) }
+        ensures err { IfErr result (λ e. is_memory e ≡ false) }
+    {
+        let bytes = self.buffer.as_bytes();
+        let size = bytes.len();
+        if size < NLA_HEADER_SIZE {
+            return Err(DecodeError::nla_buffer_too_small(size, NLA_HEADER_SIZE));
+        }
+        let length = read_u16(bytes, 0) as usize;
+        if size < length {
+            return Err(DecodeError::nla_length_mismatch(size, length));
+        }
+        if length < NLA_HEADER_SIZE {
+            return Err(DecodeError::nla_invalid_length(size, length));
+        }
+        Ok(())
+    }
+
+    /// The length that the header tells, which counts the header.
+    pub fn length(&self) -> u16
+        requires { 4 ≤ length (T.bytes (storage self.now)) }
+        ensures { result ≡ length_of (T.bytes (storage self.now)) }
+    {
+        read_u16(self.buffer.as_bytes(), 0)
+    }
+
+    /// The bytes of the payload.
+    pub fn value_length(&self) -> usize
+        requires { IsAttribute (T.bytes (storage self.now)) }
+        ensures { result ≡ length_of (T.bytes (storage self.now)) - 4 }
+    {
+        self.length() as usize - NLA_HEADER_SIZE
+    }
+
+    /// All 16 bits of the kind.
+    pub fn raw_kind(&self) -> u16
+        requires { 4 ≤ length (T.bytes (storage self.now)) }
+        ensures { result ≡ raw_kind_of (T.bytes (storage self.now)) }
+    {
+        read_u16(self.buffer.as_bytes(), 2)
+    }
+
+    /// The 14 bits of the kind that are no flags.
+    pub fn kind(&self) -> u16
+        requires { 4 ≤ length (T.bytes (storage self.now)) }
+        ensures { result ≡ proper_kind (raw_kind_of (T.bytes (storage self.now))) }
+    {
+        self.raw_kind() & NLA_TYPE_MASK
+    }
+
+    /// Whether the payload is told to be a list of attributes.
+    pub fn nested_flag(&self) -> bool
+        requires { 4 ≤ length (T.bytes (storage self.now)) }
+        ensures { result ≡ has_nested_flag (raw_kind_of (T.bytes (storage self.now))) }
+    {
+        self.raw_kind() & NLA_F_NESTED != 0
+    }
+
+    /// Whether the payload is told to be in network byte order.
+    #[tactic(auto, using(crate::proofs::Flags::byte_order_flag))]
+    pub fn network_byte_order_flag(&self) -> bool
+        requires { 4 ≤ length (T.bytes (storage self.now)) }
+        ensures { result ≡ has_byte_order_flag (raw_kind_of (T.bytes (storage self.now))) }
+    {
+        self.raw_kind() & NLA_F_NET_BYTEORDER != 0
+    }
+}
+
+impl<'a> NlaBuffer<&'a [u8]> {
+    /// The payload, for as long as the storage lives.
+    pub fn value(&self) -> &'a [u8]
+        requires { IsAttribute (storage self.now).now }
+        ensures { result.now ≡ payload_of (storage self.now).now }
+    {
+        let buffer = self.buffer;
+        &buffer[NLA_HEADER_SIZE..self.length() as usize]
+    }
+}
+
+impl<'a> NlaBuffer<&'a mut [u8]> {
+    /// The payload.
+    pub fn value(&self) -> &[u8]
+        requires { IsAttribute (storage self.now).now }
+        ensures { result.now ≡ payload_of (storage self.now).now }
+    {
+        &self.buffer[NLA_HEADER_SIZE..self.length() as usize]
+    }
+}
+
+impl NlaBuffer<Vec<u8>> {
+    /// The payload.
+    pub fn value(&self) -> &[u8]
+        requires { IsAttribute (storage self.now).items }
+        ensures { result.now ≡ payload_of (storage self.now).items }
+    {
+        &self.buffer.as_slice()[NLA_HEADER_SIZE..self.length() as usize]
+    }
+}
+
+impl<T: ByteViewMut> NlaBuffer<T> {
+    /// Writes the header's length, which counts the header.
+    pub fn set_length(&mut self, value: u16)
+        requires { 4 ≤ length (T.ByteView.bytes (storage self.old)) }
+        ensures bytes { T.ByteView.bytes (storage self.new) ≡ put_at 0 (le2 value) (T.ByteView.bytes (storage self.old)) }
+        ensures same { T.same_storage (storage self.old) (storage self.new) }
+    {
+        write_u16(&mut self.buffer, 0, value);
+    }
+
+    /// Writes the low 14 bits of `kind`, and clears both flags.
+    pub fn set_kind(&mut self, kind: u16)
+        requires { 4 ≤ length (T.ByteView.bytes (storage self.old)) }
+        ensures bytes { T.ByteView.bytes (storage self.new) ≡ put_at 2 (le2 (proper_kind kind)) (T.ByteView.bytes (storage self.old)) }
+        ensures same { T.same_storage (storage self.old) (storage self.new) }
+    {
+        write_u16(&mut self.buffer, 2, kind & NLA_TYPE_MASK);
+    }
+
+    /// Keeps the 14 bits of the kind, sets the nested flag and clears the other one.
+    pub fn set_nested_flag(&mut self)
+        requires { 4 ≤ length (T.ByteView.bytes (storage self.old)) }
+        ensures bytes { T.ByteView.bytes (storage self.new)
+            ≡ put_at 2 (le2 (with_nested_flag (raw_kind_of (T.ByteView.bytes (storage self.old))))) (T.ByteView.bytes (storage self.old)) }
+        ensures same { T.same_storage (storage self.old) (storage self.new) }
+    {
+        let kind = self.kind() | NLA_F_NESTED;
+        write_u16(&mut self.buffer, 2, kind);
+    }
+
+    /// Keeps the 14 bits of the kind, sets the flag of network byte order and clears the other one.
+    pub fn set_network_byte_order_flag(&mut self)
+        requires { 4 ≤ length (T.ByteView.bytes (storage self.old)) }
+        ensures bytes { T.ByteView.bytes (storage self.new)
+            ≡ put_at 2 (le2 (with_byte_order_flag (raw_kind_of (T.ByteView.bytes (storage self.old))))) (T.ByteView.bytes (storage self.old)) }
+        ensures same { T.same_storage (storage self.old) (storage self.new) }
+    {
+        let kind = self.kind() | NLA_F_NET_BYTEORDER;
+        write_u16(&mut self.buffer, 2, kind);
+    }
+}
+
+impl<T: ByteLend> NlaBuffer<T> {
+    ghost use Rattle.netlink_packet_core_attributes.specs.contracts.nla_buffer.NlaBuffer.{the_row};
+
+    /// The payload, to be written.
+    pub fn value_mut(&mut self) -> &mut [u8]
+        requires { IsAttribute (T.ByteView.bytes (storage self.old)) }
+        ensures* writes_back { sem 𝓛 (Lends (the_row T.row) (Array u8 0) self.entry result (with_value T.with_part self.old)) }
+        ensures value { result.now ≡ payload_of (T.ByteView.bytes (storage self.old)) }
+    {
+        let end = self.length() as usize;
+        self.buffer.part_mut(NLA_HEADER_SIZE, end)
+    }
+}
+
+#[cfg(test)]
+mod tests {
+    use super::*;
+    use std::test::Fail;
+
+    /// A caller's own bytes are known after a setter.
+    fn mark(bytes: &mut [u8])
+        requires { 4 ≤ length bytes.old }
+        ensures { bytes.new ≡ put_at 2 (le2 5) bytes.old }
+    {
+        let mut view = NlaBuffer::new(bytes);
+        view.set_kind(5);
+    }
+
+    #[test]
+    fn an_attribute_is_read_at_a_slice(rt: HostRuntime) -> Result<(), Fail> {
+        let bytes: &[u8] = &[5, 0, 0x46, 0xc0, 0xaa, 0, 0, 0];
+        let Ok(view) = NlaBuffer::new_checked(bytes) else {
+            return Err(Fail::from("refused"));
+        };
+        assert_eq!(rt; view.length(), 5);
+        assert_eq!(rt; view.value_length(), 1);
+        assert_eq!(rt; view.raw_kind(), 0xc046);
+        assert_eq!(rt; view.kind(), 70);
+        assert!(rt; view.nested_flag() && view.network_byte_order_flag());
+        assert_eq!(rt; view.value(), [0xaau8].as_slice());
+        assert_eq!(rt; view.inner().len(), 8);
+        assert_eq!(rt; view.into_inner(), bytes);
+        Ok(())
+    }
+
+    #[test]
+    fn an_attribute_is_read_at_a_mutable_slice(rt: HostRuntime) -> Result<(), Fail> {
+        let mut bytes = [5u8, 0, 2, 0, 0xaa];
+        let Ok(view) = NlaBuffer::new_checked(bytes.as_mut_slice()) else {
+            return Err(Fail::from("refused"));
+        };
+        assert_eq!(rt; view.length(), 5);
+        assert_eq!(rt; view.value_length(), 1);
+        assert_eq!(rt; view.raw_kind(), 2);
+        assert_eq!(rt; view.kind(), 2);
+        assert!(rt; !view.nested_flag() && !view.network_byte_order_flag());
+        assert_eq!(rt; view.value(), [0xaau8].as_slice());
+        assert_eq!(rt; view.inner().len(), 5);
+        assert_eq!(rt; view.into_inner().len(), 5);
+        Ok(())
+    }
+
+    #[test]
+    fn an_attribute_is_read_at_a_vector(rt: HostRuntime) -> Result<(), Fail> {
+        let bytes = [6u8, 0, 2, 0x40, 0xaa, 0xbb].to_vec(rt.alloc())?;
+        let Ok(view) = NlaBuffer::new_checked(bytes) else {
+            return Err(Fail::from("refused"));
+        };
+        assert_eq!(rt; view.length(), 6);
+        assert_eq!(rt; view.value_length(), 2);
+        assert_eq!(rt; view.raw_kind(), 0x4002);
+        assert_eq!(rt; view.kind(), 2);
+        assert!(rt; !view.nested_flag() && view.network_byte_order_flag());
+        assert_eq!(rt; view.value(), [0xaau8, 0xbb].as_slice());
+        assert_eq!(rt; view.inner().len(), 6);
+        assert_eq!(rt;
+            view.into_inner().as_slice(),
+            [6u8, 0, 2, 0x40, 0xaa, 0xbb].as_slice()
+        );
+        Ok(())
+    }
+
+    #[test]
+    fn what_is_no_attribute_is_refused(rt: HostRuntime) {
+        let short: &[u8] = &[4, 0, 1];
+        let cut: &[u8] = &[5, 0, 1, 0];
+        let small: &[u8] = &[3, 0, 2, 0];
+        let whole: &[u8] = &[4, 0, 1, 0];
+        assert!(rt; NlaBuffer::new(short).check_buffer_length().is_err());
+        assert!(rt; NlaBuffer::new(cut).check_buffer_length().is_err());
+        assert!(rt; NlaBuffer::new(small).check_buffer_length().is_err());
+        assert!(rt; NlaBuffer::new(whole).check_buffer_length().is_ok());
+    }
+
+    #[test]
+    fn an_attribute_is_written_at_a_mutable_slice(rt: HostRuntime) {
+        let mut bytes = [4u8, 0, 0x46, 0xc0, 0];
+        let mut view = NlaBuffer::new(bytes.as_mut_slice());
+        view.set_nested_flag();
+        assert_eq!(rt; view.raw_kind(), 0x8046);
+        view.set_network_byte_order_flag();
+        assert_eq!(rt; view.raw_kind(), 0x4046);
+        view.set_kind(0xc001);
+        assert_eq!(rt; view.raw_kind(), 1);
+        view.set_length(5);
+        view.inner_mut()[4] = 9;
+        assert_eq!(rt; bytes.as_slice(), [5u8, 0, 1, 0, 9].as_slice());
+    }
+
+    #[test]
+    fn an_attribute_is_written_at_a_vector(rt: HostRuntime) -> Result<(), Fail> {
+        let mut view = NlaBuffer::new([4u8, 0, 0x46, 0xc0, 0].to_vec(rt.alloc())?);
+        view.set_network_byte_order_flag();
+        assert_eq!(rt; view.raw_kind(), 0x4046);
+        view.set_nested_flag();
+        assert_eq!(rt; view.raw_kind(), 0x8046);
+        view.set_kind(2);
+        view.set_length(5);
+        let Ok(()) = view.check_buffer_length() else {
+            return Err(Fail::from("refused"));
+        };
+        view.value_mut().fill(7);
+        assert_eq!(rt; view.inner_mut().len(), 5);
+        let mut bytes = view.into_inner();
+        assert_eq!(rt; bytes.as_slice(), [5u8, 0, 2, 0, 7].as_slice());
+        let mut view = NlaBuffer::new(&mut bytes);
+        let Ok(()) = view.check_buffer_length() else {
+            return Err(Fail::from("refused"));
+        };
+        view.value_mut().fill(8);
+        assert_eq!(rt; bytes.as_slice(), [5u8, 0, 2, 0, 8].as_slice());
+        Ok(())
+    }
+}

@@ -1,0 +1,4 @@
+pub mod Codes
+pub mod NetlinkBuffers
+pub mod DoneBuffers
+pub mod ErrorBuffers

@@ -1,0 +1,81 @@
+-- The bytes of a header are written as they were read.
+use Rattle.std.proofs.Common.{◌≡◌, ℕ, zero, suc, ◌+◌, ◌<◌, ◌≤◌, List, [], ◌∷◌, ◌++◌, length, get_or, take, drop, refl, ap, ◌∙◌, arith}
+use Rattle.std.specs.Int.{w16, w32, from_le_bytes, to_le_bytes}
+use Rattle.std.proofs.lemmas.Nat.{le_bytes_2, le_bytes_4}
+use Rattle.std.proofs.lemmas.List.{drop-take}
+use Rattle.netlink_packet_core_grammar.specs.Numbers.{u16_at, u32_at, le2, le4}
+use Rattle.netlink_packet_core_messages.specs.declared.header.NetlinkHeader.{NetlinkHeader}
+use Rattle.netlink_packet_core_messages.specs.Headers.{header_of, header_text}
+
+-- each number is a byte
+abbrev pub AllBytes : List ℕ → Type 0
+AllBytes c = (i : ℕ) → get_or c i 0 < 256
+
+two_bytes : (a b : ℕ) → a < 256 → b < 256 → AllBytes (a ∷ b ∷ [])
+two_bytes a b p q zero = p
+two_bytes a b p q (suc zero) = q
+two_bytes a b p q (suc (suc i)) = omega arith
+
+four_bytes : (a b c d : ℕ) → a < 256 → b < 256 → c < 256 → d < 256 → AllBytes (a ∷ b ∷ c ∷ d ∷ [])
+four_bytes a b c d p q r s zero = p
+four_bytes a b c d p q r s (suc zero) = q
+four_bytes a b c d p q r s (suc (suc zero)) = r
+four_bytes a b c d p q r s (suc (suc (suc zero))) = s
+four_bytes a b c d p q r s (suc (suc (suc (suc i)))) = omega arith
+
+written_2 : (a b : ℕ) → a < 256 → b < 256 → to_le_bytes w16 (from_le_bytes w16 (a ∷ b ∷ [])) ≡ a ∷ b ∷ []
+written_2 a b p q = le_bytes_2 (a ∷ b ∷ []) _ refl (two_bytes a b p q) refl
+
+pub written_4 : (a b c d : ℕ) → a < 256 → b < 256 → c < 256 → d < 256 → to_le_bytes w32 (from_le_bytes w32 (a ∷ b ∷ c ∷ d ∷ [])) ≡ a ∷ b ∷ c ∷ d ∷ []
+written_4 a b c d p q r s = le_bytes_4 (a ∷ b ∷ c ∷ d ∷ []) _ refl (four_bytes a b c d p q r s) refl
+
+pub record FourAnd (n : ℕ) (c : List ℕ) : Type 0 where
+  pub a : ℕ
+  pub b : ℕ
+  pub d : ℕ
+  pub e : ℕ
+  pub rest : List ℕ
+  pub is : c ≡ a ∷ b ∷ d ∷ e ∷ rest
+  pub more : n ≤ length rest
+
+pub four_and : (n : ℕ) (c : List ℕ) → 4 + n ≤ length c → FourAnd n c
+four_and n (a ∷ b ∷ d ∷ e ∷ rest) h = record { a = a; b = b; d = d; e = e; rest = rest; is = refl; more = omega arith }
+four_and n [] h = absurd (omega arith)
+four_and n (a ∷ []) h = absurd (omega arith)
+four_and n (a ∷ b ∷ []) h = absurd (omega arith)
+four_and n (a ∷ b ∷ d ∷ []) h = absurd (omega arith)
+
+-- the numbers at the places of a header
+written_2_at : (i : ℕ) (c : List ℕ) → AllBytes c → le2 (u16_at i c) ≡ get_or c i 0 ∷ get_or c (i + 1) 0 ∷ []
+unfolding u16_at le2
+written_2_at i c h = written_2 (get_or c i 0) (get_or c (i + 1) 0) (h i) (h (i + 1))
+
+pub written_4_at : (i : ℕ) (c : List ℕ) → AllBytes c → le4 (u32_at i c) ≡ get_or c i 0 ∷ get_or c (i + 1) 0 ∷ get_or c (i + 2) 0 ∷ get_or c (i + 3) 0 ∷ []
+unfolding u32_at le4
+written_4_at i c h = written_4 (get_or c i 0) (get_or c (i + 1) 0) (get_or c (i + 2) 0) (get_or c (i + 3) 0) (h i) (h (i + 1)) (h (i + 2)) (h (i + 3))
+
+places : (c : List ℕ) → AllBytes c → header_text (header_of c) ≡ get_or c 0 0 ∷ get_or c 1 0 ∷ get_or c 2 0 ∷ get_or c 3 0 ∷ get_or c 4 0 ∷ get_or c 5 0 ∷ get_or c 6 0 ∷ get_or c 7 0 ∷ get_or c 8 0 ∷ get_or c 9 0 ∷ get_or c 10 0 ∷ get_or c 11 0 ∷ get_or c 12 0 ∷ get_or c 13 0 ∷ get_or c 14 0 ∷ get_or c 15 0 ∷ []
+unfolding header_text header_of
+places c h = rw (written_4_at 0 c h, written_2_at 4 c h, written_2_at 6 c h, written_4_at 8 c h, written_4_at 12 c h) refl
+
+pub header_written : (c : List ℕ) → 16 ≤ length c → AllBytes c → header_text (header_of c) ≡ take 16 c
+header_written c l h =
+    let f = four_and 12 c l in
+    let g = four_and 8 f.rest f.more in
+    let j = four_and 4 g.rest g.more in
+    let k = four_and 0 j.rest j.more in
+    let e : c ≡ f.a ∷ f.b ∷ f.d ∷ f.e ∷ g.a ∷ g.b ∷ g.d ∷ g.e ∷ j.a ∷ j.b ∷ j.d ∷ j.e ∷ k.a ∷ k.b ∷ k.d ∷ k.e ∷ k.rest = f.is ∙ ap (λ r. f.a ∷ f.b ∷ f.d ∷ f.e ∷ r) (g.is ∙ ap (λ r. g.a ∷ g.b ∷ g.d ∷ g.e ∷ r) (j.is ∙ ap (λ r. j.a ∷ j.b ∷ j.d ∷ j.e ∷ r) k.is)) in
+    places c h ∙ rw e refl
+
+with_length : (h : NetlinkHeader) (n : ℕ) → header_text (record h { length = n }) ≡ le4 n ++ drop 4 (header_text h)
+unfolding header_text le4
+with_length h n = refl
+
+same_header : (c : List ℕ) (n : ℕ) → record (header_of c) { length = n; message_type = u16_at 4 c } ≡ record (header_of c) { length = n }
+unfolding header_of
+same_header c n = refl
+
+-- the header of some bytes with another length
+pub header_kept : (h : NetlinkHeader) (c : List ℕ) (n t : ℕ) → h ≡ header_of c → t ≡ u16_at 4 c → 16 ≤ length c → AllBytes c → header_text (record h { length = n; message_type = t }) ≡ le4 n ++ take 12 (drop 4 c)
+header_kept h c n t e1 e2 l b =
+    rw (e1, e2) (ap header_text (same_header c n) ∙ with_length (header_of c) n ∙ ap (λ x. le4 n ++ drop 4 x) (header_written c l b) ∙ ap (λ x. le4 n ++ x) (drop-take 4 12 c))

@@ -1,0 +1,9 @@
+pub mod Frames
+pub mod Texts
+pub mod Headers
+pub mod Sizes
+pub mod HeaderBytes
+pub mod Payloads
+pub mod Whole
+pub mod Past
+pub mod Written

@@ -1,0 +1,217 @@
+-- A message that was read is written with the header that was read, and with the body by its type.
+use Rattle.std.proofs.Common.{◌≡◌, ℕ, zero, suc, ℤ, ◌+◌, ◌-◌, ◌<◌, ◌≤◌, ◌^◌, Bool, true, false, cond, pos, List, [], ◌∷◌, ◌++◌, length, take, drop, Option, Some, None, refl, sym, ap, subst, ◌∙◌, append_assoc, ◌⊎◌, inl, inr, arith, nat_eq, nat_lt}
+use Rattle.std.specs.Prelude.{option_map}
+use Rattle.std.specs.Int.{w32}
+use Rattle.std.specs.Ordering.{int_eq}
+use Rattle.std.specs.Cmp.{signed_Decides}
+use Rattle.std.proofs.lemmas.Bool.{and_parts, leb-true}
+use Rattle.std.proofs.lemmas.Bool.Decides.{eqb_tells, leb_tells, nat_tests}
+use Rattle.std.proofs.lemmas.Int.{of_z-to_z}
+use Rattle.netlink_packet_core_grammar.specs.Numbers.{u32_at, le4}
+use Rattle.netlink_packet_core_grammar.specs.Frames.{frame_length, frame_type, frame_body, frame_text}
+use Rattle.netlink_packet_core_grammar.specs.Attributes.{nla_align, zeros}
+use Rattle.netlink_packet_core_buffers.specs.Codes.{code_of, code_text, raw_code, nonzero_code}
+use Rattle.netlink_packet_core_messages.specs.declared.message.NetlinkMessage.{NetlinkMessage}
+use Rattle.netlink_packet_core_messages.specs.declared.header.NetlinkHeader.{NetlinkHeader}
+use Rattle.netlink_packet_core_messages.specs.declared.payload.NetlinkPayload.{NetlinkPayload}
+use Rattle.netlink_packet_core_messages.specs.declared.payload.NetlinkPayload.TheVariants.{Done, Error, Noop, Overrun, InnerMessage}
+use Rattle.netlink_packet_core_messages.specs.declared.done.DoneMessage.{DoneMessage}
+use Rattle.netlink_packet_core_messages.specs.declared.error.ErrorMessage.{ErrorMessage}
+use Rattle.netlink_packet_core_messages.specs.ControlMessages.{done_text, error_text, done_of, error_of, empty_done, read_done, read_error}
+use Rattle.netlink_packet_core_messages.specs.Headers.{header_of, header_text}
+use Rattle.netlink_packet_core_messages.specs.TypedBodies.{TypedBody}
+use Rattle.netlink_packet_core_messages.specs.Payloads.{payload_entry, payload_value, read_payload, written_body}
+use Rattle.netlink_packet_core_messages.specs.Messages.{read_message, message_text, message_value, finalized, is_frame, unpadded_text}
+use Rattle.netlink_packet_core_messages.proofs.HeaderBytes.{AllBytes, four_and, written_4_at, header_kept}
+
+-- ---- codes
+
+raw_by : (is_zero : Bool) (z : ℤ) → (is_zero ≡ true → z ≡ pos 0) → raw_code (cond is_zero None (Some z)) ≡ z
+raw_by true z h = sym (h refl)
+raw_by false z h = refl
+
+zero_is : (z : ℤ) → int_eq z (pos 0) ≡ true → z ≡ pos 0
+zero_is z h = grind (arith, signed_Decides)
+
+raw-nonzero : (z : ℤ) → raw_code (nonzero_code z) ≡ z
+raw-nonzero z = raw_by (int_eq z (pos 0)) z (zero_is z)
+
+four_bytes_kept : (b : List ℕ) → 4 ≤ length b → AllBytes b → le4 (u32_at 0 b) ++ drop 4 b ≡ b
+four_bytes_kept b l h =
+    let f = four_and 0 b l in
+    rw (written_4_at 0 b h) (rw f.is refl)
+
+code_fits : (b : List ℕ) → AllBytes b → u32_at 0 b < 2 ^ 32
+unfolding u32_at
+code_fits b h =
+    let h0 = h 0 in let h1 = h 1 in let h2 = h 2 in let h3 = h 3 in
+    omega arith
+
+code_kept : (b : List ℕ) → 4 ≤ length b → AllBytes b → code_text (code_of b) ++ drop 4 b ≡ b
+code_kept b l h = rw (of_z-to_z w32 (u32_at 0 b) (code_fits b h)) (four_bytes_kept b l h)
+
+pub done_kept : (b : List ℕ) → 4 ≤ length b → AllBytes b → done_text (done_of b) ≡ b
+done_kept b l h = code_kept b l h
+
+pub error_kept : (b : List ℕ) → 4 ≤ length b → AllBytes b → error_text (error_of b) ≡ b
+error_kept b l h = rw (raw-nonzero (code_of b)) (code_kept b l h)
+
+empty_done_text : done_text empty_done ≡ 0 ∷ 0 ∷ 0 ∷ 0 ∷ []
+unfolding le4
+empty_done_text = refl
+
+-- ---- payloads
+
+-- what is written of what was read, where `own` is what an inner message is written as
+abbrev of_read : {V : Type 0} → TypedBody → TypedBody → Option (NetlinkPayload V) → TypedBody
+of_read other own None = other
+of_read other own (Some p) = payload_entry (λ _. own) p
+
+error_of_read : (V : Type 0) (own : TypedBody) (b : List ℕ) → AllBytes b → of_read {V = V} (2, b) own (option_map Error (read_error b)) ≡ (2, b)
+error_of_read V own b h =
+    elim (leb_tells 4 (length b)) [
+      | inl t ↦ (let s : nat_lt (length b) 4 ≡ false = grind (arith, nat_tests) in rw s (ap (λ (x : List ℕ). (2, x)) (error_kept b t.1 h)))
+      | inr t ↦ (let s : nat_lt (length b) 4 ≡ true = grind (arith, nat_tests) in rw s refl)
+    ]
+
+done_of_read : (V : Type 0) (own : TypedBody) (b : List ℕ) → AllBytes b → of_read {V = V} (3, cond (nat_eq (length b) 0) (0 ∷ 0 ∷ 0 ∷ 0 ∷ []) b) own (option_map Done (read_done b)) ≡ (3, cond (nat_eq (length b) 0) (0 ∷ 0 ∷ 0 ∷ 0 ∷ []) b)
+done_of_read V own b h =
+    elim (eqb_tells (length b) 0) [
+      | inl e ↦ rw e.0 (ap (λ (x : List ℕ). (3, x)) empty_done_text)
+      | inr e ↦
+          elim (leb_tells 4 (length b)) [
+            | inl t ↦ (let s : nat_lt (length b) 4 ≡ false = grind (arith, nat_tests) in rw (e.0, s) (ap (λ (x : List ℕ). (3, x)) (done_kept b t.1 h)))
+            | inr t ↦ (let s : nat_lt (length b) 4 ≡ true = grind (arith, nat_tests) in rw (e.0, s) refl)
+          ]
+    ]
+
+inner_of_read : {V : Type 0} (own : TypedBody) (o : Option V) → of_read own own (option_map InnerMessage o) ≡ own
+inner_of_read own None = refl
+inner_of_read own (Some v) = refl
+
+read_written : {V : Type 0} (reads : ℕ → List ℕ → Option V) (own : List ℕ) (t : ℕ) (b : List ℕ) → AllBytes b → of_read (t, written_body own t b) (t, own) (read_payload reads t b) ≡ (t, written_body own t b)
+read_written reads own t b h =
+    elim (eqb_tells t 1) [
+      | inl e ↦ subst (λ n. of_read (n, written_body own n b) (n, own) (read_payload reads n b) ≡ (n, written_body own n b)) (sym e.1) refl
+      | inr e ↦
+          elim (eqb_tells t 2) [
+            | inl f ↦ subst (λ n. of_read (n, written_body own n b) (n, own) (read_payload reads n b) ≡ (n, written_body own n b)) (sym f.1) (error_of_read _ (2, own) b h)
+            | inr f ↦
+                elim (eqb_tells t 3) [
+                  | inl g ↦ subst (λ n. of_read (n, written_body own n b) (n, own) (read_payload reads n b) ≡ (n, written_body own n b)) (sym g.1) (done_of_read _ (3, own) b h)
+                  | inr g ↦
+                      elim (eqb_tells t 4) [
+                        | inl k ↦ subst (λ n. of_read (n, written_body own n b) (n, own) (read_payload reads n b) ≡ (n, written_body own n b)) (sym k.1) refl
+                        | inr k ↦ rw (e.0, f.0, g.0, k.0) (inner_of_read (t, own) (reads t b))
+                      ]
+                ]
+          ]
+    ]
+
+-- the inner message that was read, if there is one
+abbrev inner_of : {V : Type 0} → Option (NetlinkPayload V) → Option V
+inner_of None = None
+inner_of (Some (Done m)) = None
+inner_of (Some (Error m)) = None
+inner_of (Some Noop) = None
+inner_of (Some (Overrun b)) = None
+inner_of (Some (InnerMessage v)) = Some v
+
+inner_of-error : {V : Type 0} (o : Option ErrorMessage) → inner_of {V = V} (option_map Error o) ≡ None
+inner_of-error None = refl
+inner_of-error (Some m) = refl
+
+inner_of-done : {V : Type 0} (o : Option DoneMessage) → inner_of {V = V} (option_map Done o) ≡ None
+inner_of-done None = refl
+inner_of-done (Some m) = refl
+
+inner_of-inner : {V : Type 0} (o : Option V) → inner_of (option_map InnerMessage o) ≡ o
+inner_of-inner None = refl
+inner_of-inner (Some v) = refl
+
+-- what a control message is read as is no inner message
+inner_none : {V : Type 0} (reads : ℕ → List ℕ → Option V) (t : ℕ) (b : List ℕ) → (inner_of (read_payload reads t b) ≡ None) ⊎ (inner_of (read_payload reads t b) ≡ reads t b)
+inner_none reads t b =
+    elim (eqb_tells t 1) [
+      | inl e ↦ inl (rw e.0 refl)
+      | inr e ↦
+          elim (eqb_tells t 2) [
+            | inl f ↦ inl (rw (e.0, f.0) (inner_of-error (read_error b)))
+            | inr f ↦
+                elim (eqb_tells t 3) [
+                  | inl g ↦ inl (rw (e.0, f.0, g.0) (inner_of-done (read_done b)))
+                  | inr g ↦
+                      elim (eqb_tells t 4) [
+                        | inl k ↦ inl (rw (e.0, f.0, g.0, k.0) refl)
+                        | inr k ↦ inr (rw (e.0, f.0, g.0, k.0) (inner_of-inner (reads t b)))
+                      ]
+                ]
+          ]
+    ]
+
+none_some : {V : Type 0} (v : V) → None ≡ Some v → ⊥
+none_some v h = absurd cc
+
+inner_read : {V : Type 0} (reads : ℕ → List ℕ → Option V) (t : ℕ) (b : List ℕ) (v : V) → read_payload reads t b ≡ Some (InnerMessage v) → reads t b ≡ Some v
+inner_read reads t b v e =
+    elim (inner_none reads t b) [
+      | inl n ↦ absurd (none_some v (sym n ∙ ap inner_of e))
+      | inr s ↦ sym s ∙ ap inner_of e
+    ]
+
+entry_by : {A V : Type 0} (value : A → V) (entry : A → TypedBody) (own : TypedBody) (p : NetlinkPayload A) → ((x : A) → payload_value value p ≡ InnerMessage (value x) → entry x ≡ own) → payload_entry entry p ≡ payload_entry (λ _. own) (payload_value value p)
+entry_by value entry own (Done m) h = refl
+entry_by value entry own (Error m) h = refl
+entry_by value entry own Noop h = refl
+entry_by value entry own (Overrun b) h = refl
+entry_by value entry own (InnerMessage x) h = h x refl
+
+pub payload_written : {A V : Type 0} (reads : ℕ → List ℕ → Option V) (value : A → V) (entry : A → TypedBody) (own : List ℕ) (t : ℕ) (b : List ℕ) (p : NetlinkPayload A) → AllBytes b → read_payload reads t b ≡ Some (payload_value value p) → ((x : A) → reads t b ≡ Some (value x) → entry x ≡ (t, own)) → payload_entry entry p ≡ (t, written_body own t b)
+payload_written reads value entry own t b p h e k =
+    entry_by value entry (t, own) p (λ x f. k x (inner_read reads t b (value x) (e ∙ ap Some f)))
+    ∙ ap (of_read (t, written_body own t b) (t, own)) (sym e)
+    ∙ read_written reads own t b h
+
+-- ---- messages
+
+AllBytes-drop : (n : ℕ) (c : List ℕ) → AllBytes c → AllBytes (drop n c)
+AllBytes-drop zero c h = h
+AllBytes-drop (suc n) [] h = h
+AllBytes-drop (suc n) (x ∷ c) h = AllBytes-drop n c (λ i. h (suc i))
+
+AllBytes-take : (n : ℕ) (c : List ℕ) → AllBytes c → AllBytes (take n c)
+AllBytes-take zero c h zero = omega arith
+AllBytes-take zero c h (suc i) = omega arith
+AllBytes-take (suc n) [] h i = h i
+AllBytes-take (suc n) (x ∷ c) h zero = h zero
+AllBytes-take (suc n) (x ∷ c) h (suc i) = AllBytes-take n c (λ j. h (suc j)) i
+
+record ReadAs {V : Type 0} (whole : Bool) (h : NetlinkHeader) (o : Option (NetlinkPayload V)) (m : NetlinkMessage V) : Type 0 where
+  pub is_whole : whole ≡ true
+  pub header_is : m.header ≡ h
+  pub payload_is : o ≡ Some m.payload
+
+read_as : {V : Type 0} (whole : Bool) (h : NetlinkHeader) (o : Option (NetlinkPayload V)) (m : NetlinkMessage V) → cond whole (option_map (λ p. record { header = h; payload = p }) o) None ≡ Some m → ReadAs whole h o m
+read_as {V = V} true h (Some p) m e =
+    let f : record { header = h; payload = p } ≡ m = cc in
+    record { is_whole = refl; header_is = ap (λ (x : NetlinkMessage V). x.header) (sym f); payload_is = ap (λ (x : NetlinkMessage V). Some x.payload) f }
+read_as true h None m e = absurd (none_some m e)
+read_as false h o m e = absurd (none_some m e)
+
+text_by : (h : NetlinkHeader) (c : List ℕ) (t : ℕ) (w : List ℕ) (x : TypedBody) → x ≡ (t, w) → h ≡ header_of c → t ≡ frame_type c → 16 ≤ length c → AllBytes c → header_text (record h { length = 16 + length x.1; message_type = x.0 }) ++ x.1 ≡ unpadded_text c w
+text_by h c t w x e f g l b =
+    rw e (ap (λ y. y ++ w) (header_kept h c (16 + length w) t f g l b) ∙ append_assoc (le4 (16 + length w)) (take 12 (drop 4 c)) w)
+
+pub message_written : {A V : Type 0} (reads : ℕ → List ℕ → Option V) (value : A → V) (entry : A → TypedBody) (own c : List ℕ) (m : NetlinkMessage A) → AllBytes c → read_message reads c ≡ Some (message_value value m) → ((x : A) → reads (frame_type c) (frame_body c) ≡ Some (value x) → entry x ≡ (frame_type c, own)) → message_text entry (finalized entry m) ≡ unpadded_text c (written_body own (frame_type c) (frame_body c))
+message_written reads value entry own c m h e k =
+    let r = read_as (is_frame c) (header_of c) (read_payload reads (frame_type c) (frame_body c)) (message_value value m) e in
+    let b : AllBytes (frame_body c) = AllBytes-take (frame_length c - 16) (drop 16 c) (AllBytes-drop 16 c h) in
+    let p = payload_written reads value entry own (frame_type c) (frame_body c) m.payload b r.payload_is k in
+    let l : 16 ≤ length c = leb-true _ _ (and_parts _ _ r.is_whole).0 in
+    text_by m.header c (frame_type c) (written_body own (frame_type c) (frame_body c)) (payload_entry entry m.payload) p r.header_is refl l h
+
+-- ---- padding
+
+pub padded : (c body : List ℕ) → unpadded_text c body ++ zeros (nla_align (16 + length body) - (16 + length body)) ≡ frame_text c body
+unfolding frame_text
+padded c body = simp (append_assoc)

@@ -1,0 +1,6 @@
+pub mod Headers
+pub mod ControlMessages
+pub mod TypedBodies
+pub mod Payloads
+pub mod Messages
+pub mod Refusals

@@ -1,0 +1,29 @@
+//! Netlink messages: the header of a frame, the bodies of control messages, and the payloads of
+//! protocols.
+#![tactic(auto)]
+
+pub mod byte_vec;
+mod code;
+pub mod constants;
+pub mod done;
+pub mod error;
+pub mod frame_error;
+pub mod header;
+pub mod laws;
+pub mod message;
+pub mod payload;
+pub mod payload_traits;
+
+pub use byte_vec::ByteVec;
+pub use done::DoneMessage;
+pub use error::ErrorMessage;
+pub use frame_error::FrameError;
+pub use header::NetlinkHeader;
+pub use message::NetlinkMessage;
+pub use payload::{
+    NLMSG_ALIGNTO, NLMSG_DONE, NLMSG_ERROR, NLMSG_NOOP, NLMSG_OVERRUN, NetlinkPayload,
+};
+pub use payload_traits::{NetlinkDeserializable, NetlinkProtocol, NetlinkSerializable};
+
+#[cfg(test)]
+mod tests;

@@ -1,0 +1,72 @@
+ghost use Rattle.std.specs.Prelude.{◌≡◌, ℕ, List, Option, Some, None, Bool, true, false, length, IfOk, IfErr};
+ghost use Rattle.netlink_packet_core_grammar.specs.Numbers.{as_usize};
+ghost use Rattle.netlink_packet_core_messages.specs.TypedBodies.{IsInner, TypedBody};
+
+use super::header::NetlinkHeader;
+use std::alloc::Global;
+
+/// A message of a protocol that can be written.
+pub trait NetlinkSerializable {
+    /// Its type, and the bytes of its body.
+    ghost entry: { Self → TypedBody };
+
+    /// What has to hold of it to be written.
+    ghost fits: { Self → Type 0 };
+
+    /// The type of the message.
+    fn message_type(&self) -> u16
+        ensures { result ≡ (entry self.now).0 };
+
+    /// The size of the body in bytes.
+    fn buffer_len(&self) -> usize
+        ensures { result ≡ as_usize (length (entry self.now).1) };
+
+    /// Writes the body, into a buffer of its size.
+    fn serialize(&self, buffer: &mut [u8])
+        requires fits { fits self.now }
+        requires room { length buffer.old ≡ length (entry self.now).1 }
+        ensures { buffer.new ≡ (entry self.now).1 };
+}
+
+/// A message of a protocol that can be read.
+pub trait NetlinkDeserializable: Sized {
+    /// Why a body is refused.
+    type Error;
+
+    /// What a message says: equal messages have one value.
+    ghost Value: { Type 0 };
+
+    ghost value: { Self → Value };
+
+    /// The value that a type and the bytes of a body are read as, if they are accepted.
+    ghost reads: { ℕ → List ℕ → Option Value };
+
+    /// The refusal is want of memory.
+    ghost is_memory: { Self.Error → Bool };
+
+    /// Whether reading the body of a frame of a type may take memory.
+    ghost may_want_memory: { ℕ → List ℕ → Bool };
+
+    /// Reads the body of a frame with this header. The types 1 to 4 are those of control messages.
+    fn deserialize(
+        alloc: Global,
+        header: &NetlinkHeader,
+        payload: &[u8],
+    ) -> Result<Self, Self::Error>
+        requires { IsInner header.now.message_type }
+        ensures ok { IfOk result (λ m. reads header.now.message_type payload.now ≡ Some (value m)) }
+        ensures err { IfErr result (λ e. is_memory e ≡ false → reads header.now.message_type payload.now ≡ None) }
+        ensures memory { IfErr result (λ e. is_memory e ≡ true → may_want_memory header.now.message_type payload.now ≡ true) };
+}
+
+/// A protocol: what is written of a message is read as the message.
+pub trait NetlinkProtocol: NetlinkSerializable + NetlinkDeserializable {
+    /// The bytes of a message are read as its value, under each header of its type.
+    ghost round_trip: { (x : Self) → Self.fits x → Self.reads (Self.entry x).0 (Self.entry x).1 ≡ Some (Self.value x) };
+
+    /// No message has a type from 1 to 4.
+    ghost inner: { (x : Self) → IsInner (Self.entry x).0 };
+
+    /// Messages that say the same are written as the same.
+    ghost one_text: { (x y : Self) → Self.value x ≡ Self.value y → Self.entry x ≡ Self.entry y };
+}

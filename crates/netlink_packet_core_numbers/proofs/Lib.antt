@@ -1,0 +1,5 @@
+pub mod Octets
+pub mod Signs
+pub mod Sixteen
+pub mod Sizes
+pub mod Told

@@ -1,0 +1,90 @@
+-- What a refusal says.
+use Rattle.std.specs.Prelude.{ℕ, Bool, true, false, List, [], ◌∷◌, ◌++◌, Option, Some, None, Result, Ok, Err, codes, get_or, replicate}
+use Rattle.std.specs.Borrow.{Bor}
+use Rattle.std.specs.Fmt.{decimal}
+use Rattle.netlink_packet_core_numbers.specs.declared.error.Cause.{Cause}
+use Rattle.netlink_packet_core_numbers.specs.declared.error.Cause.TheVariants.{Memory, Buffer, MacAddress, IpAddress, Number, NlaBufferTooSmall, NlaLengthMismatch, NlaInvalidLength, BufferTooSmall, Text}
+use Rattle.netlink_packet_core_numbers.specs.declared.error.DecodeError.{DecodeError}
+
+abbrev is_want : Cause → Bool
+is_want Memory = true
+is_want _ = false
+
+-- the refusal is want of memory
+abbrev pub is_memory : DecodeError → Bool
+is_memory e = is_want e.cause
+
+-- ---- refusals as they are made, with no context
+
+abbrev caused_by : Cause → DecodeError
+caused_by c = record { cause = c; contexts = replicate 4 None }
+
+abbrev pub out_of_memory : DecodeError
+out_of_memory = caused_by Memory
+
+abbrev pub invalid_buffer : Bor (List ℕ) → ℕ → ℕ → DecodeError
+invalid_buffer name received minimum = caused_by (Buffer name received minimum)
+
+abbrev pub invalid_mac_address : ℕ → DecodeError
+invalid_mac_address received = caused_by (MacAddress received)
+
+abbrev pub invalid_ip_address : ℕ → DecodeError
+invalid_ip_address received = caused_by (IpAddress received)
+
+abbrev pub invalid_number : ℕ → ℕ → DecodeError
+invalid_number expected received = caused_by (Number expected received)
+
+abbrev pub nla_buffer_too_small : ℕ → ℕ → DecodeError
+nla_buffer_too_small buffer_len nla_len = caused_by (NlaBufferTooSmall buffer_len nla_len)
+
+abbrev pub nla_length_mismatch : ℕ → ℕ → DecodeError
+nla_length_mismatch buffer_len nla_len = caused_by (NlaLengthMismatch buffer_len nla_len)
+
+abbrev pub nla_invalid_length : ℕ → ℕ → DecodeError
+nla_invalid_length buffer_len nla_len = caused_by (NlaInvalidLength buffer_len nla_len)
+
+abbrev pub buffer_too_small : ℕ → ℕ → DecodeError
+buffer_too_small buffer_len value_len = caused_by (BufferTooSmall buffer_len value_len)
+
+abbrev pub of_text : Bor (List ℕ) → DecodeError
+of_text t = caused_by (Text t)
+
+-- ---- contexts
+
+-- the first place that is free takes the text
+abbrev added : Bor (List ℕ) → List (Option (Bor (List ℕ))) → List (Option (Bor (List ℕ)))
+added t [] = []
+added t (None ∷ ts) = Some t ∷ ts
+added t (Some s ∷ ts) = Some s ∷ added t ts
+
+-- the refusal with one context more, of which the first four are kept
+abbrev pub in_context : Bor (List ℕ) → DecodeError → DecodeError
+in_context t e = record { cause = e.cause; contexts = added t e.contexts }
+
+abbrev pub in_context_if : {T : Type 0} → Bor (List ℕ) → Result T DecodeError → Result T DecodeError
+in_context_if t (Ok x) = Ok x
+in_context_if t (Err e) = Err (in_context t e)
+
+-- ---- as it is displayed
+
+abbrev pub cause_text : Cause → List ℕ
+cause_text Memory = codes "out of memory"
+cause_text (Buffer name m n) = codes "invalid " ++ (name.now ++ (codes ": " ++ (decimal m ++ (codes " bytes, at least " ++ (decimal n ++ codes " are needed")))))
+cause_text (MacAddress m) = codes "invalid MAC address: " ++ (decimal m ++ codes " bytes, not 6")
+cause_text (IpAddress m) = codes "invalid IP address: " ++ (decimal m ++ codes " bytes, not 4 or 16")
+cause_text (Number n m) = codes "invalid number: " ++ (decimal m ++ (codes " bytes, not " ++ decimal n))
+cause_text (NlaBufferTooSmall m n) = codes "buffer of " ++ (decimal m ++ (codes " bytes is too small for an attribute of " ++ decimal n))
+cause_text (NlaLengthMismatch m n) = codes "attribute of " ++ (decimal n ++ (codes " bytes in a buffer of " ++ decimal m))
+cause_text (NlaInvalidLength m n) = codes "attribute of " ++ (decimal n ++ (codes " bytes is shorter than its header, in a buffer of " ++ decimal m))
+cause_text (BufferTooSmall m n) = codes "buffer of " ++ (decimal m ++ (codes " bytes is too small for a value of " ++ decimal n))
+cause_text (Text t) = t.now
+
+abbrev pub prefix_text : Option (Bor (List ℕ)) → List ℕ
+prefix_text None = []
+prefix_text (Some t) = t.now ++ codes " caused by "
+
+-- the contexts, newest first, and then the cause
+abbrev pub error_text : DecodeError → List ℕ
+error_text e =
+    prefix_text (get_or e.contexts 3 None) ++ (prefix_text (get_or e.contexts 2 None)
+    ++ (prefix_text (get_or e.contexts 1 None) ++ (prefix_text (get_or e.contexts 0 None) ++ cause_text e.cause)))

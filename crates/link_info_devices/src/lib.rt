@@ -5,8 +5,6 @@ mod batadv;
 mod ipoib;
 mod ipvlan;
 mod rmnet;
-#[cfg(test)]
-mod tests;
 mod vrf;
 mod wwan;
 

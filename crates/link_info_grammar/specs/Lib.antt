@@ -6,6 +6,7 @@ pub mod Tables
 pub mod Rows
 pub mod FlatTables
 pub mod Families
+pub mod KindNames
 pub mod Readings
 pub mod Walk
 pub mod Laws

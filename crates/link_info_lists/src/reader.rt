@@ -1,6 +1,6 @@
 //! Readers of the attributes of one table, and lists of them.
 
-ghost use Rattle.std.specs.Prelude.{◌≡◌, ℕ, List, Bool, true, false, map, Some, IsTrue, IfOk, IfErr, OnOk};
+ghost use Rattle.std.specs.Prelude.{◌≡◌, ◌<◌, ℕ, List, Bool, true, false, length, map, Some, IsTrue, IfOk, IfErr, OnOk};
 ghost use Rattle.std.specs.List.{All};
 ghost use Rattle.netlink_packet_core_grammar.specs.Attributes.{proper_kind};
 ghost use Rattle.netlink_packet_core_grammar.specs.AttributeViews.{attribute_of, raw_kind_of, payload_of, IsAttribute};
@@ -48,7 +48,8 @@ pub trait Reader {
             (λ e. is_memory e ≡ true → may_want_memory self.now (proper_kind (raw_kind_of (storage buf.now).now)) ≡ true) };
 }
 
-/// Reads a list of attributes of one table. It succeeds exactly where the list is accepted, memory aside.
+/// Reads a list of attributes of one table. It succeeds exactly where the list is accepted, memory
+/// aside; a list of no bytes is never refused.
 pub fn parse_list<R: Reader>(
     alloc: Global,
     reader: &R,
@@ -66,6 +67,7 @@ pub fn parse_list<R: Reader>(
     ensures names_row { IfOk result (λ v. All (R.names_row reader.now) v.items) }
     ensures err { IfErr result
         (λ e. is_memory e ≡ false → (rows_rule (R.row_of reader.now)).accepted bytes.now ≡ false) }
+    ensures not_empty { IfErr result (λ _. 0 < length bytes.now) }
 {
     let mut list = Vec::new(alloc);
     let mut rest = bytes;

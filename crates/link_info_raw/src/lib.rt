@@ -2,8 +2,6 @@
 #![tactic(auto)]
 
 mod raw_data;
-#[cfg(test)]
-mod tests;
 
 pub use raw_data::{
     InfoBond, InfoBondReader, InfoBridge, InfoBridgeReader, InfoCan, InfoCanReader, InfoDsa,

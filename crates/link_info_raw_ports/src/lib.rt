@@ -2,8 +2,6 @@
 #![tactic(auto)]
 
 mod raw_port_data;
-#[cfg(test)]
-mod tests;
 
 pub use raw_port_data::{
     InfoBondPort, InfoBondPortReader, InfoBridgePort, InfoBridgePortReader, InfoTeamPort,

@@ -81,36 +81,3 @@ impl FromStr for AmtMode {
         }
     }
 }
-
-#[cfg(test)]
-mod tests {
-    use super::*;
-    use std::test::Fail;
-
-    #[test]
-    fn amt_mode_numbers_and_texts(rt: HostRuntime) -> Result<(), Fail> {
-        let listed = [
-            (0, AmtMode::Gateway, "gateway"),
-            (1, AmtMode::Relay, "relay"),
-            (2, AmtMode::Other(2), "2"),
-            (0xffffffff, AmtMode::Other(0xffffffff), "4294967295"),
-        ];
-        for (number, mode, text) in listed {
-            assert_eq!(rt; AmtMode::from(number), mode);
-            assert_eq!(rt; u32::from(mode), number);
-            assert_eq!(rt; format!(in rt.alloc(); "{mode}")?.as_str(), text);
-        }
-        Ok(())
-    }
-
-    #[test]
-    fn amt_mode_from_texts(rt: HostRuntime) {
-        let listed = [("gateway", AmtMode::Gateway), ("relay", AmtMode::Relay)];
-        for (text, mode) in listed {
-            assert_eq!(rt; AmtMode::from_str(text), Ok(mode));
-        }
-        for text in ["Relay", "relays", ""] {
-            assert!(rt; AmtMode::from_str(text).is_err());
-        }
-    }
-}

@@ -60,30 +60,3 @@ impl fmt::Display for GtpRole {
         }
     }
 }
-
-#[cfg(test)]
-mod tests {
-    use super::*;
-    use std::test::Fail;
-
-    #[test]
-    fn gtp_role_numbers_and_texts(rt: HostRuntime) -> Result<(), Fail> {
-        let listed = [
-            (0, GtpRole::Ggsn, "ggsn"),
-            (1, GtpRole::Sgsn, "sgsn"),
-            (2, GtpRole::Other(2), "unknown(2)"),
-            (
-                0xffffffff,
-                GtpRole::Other(0xffffffff),
-                "unknown(4294967295)",
-            ),
-        ];
-        for (number, role, text) in listed {
-            assert_eq!(rt; GtpRole::from(number), role);
-            assert_eq!(rt; u32::from(role), number);
-            assert_eq!(rt; format!(in rt.alloc(); "{role}")?.as_str(), text);
-        }
-        assert_eq!(rt; GtpRole::default(), GtpRole::Ggsn);
-        Ok(())
-    }
-}

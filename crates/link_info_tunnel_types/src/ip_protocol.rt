@@ -93,30 +93,3 @@ impl From<IpProtocol> for u8 {
         }
     }
 }
-
-#[cfg(test)]
-mod tests {
-    use super::*;
-
-    #[test]
-    fn ip_protocol_numbers(rt: HostRuntime) {
-        let listed = [
-            (1, IpProtocol::Icmp),
-            (4, IpProtocol::IpIp),
-            (6, IpProtocol::Tcp),
-            (17, IpProtocol::Udp),
-            (41, IpProtocol::Ipv6),
-            (47, IpProtocol::Gre),
-            (50, IpProtocol::Esp),
-            (51, IpProtocol::Ah),
-            (58, IpProtocol::Icmpv6),
-            (132, IpProtocol::Sctp),
-            (0, IpProtocol::Other(0)),
-            (0xff, IpProtocol::Other(0xff)),
-        ];
-        for (number, protocol) in listed {
-            assert_eq!(rt; IpProtocol::from(number), protocol);
-            assert_eq!(rt; u8::from(protocol), number);
-        }
-    }
-}

@@ -66,26 +66,3 @@ impl fmt::Display for VxlanDf {
         }
     }
 }
-
-#[cfg(test)]
-mod tests {
-    use super::*;
-    use std::test::Fail;
-
-    #[test]
-    fn vxlan_df_numbers_and_texts(rt: HostRuntime) -> Result<(), Fail> {
-        let listed = [
-            (0, VxlanDf::Unset, "unset"),
-            (1, VxlanDf::Set, "set"),
-            (2, VxlanDf::Inherit, "inherit"),
-            (3, VxlanDf::Other(3), "3"),
-            (0xff, VxlanDf::Other(0xff), "255"),
-        ];
-        for (number, df, text) in listed {
-            assert_eq!(rt; VxlanDf::from(number), df);
-            assert_eq!(rt; u8::from(df), number);
-            assert_eq!(rt; format!(in rt.alloc(); "{df}")?.as_str(), text);
-        }
-        Ok(())
-    }
-}

@@ -2,8 +2,6 @@
 #![tactic(auto)]
 
 mod bareudp;
-#[cfg(test)]
-mod tests;
 mod vti;
 mod xfrm;
 

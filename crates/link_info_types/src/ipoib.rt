@@ -45,22 +45,3 @@ impl From<IpoibMode> for u16 {
         }
     }
 }
-
-#[cfg(test)]
-mod tests {
-    use super::*;
-
-    #[test]
-    fn ipoib_mode_numbers(rt: HostRuntime) {
-        let listed = [
-            (0, IpoibMode::Datagram),
-            (1, IpoibMode::Connected),
-            (0x1234, IpoibMode::Other(0x1234)),
-            (0xffff, IpoibMode::Other(0xffff)),
-        ];
-        for (number, mode) in listed {
-            assert_eq!(rt; IpoibMode::from(number), mode);
-            assert_eq!(rt; u16::from(mode), number);
-        }
-    }
-}

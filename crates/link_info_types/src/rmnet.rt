@@ -85,30 +85,3 @@ impl Flags for RmNetFlags {
         RmNetFlags(bits)
     }
 }
-
-#[cfg(test)]
-mod tests {
-    use super::*;
-
-    #[test]
-    fn rm_net_flags_keep_all_bits(rt: HostRuntime) {
-        let listed = [
-            (RmNetFlags::IngressDeaggregation, 0x01),
-            (RmNetFlags::IngressCommands, 0x02),
-            (RmNetFlags::IngressMapCksumV4, 0x04),
-            (RmNetFlags::EgressMapCksumV4, 0x08),
-            (RmNetFlags::IngressMapCksumV5, 0x10),
-            (RmNetFlags::EgressMapCksumV5, 0x20),
-        ];
-        for (flag, bits) in listed {
-            assert_eq!(rt; flag.bits(), bits);
-            assert_eq!(rt; RmNetFlags::from_bits_retain(bits), flag);
-        }
-        let two = RmNetFlags::IngressDeaggregation.union(RmNetFlags::IngressCommands);
-        assert_eq!(rt; two.bits(), 0x3);
-        assert!(rt; two.contains(RmNetFlags::IngressCommands));
-        assert!(rt; !two.contains(RmNetFlags::IngressMapCksumV4));
-        assert_eq!(rt; RmNetFlags::from_bits_retain(u32::MAX).bits(), u32::MAX);
-        assert!(rt; RmNetFlags::empty().is_empty());
-    }
-}

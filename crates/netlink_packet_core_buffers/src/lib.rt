@@ -9,6 +9,3 @@ pub mod error;
 pub use buffer::{NETLINK_HEADER_LEN, NetlinkBuffer};
 pub use done::DoneBuffer;
 pub use error::{ErrorBuffer, ErrorCode};
-
-#[cfg(test)]
-mod tests;

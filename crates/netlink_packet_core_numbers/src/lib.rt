@@ -6,8 +6,6 @@ pub mod error;
 pub mod laws;
 pub mod parsers;
 pub mod payloads;
-#[cfg(test)]
-mod tests;
 
 pub use emitters::{
     emit_i16, emit_i16_be, emit_i16_le, emit_i32, emit_i32_be, emit_i32_le, emit_i64, emit_i64_be,

@@ -1,13 +1,13 @@
-use Rattle.std.proofs.Common.{◌≡◌, ◌++◌, [], ◌∷◌, ◌<◌, length, map, true, false, List, Some, None, sym, ◌∙◌, refl, ap, subst, arith, rules}
+use Rattle.std.proofs.Common.{◌≡◌, ◌++◌, [], ◌∷◌, ◌<◌, length, map, true, false, List, Some, None, sym, ◌∙◌, refl, ap, subst, arith, length-drop, rules}
 use Rattle.std.proofs.lemmas.Grind.{elements}
 use Rattle.std.proofs.lemmas.Bool.Decides.{nat_tests}
 use Rattle.std.proofs.lemmas.List.{map-append}
-use Rattle.netlink_packet_core_grammar.specs.Attributes.{list_text}
+use Rattle.netlink_packet_core_grammar.specs.Attributes.{nla_align, list_text}
 use Rattle.link_info_grammar.specs.Lists.{nothing, row_of}
 use Rattle.link_info_grammar.specs.FlatTables.{steady, rows_rule}
 use Rattle.link_info_grammar.specs.Readings.{Written, written_by}
 use Rattle.link_info_grammar.proofs.Readings.{SoFar, more, refused, stopped, done, tells_rows, denies_rows}
-use Rattle.netlink_packet_core_grammar.specs.AttributeViews.{IsAttribute, attribute_of, after_first}
+use Rattle.netlink_packet_core_grammar.specs.AttributeViews.{IsAttribute, length_of, attribute_of, after_first}
 use Rattle.netlink_packet_core.specs.Errors.{is_memory}
 use Rattle.link_info_lists.specs.Written.{written_as}
 use Rattle.netlink_packet_core_grammar.proofs.FirstAttribute.{first_attribute_is, first_attribute_none}
@@ -47,9 +47,11 @@ loop-rest-preserved g c =
     let is : w v ≡ written_by (row_of rows nothing (attribute_of b)) (attribute_of b) = λ i. record { entry = entry i; inside_fits = inside i } in
     let so_far = more rows c.args.bytes.now ws nothing b (attribute_of b) (after_first b) (w v) (first_attribute_is b h) was is c.loop-rest.invariant.so_far in
     let items : map w c.push.new.self.items ≡ ws ++ w v ∷ [] = ap (map w) c.in_ok-push.ensures.items ∙ map-append w c.loop-rest.list.items (v ∷ []) in
+    let rest : length c.skip_first-rest.result.now ≡ length (after_first b) = ap length c.skip_first-rest.ensures in
     record {
       so_far = subst (λ us. SoFar rows c.args.bytes.now us nothing c.skip_first-rest.result.now) (sym items) (subst (λ r. SoFar rows c.args.bytes.now (ws ++ w v ∷ []) nothing r) (sym c.skip_first-rest.ensures) so_far);
       names_row = grind (arith, elements);
+      within = omega (arith, rest, length-drop (nla_align (length_of b)) b, c.loop-rest.invariant.within);
     }
 
 pub returns-clause-read : goal.returns-clause-read

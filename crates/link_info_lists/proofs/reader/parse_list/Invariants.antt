@@ -1,5 +1,5 @@
 -- What was read, followed by the reading of the rest, is the reading of the whole.
-use Rattle.std.proofs.Common.{length, map}
+use Rattle.std.proofs.Common.{◌≤◌, length, map}
 use Rattle.std.specs.List.{All}
 use Rattle.link_info_grammar.specs.Lists.{nothing}
 use Rattle.link_info_grammar.specs.FlatTables.{steady}
@@ -11,6 +11,7 @@ abbrev pub invariant-loop-rest : goal.invariant-loop-rest
 invariant-loop-rest g l = record {
   so_far : SoFar (steady (g.R.Reader.row_of l.reader)) l.bytes (map (written_as g.R.Value.Nla.entry g.R.Value.Nla.inside_fits) l.list.items) nothing l.rest;
   names_row : All (g.R.Reader.names_row l.reader) l.list.items;
+  within : length l.rest ≤ length l.bytes;
 }
 
 abbrev pub decreases-loop-rest : goal.decreases-loop-rest

@@ -1,0 +1,3 @@
+pub mod InForce
+pub mod InfoLaws
+pub mod InfoReading

@@ -1,0 +1,238 @@
+//! Link info (if_link.h, IFLA_LINKINFO): the kind of a link and of the port that it is, with the
+//! data of each. Data and statistics are read under the kind in force, the latest one before them;
+//! port data use the latest port kind up.
+
+ghost use Rattle.std.specs.Prelude.{◌≡◌, ◌<◌, false, true, length, map, Some, IsTrue, IfOk, IfErr, OnOk};
+ghost use Rattle.netlink_packet_core.specs.Attributes.{proper_kind};
+ghost use Rattle.netlink_packet_core.specs.AttributeViews.{attribute_of, raw_kind_of, payload_of, IsAttribute};
+ghost use Rattle.netlink_packet_core.specs.Errors.{is_memory};
+ghost use Rattle.netlink_packet_core.specs.Lists.{text_by, all_fit_by};
+ghost use Rattle.netlink_packet_core.specs.NlaBuffers.{storage};
+ghost use Rattle.link_info_grammar.specs.Lists.{nothing, rewrite};
+ghost use Rattle.link_info_grammar.specs.Readings.{reading, all_named};
+ghost use Rattle.link_info_grammar.specs.Tables.{info_next};
+ghost use Rattle.link_info_lists.specs.Written.{written_as};
+ghost use Rattle.link_info_data.specs.Data.{info_data_fits, info_data_payload};
+ghost use Rattle.link_info_data.specs.PortData.{info_port_data_fits, info_port_data_payload};
+ghost use Rattle.link_info.specs.LinkInfo.{data_rule, port_data_rule, data_names_row, port_data_names_row};
+ghost use Rattle.link_info.specs.LinkInfo.{in_force, info_grammar, info_rule, link_info_row, link_info_entry, link_info_fits, link_info_names_row};
+
+use link_info_data::{InfoData, InfoPortData, LinkXstats};
+use link_info_kinds::{InfoKind, InfoPortKind};
+use netlink_packet_core::{
+    DecodeError, DefaultNla, Emitable, Nla, NlaBuffer, Parseable, parse_str, skip_first,
+};
+use std::alloc::Global;
+
+const IFLA_INFO_KIND: u16 = 1;
+
+const IFLA_INFO_DATA: u16 = 2;
+
+const IFLA_INFO_XSTATS: u16 = 3;
+
+const IFLA_INFO_PORT_KIND: u16 = 4;
+
+const IFLA_INFO_PORT_DATA: u16 = 5;
+
+/// An attribute of link info.
+#[derive(Debug, PartialEq, Eq, Drop)]
+pub enum LinkInfo {
+    /// `IFLA_INFO_XSTATS`: statistics of the kind in force.
+    Xstats(LinkXstats),
+    /// `IFLA_INFO_KIND`: the kind, in force until the next one.
+    Kind(InfoKind),
+    /// `IFLA_INFO_DATA`: data of the kind in force.
+    Data(InfoData),
+    /// `IFLA_INFO_SLAVE_KIND`: the port kind, in force until the next one, or until port data.
+    PortKind(InfoPortKind),
+    /// `IFLA_INFO_SLAVE_DATA`: data of the port kind in force, which they use up.
+    PortData(InfoPortData),
+    /// Any other kind, kept as it is.
+    Other(DefaultNla),
+}
+
+impl Nla for LinkInfo {
+    ghost entry = { link_info_entry };
+
+    ghost inside_fits = { link_info_fits };
+
+    fn value_len(&self) -> usize {
+        match self {
+            Self::Xstats(statistics) => statistics.buffer_len(),
+            Self::Kind(kind) => kind.value_len(),
+            Self::Data(data) => data.value_len(),
+            Self::PortKind(kind) => kind.value_len(),
+            Self::PortData(data) => data.value_len(),
+            Self::Other(nla) => nla.value_len(),
+        }
+    }
+
+    fn kind(&self) -> u16 {
+        match self {
+            Self::Xstats(_) => IFLA_INFO_XSTATS,
+            Self::Kind(_) => IFLA_INFO_KIND,
+            Self::Data(_) => IFLA_INFO_DATA,
+            Self::PortKind(_) => IFLA_INFO_PORT_KIND,
+            Self::PortData(_) => IFLA_INFO_PORT_DATA,
+            Self::Other(nla) => nla.kind(),
+        }
+    }
+
+    fn emit_value(&self, buffer: &mut [u8]) {
+        match self {
+            Self::Xstats(statistics) => statistics.emit(buffer),
+            Self::Kind(kind) => kind.emit_value(buffer),
+            Self::Data(data) => data.emit_value(buffer),
+            Self::PortKind(kind) => kind.emit_value(buffer),
+            Self::PortData(data) => data.emit_value(buffer),
+            Self::Other(nla) => nla.emit_value(buffer),
+        }
+    }
+
+    fn contents_fit(&self) -> bool {
+        match self {
+            Self::Data(data) => data.contents_fit(),
+            Self::PortData(data) => data.contents_fit(),
+            _ => true,
+        }
+    }
+}
+
+/// The names of the kind and the port kind in force, where they lie in the list.
+#[derive(Clone, Copy)]
+struct InForce<'a> {
+    kind: Option<&'a str>,
+    port_kind: Option<&'a str>,
+}
+
+// What is in force after an attribute that was read.
+fn next_in_force<'a>(
+    force: InForce<'a>,
+    buf: &NlaBuffer<&'a [u8]>,
+) -> Result<InForce<'a>, DecodeError>
+    requires { IsAttribute (storage buf.now).now }
+    ensures next { IfOk result (λ f. in_force f.kind f.port_kind
+        ≡ info_next (in_force force.entry.kind force.entry.port_kind) (proper_kind (raw_kind_of (storage buf.now).now)) (payload_of (storage buf.now).now)) }
+    ensures err { IfErr result (λ e.
+        (link_info_row (in_force force.entry.kind force.entry.port_kind) (proper_kind (raw_kind_of (storage buf.now).now))).rule.accepted (payload_of (storage buf.now).now)
+        ≡ false) }
+{
+    match buf.kind() {
+        IFLA_INFO_KIND => Ok(InForce {
+            kind: Some(parse_str(buf.value())?),
+            port_kind: force.port_kind,
+        }),
+        IFLA_INFO_PORT_KIND => Ok(InForce {
+            kind: force.kind,
+            port_kind: Some(parse_str(buf.value())?),
+        }),
+        IFLA_INFO_PORT_DATA => Ok(InForce {
+            kind: force.kind,
+            port_kind: None,
+        }),
+        _ => Ok(force),
+    }
+}
+
+// Reads the data of the kind that a name names.
+fn parse_data(alloc: Global, name: &str, payload: &[u8]) -> Result<InfoData, DecodeError>
+    ensures ok { OnOk result (IsTrue ((data_rule name.now).accepted payload.now)) }
+    ensures text { IfOk result (λ d. info_data_payload d ≡ (data_rule name.now).canonical payload.now) }
+    ensures fits { IfOk result (λ d. info_data_fits d ≡ (data_rule name.now).fits payload.now) }
+    ensures names_row { IfOk result (λ d. data_names_row (Some name.now) d) }
+    ensures err { IfErr result (λ e. is_memory e ≡ false → (data_rule name.now).accepted payload.now ≡ false) }
+{
+    let kind = InfoKind::from_name(alloc, name)?;
+    InfoData::parse_with_param(alloc, payload, &kind)
+}
+
+// Reads the data of the port kind that a name names.
+fn parse_port_data(alloc: Global, name: &str, payload: &[u8]) -> Result<InfoPortData, DecodeError>
+    ensures ok { OnOk result (IsTrue ((port_data_rule name.now).accepted payload.now)) }
+    ensures text { IfOk result (λ d. info_port_data_payload d ≡ (port_data_rule name.now).canonical payload.now) }
+    ensures fits { IfOk result (λ d. info_port_data_fits d ≡ (port_data_rule name.now).fits payload.now) }
+    ensures names_row { IfOk result (λ d. port_data_names_row (Some name.now) d) }
+    ensures err { IfErr result (λ e. is_memory e ≡ false → (port_data_rule name.now).accepted payload.now ≡ false) }
+{
+    let kind = InfoPortKind::from_name(alloc, name)?;
+    InfoPortData::parse_with_param(alloc, payload, &kind)
+}
+
+impl LinkInfo {
+    // Reads one attribute where these kinds are in force.
+    fn read(
+        alloc: Global,
+        force: InForce<'_>,
+        buf: &NlaBuffer<&[u8]>,
+    ) -> Result<LinkInfo, DecodeError>
+        requires { IsAttribute (storage buf.now).now }
+        ensures ok { OnOk result
+            (IsTrue ((link_info_row (in_force force.entry.kind force.entry.port_kind) (proper_kind (raw_kind_of (storage buf.now).now))).rule.accepted (payload_of (storage buf.now).now))) }
+        ensures value { IfOk result
+            (λ v. link_info_entry v
+            ≡ rewrite (link_info_row (in_force force.entry.kind force.entry.port_kind) (proper_kind (raw_kind_of (storage buf.now).now))) (attribute_of (storage buf.now).now)) }
+        ensures inside { IfOk result
+            (λ v. link_info_fits v
+            ≡ (link_info_row (in_force force.entry.kind force.entry.port_kind) (proper_kind (raw_kind_of (storage buf.now).now))).rule.fits (payload_of (storage buf.now).now)) }
+        ensures names_row { IfOk result
+            (λ v. link_info_names_row (in_force force.entry.kind force.entry.port_kind) v) }
+        ensures err { IfErr result
+            (λ e. is_memory e ≡ false
+            → (link_info_row (in_force force.entry.kind force.entry.port_kind) (proper_kind (raw_kind_of (storage buf.now).now))).rule.accepted (payload_of (storage buf.now).now)
+            ≡ false) }
+    {
+        let payload = buf.value();
+        match buf.kind() {
+            IFLA_INFO_KIND => Ok(LinkInfo::Kind(InfoKind::from_name(alloc, parse_str(payload)?)?)),
+            IFLA_INFO_DATA => match force.kind {
+                Some(name) => Ok(LinkInfo::Data(parse_data(alloc, name, payload)?)),
+                None => Err(DecodeError::from("IFLA_INFO_DATA before any IFLA_INFO_KIND")),
+            },
+            IFLA_INFO_XSTATS => match force.kind {
+                Some(_) => Ok(LinkInfo::Xstats(LinkXstats::Other(Vec::from_slice(
+                    alloc, payload,
+                )?))),
+                None => Err(DecodeError::from("IFLA_INFO_XSTATS before any IFLA_INFO_KIND")),
+            },
+            IFLA_INFO_PORT_KIND => {
+                Ok(LinkInfo::PortKind(InfoPortKind::from_name(alloc, parse_str(payload)?)?))
+            }
+            IFLA_INFO_PORT_DATA => match force.port_kind {
+                Some(name) => Ok(LinkInfo::PortData(parse_port_data(alloc, name, payload)?)),
+                None => Err(DecodeError::from(
+                    "IFLA_INFO_SLAVE_DATA without an IFLA_INFO_SLAVE_KIND",
+                )),
+            },
+            _ => Ok(LinkInfo::Other(DefaultNla::parse(alloc, buf)?)),
+        }
+    }
+
+    /// Reads link info. It succeeds exactly where the list is legal, memory aside; a list of no
+    /// bytes is never refused.
+    pub fn parse_list(alloc: Global, bytes: &[u8]) -> Result<Vec<LinkInfo>, DecodeError>
+        ensures ok { OnOk result (IsTrue (info_rule.accepted bytes.now)) }
+        ensures read { IfOk result
+            (λ v. reading info_grammar nothing bytes.now ≡ Some (map (written_as link_info_entry link_info_fits) v.items)) }
+        ensures text { IfOk result (λ v. text_by link_info_entry v.items ≡ info_rule.canonical bytes.now) }
+        ensures fits { IfOk result
+            (λ v. all_fit_by link_info_entry link_info_fits v.items ≡ info_rule.fits bytes.now) }
+        ensures names_row { IfOk result
+            (λ v. all_named info_grammar link_info_entry link_info_names_row nothing v.items) }
+        ensures err { IfErr result (λ e. is_memory e ≡ false → info_rule.accepted bytes.now ≡ false) }
+        ensures not_empty { IfErr result (λ _. 0 < length bytes.now) }
+    {
+        let mut list = Vec::new(alloc);
+        let mut force = InForce {
+            kind: None,
+            port_kind: None,
+        };
+        let mut rest = bytes;
+        while !rest.is_empty() {
+            let buf = NlaBuffer::new_checked(rest)?;
+            list.push(Self::read(alloc, force, &buf)?)?;
+            force = next_in_force(force, &buf)?;
+            rest = skip_first(rest);
+        }
+        Ok(list)
+    }
+}

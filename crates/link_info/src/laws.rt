@@ -1,0 +1,29 @@
+//! Facts of the definitions. No function here makes a call.
+
+ghost use Rattle.link_info.specs.Laws.{LinkInfoIsLawful, NamesTellRules, PortNamesTellRules, KindsAreTheNames};
+
+pub use link_info_grammar::laws::{
+    canonical_texts_are_cut_again, old_texts_are_renewed, peers_that_are_bytes_are_lawful,
+    same_lists_leave_one_context, tables_are_lawful, texts_keep_meanings, texts_tell_meanings,
+};
+
+/// The canonical text of legal link info is legal, its own canonical text, and at most 77 times as
+/// long; two legal lists mean the same exactly where they have one canonical text.
+pub fn link_info_is_lawful()
+    ensures { LinkInfoIsLawful }
+{}
+
+/// The data under a name in force have the rule of the kind that the name names.
+pub fn names_tell_rules()
+    ensures { NamesTellRules }
+{}
+
+/// The port data under a name in force have the rule of the port kind that the name names.
+pub fn port_names_tell_rules()
+    ensures { PortNamesTellRules }
+{}
+
+/// The kinds that aren't `Other` have the listed names, each its own, and so have the port kinds.
+pub fn kinds_are_the_names()
+    ensures { KindsAreTheNames }
+{}

@@ -1,0 +1,144 @@
+-- The data of a kind of links: the rule of each kind, and what each value is written as.
+use Rattle.std.specs.Prelude.{◌≡◌, ℕ, Bool, true, false, ⊤, List, ◌||◌, nat_lt, length}
+use Rattle.std.specs.List.{All}
+use Rattle.netlink_packet_core.specs.Attributes.{Attribute}
+use Rattle.netlink_packet_core.specs.Lists.{text_by, all_fit_by}
+use Rattle.link_info_grammar.specs.Families.{bareudp_rows, batadv_rows, ipoib_rows, ipvlan_rows, rmnet_rows, vrf_rows, vti_rows, wwan_rows, xfrm_rows}
+use Rattle.link_info_grammar.specs.FlatTables.{flat_row, rows_rule}
+use Rattle.link_info_grammar.specs.Rules.{Rule, raw_rule}
+use Rattle.link_info_devices.specs.Batadv.{batadv_entry, batadv_names_row}
+use Rattle.link_info_devices.specs.Ipoib.{ipoib_entry, ipoib_names_row}
+use Rattle.link_info_devices.specs.Ipvlan.{ipvlan_entry, ipvlan_names_row, ipvtap_entry, ipvtap_names_row}
+use Rattle.link_info_devices.specs.Rmnet.{rmnet_entry, rmnet_names_row}
+use Rattle.link_info_devices.specs.Vrf.{vrf_entry, vrf_names_row}
+use Rattle.link_info_devices.specs.Wwan.{wwan_entry, wwan_names_row}
+use Rattle.link_info_raw.specs.RawData.{bond_entry, bridge_entry, can_entry, dsa_entry, hsr_entry, tun_entry, vlan_entry, wireguard_entry}
+use Rattle.link_info_raw.specs.RawRows.{raw_rows}
+use Rattle.link_info_tunnels.specs.Bareudp.{bareudp_entry, bareudp_names_row}
+use Rattle.link_info_tunnels.specs.Vti.{vti_entry, vti_names_row}
+use Rattle.link_info_tunnels.specs.Xfrm.{xfrm_entry, xfrm_names_row}
+use Rattle.link_info_kinds.specs.declared.info_kind.InfoKind.{InfoKind}
+use Rattle.link_info_kinds.specs.declared.info_kind.InfoKind.TheVariants as Kind
+use Rattle.link_info_data.specs.declared.info_data.InfoData.{InfoData}
+use Rattle.link_info_data.specs.declared.info_data.InfoData.TheVariants as Data
+
+-- the rule of the data of a kind, by its variant
+abbrev pub data_rule_of : InfoKind → Rule
+data_rule_of Kind.Bridge = rows_rule (flat_row raw_rows)
+data_rule_of Kind.Can = rows_rule (flat_row raw_rows)
+data_rule_of Kind.Tun = rows_rule (flat_row raw_rows)
+data_rule_of Kind.Vlan = rows_rule (flat_row raw_rows)
+data_rule_of Kind.Bond = rows_rule (flat_row raw_rows)
+data_rule_of Kind.IpVlan = rows_rule (flat_row ipvlan_rows)
+data_rule_of Kind.IpVtap = rows_rule (flat_row ipvlan_rows)
+data_rule_of Kind.Vti = rows_rule (flat_row vti_rows)
+data_rule_of Kind.Vti6 = rows_rule (flat_row vti_rows)
+data_rule_of Kind.Vrf = rows_rule (flat_row vrf_rows)
+data_rule_of Kind.Ipoib = rows_rule (flat_row ipoib_rows)
+data_rule_of Kind.Xfrm = rows_rule (flat_row xfrm_rows)
+data_rule_of Kind.Hsr = rows_rule (flat_row raw_rows)
+data_rule_of Kind.BatAdv = rows_rule (flat_row batadv_rows)
+data_rule_of Kind.BareUdp = rows_rule (flat_row bareudp_rows)
+data_rule_of Kind.Dsa = rows_rule (flat_row raw_rows)
+data_rule_of Kind.Wwan = rows_rule (flat_row wwan_rows)
+data_rule_of Kind.RmNet = rows_rule (flat_row rmnet_rows)
+data_rule_of Kind.Wireguard = rows_rule (flat_row raw_rows)
+data_rule_of _ = raw_rule
+
+-- the data of a kind are kept as bytes
+abbrev pub keeps_bytes : InfoKind → Bool
+keeps_bytes Kind.Bridge = false
+keeps_bytes Kind.Can = false
+keeps_bytes Kind.Tun = false
+keeps_bytes Kind.Vlan = false
+keeps_bytes Kind.Bond = false
+keeps_bytes Kind.IpVlan = false
+keeps_bytes Kind.IpVtap = false
+keeps_bytes Kind.Vti = false
+keeps_bytes Kind.Vti6 = false
+keeps_bytes Kind.Vrf = false
+keeps_bytes Kind.Ipoib = false
+keeps_bytes Kind.Xfrm = false
+keeps_bytes Kind.Hsr = false
+keeps_bytes Kind.BatAdv = false
+keeps_bytes Kind.BareUdp = false
+keeps_bytes Kind.Dsa = false
+keeps_bytes Kind.Wwan = false
+keeps_bytes Kind.RmNet = false
+keeps_bytes Kind.Wireguard = false
+keeps_bytes _ = true
+
+-- bytes may want memory, and so may a list that isn't empty
+abbrev pub data_may_want_memory : InfoKind → List ℕ → Bool
+data_may_want_memory k p = keeps_bytes k || nat_lt 0 (length p)
+
+-- the payload that a value is written as
+abbrev pub info_data_payload : InfoData → List ℕ
+info_data_payload (Data.Bridge vs) = text_by bridge_entry vs.items
+info_data_payload (Data.Can vs) = text_by can_entry vs.items
+info_data_payload (Data.Tun vs) = text_by tun_entry vs.items
+info_data_payload (Data.Vlan vs) = text_by vlan_entry vs.items
+info_data_payload (Data.Bond vs) = text_by bond_entry vs.items
+info_data_payload (Data.IpVlan vs) = text_by ipvlan_entry vs.items
+info_data_payload (Data.IpVtap vs) = text_by ipvtap_entry vs.items
+info_data_payload (Data.Vti vs) = text_by vti_entry vs.items
+info_data_payload (Data.Vrf vs) = text_by vrf_entry vs.items
+info_data_payload (Data.Ipoib vs) = text_by ipoib_entry vs.items
+info_data_payload (Data.Xfrm vs) = text_by xfrm_entry vs.items
+info_data_payload (Data.Hsr vs) = text_by hsr_entry vs.items
+info_data_payload (Data.BatAdv vs) = text_by batadv_entry vs.items
+info_data_payload (Data.BareUdp vs) = text_by bareudp_entry vs.items
+info_data_payload (Data.Dsa vs) = text_by dsa_entry vs.items
+info_data_payload (Data.Wwan vs) = text_by wwan_entry vs.items
+info_data_payload (Data.RmNet vs) = text_by rmnet_entry vs.items
+info_data_payload (Data.Wireguard vs) = text_by wireguard_entry vs.items
+info_data_payload (Data.Other b) = b.items
+
+-- each length inside a value fits the 2 bytes of its header
+abbrev pub info_data_fits : InfoData → Bool
+info_data_fits (Data.Bridge vs) = all_fit_by bridge_entry (λ _. true) vs.items
+info_data_fits (Data.Can vs) = all_fit_by can_entry (λ _. true) vs.items
+info_data_fits (Data.Tun vs) = all_fit_by tun_entry (λ _. true) vs.items
+info_data_fits (Data.Vlan vs) = all_fit_by vlan_entry (λ _. true) vs.items
+info_data_fits (Data.Bond vs) = all_fit_by bond_entry (λ _. true) vs.items
+info_data_fits (Data.IpVlan vs) = all_fit_by ipvlan_entry (λ _. true) vs.items
+info_data_fits (Data.IpVtap vs) = all_fit_by ipvtap_entry (λ _. true) vs.items
+info_data_fits (Data.Vti vs) = all_fit_by vti_entry (λ _. true) vs.items
+info_data_fits (Data.Vrf vs) = all_fit_by vrf_entry (λ _. true) vs.items
+info_data_fits (Data.Ipoib vs) = all_fit_by ipoib_entry (λ _. true) vs.items
+info_data_fits (Data.Xfrm vs) = all_fit_by xfrm_entry (λ _. true) vs.items
+info_data_fits (Data.Hsr vs) = all_fit_by hsr_entry (λ _. true) vs.items
+info_data_fits (Data.BatAdv vs) = all_fit_by batadv_entry (λ _. true) vs.items
+info_data_fits (Data.BareUdp vs) = all_fit_by bareudp_entry (λ _. true) vs.items
+info_data_fits (Data.Dsa vs) = all_fit_by dsa_entry (λ _. true) vs.items
+info_data_fits (Data.Wwan vs) = all_fit_by wwan_entry (λ _. true) vs.items
+info_data_fits (Data.RmNet vs) = all_fit_by rmnet_entry (λ _. true) vs.items
+info_data_fits (Data.Wireguard vs) = all_fit_by wireguard_entry (λ _. true) vs.items
+info_data_fits (Data.Other b) = true
+
+abbrev pub info_data_entry : InfoData → Attribute
+info_data_entry d = record { kind = 2; payload = info_data_payload d }
+
+-- the variant that a kind names, of values that their rows name
+abbrev pub info_data_names_row : InfoKind → InfoData → Type 0
+info_data_names_row Kind.Bridge (Data.Bridge vs) = ⊤
+info_data_names_row Kind.Can (Data.Can vs) = ⊤
+info_data_names_row Kind.Tun (Data.Tun vs) = ⊤
+info_data_names_row Kind.Vlan (Data.Vlan vs) = ⊤
+info_data_names_row Kind.Bond (Data.Bond vs) = ⊤
+info_data_names_row Kind.IpVlan (Data.IpVlan vs) = All ipvlan_names_row vs.items
+info_data_names_row Kind.IpVtap (Data.IpVtap vs) = All ipvtap_names_row vs.items
+info_data_names_row Kind.Vti (Data.Vti vs) = All vti_names_row vs.items
+info_data_names_row Kind.Vti6 (Data.Vti vs) = All vti_names_row vs.items
+info_data_names_row Kind.Vrf (Data.Vrf vs) = All vrf_names_row vs.items
+info_data_names_row Kind.Ipoib (Data.Ipoib vs) = All ipoib_names_row vs.items
+info_data_names_row Kind.Xfrm (Data.Xfrm vs) = All xfrm_names_row vs.items
+info_data_names_row Kind.Hsr (Data.Hsr vs) = ⊤
+info_data_names_row Kind.BatAdv (Data.BatAdv vs) = All batadv_names_row vs.items
+info_data_names_row Kind.BareUdp (Data.BareUdp vs) = All bareudp_names_row vs.items
+info_data_names_row Kind.Dsa (Data.Dsa vs) = ⊤
+info_data_names_row Kind.Wwan (Data.Wwan vs) = All wwan_names_row vs.items
+info_data_names_row Kind.RmNet (Data.RmNet vs) = All rmnet_names_row vs.items
+info_data_names_row Kind.Wireguard (Data.Wireguard vs) = ⊤
+info_data_names_row k (Data.Other b) = keeps_bytes k ≡ true
+info_data_names_row _ _ = ⊥

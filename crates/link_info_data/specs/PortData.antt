@@ -1,0 +1,58 @@
+-- The data of a kind of ports: the rule of each port kind, and what each value is written as.
+use Rattle.std.specs.Prelude.{ℕ, Bool, true, false, ⊤, List, ◌||◌, nat_lt, length}
+use Rattle.std.specs.List.{All}
+use Rattle.netlink_packet_core.specs.Attributes.{Attribute}
+use Rattle.netlink_packet_core.specs.Lists.{text_by, all_fit_by}
+use Rattle.link_info_grammar.specs.Families.{vrf_rows}
+use Rattle.link_info_grammar.specs.FlatTables.{flat_row, rows_rule}
+use Rattle.link_info_grammar.specs.Rules.{Rule, raw_rule}
+use Rattle.link_info_devices.specs.Vrf.{vrf_entry, vrf_names_row}
+use Rattle.link_info_raw.specs.RawRows.{raw_rows}
+use Rattle.link_info_raw_ports.specs.RawPortData.{bond_port_entry, bridge_port_entry, team_port_entry}
+use Rattle.link_info_kinds.specs.declared.info_port_kind.InfoPortKind.{InfoPortKind}
+use Rattle.link_info_kinds.specs.declared.info_port_kind.InfoPortKind.TheVariants as PortKind
+use Rattle.link_info_data.specs.declared.info_port.InfoPortData.{InfoPortData}
+use Rattle.link_info_data.specs.declared.info_port.InfoPortData.TheVariants as PortData
+
+-- the rule of the data of a port kind, by its variant
+abbrev pub port_data_rule_of : InfoPortKind → Rule
+port_data_rule_of PortKind.Vrf = rows_rule (flat_row vrf_rows)
+port_data_rule_of (PortKind.Other s) = raw_rule
+port_data_rule_of _ = rows_rule (flat_row raw_rows)
+
+-- the data of a port kind are kept as bytes
+abbrev pub port_keeps_bytes : InfoPortKind → Bool
+port_keeps_bytes (PortKind.Other s) = true
+port_keeps_bytes _ = false
+
+-- bytes may want memory, and so may a list that isn't empty
+abbrev pub port_data_may_want_memory : InfoPortKind → List ℕ → Bool
+port_data_may_want_memory k p = port_keeps_bytes k || nat_lt 0 (length p)
+
+-- the payload that a value is written as
+abbrev pub info_port_data_payload : InfoPortData → List ℕ
+info_port_data_payload (PortData.BondPort vs) = text_by bond_port_entry vs.items
+info_port_data_payload (PortData.BridgePort vs) = text_by bridge_port_entry vs.items
+info_port_data_payload (PortData.VrfPort vs) = text_by vrf_entry vs.items
+info_port_data_payload (PortData.TeamPort vs) = text_by team_port_entry vs.items
+info_port_data_payload (PortData.Other b) = b.items
+
+-- each length inside a value fits the 2 bytes of its header
+abbrev pub info_port_data_fits : InfoPortData → Bool
+info_port_data_fits (PortData.BondPort vs) = all_fit_by bond_port_entry (λ _. true) vs.items
+info_port_data_fits (PortData.BridgePort vs) = all_fit_by bridge_port_entry (λ _. true) vs.items
+info_port_data_fits (PortData.VrfPort vs) = all_fit_by vrf_entry (λ _. true) vs.items
+info_port_data_fits (PortData.TeamPort vs) = all_fit_by team_port_entry (λ _. true) vs.items
+info_port_data_fits (PortData.Other b) = true
+
+abbrev pub info_port_data_entry : InfoPortData → Attribute
+info_port_data_entry d = record { kind = 5; payload = info_port_data_payload d }
+
+-- the variant that a port kind names, of values that their rows name
+abbrev pub info_port_data_names_row : InfoPortKind → InfoPortData → Type 0
+info_port_data_names_row PortKind.Bond (PortData.BondPort vs) = ⊤
+info_port_data_names_row PortKind.Bridge (PortData.BridgePort vs) = ⊤
+info_port_data_names_row PortKind.Vrf (PortData.VrfPort vs) = All vrf_names_row vs.items
+info_port_data_names_row PortKind.Team (PortData.TeamPort vs) = ⊤
+info_port_data_names_row (PortKind.Other s) (PortData.Other b) = ⊤
+info_port_data_names_row _ _ = ⊥

@@ -1,0 +1,7 @@
+-- The statistics of a kind of links, which are bytes.
+use Rattle.std.specs.Prelude.{ℕ, List}
+use Rattle.link_info_data.specs.declared.xstats.LinkXstats.{LinkXstats}
+use Rattle.link_info_data.specs.declared.xstats.LinkXstats.TheVariants.{Other}
+
+abbrev pub xstats_bytes : LinkXstats → List ℕ
+xstats_bytes (Other b) = b.items

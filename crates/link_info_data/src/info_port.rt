@@ -1,0 +1,119 @@
+//! The data of a kind of ports (if_link.h, IFLA_INFO_SLAVE_DATA).
+
+ghost use Rattle.std.specs.Prelude.{◌≡◌, false, true, IsTrue, IfOk, IfErr, OnOk};
+ghost use Rattle.netlink_packet_core.specs.Errors.{is_memory};
+ghost use Rattle.link_info_data.specs.PortData.{info_port_data_entry, info_port_data_fits, info_port_data_payload, info_port_data_names_row, port_data_rule_of, port_data_may_want_memory};
+
+use link_info_devices::{InfoVrf, InfoVrfReader};
+use link_info_kinds::InfoPortKind;
+use link_info_lists::parse_list;
+use link_info_raw_ports::{
+    InfoBondPort, InfoBondPortReader, InfoBridgePort, InfoBridgePortReader, InfoTeamPort,
+    InfoTeamPortReader,
+};
+use netlink_packet_core::{DecodeError, Nla, emit_all, fits_all, len_all};
+use std::alloc::Global;
+
+const IFLA_INFO_PORT_DATA: u16 = 5;
+
+/// An attribute of the data of a port of a `vrf`.
+pub type InfoVrfPort = InfoVrf;
+
+/// The data of a kind of ports: a list of the kind's attributes, or bytes.
+#[derive(Debug, PartialEq, Eq, Drop)]
+pub enum InfoPortData {
+    /// Attributes of a port of a `bond`.
+    BondPort(Vec<InfoBondPort>),
+    /// Attributes of a port of a `bridge`.
+    BridgePort(Vec<InfoBridgePort>),
+    /// Attributes of a port of a `vrf`.
+    VrfPort(Vec<InfoVrfPort>),
+    /// Attributes of a port of a `team`.
+    TeamPort(Vec<InfoTeamPort>),
+    /// The bytes of every other kind.
+    Other(Vec<u8>),
+}
+
+impl InfoPortData {
+    /// Reads the data of a port kind.
+    ///
+    /// The port kind counts by its variant: `InfoPortKind::Other` of a listed name has the row of a
+    /// name that isn't listed, which keeps the bytes.
+    pub fn parse_with_param(
+        alloc: Global,
+        payload: &[u8],
+        kind: &InfoPortKind,
+    ) -> Result<InfoPortData, DecodeError>
+        ensures ok { OnOk result (IsTrue ((port_data_rule_of kind.now).accepted payload.now)) }
+        ensures text { IfOk result
+            (λ d. info_port_data_payload d ≡ (port_data_rule_of kind.now).canonical payload.now) }
+        ensures fits { IfOk result (λ d. info_port_data_fits d ≡ (port_data_rule_of kind.now).fits payload.now) }
+        ensures names_row { IfOk result (λ d. info_port_data_names_row kind.now d) }
+        ensures err { IfErr result
+            (λ e. is_memory e ≡ false → (port_data_rule_of kind.now).accepted payload.now ≡ false) }
+        ensures memory { IfErr result
+            (λ e. is_memory e ≡ true → port_data_may_want_memory kind.now payload.now ≡ true) }
+    {
+        match kind {
+            InfoPortKind::Bond => Ok(Self::BondPort(parse_list(
+                alloc,
+                &InfoBondPortReader,
+                payload,
+            )?)),
+            InfoPortKind::Bridge => Ok(Self::BridgePort(parse_list(
+                alloc,
+                &InfoBridgePortReader,
+                payload,
+            )?)),
+            InfoPortKind::Vrf => Ok(Self::VrfPort(parse_list(alloc, &InfoVrfReader, payload)?)),
+            InfoPortKind::Team => Ok(Self::TeamPort(parse_list(
+                alloc,
+                &InfoTeamPortReader,
+                payload,
+            )?)),
+            InfoPortKind::Other(_) => Ok(Self::Other(Vec::from_slice(alloc, payload)?)),
+        }
+    }
+}
+
+impl Nla for InfoPortData {
+    ghost entry = { info_port_data_entry };
+
+    ghost inside_fits = { info_port_data_fits };
+
+    #[tactic(auto, using(link_info_lists::proofs::Lists::lists))]
+    fn value_len(&self) -> usize {
+        match self {
+            Self::BondPort(list) => len_all(list),
+            Self::BridgePort(list) => len_all(list),
+            Self::VrfPort(list) => len_all(list),
+            Self::TeamPort(list) => len_all(list),
+            Self::Other(bytes) => bytes.len(),
+        }
+    }
+
+    fn kind(&self) -> u16 {
+        IFLA_INFO_PORT_DATA
+    }
+
+    #[tactic(auto, using(link_info_lists::proofs::Lists::lists))]
+    fn emit_value(&self, buffer: &mut [u8]) {
+        match self {
+            Self::BondPort(list) => emit_all(list, buffer),
+            Self::BridgePort(list) => emit_all(list, buffer),
+            Self::VrfPort(list) => emit_all(list, buffer),
+            Self::TeamPort(list) => emit_all(list, buffer),
+            Self::Other(bytes) => buffer.copy_from_slice(bytes),
+        }
+    }
+
+    fn contents_fit(&self) -> bool {
+        match self {
+            Self::BondPort(list) => fits_all(list),
+            Self::BridgePort(list) => fits_all(list),
+            Self::VrfPort(list) => fits_all(list),
+            Self::TeamPort(list) => fits_all(list),
+            Self::Other(_) => true,
+        }
+    }
+}

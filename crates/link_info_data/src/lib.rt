@@ -1,0 +1,10 @@
+// The data of kinds of links and of ports, each by its kind.
+#![tactic(auto)]
+
+mod info_data;
+mod info_port;
+mod xstats;
+
+pub use info_data::InfoData;
+pub use info_port::{InfoPortData, InfoVrfPort};
+pub use xstats::LinkXstats;

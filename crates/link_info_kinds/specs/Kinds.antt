@@ -1,0 +1,76 @@
+-- The kind of a link, by its name.
+use Rattle.std.specs.Prelude.{◌≡◌, ℕ, Bool, true, List, [], ◌∷◌, ◌++◌, codes, string_bytes}
+use Rattle.netlink_packet_core.specs.Attributes.{Attribute}
+use Rattle.link_info_grammar.specs.KindNames.{kind_names, is_unlisted}
+use Rattle.link_info_kinds.specs.declared.info_kind.InfoKind.{InfoKind}
+use Rattle.link_info_kinds.specs.declared.info_kind.InfoKind.TheVariants as Kind
+
+abbrev pub info_kind_text : InfoKind → List ℕ
+info_kind_text Kind.Dummy = codes "dummy"
+info_kind_text Kind.Ifb = codes "ifb"
+info_kind_text Kind.Bridge = codes "bridge"
+info_kind_text Kind.Tun = codes "tun"
+info_kind_text Kind.Nlmon = codes "nlmon"
+info_kind_text Kind.Vlan = codes "vlan"
+info_kind_text Kind.Veth = codes "veth"
+info_kind_text Kind.Vxlan = codes "vxlan"
+info_kind_text Kind.Bond = codes "bond"
+info_kind_text Kind.IpVlan = codes "ipvlan"
+info_kind_text Kind.IpVtap = codes "ipvtap"
+info_kind_text Kind.MacVlan = codes "macvlan"
+info_kind_text Kind.MacVtap = codes "macvtap"
+info_kind_text Kind.GreTap = codes "gretap"
+info_kind_text Kind.GreTap6 = codes "ip6gretap"
+info_kind_text Kind.IpIp = codes "ipip"
+info_kind_text Kind.Ip6Tnl = codes "ip6tnl"
+info_kind_text Kind.SitTun = codes "sit"
+info_kind_text Kind.GreTun = codes "gre"
+info_kind_text Kind.GreTun6 = codes "ip6gre"
+info_kind_text Kind.Vti = codes "vti"
+info_kind_text Kind.Vti6 = codes "vti6"
+info_kind_text Kind.Vrf = codes "vrf"
+info_kind_text Kind.Gtp = codes "gtp"
+info_kind_text Kind.Ipoib = codes "ipoib"
+info_kind_text Kind.Wireguard = codes "wireguard"
+info_kind_text Kind.Xfrm = codes "xfrm"
+info_kind_text Kind.MacSec = codes "macsec"
+info_kind_text Kind.Hsr = codes "hsr"
+info_kind_text Kind.Geneve = codes "geneve"
+info_kind_text Kind.Netkit = codes "netkit"
+info_kind_text Kind.Vcan = codes "vcan"
+info_kind_text Kind.Vxcan = codes "vxcan"
+info_kind_text Kind.Amt = codes "amt"
+info_kind_text Kind.BatAdv = codes "batadv"
+info_kind_text Kind.BareUdp = codes "bareudp"
+info_kind_text Kind.Netdevsim = codes "netdevsim"
+info_kind_text Kind.VirtWifi = codes "virt_wifi"
+info_kind_text Kind.Wwan = codes "wwan"
+info_kind_text Kind.Can = codes "can"
+info_kind_text Kind.Dsa = codes "dsa"
+info_kind_text Kind.Team = codes "team"
+info_kind_text Kind.ErSpan = codes "erspan"
+info_kind_text Kind.Ip6ErSpan = codes "ip6erspan"
+info_kind_text Kind.Pfcp = codes "pfcp"
+info_kind_text Kind.RmNet = codes "rmnet"
+info_kind_text (Kind.Other s) = string_bytes s
+
+-- the kinds that have a name of their own, as `kind_names` has these names
+abbrev pub listed_kinds : List InfoKind
+listed_kinds =
+    Kind.Dummy ∷ Kind.Ifb ∷ Kind.Bridge ∷ Kind.Tun ∷ Kind.Nlmon ∷ Kind.Vlan ∷ Kind.Veth ∷ Kind.Vxlan ∷ Kind.Bond ∷ Kind.IpVlan ∷ Kind.IpVtap ∷
+    Kind.MacVlan ∷ Kind.MacVtap ∷ Kind.GreTap ∷ Kind.GreTap6 ∷ Kind.IpIp ∷ Kind.Ip6Tnl ∷ Kind.SitTun ∷ Kind.GreTun ∷ Kind.GreTun6 ∷ Kind.Vti ∷
+    Kind.Vti6 ∷ Kind.Vrf ∷ Kind.Gtp ∷ Kind.Ipoib ∷ Kind.Wireguard ∷ Kind.Xfrm ∷ Kind.MacSec ∷ Kind.Hsr ∷ Kind.Geneve ∷ Kind.Netkit ∷ Kind.Vcan ∷
+    Kind.Vxcan ∷ Kind.Amt ∷ Kind.BatAdv ∷ Kind.BareUdp ∷ Kind.Netdevsim ∷ Kind.VirtWifi ∷ Kind.Wwan ∷ Kind.Can ∷ Kind.Dsa ∷ Kind.Team ∷ Kind.ErSpan ∷
+    Kind.Ip6ErSpan ∷ Kind.Pfcp ∷ Kind.RmNet ∷ []
+
+-- the kind is the one that its text names: no listed name stands in `Other`
+abbrev pub info_kind_is_named : InfoKind → Bool
+info_kind_is_named (Kind.Other s) = is_unlisted kind_names (string_bytes s)
+info_kind_is_named _ = true
+
+-- the kind that a text names
+abbrev pub IsNamedBy : List ℕ → InfoKind → Type 0
+IsNamedBy n k = (info_kind_text k ≡ n) × (info_kind_is_named k ≡ true)
+
+abbrev pub info_kind_entry : InfoKind → Attribute
+info_kind_entry k = record { kind = 1; payload = info_kind_text k ++ 0 ∷ [] }

@@ -1,0 +1,29 @@
+-- The kind of a port, by its name.
+use Rattle.std.specs.Prelude.{◌≡◌, ℕ, Bool, true, List, [], ◌∷◌, ◌++◌, codes, string_bytes}
+use Rattle.netlink_packet_core.specs.Attributes.{Attribute}
+use Rattle.link_info_grammar.specs.KindNames.{port_kind_names, is_unlisted}
+use Rattle.link_info_kinds.specs.declared.info_port_kind.InfoPortKind.{InfoPortKind}
+use Rattle.link_info_kinds.specs.declared.info_port_kind.InfoPortKind.TheVariants as PortKind
+
+abbrev pub info_port_kind_text : InfoPortKind → List ℕ
+info_port_kind_text PortKind.Bond = codes "bond"
+info_port_kind_text PortKind.Bridge = codes "bridge"
+info_port_kind_text PortKind.Vrf = codes "vrf"
+info_port_kind_text PortKind.Team = codes "team"
+info_port_kind_text (PortKind.Other s) = string_bytes s
+
+-- the port kinds that have a name of their own, as `port_kind_names` has these names
+abbrev pub listed_port_kinds : List InfoPortKind
+listed_port_kinds = PortKind.Bond ∷ PortKind.Bridge ∷ PortKind.Vrf ∷ PortKind.Team ∷ []
+
+-- the port kind is the one that its text names: no listed name stands in `Other`
+abbrev pub info_port_kind_is_named : InfoPortKind → Bool
+info_port_kind_is_named (PortKind.Other s) = is_unlisted port_kind_names (string_bytes s)
+info_port_kind_is_named _ = true
+
+-- the port kind that a text names
+abbrev pub IsPortNamedBy : List ℕ → InfoPortKind → Type 0
+IsPortNamedBy n k = (info_port_kind_text k ≡ n) × (info_port_kind_is_named k ≡ true)
+
+abbrev pub info_port_kind_entry : InfoPortKind → Attribute
+info_port_kind_entry k = record { kind = 4; payload = info_port_kind_text k ++ 0 ∷ [] }

@@ -1,0 +1,131 @@
+//! The kind of a port (if_link.h, IFLA_INFO_SLAVE_KIND): the name of the driver of the link that it
+//! is a port of.
+
+ghost use Rattle.std.specs.Prelude.{◌≡◌, ◌&&◌, ◌==◌, ◌++◌, ◌∷◌, [], true, Some, IfOk, IfErr};
+ghost use Rattle.netlink_packet_core.specs.Attributes.{proper_kind};
+ghost use Rattle.netlink_packet_core.specs.AttributeViews.{IsAttribute, raw_kind_of, payload_of};
+ghost use Rattle.netlink_packet_core.specs.Errors.{is_memory};
+ghost use Rattle.netlink_packet_core.specs.NlaBuffers.{storage};
+ghost use Rattle.netlink_packet_core.specs.Texts.{is_text, without_nul};
+ghost use Rattle.link_info_grammar.specs.KindNames.{port_kind_names, is_unlisted};
+ghost use Rattle.link_info_kinds.specs.PortKinds.{info_port_kind_entry, info_port_kind_text, info_port_kind_is_named, listed_port_kinds, IsPortNamedBy};
+ghost use Rattle.link_info_kinds.specs.Named.{named_by};
+
+use netlink_packet_core::{DecodeError, Nla, NlaBuffer, Parseable, fill_text, parse_str};
+use std::alloc::Global;
+use std::fmt;
+
+const IFLA_INFO_PORT_KIND: u16 = 4;
+
+const BOND: &str = "bond";
+
+const BRIDGE: &str = "bridge";
+
+const VRF: &str = "vrf";
+
+const TEAM: &str = "team";
+
+/// The kind of a port. On the wire its name, in UTF-8, and one NUL, which a reader doesn't ask for.
+#[derive(Debug, PartialEq, Eq, Drop)]
+pub enum InfoPortKind {
+    /// A port of a bond. `bond`.
+    Bond,
+    /// A port of a bridge. `bridge`.
+    Bridge,
+    /// A port of a virtual routing and forwarding domain. `vrf`.
+    Vrf,
+    /// A port of a team. `team`.
+    Team,
+    /// Every other name.
+    Other(String),
+}
+
+impl InfoPortKind {
+    /// The port kind of a name. It takes memory for a name that no variant has, and for no other.
+    pub fn from_name(alloc: Global, name: &str) -> Result<InfoPortKind, DecodeError>
+        ensures text { IfOk result (λ k. info_port_kind_text k ≡ name.now) }
+        ensures named { IfOk result (λ k. info_port_kind_is_named k ≡ true) }
+        ensures err { IfErr result (λ e. is_memory e ≡ true) }
+        ensures memory { IfErr result (λ _. is_unlisted port_kind_names name.now ≡ true) }
+    {
+        match Self::with_name(name) {
+            Some(kind) => Ok(kind),
+            None => Ok(Self::Other(String::from_str(alloc, name)?)),
+        }
+    }
+
+    // The variant with this name.
+    fn with_name(name: &str) -> Option<InfoPortKind>
+        ensures { result ≡ named_by info_port_kind_text listed_port_kinds name.now }
+    {
+        match name {
+            BOND => Some(Self::Bond),
+            BRIDGE => Some(Self::Bridge),
+            VRF => Some(Self::Vrf),
+            TEAM => Some(Self::Team),
+            _ => None,
+        }
+    }
+
+    // The name of the port kind.
+    fn as_str(&self) -> &str
+        ensures { result.now ≡ info_port_kind_text self.now }
+    {
+        match self {
+            Self::Bond => BOND,
+            Self::Bridge => BRIDGE,
+            Self::Vrf => VRF,
+            Self::Team => TEAM,
+            Self::Other(name) => name.as_str(),
+        }
+    }
+}
+
+impl fmt::Display for InfoPortKind {
+    ghost output = { λ k. Some (info_port_kind_text k) };
+
+    fn fmt<W: fmt::Write>(&self, f: &mut fmt::Formatter<W>) -> fmt::Result {
+        f.write_str(self.as_str())
+    }
+}
+
+impl Nla for InfoPortKind {
+    ghost entry = { info_port_kind_entry };
+
+    ghost inside_fits = { λ _. true };
+
+    #[tactic(auto, using(netlink_packet_core_grammar::proofs::Sizes::sizes))]
+    fn value_len(&self) -> usize {
+        self.as_str().len() + 1
+    }
+
+    fn kind(&self) -> u16 {
+        IFLA_INFO_PORT_KIND
+    }
+
+    #[tactic(auto, using(netlink_packet_core_grammar::proofs::Sizes::sizes))]
+    fn emit_value(&self, buffer: &mut [u8]) {
+        fill_text(buffer, self.as_str());
+    }
+
+    fn contents_fit(&self) -> bool {
+        true
+    }
+}
+
+impl<'a> Parseable<NlaBuffer<&'a [u8]>> for InfoPortKind {
+    ghost can_parse = { λ b. IsAttribute (storage b).now };
+
+    ghost accepts = { λ b. (proper_kind (raw_kind_of (storage b).now) == 4) && is_text (payload_of (storage b).now) };
+
+    ghost may_want_memory = { λ b. is_unlisted port_kind_names (without_nul (payload_of (storage b).now)) };
+
+    ghost gives = { λ b k. IsPortNamedBy (without_nul (payload_of (storage b).now)) k };
+
+    fn parse(alloc: Global, buf: &NlaBuffer<&'a [u8]>) -> Result<Self, DecodeError> {
+        if buf.kind() != IFLA_INFO_PORT_KIND {
+            return Err(DecodeError::from("not an IFLA_INFO_SLAVE_KIND"));
+        }
+        InfoPortKind::from_name(alloc, parse_str(buf.value())?)
+    }
+}

@@ -1,0 +1,23 @@
+// Worked cases of link info, as tests. The wanted values come from outside this project's code.
+#![tactic(auto)]
+
+#[cfg(test)]
+mod data;
+#[cfg(test)]
+mod device_types;
+#[cfg(test)]
+mod devices;
+#[cfg(test)]
+mod kinds;
+#[cfg(test)]
+mod lists;
+#[cfg(test)]
+mod raw_data;
+#[cfg(test)]
+mod raw_port_data;
+#[cfg(test)]
+mod rewritten;
+#[cfg(test)]
+mod tunnel_types;
+#[cfg(test)]
+mod tunnels;

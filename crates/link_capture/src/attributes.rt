@@ -1,8 +1,7 @@
 //! Attributes: cut from the front of bytes, and written at the end of a text.
 
 ghost use Rattle.std.specs.Prelude.{◌≡◌, ◌+◌, ◌≤◌, ◌++◌, true, option_map, length, take, OnOk, OnErr};
-ghost use Rattle.netlink_packet_core.specs.Attributes.{first_attribute, attribute_text, Attribute};
-ghost use Rattle.netlink_packet_core.specs.Texts.{without_nul};
+ghost use Rattle.netlink_packet_core.specs.Attributes.{first_attribute, attribute_text, proper_kind, Attribute};
 ghost use Rattle.link_capture.specs.Parts.{parts_entry};
 
 use netlink_packet_core::{Nla, NlaBuffer, skip_first};
@@ -13,6 +12,15 @@ use std::alloc::AllocError;
 pub(crate) struct RawAttribute<'a> {
     pub kind: u16,
     pub payload: &'a [u8],
+}
+
+impl RawAttribute<'_> {
+    /// The kind without its flag bits.
+    pub(crate) fn proper_kind(&self) -> u16
+        ensures { result ≡ proper_kind self.now.kind }
+    {
+        self.kind % 0x4000
+    }
 }
 
 /// The attribute that the bytes begin with, and what follows its padding.
@@ -30,18 +38,6 @@ pub(crate) fn first_attribute(bytes: &[u8]) -> Option<(RawAttribute<'_>, &[u8])>
             Some((attribute, skip_first(bytes)))
         }
         Err(_) => None,
-    }
-}
-
-/// A text's bytes without one last NUL.
-pub(crate) fn without_nul(bytes: &[u8]) -> &[u8]
-    ensures { result.now ≡ without_nul bytes.now }
-{
-    let len = bytes.len();
-    if len > 0 && bytes[len - 1] == 0 {
-        &bytes[..len - 1]
-    } else {
-        bytes
     }
 }
 

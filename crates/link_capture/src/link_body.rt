@@ -12,10 +12,9 @@ ghost use Rattle.link_capture_grammar.specs.Captures.{faulty};
 ghost use Rattle.link_capture.specs.LinkBody.{view, link_row, link_attributes};
 ghost use Rattle.link_capture.specs.Judged.{IsJudged};
 
-use super::attributes::{
-    AttributeParts, RawAttribute, first_attribute, push_attribute, without_nul,
-};
+use super::attributes::{AttributeParts, RawAttribute, first_attribute, push_attribute};
 use link_capture_grammar::fault::FaultKind;
+use netlink_packet_core::without_nul;
 use std::alloc::AllocError;
 
 /// Attributes without a flag bit of their kind: IFLA_IFNAME.
@@ -53,15 +52,16 @@ fn check_text(payload: &[u8]) -> Option<TextMeasure>
     }
 }
 
-/// Judges the payload of an attribute whose kind, without its flag bits, is this.
+/// Judges the payload of an attribute.
 #[tactic(auto, unfolding(crate::specs::LinkBody::link_row))]
-fn check_payload(kind: u16, payload: &[u8]) -> Option<TextMeasure>
-    ensures { option_map view result ≡ measure (link_row kind).rule payload.now }
+fn check_payload(attribute: RawAttribute<'_>) -> Option<TextMeasure>
+    ensures { option_map view result
+        ≡ measure (link_row (proper_kind attribute.entry.kind)).rule attribute.entry.payload.now }
 {
-    if kind == IFLA_IFNAME {
-        check_text(payload)
+    if attribute.proper_kind() == IFLA_IFNAME {
+        check_text(attribute.payload)
     } else {
-        Some(payload_of(payload.len() as u128))
+        Some(payload_of(attribute.payload.len() as u128))
     }
 }
 
@@ -90,7 +90,7 @@ fn check_attributes(bytes: &[u8]) -> Option<TextMeasure>
         let Some((attribute, after)) = first_attribute(rest) else {
             return None;
         };
-        let Some(inside) = check_payload(attribute.kind % 0x4000, attribute.payload) else {
+        let Some(inside) = check_payload(attribute) else {
             return None;
         };
         total = with_attribute(total, inside);
@@ -124,7 +124,7 @@ fn push_row(attribute: RawAttribute<'_>, out: &mut Vec<u8>) -> Result<(), AllocE
     ensures err { OnErr result (take (length out.old.items) out.new.items ≡ out.old.items) }
 {
     let payload = attribute.payload;
-    let parts = if attribute.kind % 0x4000 == IFLA_IFNAME {
+    let parts = if attribute.proper_kind() == IFLA_IFNAME {
         AttributeParts {
             kind: IFLA_IFNAME,
             payload: without_nul(payload),

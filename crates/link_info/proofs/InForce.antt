@@ -77,8 +77,8 @@ port_data_rule-kind PortKind.Team h = family-rule bytes_peer raw_rows
 port_data_rule-kind (PortKind.Other s) h =
     named-lacks bytes_peer port_kinds (string_bytes s) (lacks_name-unlisted port_kinds port_kind_names (string_bytes s) port_kinds_are_listed h)
 
-pub data_rule-at : (n : List ℕ) (k : InfoKind) → IsNamedBy n k → data_rule n ≡ data_rule_of k
-data_rule-at n k h = ap data_rule (sym h.0) ∙ data_rule-kind k h.1
+pub data_rule_at : (n : List ℕ) (k : InfoKind) → IsNamedBy n k → data_rule n ≡ data_rule_of k
+data_rule_at n k h = ap data_rule (sym h.0) ∙ data_rule-kind k h.1
 
-pub port_data_rule-at : (n : List ℕ) (k : InfoPortKind) → IsPortNamedBy n k → port_data_rule n ≡ port_data_rule_of k
-port_data_rule-at n k h = ap port_data_rule (sym h.0) ∙ port_data_rule-kind k h.1
+pub port_data_rule_at : (n : List ℕ) (k : InfoPortKind) → IsPortNamedBy n k → port_data_rule n ≡ port_data_rule_of k
+port_data_rule_at n k h = ap port_data_rule (sym h.0) ∙ port_data_rule-kind k h.1

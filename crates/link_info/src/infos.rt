@@ -135,6 +135,7 @@ fn next_in_force<'a>(
 }
 
 // Reads the data of the kind that a name names.
+#[tactic(auto, using(crate::proofs::InForce::data_rule_at))]
 fn parse_data(alloc: Global, name: &str, payload: &[u8]) -> Result<InfoData, DecodeError>
     ensures ok { OnOk result (IsTrue ((data_rule name.now).accepted payload.now)) }
     ensures text { IfOk result (λ d. info_data_payload d ≡ (data_rule name.now).canonical payload.now) }
@@ -147,6 +148,7 @@ fn parse_data(alloc: Global, name: &str, payload: &[u8]) -> Result<InfoData, Dec
 }
 
 // Reads the data of the port kind that a name names.
+#[tactic(auto, using(crate::proofs::InForce::port_data_rule_at))]
 fn parse_port_data(alloc: Global, name: &str, payload: &[u8]) -> Result<InfoPortData, DecodeError>
     ensures ok { OnOk result (IsTrue ((port_data_rule name.now).accepted payload.now)) }
     ensures text { IfOk result (λ d. info_port_data_payload d ≡ (port_data_rule name.now).canonical payload.now) }
@@ -183,7 +185,7 @@ impl LinkInfo {
     {
         let payload = buf.value();
         match buf.kind() {
-            IFLA_INFO_KIND => Ok(LinkInfo::Kind(InfoKind::from_name(alloc, parse_str(payload)?)?)),
+            IFLA_INFO_KIND => Ok(LinkInfo::Kind(InfoKind::parse(alloc, buf)?)),
             IFLA_INFO_DATA => match force.kind {
                 Some(name) => Ok(LinkInfo::Data(parse_data(alloc, name, payload)?)),
                 None => Err(DecodeError::from("IFLA_INFO_DATA before any IFLA_INFO_KIND")),
@@ -194,9 +196,7 @@ impl LinkInfo {
                 )?))),
                 None => Err(DecodeError::from("IFLA_INFO_XSTATS before any IFLA_INFO_KIND")),
             },
-            IFLA_INFO_PORT_KIND => {
-                Ok(LinkInfo::PortKind(InfoPortKind::from_name(alloc, parse_str(payload)?)?))
-            }
+            IFLA_INFO_PORT_KIND => Ok(LinkInfo::PortKind(InfoPortKind::parse(alloc, buf)?)),
             IFLA_INFO_PORT_DATA => match force.port_kind {
                 Some(name) => Ok(LinkInfo::PortData(parse_port_data(alloc, name, payload)?)),
                 None => Err(DecodeError::from(

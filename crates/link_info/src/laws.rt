@@ -1,6 +1,6 @@
 //! Facts of the definitions. No function here makes a call.
 
-ghost use Rattle.link_info.specs.Laws.{LinkInfoIsLawful, NamesTellRules, PortNamesTellRules, KindsAreTheNames};
+ghost use Rattle.link_info.specs.Laws.{LinkInfoIsLawful, NamesTellRules, PortNamesTellRules, KindsAreTheNames, NamesTellKinds, NamesTellPortKinds};
 
 pub use link_info_grammar::laws::{
     canonical_texts_are_cut_again, old_texts_are_renewed, peers_that_are_bytes_are_lawful,
@@ -26,4 +26,16 @@ pub fn port_names_tell_rules()
 /// The kinds that aren't `Other` have the listed names, each its own, and so have the port kinds.
 pub fn kinds_are_the_names()
     ensures { KindsAreTheNames }
+{}
+
+/// Two kinds with one name are one variant, or both `Other`, unless one is an `Other` of a listed
+/// name. So `from_name` of what a kind is displayed as gives that kind.
+pub fn names_tell_kinds()
+    ensures { NamesTellKinds }
+{}
+
+/// Two port kinds with one name are one variant, or both `Other`, unless one is an `Other` of a
+/// listed name.
+pub fn names_tell_port_kinds()
+    ensures { NamesTellPortKinds }
 {}

@@ -108,12 +108,19 @@ module _ (g : Grammar) (lawful : LawfulGrammar g) where
 
   -- ---- the same lists, and equal canonical forms
 
-  pub same_rewritten : (c : Context) (es fs : List Attribute) → all_accepted g c es ≡ true → all_accepted g c fs ≡ true → all_same g c c es fs ≡ true → rewritten g c es ≡ rewritten g c fs
-  unfolding all_accepted all_same rewritten
-  same_rewritten c [] [] a b s = refl
-  same_rewritten c [] (f ∷ fs) a b s = absurd cc
-  same_rewritten c (e ∷ es) [] a b s = absurd cc
-  same_rewritten c (e ∷ es) (f ∷ fs) a b s =
+  -- what two lists that are the same begin with: one row, whose payloads have one canonical form; and what follows is the same again
+  record SameFronts (c : Context) (e f : Attribute) (es fs : List Attribute) : Type 0 where
+    kinds : written_kind (row_of g c e) e.kind ≡ written_kind (row_of g c e) f.kind
+    rows : row_of g c f ≡ row_of g c e
+    payloads : (row_of g c e).rule.canonical e.payload ≡ (row_of g c e).rule.canonical f.payload
+    contexts : g.next c e ≡ g.next c f
+    accepted : all_accepted g (g.next c e) es ≡ true
+    accepted_too : all_accepted g (g.next c e) fs ≡ true
+    same : all_same g (g.next c e) (g.next c e) es fs ≡ true
+
+  same_fronts : (c : Context) (e f : Attribute) (es fs : List Attribute) → all_accepted g c (e ∷ es) ≡ true → all_accepted g c (f ∷ fs) ≡ true → all_same g c c (e ∷ es) (f ∷ fs) ≡ true → SameFronts c e f es fs
+  unfolding all_accepted all_same
+  same_fronts c e f es fs a b s =
       let r = row_of g c e in
       let q = row_of g c f in
       let s1 = and_parts (same_attribute r q e f) (all_same g (g.next c e) (g.next c f) es fs) s in
@@ -126,14 +133,42 @@ module _ (g : Grammar) (lawful : LawfulGrammar g) where
       let f_accepted : r.rule.accepted f.payload ≡ true = ap (λ x. x.rule.accepted f.payload) (sym row_is) ∙ b1.0 in
       let p_is : r.rule.canonical e.payload ≡ r.rule.canonical f.payload = (lawful.rows c (proper_kind e.kind)).one_text e.payload f.payload a1.0 f_accepted s3.0 in
       let next_is : g.next c e ≡ g.next c f = lawful.steps c e f k.0 p_is in
-      let rest : rewritten g (g.next c e) es ≡ rewritten g (g.next c e) fs = same_rewritten (g.next c e) es fs a1.1 (ap (λ d. all_accepted g d fs) next_is ∙ b1.1) (ap (λ d. all_same g (g.next c e) d es fs) next_is ∙ s1.1) in
+      record {
+        kinds = k.1;
+        rows = row_is;
+        payloads = p_is;
+        contexts = next_is;
+        accepted = a1.1;
+        accepted_too = ap (λ d. all_accepted g d fs) next_is ∙ b1.1;
+        same = ap (λ d. all_same g (g.next c e) d es fs) next_is ∙ s1.1;
+      }
+
+  pub same_rewritten : (c : Context) (es fs : List Attribute) → all_accepted g c es ≡ true → all_accepted g c fs ≡ true → all_same g c c es fs ≡ true → rewritten g c es ≡ rewritten g c fs
+  unfolding all_accepted all_same rewritten
+  same_rewritten c [] [] a b s = refl
+  same_rewritten c [] (f ∷ fs) a b s = absurd cc
+  same_rewritten c (e ∷ es) [] a b s = absurd cc
+  same_rewritten c (e ∷ es) (f ∷ fs) a b s =
+      let r = row_of g c e in
+      let w = same_fronts c e f es fs a b s in
+      let rest : rewritten g (g.next c e) es ≡ rewritten g (g.next c e) fs = same_rewritten (g.next c e) es fs w.accepted w.accepted_too w.same in
       let head : rewrite r e ≡ rewrite (row_of g c f) f =
-      ap (λ x. record { kind = x; payload = r.rule.canonical e.payload }) k.1
-      ∙ ap (λ x. record { kind = written_kind r f.kind; payload = x }) p_is
-      ∙ ap (λ x. rewrite x f) (sym row_is) in
+      ap (λ x. record { kind = x; payload = r.rule.canonical e.payload }) w.kinds
+      ∙ ap (λ x. record { kind = written_kind r f.kind; payload = x }) w.payloads
+      ∙ ap (λ x. rewrite x f) (sym w.rows) in
       ap (λ x. x ∷ rewritten g (g.next c e) es) head
       ∙ ap (λ x. rewrite (row_of g c f) f ∷ x) rest
-      ∙ ap (λ d. rewrite (row_of g c f) f ∷ rewritten g d fs) next_is
+      ∙ ap (λ d. rewrite (row_of g c f) f ∷ rewritten g d fs) w.contexts
+
+  -- the same lists leave the same in force
+  pub one_context : (c : Context) (es fs : List Attribute) → all_accepted g c es ≡ true → all_accepted g c fs ≡ true → all_same g c c es fs ≡ true → context_after g c es ≡ context_after g c fs
+  unfolding all_accepted all_same context_after
+  one_context c [] [] a b s = refl
+  one_context c [] (f ∷ fs) a b s = absurd cc
+  one_context c (e ∷ es) [] a b s = absurd cc
+  one_context c (e ∷ es) (f ∷ fs) a b s =
+      let w = same_fronts c e f es fs a b s in
+      one_context (g.next c e) es fs w.accepted w.accepted_too w.same ∙ ap (λ d. context_after g d fs) w.contexts
 
   pub rewritten_same : (c : Context) (es fs : List Attribute) → all_accepted g c es ≡ true → all_accepted g c fs ≡ true → rewritten g c es ≡ rewritten g c fs → all_same g c c es fs ≡ true
   unfolding all_accepted all_same rewritten
@@ -156,30 +191,6 @@ module _ (g : Grammar) (lawful : LawfulGrammar g) where
       let meaning = (lawful.rows c (proper_kind e.kind)).one_meaning e.payload f.payload a1.0 f_accepted p_is in
       let one : same_attribute r r e f ≡ true = and_from _ _ (written-same_kind_by r.is_typed r.is_nested e.kind f.kind w_is) (and_from _ _ meaning meaning) in
       and_from _ _ (ap (λ q. same_attribute r q e f) row_is ∙ one) (ap (λ d. all_same g (g.next c e) d es fs) (sym next_is) ∙ rest)
-
--- the same lists leave the same in force
-one_context_by : (g : Grammar) (lawful : LawfulGrammar g) (c : Context) (es fs : List Attribute) → all_accepted g c es ≡ true → all_accepted g c fs ≡ true → all_same g c c es fs ≡ true → context_after g c es ≡ context_after g c fs
-unfolding all_accepted all_same context_after
-one_context_by g lawful c [] [] a b s = refl
-one_context_by g lawful c [] (f ∷ fs) a b s = absurd cc
-one_context_by g lawful c (e ∷ es) [] a b s = absurd cc
-one_context_by g lawful c (e ∷ es) (f ∷ fs) a b s =
-    let r = row_of g c e in
-    let q = row_of g c f in
-    let s1 = and_parts (same_attribute r q e f) (all_same g (g.next c e) (g.next c f) es fs) s in
-    let s2 = and_parts (same_kind r q e.kind f.kind) (r.rule.same e.payload f.payload && q.rule.same e.payload f.payload) s1.0 in
-    let s3 = and_parts (r.rule.same e.payload f.payload) (q.rule.same e.payload f.payload) s2.1 in
-    let k = same_kind-written r q e.kind f.kind s2.0 in
-    let row_is : row_of g c f ≡ r = ap (g.row c) (sym k.0) in
-    let a1 = and_parts _ _ a in
-    let b1 = and_parts _ _ b in
-    let f_accepted : r.rule.accepted f.payload ≡ true = ap (λ x. x.rule.accepted f.payload) (sym row_is) ∙ b1.0 in
-    let p_is = (lawful.rows c (proper_kind e.kind)).one_text e.payload f.payload a1.0 f_accepted s3.0 in
-    let next_is : g.next c e ≡ g.next c f = lawful.steps c e f k.0 p_is in
-    one_context_by g lawful (g.next c e) es fs a1.1 (ap (λ d. all_accepted g d fs) next_is ∙ b1.1) (ap (λ d. all_same g (g.next c e) d es fs) next_is ∙ s1.1) ∙ ap (λ d. context_after g d fs) next_is
-
-pub one_context : (g : Grammar) → LawfulGrammar g → (c : Context) (es fs : List Attribute) → all_accepted g c es ≡ true → all_accepted g c fs ≡ true → all_same g c c es fs ≡ true → context_after g c es ≡ context_after g c fs
-one_context = one_context_by
 
 -- equal texts are texts of equal lists
 pub one_list : (es fs : List Attribute) → list_text es ≡ list_text fs → es ≡ fs

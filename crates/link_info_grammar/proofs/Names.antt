@@ -1,7 +1,7 @@
 -- A name that a list lacks holds raw bytes.
 use Rattle.std.proofs.Common.{◌≡◌, ℕ, Bool, true, false, List, refl, sym, ap, ◌∙◌}
-use Rattle.std.specs.Prelude.{◌&&◌, not, bytes_eq}
-use Rattle.std.proofs.lemmas.Bool.{and_parts}
+use Rattle.std.specs.Prelude.{not, bytes_eq}
+use Rattle.std.proofs.lemmas.Bool.{and_parts, and_from}
 use Rattle.std.proofs.lemmas.Slice.Eq.{bytes_eq-Decides}
 use Rattle.link_info_grammar.specs.Rules.{Rule, raw_rule}
 use Rattle.link_info_grammar.specs.Peers.{Peer}
@@ -18,19 +18,15 @@ named-lacks p (name m s ns) n h =
     let b = and_parts (not (bytes_eq n m)) (lacks_name n ns) h in
     skip (bytes_eq n m) (rule p s) (named p ns n) b.0 ∙ named-lacks p ns n b.1
 
-other : (b : Bool) (u : Bool) → (b ≡ true → u ≡ true) → not u ≡ true → not b ≡ true
+other : (b u : Bool) → (b ≡ true → u ≡ true) → not u ≡ true → not b ≡ true
 other true true f h = absurd cc
 other true false f h = absurd (let e : false ≡ true = f refl in cc)
 other false u f h = refl
-
-both : (a b : Bool) → a ≡ true → b ≡ true → (a && b) ≡ true
-both true b h k = k
-both false b h k = absurd cc
 
 -- a name that is none of the listed ones has no payload of its own
 pub lacks_name-unlisted : (ns : Names) (names : List (List ℕ)) (n : List ℕ) → are_listed ns names ≡ true → is_unlisted names n ≡ true → lacks_name n ns ≡ true
 lacks_name-unlisted others names n h u = refl
 lacks_name-unlisted (name m s ns) names n h u =
     let b = and_parts (not (is_unlisted names m)) (are_listed ns names) h in
-    both (not (bytes_eq n m)) (lacks_name n ns) (other (bytes_eq n m) (is_unlisted names m) (λ e. ap (is_unlisted names) (sym ((bytes_eq-Decides n m).0 e)) ∙ u) b.0)
+    and_from (not (bytes_eq n m)) (lacks_name n ns) (other (bytes_eq n m) (is_unlisted names m) (λ e. ap (is_unlisted names) (sym ((bytes_eq-Decides n m).0 e)) ∙ u) b.0)
     (lacks_name-unlisted ns names n b.1 u)

@@ -1,5 +1,5 @@
 -- What an accepted list is read as: what each value is written as, and whether what is inside it fits.
-use Rattle.std.specs.Prelude.{ℕ, ◌+◌, ◌&&◌, nat_le, Bool, true, cond, List, [], ◌∷◌, length, Option, Some, None, option_map}
+use Rattle.std.specs.Prelude.{ℕ, ◌&&◌, Bool, true, cond, List, [], ◌∷◌, Option, Some, None, option_map}
 use Rattle.netlink_packet_core_grammar.specs.Attributes.{Attribute, if_some, attributes_of}
 use Rattle.netlink_packet_core_grammar.specs.Fits.{attribute_fits}
 use Rattle.link_info_grammar.specs.Lists.{Context, Row, Grammar, row_of, rewrite}

@@ -1,40 +1,106 @@
--- What is found by a text has that text, and what holds of all values.
-use Rattle.std.proofs.Common.{◌≡◌, ℕ, Bool, true, false, cond, List, [], ◌∷◌, Option, Some, refl, sym, ap, ◌∙◌}
-use Rattle.std.specs.Prelude.{◌&&◌, bytes_eq}
+-- Values and their texts: what a text finds has that text, and each kind is what its name finds.
+use Rattle.std.proofs.Common.{◌≡◌, ℕ, Bool, true, false, cond, List, [], ◌∷◌, map, Option, Some, None, refl, sym, ap, ◌∙◌}
+use Rattle.std.specs.List.{list_all}
+use Rattle.std.specs.Prelude.{◌&&◌, not, bytes_eq, string_bytes}
 use Rattle.std.proofs.lemmas.Bool.{and_parts}
 use Rattle.std.proofs.lemmas.Slice.Eq.{bytes_eq-Decides}
+use Rattle.link_info_grammar.specs.KindNames.{is_unlisted}
 use Rattle.link_info_kinds.specs.Named.{named_by}
-use Rattle.link_info_kinds.specs.Kinds.{info_kind_text, info_kind_is_named, listed_kinds}
+use Rattle.link_info_kinds.specs.Kinds.{info_kind_text, info_kind_is_named, listed_kind, listed_kinds, IsNamedBy}
+use Rattle.link_info_kinds.specs.PortKinds.{info_port_kind_text, info_port_kind_is_named, listed_port_kind, listed_port_kinds}
 use Rattle.link_info_kinds.specs.declared.info_kind.InfoKind.{InfoKind}
+use Rattle.link_info_kinds.specs.declared.info_kind.InfoKind.TheVariants as Kind
+use Rattle.link_info_kinds.specs.declared.info_port_kind.InfoPortKind.{InfoPortKind}
+use Rattle.link_info_kinds.specs.declared.info_port_kind.InfoPortKind.TheVariants as PortKind
 
 module _ {V : Type 0} (text : V → List ℕ) where
-  some_is : (v w : V) → Some v ≡ Some w → v ≡ w
-  some_is v w h = cc
+  module _ (test : V → Bool) where
+    found_at : (b : Bool) (v w : V) (n : List ℕ) (o : Option V) → (b ≡ true → n ≡ text v) → test v ≡ true → (o ≡ Some w → (text w ≡ n) × (test w ≡ true)) → cond b (Some v) o ≡ Some w → (text w ≡ n) × (test w ≡ true)
+    found_at true v w n o f t g h =
+        let e : w ≡ v = cc in
+        (ap text e ∙ sym (f refl), ap test e ∙ t)
+    found_at false v w n o f t g h = g h
 
-  at : (b : Bool) (v w : V) (n : List ℕ) (o : Option V) → (b ≡ true → n ≡ text v) → (o ≡ Some w → text w ≡ n) → cond b (Some v) o ≡ Some w → text w ≡ n
-  at true v w n o f g h = ap text (sym (some_is v w h)) ∙ sym (f refl)
-  at false v w n o f g h = g h
+    -- what is found by a text has that text, and what holds of all
+    found : (vs : List V) (n : List ℕ) (w : V) → list_all test vs ≡ true → named_by text vs n ≡ Some w → (text w ≡ n) × (test w ≡ true)
+    found [] n w a h = absurd cc
+    found (v ∷ vs) n w a h =
+        let b = and_parts (test v) (list_all test vs) a in
+        found_at (bytes_eq n (text v)) v w n (named_by text vs n) (λ e. (bytes_eq-Decides n (text v)).0 e) b.0 (found vs n w b.1) h
 
-  has_text : (vs : List V) (n : List ℕ) (w : V) → named_by text vs n ≡ Some w → text w ≡ n
-  has_text [] n w h = absurd cc
-  has_text (v ∷ vs) n w h = at (bytes_eq n (text v)) v w n (named_by text vs n) (λ e. (bytes_eq-Decides n (text v)).0 e) (has_text vs n w) h
+  skip : (b : Bool) (v : V) (o : Option V) → not b ≡ true → o ≡ None → cond b (Some v) o ≡ None
+  skip true v o h e = absurd cc
+  skip false v o h e = e
 
-  abbrev every : (V → Bool) → List V → Bool
-  every t [] = true
-  every t (v ∷ vs) = t v && every t vs
+  -- a text that no value has finds none
+  not_found : (vs : List V) (n : List ℕ) → is_unlisted (map text vs) n ≡ true → named_by text vs n ≡ None
+  not_found [] n h = refl
+  not_found (v ∷ vs) n h =
+      let b = and_parts (not (bytes_eq n (text v))) (is_unlisted (map text vs) n) h in
+      skip (bytes_eq n (text v)) v (named_by text vs n) b.0 (not_found vs n b.1)
 
-  holds_at : (t : V → Bool) (b : Bool) (v w : V) (o : Option V) → t v ≡ true → (o ≡ Some w → t w ≡ true) → cond b (Some v) o ≡ Some w → t w ≡ true
-  holds_at t true v w o f g h = ap t (sym (some_is v w h)) ∙ f
-  holds_at t false v w o f g h = g h
+pub kind-found : (n : List ℕ) (k : InfoKind) → named_by info_kind_text listed_kinds n ≡ Some k → IsNamedBy n k
+kind-found n k h = found info_kind_text info_kind_is_named listed_kinds n k refl h
 
-  holds : (t : V → Bool) (vs : List V) (n : List ℕ) (w : V) → every t vs ≡ true → named_by text vs n ≡ Some w → t w ≡ true
-  holds t [] n w a h = absurd cc
-  holds t (v ∷ vs) n w a h =
-      let b = and_parts (t v) (every t vs) a in
-      holds_at t (bytes_eq n (text v)) v w (named_by text vs n) b.0 (holds t vs n w b.1) h
+kind-finds : (k : InfoKind) → info_kind_is_named k ≡ true → named_by info_kind_text listed_kinds (info_kind_text k) ≡ listed_kind k
+kind-finds Kind.Dummy h = refl
+kind-finds Kind.Ifb h = refl
+kind-finds Kind.Bridge h = refl
+kind-finds Kind.Tun h = refl
+kind-finds Kind.Nlmon h = refl
+kind-finds Kind.Vlan h = refl
+kind-finds Kind.Veth h = refl
+kind-finds Kind.Vxlan h = refl
+kind-finds Kind.Bond h = refl
+kind-finds Kind.IpVlan h = refl
+kind-finds Kind.IpVtap h = refl
+kind-finds Kind.MacVlan h = refl
+kind-finds Kind.MacVtap h = refl
+kind-finds Kind.GreTap h = refl
+kind-finds Kind.GreTap6 h = refl
+kind-finds Kind.IpIp h = refl
+kind-finds Kind.Ip6Tnl h = refl
+kind-finds Kind.SitTun h = refl
+kind-finds Kind.GreTun h = refl
+kind-finds Kind.GreTun6 h = refl
+kind-finds Kind.Vti h = refl
+kind-finds Kind.Vti6 h = refl
+kind-finds Kind.Vrf h = refl
+kind-finds Kind.Gtp h = refl
+kind-finds Kind.Ipoib h = refl
+kind-finds Kind.Wireguard h = refl
+kind-finds Kind.Xfrm h = refl
+kind-finds Kind.MacSec h = refl
+kind-finds Kind.Hsr h = refl
+kind-finds Kind.Geneve h = refl
+kind-finds Kind.Netkit h = refl
+kind-finds Kind.Vcan h = refl
+kind-finds Kind.Vxcan h = refl
+kind-finds Kind.Amt h = refl
+kind-finds Kind.BatAdv h = refl
+kind-finds Kind.BareUdp h = refl
+kind-finds Kind.Netdevsim h = refl
+kind-finds Kind.VirtWifi h = refl
+kind-finds Kind.Wwan h = refl
+kind-finds Kind.Can h = refl
+kind-finds Kind.Dsa h = refl
+kind-finds Kind.Team h = refl
+kind-finds Kind.ErSpan h = refl
+kind-finds Kind.Ip6ErSpan h = refl
+kind-finds Kind.Pfcp h = refl
+kind-finds Kind.RmNet h = refl
+kind-finds (Kind.Other s) h = not_found info_kind_text listed_kinds (string_bytes s) h
 
-pub kind-text : (n : List ℕ) (k : InfoKind) → named_by info_kind_text listed_kinds n ≡ Some k → info_kind_text k ≡ n
-kind-text n k h = has_text info_kind_text listed_kinds n k h
+-- kinds with one name are one variant, or both `Other`
+pub names_tell_kinds : (k m : InfoKind) → info_kind_is_named k ≡ true → info_kind_is_named m ≡ true → info_kind_text k ≡ info_kind_text m → listed_kind k ≡ listed_kind m
+names_tell_kinds k m h i e = sym (kind-finds k h) ∙ ap (named_by info_kind_text listed_kinds) e ∙ kind-finds m i
 
-pub kind-named : (n : List ℕ) (k : InfoKind) → named_by info_kind_text listed_kinds n ≡ Some k → info_kind_is_named k ≡ true
-kind-named n k h = holds info_kind_text info_kind_is_named listed_kinds n k refl h
+port_kind-finds : (k : InfoPortKind) → info_port_kind_is_named k ≡ true → named_by info_port_kind_text listed_port_kinds (info_port_kind_text k) ≡ listed_port_kind k
+port_kind-finds PortKind.Bond h = refl
+port_kind-finds PortKind.Bridge h = refl
+port_kind-finds PortKind.Vrf h = refl
+port_kind-finds PortKind.Team h = refl
+port_kind-finds (PortKind.Other s) h = not_found info_port_kind_text listed_port_kinds (string_bytes s) h
+
+pub names_tell_port_kinds : (k m : InfoPortKind) → info_port_kind_is_named k ≡ true → info_port_kind_is_named m ≡ true → info_port_kind_text k ≡ info_port_kind_text m → listed_port_kind k ≡ listed_port_kind m
+names_tell_port_kinds k m h i e = sym (port_kind-finds k h) ∙ ap (named_by info_port_kind_text listed_port_kinds) e ∙ port_kind-finds m i

@@ -1,5 +1,5 @@
 -- The kind of a link, by its name.
-use Rattle.std.specs.Prelude.{◌≡◌, ℕ, Bool, true, List, [], ◌∷◌, ◌++◌, codes, string_bytes}
+use Rattle.std.specs.Prelude.{◌≡◌, ℕ, Bool, true, List, [], ◌∷◌, ◌++◌, codes, string_bytes, Option, Some, None}
 use Rattle.netlink_packet_core.specs.Attributes.{Attribute}
 use Rattle.link_info_grammar.specs.KindNames.{kind_names, is_unlisted}
 use Rattle.link_info_kinds.specs.declared.info_kind.InfoKind.{InfoKind}
@@ -62,6 +62,11 @@ listed_kinds =
     Kind.Vti6 ∷ Kind.Vrf ∷ Kind.Gtp ∷ Kind.Ipoib ∷ Kind.Wireguard ∷ Kind.Xfrm ∷ Kind.MacSec ∷ Kind.Hsr ∷ Kind.Geneve ∷ Kind.Netkit ∷ Kind.Vcan ∷
     Kind.Vxcan ∷ Kind.Amt ∷ Kind.BatAdv ∷ Kind.BareUdp ∷ Kind.Netdevsim ∷ Kind.VirtWifi ∷ Kind.Wwan ∷ Kind.Can ∷ Kind.Dsa ∷ Kind.Team ∷ Kind.ErSpan ∷
     Kind.Ip6ErSpan ∷ Kind.Pfcp ∷ Kind.RmNet ∷ []
+
+-- the kind, where it isn't `Other`
+abbrev pub listed_kind : InfoKind → Option InfoKind
+listed_kind (Kind.Other s) = None
+listed_kind k = Some k
 
 -- the kind is the one that its text names: no listed name stands in `Other`
 abbrev pub info_kind_is_named : InfoKind → Bool

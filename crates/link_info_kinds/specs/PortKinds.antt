@@ -1,5 +1,5 @@
 -- The kind of a port, by its name.
-use Rattle.std.specs.Prelude.{◌≡◌, ℕ, Bool, true, List, [], ◌∷◌, ◌++◌, codes, string_bytes}
+use Rattle.std.specs.Prelude.{◌≡◌, ℕ, Bool, true, List, [], ◌∷◌, ◌++◌, codes, string_bytes, Option, Some, None}
 use Rattle.netlink_packet_core.specs.Attributes.{Attribute}
 use Rattle.link_info_grammar.specs.KindNames.{port_kind_names, is_unlisted}
 use Rattle.link_info_kinds.specs.declared.info_port_kind.InfoPortKind.{InfoPortKind}
@@ -15,6 +15,11 @@ info_port_kind_text (PortKind.Other s) = string_bytes s
 -- the port kinds that have a name of their own, as `port_kind_names` has these names
 abbrev pub listed_port_kinds : List InfoPortKind
 listed_port_kinds = PortKind.Bond ∷ PortKind.Bridge ∷ PortKind.Vrf ∷ PortKind.Team ∷ []
+
+-- the port kind, where it isn't `Other`
+abbrev pub listed_port_kind : InfoPortKind → Option InfoPortKind
+listed_port_kind (PortKind.Other s) = None
+listed_port_kind k = Some k
 
 -- the port kind is the one that its text names: no listed name stands in `Other`
 abbrev pub info_port_kind_is_named : InfoPortKind → Bool

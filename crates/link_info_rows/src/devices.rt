@@ -1,4 +1,4 @@
-use crate::rewritten::rewritten;
+use crate::written::rewritten;
 use link_info::{
     Flags, InfoBatAdv, InfoBatAdvReader, InfoIpVlan, InfoIpVlanReader, InfoIpVtap,
     InfoIpVtapReader, InfoIpoib, InfoIpoibReader, InfoRmNet, InfoRmNetFlags, InfoRmNetReader,

@@ -2,6 +2,8 @@
 #![tactic(auto)]
 
 #[cfg(test)]
+mod captured;
+#[cfg(test)]
 mod data;
 #[cfg(test)]
 mod device_types;
@@ -16,8 +18,8 @@ mod raw_data;
 #[cfg(test)]
 mod raw_port_data;
 #[cfg(test)]
-mod rewritten;
-#[cfg(test)]
 mod tunnel_types;
 #[cfg(test)]
 mod tunnels;
+#[cfg(test)]
+mod written;

@@ -1,22 +1,16 @@
+use crate::written::written;
 use link_info::{
     Flags, InfoBareUdp, InfoData, InfoKind, InfoPortData, InfoPortKind, InfoRmNet, InfoXfrm,
     IpVlanMode, LinkInfo, RmNetFlags,
 };
-use netlink_packet_core::{NlaBuffer, Parseable, emit_all, fits_all, len_all};
+use netlink_packet_core::{NlaBuffer, Parseable};
 use std::alloc::Global;
 use std::str::FromStr;
 use std::test::Fail;
 
 /// What link info is written as once it is read.
 fn rewritten(alloc: Global, bytes: &[u8]) -> Result<Vec<u8>, Fail> {
-    let list = LinkInfo::parse_list(alloc, bytes)?;
-    let size = len_all(&list);
-    let mut buffer = [0xffu8; 64];
-    if !fits_all(&list) || size > buffer.len() {
-        return Err(Fail::from("too long"));
-    }
-    emit_all(&list, &mut buffer);
-    Ok(Vec::from_slice(alloc, &buffer[..size])?)
+    written(alloc, LinkInfo::parse_list(alloc, bytes)?.as_slice())
 }
 
 // Legal link info, and its canonical text.

@@ -1,4 +1,4 @@
-use crate::rewritten::rewritten;
+use crate::written::rewritten;
 use link_info::{
     InfoBond, InfoBondReader, InfoBridge, InfoBridgeReader, InfoCan, InfoCanReader, InfoDsa,
     InfoDsaReader, InfoHsr, InfoHsrReader, InfoTun, InfoTunReader, InfoVlan, InfoVlanReader,

@@ -1,4 +1,4 @@
-use crate::rewritten::rewritten;
+use crate::written::rewritten;
 use link_info::{
     InfoBondPort, InfoBondPortReader, InfoBridgePort, InfoBridgePortReader, InfoTeamPort,
     InfoTeamPortReader,

@@ -1,4 +1,4 @@
-use crate::rewritten::rewritten;
+use crate::written::rewritten;
 use link_info::{
     InfoBareUdp, InfoBareUdpReader, InfoVti, InfoVtiReader, InfoXfrm, InfoXfrmReader, parse_list,
 };

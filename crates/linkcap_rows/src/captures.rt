@@ -2,6 +2,7 @@
 
 use hex::{decode, encode};
 use link_capture::normalize::normalize_bytes;
+use link_capture_grammar::fault::FaultKind;
 use std::alloc::Global;
 use std::test::Fail;
 
@@ -183,4 +184,28 @@ fn a_name_of_65530_bytes_fits(rt: HostRuntime) -> Result<(), Fail> {
     );
     assert_eq!(rt; &out.as_slice()[65564..], [0x61u8, 0x61, 0, 0].as_slice());
     Ok(())
+}
+
+/// A request for a link of the name `lo`, with its mask of statistics.
+const REQUEST: [u8; 48] = [
+    48, 0, 0, 0, 18, 0, 1, 3, 52, 14, 249, 90, 0, 0, 0, 0, 0, 0, 0, 0, 0, 0, 0, 0, 0, 0, 0, 0, 0,
+    0, 0, 0, 8, 0, 29, 0, 9, 0, 0, 0, 7, 0, 3, 0, 108, 111, 0, 0,
+];
+
+/// With ample memory both texts are written. Run with each request for memory refused in turn, it shows that want
+/// of memory is told at the start of a frame, and that `out` then has the texts before it.
+#[test]
+fn want_of_memory_is_told_at_a_frame(rt: HostRuntime) {
+    let mut capture = [0u8; 96];
+    capture[..48].copy_from_slice(&REQUEST);
+    capture[48..].copy_from_slice(&REQUEST);
+    let mut out = Vec::new(rt.alloc());
+    match normalize_bytes(rt.alloc(), &capture, 1000, &mut out) {
+        Ok(()) => assert!(rt; out.as_slice() == capture.as_slice()),
+        Err(fault) => {
+            assert_eq!(rt; fault.kind, FaultKind::Memory);
+            assert!(rt; fault.offset == 0 || fault.offset == 48);
+            assert_eq!(rt; out.len() as u64, fault.offset);
+        }
+    }
 }

@@ -141,3 +141,4 @@ pub use netlink_packet_core_numbers::parse_u64_le;
 pub use netlink_packet_core_numbers::parse_u128;
 pub use netlink_packet_core_numbers::parse_u128_be;
 pub use netlink_packet_core_numbers::parse_u128_le;
+pub use netlink_packet_core_numbers::without_nul;

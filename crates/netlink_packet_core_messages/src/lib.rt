@@ -24,6 +24,3 @@ pub use payload::{
     NLMSG_ALIGNTO, NLMSG_DONE, NLMSG_ERROR, NLMSG_NOOP, NLMSG_OVERRUN, NetlinkPayload,
 };
 pub use payload_traits::{NetlinkDeserializable, NetlinkProtocol, NetlinkSerializable};
-
-#[cfg(test)]
-mod tests;

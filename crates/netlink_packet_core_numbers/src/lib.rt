@@ -20,7 +20,7 @@ pub use parsers::{
     parse_ip, parse_ipv4_addr, parse_ipv6, parse_ipv6_addr, parse_mac, parse_one, parse_range,
     parse_str, parse_string, parse_u8, parse_u16, parse_u16_be, parse_u16_le, parse_u32,
     parse_u32_be, parse_u32_le, parse_u64, parse_u64_be, parse_u64_le, parse_u128, parse_u128_be,
-    parse_u128_le,
+    parse_u128_le, without_nul,
 };
 pub use payloads::{
     fill_bool, fill_ip, fill_mac, fill_range, fill_text, fill_u8, fill_u16, fill_u16_be, fill_u32,

@@ -390,8 +390,8 @@ pub fn parse_ip(payload: &[u8]) -> Result<IpAddr, DecodeError>
     Ok(IpAddr::V6(parse_ipv6_addr(payload)?))
 }
 
-/// Some bytes without one last NUL.
-fn without_nul(bytes: &[u8]) -> &[u8]
+/// Bytes without one last NUL (0), where they end in one: what a text attribute says (kernel, netlink.h: NLA_NUL_STRING).
+pub fn without_nul(bytes: &[u8]) -> &[u8]
     ensures { result.now ≡ without_nul bytes.now }
 {
     let len = bytes.len();

@@ -4,4 +4,18 @@
 #[cfg(test)]
 mod buffers;
 #[cfg(test)]
+mod ethernet;
+#[cfg(test)]
+mod messages;
+#[cfg(test)]
+mod nla;
+#[cfg(test)]
+mod nla_buffer;
+#[cfg(test)]
+mod nla_list;
+#[cfg(test)]
 mod numbers;
+#[cfg(test)]
+mod traits;
+#[cfg(test)]
+mod view;

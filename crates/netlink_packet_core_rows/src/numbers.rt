@@ -9,7 +9,7 @@ use netlink_packet_core::{
     parse_i128_be, parse_i128_le, parse_ip, parse_ipv4_addr, parse_ipv6, parse_ipv6_addr,
     parse_mac, parse_one, parse_range, parse_str, parse_string, parse_u8, parse_u16, parse_u16_be,
     parse_u16_le, parse_u32, parse_u32_be, parse_u32_le, parse_u64, parse_u64_be, parse_u64_le,
-    parse_u128, parse_u128_be, parse_u128_le,
+    parse_u128, parse_u128_be, parse_u128_le, without_nul,
 };
 use std::net::{IpAddr, Ipv4Addr, Ipv6Addr};
 use std::test::Fail;
@@ -216,6 +216,8 @@ fn texts(rt: HostRuntime) -> Result<(), Fail> {
     assert_eq!(rt; parse_str(b"lo\0"), Ok("lo"));
     assert_eq!(rt; parse_str(b"lo"), Ok("lo"));
     assert_eq!(rt; parse_str(b"lo\0\0"), Ok("lo\0"));
+    assert_eq!(rt; without_nul(b"lo\0\0"), b"lo\0".as_slice());
+    assert_eq!(rt; without_nul(b"lo"), b"lo".as_slice());
     assert!(rt; is_text(b"lo\0") && !is_text(&[0xff, 0x00]));
     match parse_string(rt.alloc(), &[0x6c, 0x6f, 0x00]) {
         Ok(text) => assert_eq!(rt; text.as_str(), "lo"),

@@ -1,11 +1,11 @@
-use Rattle.std.proofs.Common.{◌≡◌, ◌++◌, [], ◌∷◌, ◌<◌, length, map, true, false, List, Some, None, sym, ◌∙◌, refl, ap, subst, arith, length-drop, rules}
+use Rattle.std.proofs.Common.{◌≡◌, ◌++◌, [], ◌∷◌, ◌<◌, length, map, true, false, sym, ◌∙◌, refl, ap, subst, arith, length-drop, rules}
 use Rattle.std.proofs.lemmas.Grind.{elements}
 use Rattle.std.proofs.lemmas.Bool.Decides.{nat_tests}
 use Rattle.std.proofs.lemmas.List.{map-append}
 use Rattle.netlink_packet_core_grammar.specs.Attributes.{nla_align, list_text}
 use Rattle.link_info_grammar.specs.Lists.{nothing, row_of}
 use Rattle.link_info_grammar.specs.FlatTables.{steady, rows_rule}
-use Rattle.link_info_grammar.specs.Readings.{Written, written_by}
+use Rattle.link_info_grammar.specs.Readings.{written_by}
 use Rattle.link_info_grammar.proofs.Readings.{SoFar, more, refused, stopped, done, tells_rows, denies_rows}
 use Rattle.netlink_packet_core_grammar.specs.AttributeViews.{IsAttribute, length_of, attribute_of, after_first}
 use Rattle.netlink_packet_core.specs.Errors.{is_memory}

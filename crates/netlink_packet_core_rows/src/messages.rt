@@ -1,25 +1,18 @@
 ghost use Rattle.std.specs.Prelude.{◌≡◌, Some, true, refl, IfOk, ⊤};
-ghost use Rattle.netlink_packet_core_grammar.specs.Frames.{frame_type, frame_body};
-ghost use Rattle.netlink_packet_core_messages.specs.TypedBodies.{IsInner, TypedBody};
-ghost use Rattle.netlink_packet_core_messages.specs.Payloads.{written_body};
-ghost use Rattle.netlink_packet_core_messages.specs.Messages.{unpadded_text};
+ghost use Rattle.netlink_packet_core.specs.Frames.{frame_type, frame_body};
+ghost use Rattle.netlink_packet_core.specs.TypedBodies.{IsInner, TypedBody};
+ghost use Rattle.netlink_packet_core.specs.Payloads.{written_body};
+ghost use Rattle.netlink_packet_core.specs.Messages.{unpadded_text};
 
-use super::byte_vec::ByteVec;
-use super::done::DoneMessage;
-use super::error::ErrorMessage;
-use super::frame_error::FrameError;
-use super::header::NetlinkHeader;
-use super::message::NetlinkMessage;
-use super::payload::{
-    NLMSG_ALIGNTO, NLMSG_DONE, NLMSG_ERROR, NLMSG_NOOP, NLMSG_OVERRUN, NetlinkPayload,
+use netlink_packet_core::{
+    ByteVec, DecodeError, DoneBuffer, DoneMessage, Emitable, ErrorBuffer, ErrorCode, ErrorMessage,
+    FrameError, NLM_F_ACK, NLM_F_ACK_TLVS, NLM_F_APPEND, NLM_F_ATOMIC, NLM_F_CAPPED, NLM_F_CREATE,
+    NLM_F_DUMP, NLM_F_DUMP_FILTERED, NLM_F_DUMP_INTR, NLM_F_ECHO, NLM_F_EXCL, NLM_F_MATCH,
+    NLM_F_MULTIPART, NLM_F_NONREC, NLM_F_REPLACE, NLM_F_REQUEST, NLM_F_ROOT, NLMSG_ALIGNTO,
+    NLMSG_DONE, NLMSG_ERROR, NLMSG_NOOP, NLMSG_OVERRUN, NetlinkBuffer, NetlinkDeserializable,
+    NetlinkHeader, NetlinkMessage, NetlinkPayload, NetlinkProtocol, NetlinkSerializable, Parseable,
+    laws,
 };
-use super::payload_traits::{NetlinkDeserializable, NetlinkProtocol, NetlinkSerializable};
-use super::{constants, laws};
-use netlink_packet_core_attributes::traits::{Emitable, Parseable};
-use netlink_packet_core_buffers::buffer::NetlinkBuffer;
-use netlink_packet_core_buffers::done::DoneBuffer;
-use netlink_packet_core_buffers::error::{ErrorBuffer, ErrorCode};
-use netlink_packet_core_numbers::error::DecodeError;
 use std::alloc::{AllocError, Global};
 use std::test::Fail;
 
@@ -399,26 +392,23 @@ fn laws_hold_of_a_message(rt: HostRuntime) -> Result<(), Fail> {
 
 #[test]
 fn constants_are_those_of_the_kernel(rt: HostRuntime) -> Result<(), Fail> {
-    assert_eq!(rt; constants::NLM_F_REQUEST, 1);
-    assert_eq!(rt; constants::NLM_F_MULTIPART, 2);
-    assert_eq!(rt; constants::NLM_F_ACK, 4);
-    assert_eq!(rt; constants::NLM_F_ECHO, 8);
-    assert_eq!(rt; constants::NLM_F_DUMP_INTR, 16);
-    assert_eq!(rt; constants::NLM_F_DUMP_FILTERED, 32);
-    assert_eq!(rt; constants::NLM_F_ROOT, 0x100);
-    assert_eq!(rt; constants::NLM_F_MATCH, 0x200);
-    assert_eq!(rt; constants::NLM_F_ATOMIC, 0x400);
-    assert_eq!(rt;
-        constants::NLM_F_DUMP,
-        constants::NLM_F_ROOT | constants::NLM_F_MATCH
-    );
-    assert_eq!(rt; constants::NLM_F_REPLACE, 0x100);
-    assert_eq!(rt; constants::NLM_F_EXCL, 0x200);
-    assert_eq!(rt; constants::NLM_F_CREATE, 0x400);
-    assert_eq!(rt; constants::NLM_F_APPEND, 0x800);
-    assert_eq!(rt; constants::NLM_F_NONREC, 0x100);
-    assert_eq!(rt; constants::NLM_F_CAPPED, 0x100);
-    assert_eq!(rt; constants::NLM_F_ACK_TLVS, 0x200);
+    assert_eq!(rt; NLM_F_REQUEST, 1);
+    assert_eq!(rt; NLM_F_MULTIPART, 2);
+    assert_eq!(rt; NLM_F_ACK, 4);
+    assert_eq!(rt; NLM_F_ECHO, 8);
+    assert_eq!(rt; NLM_F_DUMP_INTR, 16);
+    assert_eq!(rt; NLM_F_DUMP_FILTERED, 32);
+    assert_eq!(rt; NLM_F_ROOT, 0x100);
+    assert_eq!(rt; NLM_F_MATCH, 0x200);
+    assert_eq!(rt; NLM_F_ATOMIC, 0x400);
+    assert_eq!(rt; NLM_F_DUMP, NLM_F_ROOT | NLM_F_MATCH);
+    assert_eq!(rt; NLM_F_REPLACE, 0x100);
+    assert_eq!(rt; NLM_F_EXCL, 0x200);
+    assert_eq!(rt; NLM_F_CREATE, 0x400);
+    assert_eq!(rt; NLM_F_APPEND, 0x800);
+    assert_eq!(rt; NLM_F_NONREC, 0x100);
+    assert_eq!(rt; NLM_F_CAPPED, 0x100);
+    assert_eq!(rt; NLM_F_ACK_TLVS, 0x200);
     assert_eq!(rt; NLMSG_NOOP, 1);
     assert_eq!(rt; NLMSG_ERROR, 2);
     assert_eq!(rt; NLMSG_DONE, 3);

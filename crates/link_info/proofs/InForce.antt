@@ -1,7 +1,7 @@
 -- The rule under a name in force is the rule of the kind that the name names.
 use Rattle.std.proofs.Common.{◌≡◌, ℕ, true, List, refl, sym, ap, ◌∙◌}
 use Rattle.std.specs.Prelude.{string_bytes}
-use Rattle.link_info_grammar.specs.Families.{kinds, port_kinds, bareudp_rows, batadv_rows, ipoib_rows, ipvlan_rows, rmnet_rows, vrf_rows, vti_rows, wwan_rows, xfrm_rows}
+use Rattle.link_info_grammar.specs.Families.{kinds, port_kinds, amt_rows, bareudp_rows, batadv_rows, geneve_rows, gtp_rows, ipoib_rows, ipvlan_rows, rmnet_rows, vrf_rows, vti_rows, vxlan_rows, wwan_rows, xfrm_rows}
 use Rattle.link_info_grammar.specs.KindNames.{kind_names, port_kind_names}
 use Rattle.link_info_grammar.specs.Peers.{bytes_peer}
 use Rattle.link_info_grammar.proofs.Families.{kinds_are_listed, port_kinds_are_listed}
@@ -27,7 +27,7 @@ data_rule-kind Kind.Tun h = family-rule bytes_peer raw_rows
 data_rule-kind Kind.Nlmon h = refl
 data_rule-kind Kind.Vlan h = family-rule bytes_peer raw_rows
 data_rule-kind Kind.Veth h = refl
-data_rule-kind Kind.Vxlan h = refl
+data_rule-kind Kind.Vxlan h = family-rule bytes_peer vxlan_rows
 data_rule-kind Kind.Bond h = family-rule bytes_peer raw_rows
 data_rule-kind Kind.IpVlan h = family-rule bytes_peer ipvlan_rows
 data_rule-kind Kind.IpVtap h = family-rule bytes_peer ipvlan_rows
@@ -43,17 +43,17 @@ data_rule-kind Kind.GreTun6 h = refl
 data_rule-kind Kind.Vti h = family-rule bytes_peer vti_rows
 data_rule-kind Kind.Vti6 h = family-rule bytes_peer vti_rows
 data_rule-kind Kind.Vrf h = family-rule bytes_peer vrf_rows
-data_rule-kind Kind.Gtp h = refl
+data_rule-kind Kind.Gtp h = family-rule bytes_peer gtp_rows
 data_rule-kind Kind.Ipoib h = family-rule bytes_peer ipoib_rows
 data_rule-kind Kind.Wireguard h = family-rule bytes_peer raw_rows
 data_rule-kind Kind.Xfrm h = family-rule bytes_peer xfrm_rows
 data_rule-kind Kind.MacSec h = refl
 data_rule-kind Kind.Hsr h = family-rule bytes_peer raw_rows
-data_rule-kind Kind.Geneve h = refl
+data_rule-kind Kind.Geneve h = family-rule bytes_peer geneve_rows
 data_rule-kind Kind.Netkit h = refl
 data_rule-kind Kind.Vcan h = refl
 data_rule-kind Kind.Vxcan h = refl
-data_rule-kind Kind.Amt h = refl
+data_rule-kind Kind.Amt h = family-rule bytes_peer amt_rows
 data_rule-kind Kind.BatAdv h = family-rule bytes_peer batadv_rows
 data_rule-kind Kind.BareUdp h = family-rule bytes_peer bareudp_rows
 data_rule-kind Kind.Netdevsim h = refl

@@ -35,6 +35,10 @@ pub use Rattle.link_info_devices.specs.Ipvlan
 pub use Rattle.link_info_devices.specs.Rmnet
 pub use Rattle.link_info_devices.specs.Vrf
 pub use Rattle.link_info_devices.specs.Wwan
+pub use Rattle.link_info_overlays.specs.Amt
+pub use Rattle.link_info_overlays.specs.Geneve
+pub use Rattle.link_info_overlays.specs.Gtp
+pub use Rattle.link_info_overlays.specs.Vxlan
 pub use Rattle.link_info_raw.specs.RawData
 pub use Rattle.link_info_raw.specs.RawRows
 pub use Rattle.link_info_raw_ports.specs.RawPortData

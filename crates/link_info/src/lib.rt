@@ -16,6 +16,10 @@ pub use link_info_devices::{
 };
 pub use link_info_kinds::{InfoKind, InfoPortKind};
 pub use link_info_lists::{Reader, parse_list};
+pub use link_info_overlays::{
+    InfoAmt, InfoAmtReader, InfoGeneve, InfoGeneveReader, InfoGtp, InfoGtpReader, InfoVxlan,
+    InfoVxlanReader,
+};
 pub use link_info_raw::{
     InfoBond, InfoBondReader, InfoBridge, InfoBridgeReader, InfoCan, InfoCanReader, InfoDsa,
     InfoDsaReader, InfoHsr, InfoHsrReader, InfoTun, InfoTunReader, InfoVlan, InfoVlanReader,

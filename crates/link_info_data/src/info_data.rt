@@ -11,6 +11,10 @@ use link_info_devices::{
 };
 use link_info_kinds::InfoKind;
 use link_info_lists::parse_list;
+use link_info_overlays::{
+    InfoAmt, InfoAmtReader, InfoGeneve, InfoGeneveReader, InfoGtp, InfoGtpReader, InfoVxlan,
+    InfoVxlanReader,
+};
 use link_info_raw::{
     InfoBond, InfoBondReader, InfoBridge, InfoBridgeReader, InfoCan, InfoCanReader, InfoDsa,
     InfoDsaReader, InfoHsr, InfoHsrReader, InfoTun, InfoTunReader, InfoVlan, InfoVlanReader,
@@ -35,6 +39,8 @@ pub enum InfoData {
     Tun(Vec<InfoTun>),
     /// Attributes of `vlan`.
     Vlan(Vec<InfoVlan>),
+    /// Attributes of `vxlan`.
+    Vxlan(Vec<InfoVxlan>),
     /// Attributes of `bond`.
     Bond(Vec<InfoBond>),
     /// Attributes of `ipvlan`.
@@ -45,12 +51,18 @@ pub enum InfoData {
     Vti(Vec<InfoVti>),
     /// Attributes of `vrf`.
     Vrf(Vec<InfoVrf>),
+    /// Attributes of `gtp`.
+    Gtp(Vec<InfoGtp>),
     /// Attributes of `ipoib`.
     Ipoib(Vec<InfoIpoib>),
     /// Attributes of `xfrm`.
     Xfrm(Vec<InfoXfrm>),
     /// Attributes of `hsr`.
     Hsr(Vec<InfoHsr>),
+    /// Attributes of `geneve`.
+    Geneve(Vec<InfoGeneve>),
+    /// Attributes of `amt`.
+    Amt(Vec<InfoAmt>),
     /// Attributes of `batadv`.
     BatAdv(Vec<InfoBatAdv>),
     /// Attributes of `bareudp`.
@@ -90,6 +102,7 @@ impl InfoData {
             InfoKind::Can => Ok(Self::Can(parse_list(alloc, &InfoCanReader, payload)?)),
             InfoKind::Tun => Ok(Self::Tun(parse_list(alloc, &InfoTunReader, payload)?)),
             InfoKind::Vlan => Ok(Self::Vlan(parse_list(alloc, &InfoVlanReader, payload)?)),
+            InfoKind::Vxlan => Ok(Self::Vxlan(parse_list(alloc, &InfoVxlanReader, payload)?)),
             InfoKind::Bond => Ok(Self::Bond(parse_list(alloc, &InfoBondReader, payload)?)),
             InfoKind::IpVlan => Ok(Self::IpVlan(parse_list(alloc, &InfoIpVlanReader, payload)?)),
             InfoKind::IpVtap => Ok(Self::IpVtap(parse_list(alloc, &InfoIpVtapReader, payload)?)),
@@ -99,9 +112,12 @@ impl InfoData {
                 payload,
             )?)),
             InfoKind::Vrf => Ok(Self::Vrf(parse_list(alloc, &InfoVrfReader, payload)?)),
+            InfoKind::Gtp => Ok(Self::Gtp(parse_list(alloc, &InfoGtpReader, payload)?)),
             InfoKind::Ipoib => Ok(Self::Ipoib(parse_list(alloc, &InfoIpoibReader, payload)?)),
             InfoKind::Xfrm => Ok(Self::Xfrm(parse_list(alloc, &InfoXfrmReader, payload)?)),
             InfoKind::Hsr => Ok(Self::Hsr(parse_list(alloc, &InfoHsrReader, payload)?)),
+            InfoKind::Geneve => Ok(Self::Geneve(parse_list(alloc, &InfoGeneveReader, payload)?)),
+            InfoKind::Amt => Ok(Self::Amt(parse_list(alloc, &InfoAmtReader, payload)?)),
             InfoKind::BatAdv => Ok(Self::BatAdv(parse_list(alloc, &InfoBatAdvReader, payload)?)),
             InfoKind::BareUdp => Ok(Self::BareUdp(parse_list(alloc, &InfoBareUdpReader, payload)?)),
             InfoKind::Dsa => Ok(Self::Dsa(parse_list(alloc, &InfoDsaReader, payload)?)),
@@ -129,14 +145,18 @@ impl Nla for InfoData {
             Self::Can(list) => len_all(list),
             Self::Tun(list) => len_all(list),
             Self::Vlan(list) => len_all(list),
+            Self::Vxlan(list) => len_all(list),
             Self::Bond(list) => len_all(list),
             Self::IpVlan(list) => len_all(list),
             Self::IpVtap(list) => len_all(list),
             Self::Vti(list) => len_all(list),
             Self::Vrf(list) => len_all(list),
+            Self::Gtp(list) => len_all(list),
             Self::Ipoib(list) => len_all(list),
             Self::Xfrm(list) => len_all(list),
             Self::Hsr(list) => len_all(list),
+            Self::Geneve(list) => len_all(list),
+            Self::Amt(list) => len_all(list),
             Self::BatAdv(list) => len_all(list),
             Self::BareUdp(list) => len_all(list),
             Self::Dsa(list) => len_all(list),
@@ -158,14 +178,18 @@ impl Nla for InfoData {
             Self::Can(list) => emit_all(list, buffer),
             Self::Tun(list) => emit_all(list, buffer),
             Self::Vlan(list) => emit_all(list, buffer),
+            Self::Vxlan(list) => emit_all(list, buffer),
             Self::Bond(list) => emit_all(list, buffer),
             Self::IpVlan(list) => emit_all(list, buffer),
             Self::IpVtap(list) => emit_all(list, buffer),
             Self::Vti(list) => emit_all(list, buffer),
             Self::Vrf(list) => emit_all(list, buffer),
+            Self::Gtp(list) => emit_all(list, buffer),
             Self::Ipoib(list) => emit_all(list, buffer),
             Self::Xfrm(list) => emit_all(list, buffer),
             Self::Hsr(list) => emit_all(list, buffer),
+            Self::Geneve(list) => emit_all(list, buffer),
+            Self::Amt(list) => emit_all(list, buffer),
             Self::BatAdv(list) => emit_all(list, buffer),
             Self::BareUdp(list) => emit_all(list, buffer),
             Self::Dsa(list) => emit_all(list, buffer),
@@ -182,14 +206,18 @@ impl Nla for InfoData {
             Self::Can(list) => fits_all(list),
             Self::Tun(list) => fits_all(list),
             Self::Vlan(list) => fits_all(list),
+            Self::Vxlan(list) => fits_all(list),
             Self::Bond(list) => fits_all(list),
             Self::IpVlan(list) => fits_all(list),
             Self::IpVtap(list) => fits_all(list),
             Self::Vti(list) => fits_all(list),
             Self::Vrf(list) => fits_all(list),
+            Self::Gtp(list) => fits_all(list),
             Self::Ipoib(list) => fits_all(list),
             Self::Xfrm(list) => fits_all(list),
             Self::Hsr(list) => fits_all(list),
+            Self::Geneve(list) => fits_all(list),
+            Self::Amt(list) => fits_all(list),
             Self::BatAdv(list) => fits_all(list),
             Self::BareUdp(list) => fits_all(list),
             Self::Dsa(list) => fits_all(list),

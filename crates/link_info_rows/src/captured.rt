@@ -6,8 +6,9 @@ use link_info::LinkInfo;
 use std::alloc::Global;
 use std::test::Fail;
 
-// What Linux 6.12.107 sent of eleven links, in hex. Each is its own canonical text.
-const FROM_A_KERNEL: [&str; 11] = [
+// What Linux 6.12.107 sent, and the last two what iproute2 sent, in hex. Each is its own canonical
+// text.
+const CANONICAL: [&str; 15] = [
     "0b0001006970766c616e00001400020006000100010000000600020002000000",
     "08000100767469003400020008000100000000000800020000000000080003000000000008000400\
         0000000008000500000000000800060000000000",
@@ -29,15 +30,31 @@ const FROM_A_KERNEL: [&str; 11] = [
     "09000100766574680000000008000400767266000c000500080001000a000000",
     "09000100766574680000000009000400626f6e640000000038000500050001000000000005000200\
         0000000008000300000000000a000400d2fd7cc76da8000006000500030000000800090007000000",
+    "0b00010067656e657665000060000200080001004e0000001400070020010db80000000000000000\
+        0000000705000900000000000500030000000000050004000000000008000b000000005505000d00\
+        01000000060005001830000005000a000000000005000c0000000000",
+    "08000100677470001c000200080003000002000008000400010000000500060000000000",
+    "0a00010076786c616e0000003800020004001c00050006000100000005001d000200000008000100\
+        0e00000008000200c0000203050007000100000006000f0012bb0000",
+    "0a00010076786c616e0000008c000200080003000600000008000a0027104e20080008007b000000\
+        080009004d00000005000b000100000005000c000100000005000d000100000005000e0001000000\
+        05001200010000000500130001000000050014000100000005001500010000000500160001000000\
+        080001000b00000008000200ef010101050007000000000006000f0012b50000",
 ];
 
-// What programs sent, in hex, and its canonical text.
-const FROM_PROGRAMS: [(&str, &str); 2] = [
+// What programs sent, in hex, and its canonical text: their kinds have no NUL.
+const OTHER_FORMS: [(&str, &str); 2] = [
     ("0900010064756d6d79000000", "0a00010064756d6d79000000"),
     (
         "08000100766c616e0c000200060001004d000000",
         "09000100766c616e000000000c000200060001004d000000",
     ),
+];
+
+// What a program sent, and the kernel refused: a network of 2 bytes, and data before their kind.
+const REFUSED: [&str; 2] = [
+    "0a00010076786c616e0000000c0002000600010007000000",
+    "14000200080001000700000006000f001e6100000a00010076786c616e000000",
 ];
 
 /// What link info in hex is written as once it is read, in hex.
@@ -50,17 +67,28 @@ fn rewritten(alloc: Global, text: &str) -> Result<String, Fail> {
 }
 
 #[test]
-fn link_info_of_a_kernel_is_canonical(rt: HostRuntime) -> Result<(), Fail> {
-    for text in FROM_A_KERNEL {
+fn what_was_sent_is_canonical(rt: HostRuntime) -> Result<(), Fail> {
+    for text in CANONICAL {
         assert_eq!(rt; rewritten(rt.alloc(), text)?.as_str(), text);
     }
     Ok(())
 }
 
 #[test]
-fn link_info_of_programs_is_written_as_its_text(rt: HostRuntime) -> Result<(), Fail> {
-    for (bytes, text) in FROM_PROGRAMS {
+fn other_forms_are_written_as_their_text(rt: HostRuntime) -> Result<(), Fail> {
+    for (bytes, text) in OTHER_FORMS {
         assert_eq!(rt; rewritten(rt.alloc(), bytes)?.as_str(), text);
+    }
+    Ok(())
+}
+
+#[test]
+fn what_the_kernel_refused_is_refused(rt: HostRuntime) -> Result<(), Fail> {
+    for text in REFUSED {
+        let Ok(bytes) = decode(rt.alloc(), text) else {
+            return Err(Fail::from("not hex"));
+        };
+        assert!(rt; LinkInfo::parse_list(rt.alloc(), bytes.as_slice()).is_err());
     }
     Ok(())
 }

@@ -14,9 +14,9 @@ mod kinds;
 #[cfg(test)]
 mod lists;
 #[cfg(test)]
-mod raw_data;
+mod overlays;
 #[cfg(test)]
-mod raw_port_data;
+mod raw_data;
 #[cfg(test)]
 mod tunnel_types;
 #[cfg(test)]

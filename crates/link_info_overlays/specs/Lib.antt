@@ -1,0 +1,4 @@
+pub mod Amt
+pub mod Geneve
+pub mod Gtp
+pub mod Vxlan

@@ -6,8 +6,8 @@ use link_info::LinkInfo;
 use std::alloc::Global;
 use std::test::Fail;
 
-// What Linux 6.12.107 sent, and the last two what iproute2 sent, in hex. Each is its own canonical
-// text.
+// What Linux 6.12.107 sent, and the last two what programs sent to it, in hex. Each is its own
+// canonical text.
 const CANONICAL: [&str; 15] = [
     "0b0001006970766c616e00001400020006000100010000000600020002000000",
     "08000100767469003400020008000100000000000800020000000000080003000000000008000400\
@@ -51,7 +51,7 @@ const OTHER_FORMS: [(&str, &str); 2] = [
     ),
 ];
 
-// What a program sent, and the kernel refused: a network of 2 bytes, and data before their kind.
+// What programs sent amiss: the number of a network in 2 bytes, and data before their kind.
 const REFUSED: [&str; 2] = [
     "0a00010076786c616e0000000c0002000600010007000000",
     "14000200080001000700000006000f001e6100000a00010076786c616e000000",
@@ -83,7 +83,7 @@ fn other_forms_are_written_as_their_text(rt: HostRuntime) -> Result<(), Fail> {
 }
 
 #[test]
-fn what_the_kernel_refused_is_refused(rt: HostRuntime) -> Result<(), Fail> {
+fn malformed_requests_are_refused(rt: HostRuntime) -> Result<(), Fail> {
     for text in REFUSED {
         let Ok(bytes) = decode(rt.alloc(), text) else {
             return Err(Fail::from("not hex"));

@@ -5,17 +5,17 @@ use Rattle.std.proofs.lemmas.Bool.{eqb-true, or_from, le-leb, lt-leb}
 use Rattle.std.proofs.lemmas.List.{length-take, take-append-le, take-take}
 use Rattle.netlink_packet_core_grammar.specs.Attributes.{Attribute, proper_kind, first_attribute, attribute_text, attributes_of}
 use Rattle.netlink_packet_core_grammar.proofs.Attributes.{got, got_is, sized}
-use Rattle.link_info_grammar.specs.Rules.{Rule}
-use Rattle.link_info_grammar.specs.Lists.{Context, nothing, Row, raw_row, some_emptied, at_read, any, rewrite}
-use Rattle.link_info_grammar.specs.Peers.{bytes_peer}
-use Rattle.link_info_grammar.specs.Tables.{Payload.list, rule, grammar, line_of, rule_of_line}
-use Rattle.link_info_grammar.specs.Rows.{string}
-use Rattle.link_info_grammar.specs.Walk.{Measure, measure, plus, with_header}
-use Rattle.link_info_grammar.proofs.Tables.{bytes_peer_lawful, row-line}
-use Rattle.link_info_grammar.proofs.FlatWalk as Flat
-use Rattle.link_info_grammar.proofs.FlatWalk.{Walkable, SoFar, Small}
-use Rattle.link_info_grammar.proofs.FlatText as FlatText
-use Rattle.link_info_grammar.proofs.FlatText.{Stepped}
+use Rattle.attribute_tables_grammar.specs.Rules.{Rule}
+use Rattle.attribute_tables_grammar.specs.Lists.{Context, nothing, Row, raw_row, some_empty_ports, if_read, any, rewrite}
+use Rattle.attribute_tables_grammar.specs.Peers.{bytes_peer}
+use Rattle.attribute_tables_grammar.specs.Tables.{Payload.list, rule, grammar, line_of, rule_of_line}
+use Rattle.attribute_tables_grammar.specs.Rows.{string}
+use Rattle.attribute_tables_grammar.specs.Walks.{Measure, measure, plus, with_header}
+use Rattle.attribute_tables_grammar.proofs.Tables.{bytes_peer_lawful, row-line}
+use Rattle.attribute_tables_grammar.proofs.TableWalk as Flat
+use Rattle.attribute_tables_grammar.proofs.TableWalk.{Walkable, SoFar, Small}
+use Rattle.attribute_tables_grammar.proofs.TableText as FlatText
+use Rattle.attribute_tables_grammar.proofs.TableText.{Stepped}
 use Rattle.link_message_grammar.specs.LinkMessage.{unspec, attributes}
 use Rattle.link_message_grammar.specs.Body.{header_text, layer_type_text, body_rule, link_body}
 use Rattle.link_message_grammar.proofs.Tables.{attributes_modest}
@@ -31,13 +31,13 @@ abbrev pub Met : List ℕ → Measure → List ℕ → Type 0
 Met bytes m rest = SoFar bytes_peer (attributes unspec) bytes m rest
 
 walkable : Walkable (attributes unspec)
-walkable = record { flat = refl; modest = attributes_modest unspec }
+walkable = record { flat = refl; payload_bounded = attributes_modest unspec }
 
 inside : (e : Attribute) (o : Option Measure) → o ≡ measure (link_row (proper_kind e.kind)).rule e.payload → o ≡ measure (rule_of_line bytes_peer (line_of (attributes unspec) (proper_kind e.kind))) e.payload
 unfolding link_row
 inside e o h = h ∙ ap (λ r. measure r e.payload) (row-line bytes_peer (attributes unspec) nothing (proper_kind e.kind) refl)
 
-pub start : (bytes : List ℕ) → Met bytes (record { size = 0; headers = 0; fits = true }) bytes
+pub start : (bytes : List ℕ) → Met bytes (record { size = 0; attributes = 0; fits = true }) bytes
 start bytes = Flat.start bytes_peer bytes_peer_lawful (attributes unspec) walkable bytes
 
 pub more : (bytes rest : List ℕ) (e : Attribute) (after : List ℕ) (so_far m : Measure) → first_attribute rest ≡ Some (e, after) → Some m ≡ measure (link_row (proper_kind e.kind)).rule e.payload → Met bytes so_far rest → Met bytes (plus so_far (with_header m)) after
@@ -63,26 +63,26 @@ pub small : (rest : List ℕ) (e : Attribute) (after : List ℕ) (m : Measure) �
 small rest e after m f is = Flat.small bytes_peer bytes_peer_lawful (attributes unspec) walkable rest e after m f (inside e (Some m) is)
 
 -- a measure, field by field
-pub measure_is : (m : Measure) (n : ℕ) → m.size ≡ n → m.headers ≡ 0 → m.fits ≡ true → m ≡ record { size = n; headers = 0; fits = true }
-measure_is m n a b c = λ i. record { size = a i; headers = b i; fits = c i }
+pub measure_is : (m : Measure) (n : ℕ) → m.size ≡ n → m.attributes ≡ 0 → m.fits ≡ true → m ≡ record { size = n; attributes = 0; fits = true }
+measure_is m n a b c = λ i. record { size = a i; attributes = b i; fits = c i }
 
 -- ---- the whole body
 
-row_full : (b : Bool) (n : ℕ) (p : List ℕ) → (elim b as (λ x. Row) [ true ↦ record { is_typed = true; is_nested = false; rule = rule bytes_peer string } | false ↦ raw_row ]).rule.emptied p ≡ false
+row_full : (b : Bool) (n : ℕ) (p : List ℕ) → (elim b as (λ x. Row) [ true ↦ record { is_typed = true; is_nested = false; rule = rule bytes_peer string } | false ↦ raw_row ]).rule.empty_ports p ≡ false
 row_full true n p = refl
 row_full false n p = refl
 
-none_emptied : (c : Context) (es : List Attribute) → some_emptied (grammar bytes_peer (attributes unspec)) c es ≡ false
-unfolding some_emptied
+none_emptied : (c : Context) (es : List Attribute) → some_empty_ports (grammar bytes_peer (attributes unspec)) c es ≡ false
+unfolding some_empty_ports
 none_emptied c [] = refl
 none_emptied c (e ∷ es) = or_from _ _ (row_full (proper_kind e.kind == 3) (proper_kind e.kind) e.payload) (none_emptied c es)
 
-at_none : (o : Option (List Attribute)) → at_read false (λ es. some_emptied (grammar bytes_peer (attributes unspec)) nothing es) o ≡ false
+at_none : (o : Option (List Attribute)) → if_read false (λ es. some_empty_ports (grammar bytes_peer (attributes unspec)) nothing es) o ≡ false
 at_none None = refl
 at_none (Some es) = none_emptied nothing es
 
 abbrev measure_of : Rule → List ℕ → Measure
-measure_of r p = record { size = length (r.canonical p); headers = r.count p; fits = r.fits p }
+measure_of r p = record { size = length (r.canonical p); attributes = r.attributes p; fits = r.fits p }
 
 -- what a measure tells of its rule
 pub record Measured (r : Rule) (p : List ℕ) (m : Measure) : Type 0 where
@@ -106,7 +106,7 @@ unmeasured r p h = unmeasured_by r p (r.accepted p) refl h
 
 pub record BodyParts (b : List ℕ) : Type 0 where
   pub accepted : link_body.accepted b ≡ link_attributes.accepted (drop 16 b)
-  pub emptied : link_body.emptied b ≡ false
+  pub empty_ports : link_body.empty_ports b ≡ false
   pub fits : link_body.fits b ≡ link_attributes.fits (drop 16 b)
   pub canonical : link_body.canonical b ≡ header_text b ++ link_attributes.canonical (drop 16 b)
   pub size : length (link_body.canonical b) ≡ 16 + length (link_attributes.canonical (drop 16 b))
@@ -117,7 +117,7 @@ body_parts b h =
     let long : nat_le 16 (length b) ≡ true = le-leb _ _ h in
     let c = (rule bytes_peer (list any (attributes unspec))).canonical (drop 16 b) in record {
       accepted = rw long refl;
-      emptied = at_none (attributes_of (drop 16 b));
+      empty_ports = at_none (attributes_of (drop 16 b));
       fits = refl;
       canonical = refl;
       size = length-append (header_text b) c ∙ ap (λ n. n + length c) (written_header b long).size;
@@ -140,7 +140,7 @@ body_unfit b m h s f =
     let k = measured link_attributes (drop 16 b) m s in
     let e : link_body.fits b ≡ false = p.fits ∙ sym k.fits ∙ f in
     let a : link_body.accepted b ≡ true = p.accepted ∙ k.accepted in
-    rw (a, p.emptied, e) refl
+    rw (a, p.empty_ports, e) refl
 
 pub body_judged : (b : List ℕ) (m : Measure) → 16 ≤ length b → Some m ≡ measure link_attributes (drop 16 b) → m.fits ≡ true → IsJudged b (16 + m.size)
 body_judged b m h s f =
@@ -149,7 +149,7 @@ body_judged b m h s f =
     record {
       long = h;
       accepted = p.accepted ∙ k.accepted;
-      emptied = p.emptied;
+      empty_ports = p.empty_ports;
       fits = p.fits ∙ sym k.fits ∙ f;
       length_is = ap (λ n. 16 + n) k.size ∙ sym p.size;
     }
@@ -218,7 +218,7 @@ not_false false h = absurd cc
 
 -- a judged body has its canonical text
 pub ruled_ok : (b : List ℕ) (n : ℕ) → IsJudged b n → ruled_text link_body b ≡ Ok (link_body.canonical b)
-ruled_ok b n j = rw (j.accepted, j.emptied, j.fits) refl
+ruled_ok b n j = rw (j.accepted, j.empty_ports, j.fits) refl
 
 -- and that text has the length that was judged
 pub judged_text : (b : List ℕ) (n : ℕ) → IsJudged b n → HasText (ruled_text link_body b) n

@@ -1,15 +1,15 @@
 -- What the bodies of link messages are judged by, and what the code's values stand for.
 use Rattle.std.specs.Prelude.{ℕ}
-use Rattle.link_info_grammar.specs.Rules.{Rule}
-use Rattle.link_info_grammar.specs.Lists.{Row, any, nothing}
-use Rattle.link_info_grammar.specs.Peers.{bytes_peer}
-use Rattle.link_info_grammar.specs.Tables.{Payload.list, rule, row_in}
-use Rattle.link_info_grammar.specs.Walk.{Measure}
+use Rattle.attribute_tables_grammar.specs.Rules.{Rule}
+use Rattle.attribute_tables_grammar.specs.Lists.{Row, any, nothing}
+use Rattle.attribute_tables_grammar.specs.Peers.{bytes_peer}
+use Rattle.attribute_tables_grammar.specs.Tables.{Payload.list, rule, row_in}
+use Rattle.attribute_tables_grammar.specs.Walks.{Measure}
 use Rattle.link_message_grammar.specs.LinkMessage.{unspec, attributes}
 use Rattle.link_capture.specs.declared.link_body.TextMeasure.{TextMeasure}
 
 abbrev pub view : TextMeasure → Measure
-view m = record { size = m.text_len; headers = m.attributes; fits = m.fits }
+view m = record { size = m.text_len; attributes = m.attributes; fits = m.fits }
 
 -- the row of a kind without its flag bits; it is one under every address family
 unfoldable pub link_row : ℕ → Row

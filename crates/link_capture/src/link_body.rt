@@ -2,10 +2,10 @@
 
 ghost use Rattle.std.specs.Prelude.{◌≡◌, ◌+◌, ◌*◌, ◌^◌, ◌≤◌, ◌<◌, ◌++◌, true, option_map, length, take, IfSome, IfOk, IfErr, OnOk, OnErr, Err};
 ghost use Rattle.netlink_packet_core.specs.Attributes.{attribute_text, Attribute, proper_kind};
-ghost use Rattle.link_info_grammar.specs.Shapes.{text};
-ghost use Rattle.link_info_grammar.specs.Rules.{shape_rule};
-ghost use Rattle.link_info_grammar.specs.Lists.{rewrite};
-ghost use Rattle.link_info_grammar.specs.Walk.{measure, plus, with_header};
+ghost use Rattle.attribute_tables_grammar.specs.Shapes.{text};
+ghost use Rattle.attribute_tables_grammar.specs.Rules.{shape_rule};
+ghost use Rattle.attribute_tables_grammar.specs.Lists.{rewrite};
+ghost use Rattle.attribute_tables_grammar.specs.Walks.{measure, plus, with_header};
 ghost use Rattle.link_message_grammar.specs.Body.{link_body, header_text, layer_type_text, is_listed};
 ghost use Rattle.link_capture_grammar.specs.Bodies.{ruled_text};
 ghost use Rattle.link_capture_grammar.specs.Captures.{faulty};

@@ -7,9 +7,9 @@ use Rattle.netlink_packet_core_grammar.specs.Numbers.{u16_at, u32_at, le4}
 use Rattle.netlink_packet_core_grammar.specs.Frames.{frame_length, frame_type, frame_body, frame_text}
 use Rattle.netlink_packet_core_grammar.proofs.Numbers.{u16_at-append, u16_at-drop_4, u32_at-le4}
 use Rattle.netlink_packet_core_grammar.proofs.Sizes.{length-le4}
-use Rattle.link_info_grammar.specs.Rules.{Rule, Lawful}
-use Rattle.link_info_grammar.proofs.Tables.{bytes_peer_lawful}
-use Rattle.link_info_grammar.specs.Peers.{bytes_peer}
+use Rattle.attribute_tables_grammar.specs.Rules.{Rule, Lawful}
+use Rattle.attribute_tables_grammar.proofs.Tables.{bytes_peer_lawful}
+use Rattle.attribute_tables_grammar.specs.Peers.{bytes_peer}
 use Rattle.link_message_grammar.specs.Body.{link_body}
 use Rattle.link_message_grammar.proofs.Body.{body_lawful, body_size}
 use Rattle.link_capture_grammar.specs.declared.fault.FaultKind.TheVariants.{TextOverLimit}
@@ -40,7 +40,7 @@ done_again bytes text h =
 -- what an accepted body is
 pub record Ruled (r : Rule) (b text : List ℕ) : Type 0 where
   pub accepted : r.accepted b ≡ true
-  pub emptied : r.emptied b ≡ false
+  pub empty_ports : r.empty_ports b ≡ false
   pub fits : r.fits b ≡ true
   pub is : r.canonical b ≡ text
 
@@ -48,11 +48,11 @@ pub ruled : (r : Rule) (b text : List ℕ) → ruled_text r b ≡ Ok text → Ru
 ruled r b text h =
     elim (guard (r.accepted b) _ _ _ h) [
       | inl a ↦
-          elim (guard (r.emptied b) _ _ _ a.1) [
+          elim (guard (r.empty_ports b) _ _ _ a.1) [
             | inl m ↦ (let f = m.1 in absurd (cc))
             | inr m ↦
                 elim (guard (r.fits b) _ _ _ m.1) [
-                  | inl k ↦ record { accepted = a.0; emptied = m.0; fits = k.0; is = (let f = k.1 in cc) }
+                  | inl k ↦ record { accepted = a.0; empty_ports = m.0; fits = k.0; is = (let f = k.1 in cc) }
                   | inr k ↦ (let f = k.1 in absurd (cc))
                 ]
           ]
@@ -62,7 +62,7 @@ ruled r b text h =
 ruled_again : (r : Rule) → Lawful r → (b text : List ℕ) → ruled_text r b ≡ Ok text → ruled_text r text ≡ Ok text
 ruled_again r l b text h =
     let k = ruled r b text h in
-    let o = l.again b k.accepted k.emptied in
+    let o = l.again b k.accepted k.empty_ports in
     let again : ruled_text r (r.canonical b) ≡ Ok (r.canonical b) = rw (o.0, o.1, l.fits_again b k.accepted k.fits, l.itself b k.accepted) refl in
     subst (λ x. ruled_text r x ≡ Ok x) k.is again
 

@@ -1,6 +1,6 @@
 -- The bodies of frames: what each is written as, or why it has no text.
 use Rattle.std.specs.Prelude.{ℕ, ◌&&◌, List, [], ◌∷◌, length, Result, Ok, Err, nat_lt, nat_le, nat_eq, Bool, cond}
-use Rattle.link_info_grammar.specs.Rules.{Rule}
+use Rattle.attribute_tables_grammar.specs.Rules.{Rule}
 use Rattle.link_message_grammar.specs.Body.{link_body}
 
 -- a body is not accepted, holds ports that keep no entry, or has an attribute that is too long
@@ -17,7 +17,7 @@ done_text b = cond (nat_eq (length b) 0) (Ok (0 ∷ 0 ∷ 0 ∷ 0 ∷ [])) (erro
 
 -- a body under a rule
 abbrev pub ruled_text : Rule → List ℕ → Result (List ℕ) Refusal
-ruled_text r b = cond (r.accepted b) (cond (r.emptied b) (Err empty_ports) (cond (r.fits b) (Ok (r.canonical b)) (Err unfit))) (Err refused)
+ruled_text r b = cond (r.accepted b) (cond (r.empty_ports b) (Err empty_ports) (cond (r.fits b) (Ok (r.canonical b)) (Err unfit))) (Err refused)
 
 -- the types 16 to 19: a link is new, deleted, asked for, or set
 abbrev pub is_link_type : ℕ → Bool

@@ -3,9 +3,9 @@ use Rattle.std.proofs.Common.{◌≡◌, ℕ, true, List, refl, sym, ap, ◌∙�
 use Rattle.std.specs.Prelude.{string_bytes}
 use Rattle.link_info_grammar.specs.Families.{kinds, port_kinds, amt_rows, bareudp_rows, batadv_rows, geneve_rows, gtp_rows, ipoib_rows, ipvlan_rows, rmnet_rows, vrf_rows, vti_rows, vxlan_rows, wwan_rows, xfrm_rows}
 use Rattle.link_info_grammar.specs.KindNames.{kind_names, port_kind_names}
-use Rattle.link_info_grammar.specs.Peers.{bytes_peer}
+use Rattle.attribute_tables_grammar.specs.Peers.{bytes_peer}
 use Rattle.link_info_grammar.proofs.Families.{kinds_are_listed, port_kinds_are_listed}
-use Rattle.link_info_grammar.proofs.FlatTables.{family-rule}
+use Rattle.attribute_tables_grammar.proofs.LookUps.{family-rule}
 use Rattle.link_info_grammar.proofs.Names.{named-lacks, lacks_name-unlisted}
 use Rattle.link_info_raw.specs.RawRows.{raw_rows}
 use Rattle.link_info_kinds.specs.Kinds.{info_kind_text, info_kind_is_named, IsNamedBy}

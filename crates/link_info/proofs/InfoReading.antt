@@ -6,14 +6,14 @@ use Rattle.netlink_packet_core_grammar.specs.AttributeViews.{IsAttribute, attrib
 use Rattle.netlink_packet_core_grammar.proofs.FirstAttribute.{first_attribute_is, first_attribute_none}
 use Rattle.netlink_packet_core.specs.Lists.{text_by, all_fit_by}
 use Rattle.link_info_grammar.specs.Families.{info}
-use Rattle.link_info_grammar.specs.Lists.{Context, nothing, LawfulGrammar, row_of, rewrite}
-use Rattle.link_info_grammar.specs.Peers.{bytes_peer}
-use Rattle.link_info_grammar.specs.Tables.{info_next}
-use Rattle.link_info_grammar.specs.Readings.{Written, reading, written_by}
+use Rattle.attribute_tables_grammar.specs.Lists.{Context, nothing, LawfulGrammar, row_of, rewrite}
+use Rattle.attribute_tables_grammar.specs.Peers.{bytes_peer}
+use Rattle.attribute_tables_grammar.specs.Tables.{info_next}
+use Rattle.attribute_tables_grammar.specs.Readings.{Written, reading, written_by}
 use Rattle.link_info_grammar.proofs.Families.{info_modest}
-use Rattle.link_info_grammar.proofs.Tables.{rows_lawful, steps, bytes_peer_lawful}
-use Rattle.link_info_grammar.proofs.Readings.{SoFar, start, more, refused, stopped, done, tells, denies}
-use Rattle.link_info_grammar.proofs.Named.{NamedSoFar, named_none, named_next}
+use Rattle.attribute_tables_grammar.proofs.Tables.{rows_lawful, steps, bytes_peer_lawful}
+use Rattle.attribute_tables_grammar.proofs.Readings.{SoFar, start, more, refused, stopped, done, tells, denies}
+use Rattle.attribute_tables_grammar.proofs.Named.{NamedSoFar, named_none, named_next}
 use Rattle.link_info_lists.specs.Written.{written_as}
 use Rattle.link_info_lists.proofs.Lists.{all_written, entries_written}
 use Rattle.link_info.specs.LinkInfo.{data_rule, port_data_rule, info_grammar, info_rule, link_info_row, link_info_entry, link_info_fits, link_info_names_row}

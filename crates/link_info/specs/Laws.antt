@@ -1,7 +1,7 @@
 -- The laws of link info, as the functions of `laws` state them.
 use Rattle.std.specs.Prelude.{◌≡◌, ℕ, true, List, map}
 use Rattle.link_info_grammar.specs.KindNames.{kind_names, port_kind_names}
-use Rattle.link_info_grammar.specs.Rules.{Lawful}
+use Rattle.attribute_tables_grammar.specs.Rules.{Lawful}
 use Rattle.link_info_kinds.specs.Kinds.{info_kind_text, info_kind_is_named, listed_kind, listed_kinds, IsNamedBy}
 use Rattle.link_info_kinds.specs.PortKinds.{info_port_kind_text, info_port_kind_is_named, listed_port_kind, listed_port_kinds, IsPortNamedBy}
 use Rattle.link_info_kinds.specs.declared.info_kind.InfoKind.{InfoKind}

@@ -1,16 +1,16 @@
 pub mod LinkInfo
 pub mod Laws
 pub use Rattle.link_info_grammar.specs.Families
-pub use Rattle.link_info_grammar.specs.FlatTables
+pub use Rattle.attribute_tables_grammar.specs.LookUps
 pub use Rattle.link_info_grammar.specs.KindNames
-pub use Rattle.link_info_grammar.specs.Laws as GrammarLaws
-pub use Rattle.link_info_grammar.specs.Lists
-pub use Rattle.link_info_grammar.specs.Peers
-pub use Rattle.link_info_grammar.specs.Readings
-pub use Rattle.link_info_grammar.specs.Rows
-pub use Rattle.link_info_grammar.specs.Rules
-pub use Rattle.link_info_grammar.specs.Shapes
-pub use Rattle.link_info_grammar.specs.Tables
+pub use Rattle.attribute_tables_grammar.specs.Laws as GrammarLaws
+pub use Rattle.attribute_tables_grammar.specs.Lists
+pub use Rattle.attribute_tables_grammar.specs.Peers
+pub use Rattle.attribute_tables_grammar.specs.Readings
+pub use Rattle.attribute_tables_grammar.specs.Rows
+pub use Rattle.attribute_tables_grammar.specs.Rules
+pub use Rattle.attribute_tables_grammar.specs.Shapes
+pub use Rattle.attribute_tables_grammar.specs.Tables
 pub use Rattle.link_info_types.specs.IpVlanTypes
 pub use Rattle.link_info_types.specs.IpoibTypes
 pub use Rattle.link_info_types.specs.MacSecTypes

@@ -3,10 +3,10 @@ use Rattle.std.specs.Prelude.{◌≡◌, ℕ, Bool, true, false, ⊤, List, Opti
 use Rattle.std.specs.Borrow.{Bor}
 use Rattle.netlink_packet_core.specs.Attributes.{Attribute, proper_kind}
 use Rattle.link_info_grammar.specs.Families.{kinds, port_kinds, info}
-use Rattle.link_info_grammar.specs.Lists.{Context, Row, Grammar, any}
-use Rattle.link_info_grammar.specs.Peers.{bytes_peer}
-use Rattle.link_info_grammar.specs.Rules.{Rule}
-use Rattle.link_info_grammar.specs.Tables.{Payload.list, rule, named, grammar, info_row}
+use Rattle.attribute_tables_grammar.specs.Lists.{Context, Row, Grammar, any}
+use Rattle.attribute_tables_grammar.specs.Peers.{bytes_peer}
+use Rattle.attribute_tables_grammar.specs.Rules.{Rule}
+use Rattle.attribute_tables_grammar.specs.Tables.{Payload.list, rule, named, grammar, info_row}
 use Rattle.link_info_kinds.specs.Kinds.{info_kind_entry, info_kind_is_named, IsNamedBy}
 use Rattle.link_info_kinds.specs.PortKinds.{info_port_kind_entry, info_port_kind_is_named, IsPortNamedBy}
 use Rattle.link_info_kinds.specs.declared.info_kind.InfoKind.{InfoKind}

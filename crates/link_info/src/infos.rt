@@ -8,9 +8,9 @@ ghost use Rattle.netlink_packet_core.specs.AttributeViews.{attribute_of, raw_kin
 ghost use Rattle.netlink_packet_core.specs.Errors.{is_memory};
 ghost use Rattle.netlink_packet_core.specs.Lists.{text_by, all_fit_by};
 ghost use Rattle.netlink_packet_core.specs.NlaBuffers.{storage};
-ghost use Rattle.link_info_grammar.specs.Lists.{nothing, rewrite};
-ghost use Rattle.link_info_grammar.specs.Readings.{reading, all_named};
-ghost use Rattle.link_info_grammar.specs.Tables.{info_next};
+ghost use Rattle.attribute_tables_grammar.specs.Lists.{nothing, rewrite};
+ghost use Rattle.attribute_tables_grammar.specs.Readings.{reading, all_named};
+ghost use Rattle.attribute_tables_grammar.specs.Tables.{info_next};
 ghost use Rattle.link_info_lists.specs.Written.{written_as};
 ghost use Rattle.link_info_data.specs.Data.{info_data_fits, info_data_payload};
 ghost use Rattle.link_info_data.specs.PortData.{info_port_data_fits, info_port_data_payload};

@@ -5,8 +5,8 @@ use Rattle.std.specs.List.{All}
 use Rattle.netlink_packet_core.specs.Attributes.{Attribute}
 use Rattle.netlink_packet_core.specs.Lists.{text_by, all_fit_by}
 use Rattle.link_info_grammar.specs.Families.{amt_rows, bareudp_rows, batadv_rows, geneve_rows, gtp_rows, ipoib_rows, ipvlan_rows, rmnet_rows, vrf_rows, vti_rows, vxlan_rows, wwan_rows, xfrm_rows}
-use Rattle.link_info_grammar.specs.FlatTables.{flat_row, rows_rule}
-use Rattle.link_info_grammar.specs.Rules.{Rule, raw_rule}
+use Rattle.attribute_tables_grammar.specs.LookUps.{flat_row, rows_rule}
+use Rattle.attribute_tables_grammar.specs.Rules.{Rule, raw_rule}
 use Rattle.link_info_devices.specs.Batadv.{batadv_entry, batadv_names_row}
 use Rattle.link_info_devices.specs.Ipoib.{ipoib_entry, ipoib_names_row}
 use Rattle.link_info_devices.specs.Ipvlan.{ipvlan_entry, ipvlan_names_row, ipvtap_entry, ipvtap_names_row}

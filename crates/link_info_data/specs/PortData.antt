@@ -4,8 +4,8 @@ use Rattle.std.specs.List.{All}
 use Rattle.netlink_packet_core.specs.Attributes.{Attribute}
 use Rattle.netlink_packet_core.specs.Lists.{text_by, all_fit_by}
 use Rattle.link_info_grammar.specs.Families.{vrf_rows}
-use Rattle.link_info_grammar.specs.FlatTables.{flat_row, rows_rule}
-use Rattle.link_info_grammar.specs.Rules.{Rule, raw_rule}
+use Rattle.attribute_tables_grammar.specs.LookUps.{flat_row, rows_rule}
+use Rattle.attribute_tables_grammar.specs.Rules.{Rule, raw_rule}
 use Rattle.link_info_devices.specs.Vrf.{vrf_entry, vrf_names_row}
 use Rattle.link_info_raw.specs.RawRows.{raw_rows}
 use Rattle.link_info_raw_ports.specs.RawPortData.{bond_port_entry, bridge_port_entry, team_port_entry}

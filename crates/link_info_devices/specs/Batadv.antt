@@ -1,9 +1,9 @@
 -- The data of batadv: the kind and the payload of each value.
 use Rattle.std.specs.Prelude.{[], ◌∷◌, ◌++◌, string_bytes}
 use Rattle.netlink_packet_core.specs.Attributes.{Attribute, proper_kind}
-use Rattle.link_info_grammar.specs.Families.{batadv_rows}
-use Rattle.link_info_grammar.specs.FlatTables.{has_no_row}
-use Rattle.link_info_lists.specs.Families.{attribute}
+use Rattle.link_info_grammar.specs.Families.{batadv}
+use Rattle.attribute_tables_grammar.specs.LookUps.{has_no_row}
+use Rattle.netlink_packet_core.specs.Families.{attribute}
 use Rattle.link_info_devices.specs.declared.batadv.InfoBatAdv.{InfoBatAdv}
 use Rattle.link_info_devices.specs.declared.batadv.InfoBatAdv.TheVariants.{AlgoName, Other}
 
@@ -13,5 +13,5 @@ batadv_entry (Other a) = a
 
 -- no kind that has a row is read as another attribute
 abbrev pub batadv_names_row : InfoBatAdv → Type 0
-batadv_names_row (Other a) = has_no_row batadv_rows (proper_kind a.kind)
+batadv_names_row (Other a) = has_no_row batadv (proper_kind a.kind)
 batadv_names_row _ = Unit {0}

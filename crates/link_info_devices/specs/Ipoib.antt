@@ -3,9 +3,9 @@ use Rattle.std.specs.Prelude.{◌≡◌}
 use Rattle.netlink_packet_core.specs.Attributes.{Attribute, proper_kind}
 use Rattle.netlink_packet_core.specs.Numbers.{le2}
 use Rattle.link_info_types.specs.IpoibTypes.{ipoib_mode_number, ipoib_mode_of}
-use Rattle.link_info_grammar.specs.Families.{ipoib_rows}
-use Rattle.link_info_grammar.specs.FlatTables.{has_no_row}
-use Rattle.link_info_lists.specs.Families.{attribute}
+use Rattle.link_info_grammar.specs.Families.{ipoib}
+use Rattle.attribute_tables_grammar.specs.LookUps.{has_no_row}
+use Rattle.netlink_packet_core.specs.Families.{attribute}
 use Rattle.link_info_devices.specs.declared.ipoib.InfoIpoib.{InfoIpoib}
 use Rattle.link_info_devices.specs.declared.ipoib.InfoIpoib.TheVariants.{Pkey, Mode, UmCast, Other}
 
@@ -18,5 +18,5 @@ ipoib_entry (Other a) = a
 -- a number that names a mode is read as that mode, and no kind that has a row as another attribute
 abbrev pub ipoib_names_row : InfoIpoib → Type 0
 ipoib_names_row (Mode m) = m ≡ ipoib_mode_of (ipoib_mode_number m)
-ipoib_names_row (Other a) = has_no_row ipoib_rows (proper_kind a.kind)
+ipoib_names_row (Other a) = has_no_row ipoib (proper_kind a.kind)
 ipoib_names_row _ = Unit {0}

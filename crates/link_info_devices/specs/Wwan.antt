@@ -1,9 +1,9 @@
 -- The data of wwan: the kind and the payload of each value.
 use Rattle.netlink_packet_core.specs.Attributes.{Attribute, proper_kind}
 use Rattle.netlink_packet_core.specs.Numbers.{le4}
-use Rattle.link_info_grammar.specs.Families.{wwan_rows}
-use Rattle.link_info_grammar.specs.FlatTables.{has_no_row}
-use Rattle.link_info_lists.specs.Families.{attribute}
+use Rattle.link_info_grammar.specs.Families.{wwan}
+use Rattle.attribute_tables_grammar.specs.LookUps.{has_no_row}
+use Rattle.netlink_packet_core.specs.Families.{attribute}
 use Rattle.link_info_devices.specs.declared.wwan.InfoWwan.{InfoWwan}
 use Rattle.link_info_devices.specs.declared.wwan.InfoWwan.TheVariants.{LinkId, Other}
 
@@ -13,5 +13,5 @@ wwan_entry (Other a) = a
 
 -- no kind that has a row is read as another attribute
 abbrev pub wwan_names_row : InfoWwan → Type 0
-wwan_names_row (Other a) = has_no_row wwan_rows (proper_kind a.kind)
+wwan_names_row (Other a) = has_no_row wwan (proper_kind a.kind)
 wwan_names_row _ = Unit {0}

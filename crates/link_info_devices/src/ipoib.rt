@@ -1,18 +1,12 @@
 //! Data of the kind `ipoib` (if_link.h, IFLA_IPOIB_*). Numbers are little-endian.
 
-ghost use Rattle.std.specs.Prelude.{◌≡◌, true};
-ghost use Rattle.netlink_packet_core.specs.NlaBuffers.{storage};
-ghost use Rattle.netlink_packet_core.specs.AttributeViews.{IsAttribute};
-ghost use Rattle.link_info_grammar.specs.Families.{ipoib_rows};
-ghost use Rattle.link_info_grammar.specs.FlatTables.{flat_row, row_holds_bytes};
-ghost use Rattle.link_info_lists.specs.Families.{Gives, accepts, may_want_memory};
+ghost use Rattle.std.specs.Prelude.{refl};
+ghost use Rattle.link_info_grammar.specs.Families.{ipoib};
 ghost use Rattle.link_info_devices.specs.Ipoib.{ipoib_entry, ipoib_names_row};
 
-use link_info_lists::Reader;
+use attribute_tables::typed;
 use link_info_types::IpoibMode;
-use netlink_packet_core::{
-    DecodeError, DefaultNla, Nla, NlaBuffer, Parseable, fill_u16, parse_u16,
-};
+use netlink_packet_core::{DecodeError, DefaultNla, Family, Field, FieldNla, Nla, parse_u16};
 use std::alloc::Global;
 
 const IFLA_IPOIB_PKEY: u16 = 1;
@@ -34,76 +28,36 @@ pub enum InfoIpoib {
     Other(DefaultNla),
 }
 
-impl Nla for InfoIpoib {
-    ghost entry = { ipoib_entry };
+impl FieldNla for InfoIpoib {
+    ghost field_entry = { ipoib_entry };
 
-    ghost inside_fits = { λ _. true };
-
-    #[tactic(auto, using(netlink_packet_core_grammar::proofs::Sizes::sizes))]
-    fn value_len(&self) -> usize {
+    fn field(&self) -> (u16, Field<'_>) {
         match self {
-            Self::Pkey(_) | Self::Mode(_) | Self::UmCast(_) => 2,
-            Self::Other(nla) => nla.value_len(),
-        }
-    }
-
-    fn kind(&self) -> u16 {
-        match self {
-            Self::Pkey(_) => IFLA_IPOIB_PKEY,
-            Self::Mode(_) => IFLA_IPOIB_MODE,
-            Self::UmCast(_) => IFLA_IPOIB_UMCAST,
-            Self::Other(nla) => nla.kind(),
-        }
-    }
-
-    #[tactic(auto, using(netlink_packet_core_grammar::proofs::Sizes::sizes))]
-    fn emit_value(&self, buffer: &mut [u8]) {
-        match self {
-            Self::Pkey(key) => fill_u16(buffer, *key),
-            Self::Mode(mode) => fill_u16(buffer, u16::from(*mode)),
-            Self::UmCast(number) => fill_u16(buffer, *number),
-            Self::Other(nla) => nla.emit_value(buffer),
-        }
-    }
-
-    fn contents_fit(&self) -> bool {
-        true
-    }
-}
-
-/// Reads the attributes of `ipoib`.
-pub struct InfoIpoibReader;
-
-impl Reader for InfoIpoibReader {
-    type Value = InfoIpoib;
-
-    ghost row_of = { λ _. flat_row ipoib_rows };
-
-    ghost names_row = { λ _. ipoib_names_row };
-
-    ghost may_want_memory = { λ _. row_holds_bytes ipoib_rows };
-
-    fn read(&self, alloc: Global, buf: &NlaBuffer<&[u8]>) -> Result<InfoIpoib, DecodeError> {
-        let payload = buf.value();
-        match buf.kind() {
-            IFLA_IPOIB_PKEY => Ok(InfoIpoib::Pkey(parse_u16(payload)?)),
-            IFLA_IPOIB_MODE => Ok(InfoIpoib::Mode(IpoibMode::from(parse_u16(payload)?))),
-            IFLA_IPOIB_UMCAST => Ok(InfoIpoib::UmCast(parse_u16(payload)?)),
-            _ => Ok(InfoIpoib::Other(DefaultNla::parse(alloc, buf)?)),
+            Self::Pkey(key) => (IFLA_IPOIB_PKEY, Field::U16(*key)),
+            Self::Mode(mode) => (IFLA_IPOIB_MODE, Field::U16(u16::from(*mode))),
+            Self::UmCast(number) => (IFLA_IPOIB_UMCAST, Field::U16(*number)),
+            Self::Other(nla) => (nla.kind(), Field::Bytes(nla.value())),
         }
     }
 }
 
-impl<'a> Parseable<NlaBuffer<&'a [u8]>> for InfoIpoib {
-    ghost can_parse = { λ b. IsAttribute (storage b).now };
+impl Family for InfoIpoib {
+    ghost rows = { ipoib };
 
-    ghost accepts = { λ b. accepts ipoib_rows (storage b).now };
+    ghost names_row = { ipoib_names_row };
 
-    ghost may_want_memory = { λ b. may_want_memory ipoib_rows (storage b).now };
-
-    ghost gives = { λ b v. Gives ipoib_rows (storage b).now (ipoib_entry v) × ipoib_names_row v };
-
-    fn parse(alloc: Global, buf: &NlaBuffer<&'a [u8]>) -> Result<Self, DecodeError> {
-        InfoIpoibReader.read(alloc, buf)
+    fn read_row(_alloc: Global, kind: u16, payload: &[u8]) -> Result<Option<Self>, DecodeError> {
+        match kind {
+            IFLA_IPOIB_PKEY => typed!(Pkey, parse_u16(payload)),
+            IFLA_IPOIB_MODE => typed!(Mode, parse_u16(payload), IpoibMode),
+            IFLA_IPOIB_UMCAST => typed!(UmCast, parse_u16(payload)),
+            _ => Ok(None),
+        }
     }
+
+    fn other(nla: DefaultNla) -> Self {
+        Self::Other(nla)
+    }
+
+    ghost plain = { refl };
 }

@@ -8,9 +8,9 @@ mod rmnet;
 mod vrf;
 mod wwan;
 
-pub use batadv::{InfoBatAdv, InfoBatAdvReader};
-pub use ipoib::{InfoIpoib, InfoIpoibReader};
-pub use ipvlan::{InfoIpVlan, InfoIpVlanReader, InfoIpVtap, InfoIpVtapReader};
-pub use rmnet::{InfoRmNet, InfoRmNetFlags, InfoRmNetReader};
-pub use vrf::{InfoVrf, InfoVrfReader};
-pub use wwan::{InfoWwan, InfoWwanReader};
+pub use batadv::{InfoBatAdv};
+pub use ipoib::{InfoIpoib};
+pub use ipvlan::{InfoIpVlan, InfoIpVtap};
+pub use rmnet::{InfoRmNet, InfoRmNetFlags};
+pub use vrf::{InfoVrf};
+pub use wwan::{InfoWwan};

@@ -1,18 +1,12 @@
 //! Data of the kind `vrf`, and of ports of that kind (if_link.h, IFLA_VRF_* and IFLA_VRF_PORT_*).
 //! Numbers are little-endian.
 
-ghost use Rattle.std.specs.Prelude.{◌≡◌, true};
-ghost use Rattle.netlink_packet_core.specs.NlaBuffers.{storage};
-ghost use Rattle.netlink_packet_core.specs.AttributeViews.{IsAttribute};
-ghost use Rattle.link_info_grammar.specs.Families.{vrf_rows};
-ghost use Rattle.link_info_grammar.specs.FlatTables.{flat_row, row_holds_bytes};
-ghost use Rattle.link_info_lists.specs.Families.{Gives, accepts, may_want_memory};
+ghost use Rattle.std.specs.Prelude.{refl};
+ghost use Rattle.link_info_grammar.specs.Families.{vrf};
 ghost use Rattle.link_info_devices.specs.Vrf.{vrf_entry, vrf_names_row};
 
-use link_info_lists::Reader;
-use netlink_packet_core::{
-    DecodeError, DefaultNla, Nla, NlaBuffer, Parseable, fill_u32, parse_u32,
-};
+use attribute_tables::typed;
+use netlink_packet_core::{DecodeError, DefaultNla, Family, Field, FieldNla, Nla, parse_u32};
 use std::alloc::Global;
 
 const IFLA_VRF_TABLE: u16 = 1;
@@ -26,70 +20,32 @@ pub enum InfoVrf {
     Other(DefaultNla),
 }
 
-impl Nla for InfoVrf {
-    ghost entry = { vrf_entry };
+impl FieldNla for InfoVrf {
+    ghost field_entry = { vrf_entry };
 
-    ghost inside_fits = { λ _. true };
-
-    #[tactic(auto, using(netlink_packet_core_grammar::proofs::Sizes::sizes))]
-    fn value_len(&self) -> usize {
+    fn field(&self) -> (u16, Field<'_>) {
         match self {
-            Self::TableId(_) => 4,
-            Self::Other(nla) => nla.value_len(),
-        }
-    }
-
-    fn kind(&self) -> u16 {
-        match self {
-            Self::TableId(_) => IFLA_VRF_TABLE,
-            Self::Other(nla) => nla.kind(),
-        }
-    }
-
-    #[tactic(auto, using(netlink_packet_core_grammar::proofs::Sizes::sizes))]
-    fn emit_value(&self, buffer: &mut [u8]) {
-        match self {
-            Self::TableId(number) => fill_u32(buffer, *number),
-            Self::Other(nla) => nla.emit_value(buffer),
-        }
-    }
-
-    fn contents_fit(&self) -> bool {
-        true
-    }
-}
-
-/// Reads the attributes of `vrf`.
-pub struct InfoVrfReader;
-
-impl Reader for InfoVrfReader {
-    type Value = InfoVrf;
-
-    ghost row_of = { λ _. flat_row vrf_rows };
-
-    ghost names_row = { λ _. vrf_names_row };
-
-    ghost may_want_memory = { λ _. row_holds_bytes vrf_rows };
-
-    fn read(&self, alloc: Global, buf: &NlaBuffer<&[u8]>) -> Result<InfoVrf, DecodeError> {
-        let payload = buf.value();
-        match buf.kind() {
-            IFLA_VRF_TABLE => Ok(InfoVrf::TableId(parse_u32(payload)?)),
-            _ => Ok(InfoVrf::Other(DefaultNla::parse(alloc, buf)?)),
+            Self::TableId(number) => (IFLA_VRF_TABLE, Field::U32(*number)),
+            Self::Other(nla) => (nla.kind(), Field::Bytes(nla.value())),
         }
     }
 }
 
-impl<'a> Parseable<NlaBuffer<&'a [u8]>> for InfoVrf {
-    ghost can_parse = { λ b. IsAttribute (storage b).now };
+impl Family for InfoVrf {
+    ghost rows = { vrf };
 
-    ghost accepts = { λ b. accepts vrf_rows (storage b).now };
+    ghost names_row = { vrf_names_row };
 
-    ghost may_want_memory = { λ b. may_want_memory vrf_rows (storage b).now };
-
-    ghost gives = { λ b v. Gives vrf_rows (storage b).now (vrf_entry v) × vrf_names_row v };
-
-    fn parse(alloc: Global, buf: &NlaBuffer<&'a [u8]>) -> Result<Self, DecodeError> {
-        InfoVrfReader.read(alloc, buf)
+    fn read_row(_alloc: Global, kind: u16, payload: &[u8]) -> Result<Option<Self>, DecodeError> {
+        match kind {
+            IFLA_VRF_TABLE => typed!(TableId, parse_u32(payload)),
+            _ => Ok(None),
+        }
     }
+
+    fn other(nla: DefaultNla) -> Self {
+        Self::Other(nla)
+    }
+
+    ghost plain = { refl };
 }

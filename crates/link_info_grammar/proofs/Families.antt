@@ -1,24 +1,30 @@
--- The tables pass the tests.
+-- The tables pass the tests, and are lawful.
 use Rattle.std.proofs.Common.{◌≡◌, true, refl}
-use Rattle.link_info_grammar.specs.Rules.{Lawful}
-use Rattle.link_info_grammar.specs.Lists.{any}
-use Rattle.link_info_grammar.specs.Peers.{Peer, LawfulPeer}
-use Rattle.link_info_grammar.specs.Tables.{Payload.list, modest_rows, rising, rule}
-use Rattle.link_info_grammar.specs.Families.{kinds, port_kinds, info}
+use Rattle.attribute_tables_grammar.specs.Rules.{Lawful}
+use Rattle.attribute_tables_grammar.specs.Lists.{any, LawfulGrammar}
+use Rattle.attribute_tables_grammar.specs.LookUps.{link_info_of}
+use Rattle.attribute_tables_grammar.specs.Peers.{Peer, LawfulPeer}
+use Rattle.attribute_tables_grammar.specs.Tables.{Payload.link_info, names_bounded}
+use Rattle.attribute_tables_grammar.proofs.Tables.{lawful, info_lawful}
+use Rattle.link_info_grammar.specs.Families.{kinds, port_kinds}
 use Rattle.link_info_grammar.specs.KindNames.{kind_names, port_kind_names, are_listed}
-use Rattle.link_info_grammar.proofs.Tables.{lawful}
+use Rattle.link_info_grammar.specs.LinkInfo.{info_grammar_under, info_rule_under}
+use Rattle.link_info_grammar.specs.Laws.{TablesPass, InfoIsLawful, InfoGrammarIsLawful, TablesAreListed, InfoIsAPayload}
 
-pub info_modest : modest_rows info ≡ true
-info_modest = refl
+pub tables_pass : TablesPass
+tables_pass form = (refl, refl)
 
-pub info_rises : rising (list any info) ≡ true
-info_rises = refl
+pub info_is_lawful : InfoIsLawful
+unfolding info_rule_under info_grammar_under
+info_is_lawful p l = lawful p l (link_info any kinds port_kinds) refl
 
-pub info_lawful : (p : Peer) → LawfulPeer p → Lawful (rule p (list any info))
-info_lawful p l = lawful p l (list any info) info_modest
+pub info_grammar_is_lawful : InfoGrammarIsLawful
+unfolding info_grammar_under
+info_grammar_is_lawful p l = info_lawful p l kinds port_kinds refl refl
 
-pub kinds_are_listed : are_listed kinds kind_names ≡ true
-kinds_are_listed = refl
+pub tables_are_listed : TablesAreListed
+tables_are_listed = (refl, refl)
 
-pub port_kinds_are_listed : are_listed port_kinds port_kind_names ≡ true
-port_kinds_are_listed = refl
+pub info_is_a_payload : InfoIsAPayload
+unfolding link_info_of info_rule_under info_grammar_under
+info_is_a_payload p = refl

@@ -1,16 +1,2 @@
-pub mod Shapes
-pub mod Attributes
-pub mod Sizes
-pub mod Lists
-pub mod Tables
-pub mod Walk
-pub mod Texts
-pub mod FlatWalk
-pub mod FlatText
-pub mod Renewed
-pub mod Together
-pub mod FlatTables
-pub mod Readings
-pub mod Named
-pub mod Names
 pub mod Families
+pub mod Names

@@ -3,10 +3,10 @@ use Rattle.std.proofs.Common.{◌≡◌, ℕ, Bool, true, false, List, refl, sym
 use Rattle.std.specs.Prelude.{not, bytes_eq}
 use Rattle.std.proofs.lemmas.Bool.{and_parts, and_from}
 use Rattle.std.proofs.lemmas.Slice.Eq.{bytes_eq-Decides}
-use Rattle.link_info_grammar.specs.Rules.{Rule, raw_rule}
-use Rattle.link_info_grammar.specs.Peers.{Peer}
+use Rattle.attribute_tables_grammar.specs.Rules.{Rule, raw_rule}
+use Rattle.attribute_tables_grammar.specs.Peers.{Peer}
 use Rattle.link_info_grammar.specs.KindNames.{is_unlisted, are_listed}
-use Rattle.link_info_grammar.specs.Tables.{Names, Names.others, Names.name, rule, named, lacks_name}
+use Rattle.attribute_tables_grammar.specs.Tables.{Names, Names.others, Names.name, rule, named, lacks_name}
 
 skip : (b : Bool) (r s : Rule) → not b ≡ true → elim b as (λ x. Rule) [ true ↦ r | false ↦ s ] ≡ s
 skip true r s h = absurd cc

@@ -1,6 +1,6 @@
 -- The kinds of links, and of ports, that have a name (rtnl_link_ops.kind of their drivers).
 use Rattle.std.specs.Prelude.{ℕ, Bool, true, ◌&&◌, not, List, [], ◌∷◌, bytes_eq, codes}
-use Rattle.link_info_grammar.specs.Tables.{Names, Names.others, Names.name}
+use Rattle.attribute_tables_grammar.specs.Tables.{Names, Names.others, Names.name}
 
 abbrev pub kind_names : List (List ℕ)
 kind_names =

@@ -1,41 +1,29 @@
--- The laws of the definitions, as the functions of `laws` state them.
-use Rattle.std.specs.Prelude.{◌≡◌, ℕ, ◌↔◌, true, false, List, Some}
-use Rattle.netlink_packet_core_grammar.specs.Attributes.{Attribute, attributes_of}
-use Rattle.link_info_grammar.specs.Rules.{Rule, Lawful, Renews}
-use Rattle.link_info_grammar.specs.Lists.{Grammar, Context, nothing, rewritten, ListForm, read_as, kept, list_rule, all_accepted, all_same, context_after, LawfulGrammar}
-use Rattle.link_info_grammar.specs.Peers.{Peer, LawfulPeer, bytes_peer}
-use Rattle.link_info_grammar.specs.Tables.{Payload, rule, modest}
+-- The laws of the tables of link info, as the functions of `laws` state them.
+use Rattle.std.specs.Prelude.{◌≡◌, ℕ, ◌<◌, true, List, length}
+use Rattle.attribute_tables_grammar.specs.Rules.{Lawful}
+use Rattle.attribute_tables_grammar.specs.Lists.{ListForm, any, LawfulGrammar}
+use Rattle.attribute_tables_grammar.specs.Peers.{Peer, LawfulPeer}
+use Rattle.attribute_tables_grammar.specs.Tables.{Payload.link_info, payload_bounded, rising}
+use Rattle.attribute_tables_grammar.specs.LookUps.{link_info_of}
+use Rattle.link_info_grammar.specs.Families.{kinds, port_kinds}
+use Rattle.link_info_grammar.specs.KindNames.{kind_names, port_kind_names, are_listed}
+use Rattle.link_info_grammar.specs.LinkInfo.{info_grammar_under, info_rule_under}
 
--- a canonical text is cut into the written kinds and canonical payloads of what was kept
-abbrev pub CanonicalIsCut : Type 0
-CanonicalIsCut = (form : ListForm) (g : Grammar) (bytes : List ℕ) (es : List Attribute) → read_as form bytes ≡ Some es → attributes_of ((list_rule form g).canonical bytes) ≡ Some (rewritten g nothing (kept form es))
+-- no row is written more than 77 times as long, kinds rise, and no name stands twice
+abbrev pub TablesPass : Type 0
+TablesPass = (form : ListForm) → (payload_bounded (link_info form kinds port_kinds) ≡ true) × (rising (link_info form kinds port_kinds) ≡ true)
 
--- every payload of a table without large rows is lawful, over every lawful rule of peers
-abbrev pub TablesAreLawful : Type 0
-TablesAreLawful = (p : Peer) → LawfulPeer p → (s : Payload) → modest s ≡ true → Lawful (rule p s)
+-- link info is lawful under every lawful rule of peers
+abbrev pub InfoIsLawful : Type 0
+InfoIsLawful = (p : Peer) → LawfulPeer p → Lawful (info_rule_under p)
 
--- peers that are bytes are lawful
-abbrev pub BytesAreLawful : Type 0
-BytesAreLawful = LawfulPeer bytes_peer
+abbrev pub InfoGrammarIsLawful : Type 0
+InfoGrammarIsLawful = (p : Peer) → LawfulPeer p → LawfulGrammar (info_grammar_under p)
 
--- two accepted payloads mean the same exactly where they have one canonical payload
-abbrev pub OneTextEach : Rule → Type 0
-OneTextEach r = (a b : List ℕ) → r.accepted a ≡ true → r.accepted b ≡ true → (r.same a b ≡ true) ↔ (r.canonical a ≡ r.canonical b)
+-- each kind and each port kind that has a table has a listed name
+abbrev pub TablesAreListed : Type 0
+TablesAreListed = (are_listed kinds kind_names ≡ true) × (are_listed port_kinds port_kind_names ≡ true)
 
-abbrev pub TextsTellMeanings : Type 0
-TextsTellMeanings = (p : Peer) → LawfulPeer p → (s : Payload) → modest s ≡ true → OneTextEach (rule p s)
-
--- a canonical text means what the bytes mean
-abbrev pub KeepsMeaning : Rule → Type 0
-KeepsMeaning r = (b : List ℕ) → r.accepted b ≡ true → r.emptied b ≡ false → r.same b (r.canonical b) ≡ true
-
-abbrev pub TextsKeepMeanings : Type 0
-TextsKeepMeanings = (p : Peer) → LawfulPeer p → (s : Payload) → modest s ≡ true → KeepsMeaning (rule p s)
-
--- under a rule of peers an old text becomes what the first bytes become
-abbrev pub OldTextsAreRenewed : Type 0
-OldTextsAreRenewed = (p : Peer) → (s : Payload) → modest s ≡ true → Renews (rule bytes_peer s) (rule p s)
-
--- lists that are the same leave the same in force, so that both stand in one context
-abbrev pub OneContext : Type 0
-OneContext = (g : Grammar) → LawfulGrammar g → (c : Context) (es fs : List Attribute) → all_accepted g c es ≡ true → all_accepted g c fs ≡ true → all_same g c c es fs ≡ true → context_after g c es ≡ context_after g c fs
+-- link info as a payload is the list of link info
+abbrev pub InfoIsAPayload : Type 0
+InfoIsAPayload = (p : Peer) → link_info_of p any kinds port_kinds ≡ info_rule_under p

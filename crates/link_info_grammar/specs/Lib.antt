@@ -1,12 +1,4 @@
-pub mod Shapes
-pub mod Rules
-pub mod Lists
-pub mod Peers
-pub mod Tables
-pub mod Rows
-pub mod FlatTables
 pub mod Families
 pub mod KindNames
-pub mod Readings
-pub mod Walk
+pub mod LinkInfo
 pub mod Laws

@@ -1,39 +1,28 @@
-//! Facts of the definitions. No function here makes a call.
+//! Facts of the tables of link info. No function here makes a call.
 
-ghost use Rattle.link_info_grammar.specs.Laws.{CanonicalIsCut, TablesAreLawful, BytesAreLawful, TextsTellMeanings};
-ghost use Rattle.link_info_grammar.specs.Laws.{TextsKeepMeanings, OldTextsAreRenewed, OneContext};
+ghost use Rattle.link_info_grammar.specs.Laws.{TablesPass, InfoIsLawful, InfoGrammarIsLawful, TablesAreListed, InfoIsAPayload};
 
-/// A canonical text is cut into the kept attributes, each in its canonical form.
-pub fn canonical_texts_are_cut_again()
-    ensures { CanonicalIsCut }
+/// No row is written more than 77 times as long, kinds rise, and no name stands twice.
+pub fn tables_pass()
+    ensures { TablesPass }
 {}
 
-/// Every payload of a table without large rows is lawful.
-pub fn tables_are_lawful()
-    ensures { TablesAreLawful }
+/// Link info is lawful, under every lawful rule of peers.
+pub fn info_is_lawful()
+    ensures { InfoIsLawful }
 {}
 
-/// Peers whose bytes are kept are lawful.
-pub fn peers_that_are_bytes_are_lawful()
-    ensures { BytesAreLawful }
+/// The rows of link info are lawful wherever they stand, under every lawful rule of peers.
+pub fn info_grammar_is_lawful()
+    ensures { InfoGrammarIsLawful }
 {}
 
-/// Two accepted payloads mean the same exactly where they have one canonical payload.
-pub fn texts_tell_meanings()
-    ensures { TextsTellMeanings }
+/// Each kind that has a table has a listed name.
+pub fn tables_are_listed()
+    ensures { TablesAreListed }
 {}
 
-/// A canonical payload means what the bytes mean.
-pub fn texts_keep_meanings()
-    ensures { TextsKeepMeanings }
-{}
-
-/// Under a rule of peers an old text becomes what the first bytes become.
-pub fn old_texts_are_renewed()
-    ensures { OldTextsAreRenewed }
-{}
-
-/// Lists that are the same leave the same in force.
-pub fn same_lists_leave_one_context()
-    ensures { OneContext }
+/// Link info as the payload of an attribute is the list of link info.
+pub fn info_is_a_payload()
+    ensures { InfoIsAPayload }
 {}

@@ -4,9 +4,9 @@ use Rattle.netlink_packet_core.specs.Addresses.{ip_octets}
 use Rattle.netlink_packet_core.specs.Attributes.{Attribute, proper_kind}
 use Rattle.netlink_packet_core.specs.Numbers.{be2, le4}
 use Rattle.link_info_tunnel_types.specs.AmtTypes.{amt_mode_number, amt_mode_of}
-use Rattle.link_info_grammar.specs.Families.{amt_rows}
-use Rattle.link_info_grammar.specs.FlatTables.{has_no_row}
-use Rattle.link_info_lists.specs.Families.{attribute}
+use Rattle.link_info_grammar.specs.Families.{amt}
+use Rattle.attribute_tables_grammar.specs.LookUps.{has_no_row}
+use Rattle.netlink_packet_core.specs.Families.{attribute}
 use Rattle.link_info_overlays.specs.declared.amt.InfoAmt.{InfoAmt}
 use Rattle.link_info_overlays.specs.declared.amt.InfoAmt.TheVariants.{Mode, RelayPort, GatewayPort, Link, LocalIp, RemoteIp, DiscoveryIp, MaxTunnels, Other}
 
@@ -24,5 +24,5 @@ amt_entry (Other a) = a
 -- a number that names a mode is read as that mode, and no kind that has a row as another attribute
 abbrev pub amt_names_row : InfoAmt → Type 0
 amt_names_row (Mode m) = m ≡ amt_mode_of (amt_mode_number m)
-amt_names_row (Other a) = has_no_row amt_rows (proper_kind a.kind)
+amt_names_row (Other a) = has_no_row amt (proper_kind a.kind)
 amt_names_row _ = Unit {0}

@@ -5,9 +5,9 @@ use Rattle.netlink_packet_core.specs.Attributes.{Attribute, proper_kind}
 use Rattle.netlink_packet_core.specs.Numbers.{be2, be4, le4}
 use Rattle.netlink_packet_core.specs.Truths.{truth_byte}
 use Rattle.link_info_tunnel_types.specs.GeneveTypes.{geneve_df_number, geneve_df_of}
-use Rattle.link_info_grammar.specs.Families.{geneve_rows}
-use Rattle.link_info_grammar.specs.FlatTables.{has_no_row}
-use Rattle.link_info_lists.specs.Families.{attribute}
+use Rattle.link_info_grammar.specs.Families.{geneve}
+use Rattle.attribute_tables_grammar.specs.LookUps.{has_no_row}
+use Rattle.netlink_packet_core.specs.Families.{attribute}
 use Rattle.link_info_overlays.specs.declared.geneve.InfoGeneve.{InfoGeneve}
 use Rattle.link_info_overlays.specs.declared.geneve.InfoGeneve.TheVariants.{Id, Remote, Ttl, Tos, Port, CollectMetadata, Remote6, UdpCsum, UdpZeroCsum6Tx, UdpZeroCsum6Rx, Label, TtlInherit, Df, InnerProtoInherit, Local, Local6, Other}
 
@@ -33,5 +33,5 @@ geneve_entry (Other a) = a
 -- a number that names a setting is read as that setting, and no kind that has a row as another attribute
 abbrev pub geneve_names_row : InfoGeneve → Type 0
 geneve_names_row (Df d) = d ≡ geneve_df_of (geneve_df_number d)
-geneve_names_row (Other a) = has_no_row geneve_rows (proper_kind a.kind)
+geneve_names_row (Other a) = has_no_row geneve (proper_kind a.kind)
 geneve_names_row _ = Unit {0}

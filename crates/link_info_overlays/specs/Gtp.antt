@@ -5,9 +5,9 @@ use Rattle.netlink_packet_core.specs.Attributes.{Attribute, proper_kind}
 use Rattle.netlink_packet_core.specs.Numbers.{le4}
 use Rattle.netlink_packet_core.specs.Truths.{truth_byte}
 use Rattle.link_info_tunnel_types.specs.GtpTypes.{gtp_role_number, gtp_role_of}
-use Rattle.link_info_grammar.specs.Families.{gtp_rows}
-use Rattle.link_info_grammar.specs.FlatTables.{has_no_row}
-use Rattle.link_info_lists.specs.Families.{attribute}
+use Rattle.link_info_grammar.specs.Families.{gtp}
+use Rattle.attribute_tables_grammar.specs.LookUps.{has_no_row}
+use Rattle.netlink_packet_core.specs.Families.{attribute}
 use Rattle.link_info_overlays.specs.declared.gtp.InfoGtp.{InfoGtp}
 use Rattle.link_info_overlays.specs.declared.gtp.InfoGtp.TheVariants.{Fd0, Fd1, PdpHashsize, Role, CreateSockets, RestartCount, Local, Local6, Other}
 
@@ -25,5 +25,5 @@ gtp_entry (Other a) = a
 -- a number that names a role is read as that role, and no kind that has a row as another attribute
 abbrev pub gtp_names_row : InfoGtp → Type 0
 gtp_names_row (Role r) = r ≡ gtp_role_of (gtp_role_number r)
-gtp_names_row (Other a) = has_no_row gtp_rows (proper_kind a.kind)
+gtp_names_row (Other a) = has_no_row gtp (proper_kind a.kind)
 gtp_names_row _ = Unit {0}

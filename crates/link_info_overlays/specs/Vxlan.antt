@@ -5,9 +5,9 @@ use Rattle.netlink_packet_core.specs.Attributes.{Attribute, proper_kind}
 use Rattle.netlink_packet_core.specs.Numbers.{be2, be4, be8, le4}
 use Rattle.netlink_packet_core.specs.Truths.{truth_byte}
 use Rattle.link_info_tunnel_types.specs.VxlanTypes.{vxlan_df_number, vxlan_df_of}
-use Rattle.link_info_grammar.specs.Families.{vxlan_rows}
-use Rattle.link_info_grammar.specs.FlatTables.{has_no_row}
-use Rattle.link_info_lists.specs.Families.{attribute}
+use Rattle.link_info_grammar.specs.Families.{vxlan}
+use Rattle.attribute_tables_grammar.specs.LookUps.{has_no_row}
+use Rattle.netlink_packet_core.specs.Families.{attribute}
 use Rattle.link_info_overlays.specs.declared.vxlan.InfoVxlan.{InfoVxlan}
 use Rattle.link_info_overlays.specs.declared.vxlan.InfoVxlan.TheVariants.{Id, Group, Link, Local, Ttl, Tos, Learning, Ageing, Limit, PortRange, Proxy, Rsc, L2Miss, L3Miss, Port, Group6, Local6, UDPCsum, UDPZeroCsumTX, UDPZeroCsumRX, RemCsumTX, RemCsumRX, Gbp, RemCsumNoPartial, CollectMetadata, Label, Gpe, TtlInheritFlag, TtlInherit, Df, Vnifilter, Localbypass, LabelPolicy, ReservedBits, McRoute, Other}
 
@@ -52,5 +52,5 @@ vxlan_entry (Other a) = a
 -- a number that names a setting is read as that setting, and no kind that has a row as another attribute
 abbrev pub vxlan_names_row : InfoVxlan → Type 0
 vxlan_names_row (Df d) = d ≡ vxlan_df_of (vxlan_df_number d)
-vxlan_names_row (Other a) = has_no_row vxlan_rows (proper_kind a.kind)
+vxlan_names_row (Other a) = has_no_row vxlan (proper_kind a.kind)
 vxlan_names_row _ = Unit {0}

@@ -1,19 +1,12 @@
 //! Data of the kind `amt` (if_link.h, IFLA_AMT_*). Numbers are little-endian unless told.
 
-ghost use Rattle.std.specs.Prelude.{◌≡◌, true};
-ghost use Rattle.netlink_packet_core.specs.NlaBuffers.{storage};
-ghost use Rattle.netlink_packet_core.specs.AttributeViews.{IsAttribute};
-ghost use Rattle.link_info_grammar.specs.Families.{amt_rows};
-ghost use Rattle.link_info_grammar.specs.FlatTables.{flat_row, row_holds_bytes};
-ghost use Rattle.link_info_lists.specs.Families.{Gives, accepts, may_want_memory};
+ghost use Rattle.std.specs.Prelude.{refl};
+ghost use Rattle.link_info_grammar.specs.Families.{amt};
 ghost use Rattle.link_info_overlays.specs.Amt.{amt_entry, amt_names_row};
 
-use link_info_lists::Reader;
+use attribute_tables::typed;
 use link_info_tunnel_types::AmtMode;
-use netlink_packet_core::{
-    DecodeError, DefaultNla, Nla, NlaBuffer, Parseable, fill_ip, fill_u16_be, fill_u32, ip_len,
-    parse_ip, parse_u16_be, parse_u32,
-};
+use netlink_packet_core::{DecodeError, DefaultNla, Family, Field, FieldNla, Nla, parse_ip, parse_u16_be, parse_u32};
 use std::alloc::Global;
 use std::net::IpAddr;
 
@@ -56,93 +49,46 @@ pub enum InfoAmt {
     Other(DefaultNla),
 }
 
-impl Nla for InfoAmt {
-    ghost entry = { amt_entry };
+impl FieldNla for InfoAmt {
+    ghost field_entry = { amt_entry };
 
-    ghost inside_fits = { λ _. true };
-
-    #[tactic(auto, using(netlink_packet_core_grammar::proofs::Sizes::sizes))]
-    fn value_len(&self) -> usize {
+    fn field(&self) -> (u16, Field<'_>) {
         match self {
-            Self::Mode(_) | Self::Link(_) | Self::MaxTunnels(_) => 4,
-            Self::RelayPort(_) | Self::GatewayPort(_) => 2,
-            Self::LocalIp(ip) | Self::RemoteIp(ip) | Self::DiscoveryIp(ip) => ip_len(ip),
-            Self::Other(nla) => nla.value_len(),
-        }
-    }
-
-    fn kind(&self) -> u16 {
-        match self {
-            Self::Mode(_) => IFLA_AMT_MODE,
-            Self::RelayPort(_) => IFLA_AMT_RELAY_PORT,
-            Self::GatewayPort(_) => IFLA_AMT_GATEWAY_PORT,
-            Self::Link(_) => IFLA_AMT_LINK,
-            Self::LocalIp(_) => IFLA_AMT_LOCAL_IP,
-            Self::RemoteIp(_) => IFLA_AMT_REMOTE_IP,
-            Self::DiscoveryIp(_) => IFLA_AMT_DISCOVERY_IP,
-            Self::MaxTunnels(_) => IFLA_AMT_MAX_TUNNELS,
-            Self::Other(nla) => nla.kind(),
-        }
-    }
-
-    #[tactic(auto, using(netlink_packet_core_grammar::proofs::Sizes::sizes))]
-    fn emit_value(&self, buffer: &mut [u8]) {
-        match self {
-            Self::Mode(mode) => fill_u32(buffer, u32::from(*mode)),
-            Self::RelayPort(port) => fill_u16_be(buffer, *port),
-            Self::GatewayPort(port) => fill_u16_be(buffer, *port),
-            Self::Link(number) => fill_u32(buffer, *number),
-            Self::LocalIp(address) => fill_ip(buffer, address),
-            Self::RemoteIp(address) => fill_ip(buffer, address),
-            Self::DiscoveryIp(address) => fill_ip(buffer, address),
-            Self::MaxTunnels(number) => fill_u32(buffer, *number),
-            Self::Other(nla) => nla.emit_value(buffer),
-        }
-    }
-
-    fn contents_fit(&self) -> bool {
-        true
-    }
-}
-
-/// Reads the attributes of `amt`.
-pub struct InfoAmtReader;
-
-impl Reader for InfoAmtReader {
-    type Value = InfoAmt;
-
-    ghost row_of = { λ _. flat_row amt_rows };
-
-    ghost names_row = { λ _. amt_names_row };
-
-    ghost may_want_memory = { λ _. row_holds_bytes amt_rows };
-
-    fn read(&self, alloc: Global, buf: &NlaBuffer<&[u8]>) -> Result<InfoAmt, DecodeError> {
-        let payload = buf.value();
-        match buf.kind() {
-            IFLA_AMT_MODE => Ok(InfoAmt::Mode(AmtMode::from(parse_u32(payload)?))),
-            IFLA_AMT_RELAY_PORT => Ok(InfoAmt::RelayPort(parse_u16_be(payload)?)),
-            IFLA_AMT_GATEWAY_PORT => Ok(InfoAmt::GatewayPort(parse_u16_be(payload)?)),
-            IFLA_AMT_LINK => Ok(InfoAmt::Link(parse_u32(payload)?)),
-            IFLA_AMT_LOCAL_IP => Ok(InfoAmt::LocalIp(parse_ip(payload)?)),
-            IFLA_AMT_REMOTE_IP => Ok(InfoAmt::RemoteIp(parse_ip(payload)?)),
-            IFLA_AMT_DISCOVERY_IP => Ok(InfoAmt::DiscoveryIp(parse_ip(payload)?)),
-            IFLA_AMT_MAX_TUNNELS => Ok(InfoAmt::MaxTunnels(parse_u32(payload)?)),
-            _ => Ok(InfoAmt::Other(DefaultNla::parse(alloc, buf)?)),
+            Self::Mode(mode) => (IFLA_AMT_MODE, Field::U32(u32::from(*mode))),
+            Self::RelayPort(port) => (IFLA_AMT_RELAY_PORT, Field::U16Be(*port)),
+            Self::GatewayPort(port) => (IFLA_AMT_GATEWAY_PORT, Field::U16Be(*port)),
+            Self::Link(number) => (IFLA_AMT_LINK, Field::U32(*number)),
+            Self::LocalIp(address) => (IFLA_AMT_LOCAL_IP, Field::Ip(*address)),
+            Self::RemoteIp(address) => (IFLA_AMT_REMOTE_IP, Field::Ip(*address)),
+            Self::DiscoveryIp(address) => (IFLA_AMT_DISCOVERY_IP, Field::Ip(*address)),
+            Self::MaxTunnels(number) => (IFLA_AMT_MAX_TUNNELS, Field::U32(*number)),
+            Self::Other(nla) => (nla.kind(), Field::Bytes(nla.value())),
         }
     }
 }
 
-impl<'a> Parseable<NlaBuffer<&'a [u8]>> for InfoAmt {
-    ghost can_parse = { λ b. IsAttribute (storage b).now };
+impl Family for InfoAmt {
+    ghost rows = { amt };
 
-    ghost accepts = { λ b. accepts amt_rows (storage b).now };
+    ghost names_row = { amt_names_row };
 
-    ghost may_want_memory = { λ b. may_want_memory amt_rows (storage b).now };
-
-    ghost gives = { λ b v. Gives amt_rows (storage b).now (amt_entry v) × amt_names_row v };
-
-    fn parse(alloc: Global, buf: &NlaBuffer<&'a [u8]>) -> Result<Self, DecodeError> {
-        InfoAmtReader.read(alloc, buf)
+    fn read_row(_alloc: Global, kind: u16, payload: &[u8]) -> Result<Option<Self>, DecodeError> {
+        match kind {
+            IFLA_AMT_MODE => typed!(Mode, parse_u32(payload), AmtMode),
+            IFLA_AMT_RELAY_PORT => typed!(RelayPort, parse_u16_be(payload)),
+            IFLA_AMT_GATEWAY_PORT => typed!(GatewayPort, parse_u16_be(payload)),
+            IFLA_AMT_LINK => typed!(Link, parse_u32(payload)),
+            IFLA_AMT_LOCAL_IP => typed!(LocalIp, parse_ip(payload)),
+            IFLA_AMT_REMOTE_IP => typed!(RemoteIp, parse_ip(payload)),
+            IFLA_AMT_DISCOVERY_IP => typed!(DiscoveryIp, parse_ip(payload)),
+            IFLA_AMT_MAX_TUNNELS => typed!(MaxTunnels, parse_u32(payload)),
+            _ => Ok(None),
+        }
     }
+
+    fn other(nla: DefaultNla) -> Self {
+        Self::Other(nla)
+    }
+
+    ghost plain = { refl };
 }

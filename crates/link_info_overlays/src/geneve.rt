@@ -1,20 +1,12 @@
 //! Data of the kind `geneve` (if_link.h, IFLA_GENEVE_*). Numbers are little-endian unless told; a truth is 1 byte, zero or not.
 
-ghost use Rattle.std.specs.Prelude.{◌≡◌, true};
-ghost use Rattle.netlink_packet_core.specs.NlaBuffers.{storage};
-ghost use Rattle.netlink_packet_core.specs.AttributeViews.{IsAttribute};
-ghost use Rattle.link_info_grammar.specs.Families.{geneve_rows};
-ghost use Rattle.link_info_grammar.specs.FlatTables.{flat_row, row_holds_bytes};
-ghost use Rattle.link_info_lists.specs.Families.{Gives, accepts, may_want_memory};
+ghost use Rattle.std.specs.Prelude.{refl};
+ghost use Rattle.link_info_grammar.specs.Families.{geneve};
 ghost use Rattle.link_info_overlays.specs.Geneve.{geneve_entry, geneve_names_row};
 
-use link_info_lists::Reader;
+use attribute_tables::typed;
 use link_info_tunnel_types::GeneveDf;
-use netlink_packet_core::{
-    DecodeError, DefaultNla, Nla, NlaBuffer, Parseable, fill_bool, fill_u8, fill_u16_be, fill_u32,
-    fill_u32_be, parse_bool, parse_ipv4_addr, parse_ipv6_addr, parse_u8, parse_u16_be, parse_u32,
-    parse_u32_be,
-};
+use netlink_packet_core::{DecodeError, DefaultNla, Family, Field, FieldNla, Nla, parse_bool, parse_ipv4_addr, parse_ipv6_addr, parse_u8, parse_u16_be, parse_u32, parse_u32_be};
 use std::alloc::Global;
 use std::net::{Ipv4Addr, Ipv6Addr};
 
@@ -91,128 +83,62 @@ pub enum InfoGeneve {
     Other(DefaultNla),
 }
 
-impl Nla for InfoGeneve {
-    ghost entry = { geneve_entry };
+impl FieldNla for InfoGeneve {
+    ghost field_entry = { geneve_entry };
 
-    ghost inside_fits = { λ _. true };
-
-    #[tactic(auto, using(netlink_packet_core_grammar::proofs::Sizes::sizes))]
-    fn value_len(&self) -> usize {
+    fn field(&self) -> (u16, Field<'_>) {
         match self {
-            Self::Remote6(address) => address.octets().len(),
-            Self::Local6(address) => address.octets().len(),
-            Self::Id(_) | Self::Label(_) => 4,
-            Self::Remote(address) => address.octets().len(),
-            Self::Local(address) => address.octets().len(),
-            Self::Port(_) => 2,
-            Self::Ttl(_)
-            | Self::Tos(_)
-            | Self::UdpCsum(_)
-            | Self::UdpZeroCsum6Tx(_)
-            | Self::UdpZeroCsum6Rx(_)
-            | Self::TtlInherit(_)
-            | Self::Df(_) => 1,
-            Self::CollectMetadata | Self::InnerProtoInherit => 0,
-            Self::Other(nla) => nla.value_len(),
-        }
-    }
-
-    fn kind(&self) -> u16 {
-        match self {
-            Self::Id(_) => IFLA_GENEVE_ID,
-            Self::Remote(_) => IFLA_GENEVE_REMOTE,
-            Self::Ttl(_) => IFLA_GENEVE_TTL,
-            Self::Tos(_) => IFLA_GENEVE_TOS,
-            Self::Port(_) => IFLA_GENEVE_PORT,
-            Self::CollectMetadata => IFLA_GENEVE_COLLECT_METADATA,
-            Self::Remote6(_) => IFLA_GENEVE_REMOTE6,
-            Self::UdpCsum(_) => IFLA_GENEVE_UDP_CSUM,
-            Self::UdpZeroCsum6Tx(_) => IFLA_GENEVE_UDP_ZERO_CSUM6_TX,
-            Self::UdpZeroCsum6Rx(_) => IFLA_GENEVE_UDP_ZERO_CSUM6_RX,
-            Self::Label(_) => IFLA_GENEVE_LABEL,
-            Self::TtlInherit(_) => IFLA_GENEVE_TTL_INHERIT,
-            Self::Df(_) => IFLA_GENEVE_DF,
-            Self::InnerProtoInherit => IFLA_GENEVE_INNER_PROTO_INHERIT,
-            Self::Local(_) => IFLA_GENEVE_LOCAL,
-            Self::Local6(_) => IFLA_GENEVE_LOCAL6,
-            Self::Other(nla) => nla.kind(),
-        }
-    }
-
-    #[tactic(auto, using(netlink_packet_core_grammar::proofs::Sizes::sizes))]
-    fn emit_value(&self, buffer: &mut [u8]) {
-        match self {
-            Self::Id(number) => fill_u32(buffer, *number),
-            Self::Remote(address) => buffer.copy_from_slice(&address.octets()),
-            Self::Ttl(number) => fill_u8(buffer, *number),
-            Self::Tos(number) => fill_u8(buffer, *number),
-            Self::Port(port) => fill_u16_be(buffer, *port),
-            Self::CollectMetadata => {}
-            Self::Remote6(address) => buffer.copy_from_slice(&address.octets()),
-            Self::UdpCsum(truth) => fill_bool(buffer, *truth),
-            Self::UdpZeroCsum6Tx(truth) => fill_bool(buffer, *truth),
-            Self::UdpZeroCsum6Rx(truth) => fill_bool(buffer, *truth),
-            Self::Label(label) => fill_u32_be(buffer, *label),
-            Self::TtlInherit(truth) => fill_bool(buffer, *truth),
-            Self::Df(setting) => fill_u8(buffer, u8::from(*setting)),
-            Self::InnerProtoInherit => {}
-            Self::Local(address) => buffer.copy_from_slice(&address.octets()),
-            Self::Local6(address) => buffer.copy_from_slice(&address.octets()),
-            Self::Other(nla) => nla.emit_value(buffer),
-        }
-    }
-
-    fn contents_fit(&self) -> bool {
-        true
-    }
-}
-
-/// Reads the attributes of `geneve`.
-pub struct InfoGeneveReader;
-
-impl Reader for InfoGeneveReader {
-    type Value = InfoGeneve;
-
-    ghost row_of = { λ _. flat_row geneve_rows };
-
-    ghost names_row = { λ _. geneve_names_row };
-
-    ghost may_want_memory = { λ _. row_holds_bytes geneve_rows };
-
-    fn read(&self, alloc: Global, buf: &NlaBuffer<&[u8]>) -> Result<InfoGeneve, DecodeError> {
-        let payload = buf.value();
-        match buf.kind() {
-            IFLA_GENEVE_ID => Ok(InfoGeneve::Id(parse_u32(payload)?)),
-            IFLA_GENEVE_REMOTE => Ok(InfoGeneve::Remote(parse_ipv4_addr(payload)?)),
-            IFLA_GENEVE_TTL => Ok(InfoGeneve::Ttl(parse_u8(payload)?)),
-            IFLA_GENEVE_TOS => Ok(InfoGeneve::Tos(parse_u8(payload)?)),
-            IFLA_GENEVE_PORT => Ok(InfoGeneve::Port(parse_u16_be(payload)?)),
-            IFLA_GENEVE_COLLECT_METADATA => Ok(InfoGeneve::CollectMetadata),
-            IFLA_GENEVE_REMOTE6 => Ok(InfoGeneve::Remote6(parse_ipv6_addr(payload)?)),
-            IFLA_GENEVE_UDP_CSUM => Ok(InfoGeneve::UdpCsum(parse_bool(payload)?)),
-            IFLA_GENEVE_UDP_ZERO_CSUM6_TX => Ok(InfoGeneve::UdpZeroCsum6Tx(parse_bool(payload)?)),
-            IFLA_GENEVE_UDP_ZERO_CSUM6_RX => Ok(InfoGeneve::UdpZeroCsum6Rx(parse_bool(payload)?)),
-            IFLA_GENEVE_LABEL => Ok(InfoGeneve::Label(parse_u32_be(payload)?)),
-            IFLA_GENEVE_TTL_INHERIT => Ok(InfoGeneve::TtlInherit(parse_bool(payload)?)),
-            IFLA_GENEVE_DF => Ok(InfoGeneve::Df(GeneveDf::from(parse_u8(payload)?))),
-            IFLA_GENEVE_INNER_PROTO_INHERIT => Ok(InfoGeneve::InnerProtoInherit),
-            IFLA_GENEVE_LOCAL => Ok(InfoGeneve::Local(parse_ipv4_addr(payload)?)),
-            IFLA_GENEVE_LOCAL6 => Ok(InfoGeneve::Local6(parse_ipv6_addr(payload)?)),
-            _ => Ok(InfoGeneve::Other(DefaultNla::parse(alloc, buf)?)),
+            Self::Id(number) => (IFLA_GENEVE_ID, Field::U32(*number)),
+            Self::Remote(address) => (IFLA_GENEVE_REMOTE, Field::Ipv4(*address)),
+            Self::Ttl(number) => (IFLA_GENEVE_TTL, Field::U8(*number)),
+            Self::Tos(number) => (IFLA_GENEVE_TOS, Field::U8(*number)),
+            Self::Port(port) => (IFLA_GENEVE_PORT, Field::U16Be(*port)),
+            Self::CollectMetadata => (IFLA_GENEVE_COLLECT_METADATA, Field::Empty),
+            Self::Remote6(address) => (IFLA_GENEVE_REMOTE6, Field::Ipv6(*address)),
+            Self::UdpCsum(truth) => (IFLA_GENEVE_UDP_CSUM, Field::Bool(*truth)),
+            Self::UdpZeroCsum6Tx(truth) => (IFLA_GENEVE_UDP_ZERO_CSUM6_TX, Field::Bool(*truth)),
+            Self::UdpZeroCsum6Rx(truth) => (IFLA_GENEVE_UDP_ZERO_CSUM6_RX, Field::Bool(*truth)),
+            Self::Label(label) => (IFLA_GENEVE_LABEL, Field::U32Be(*label)),
+            Self::TtlInherit(truth) => (IFLA_GENEVE_TTL_INHERIT, Field::Bool(*truth)),
+            Self::Df(setting) => (IFLA_GENEVE_DF, Field::U8(u8::from(*setting))),
+            Self::InnerProtoInherit => (IFLA_GENEVE_INNER_PROTO_INHERIT, Field::Empty),
+            Self::Local(address) => (IFLA_GENEVE_LOCAL, Field::Ipv4(*address)),
+            Self::Local6(address) => (IFLA_GENEVE_LOCAL6, Field::Ipv6(*address)),
+            Self::Other(nla) => (nla.kind(), Field::Bytes(nla.value())),
         }
     }
 }
 
-impl<'a> Parseable<NlaBuffer<&'a [u8]>> for InfoGeneve {
-    ghost can_parse = { λ b. IsAttribute (storage b).now };
+impl Family for InfoGeneve {
+    ghost rows = { geneve };
 
-    ghost accepts = { λ b. accepts geneve_rows (storage b).now };
+    ghost names_row = { geneve_names_row };
 
-    ghost may_want_memory = { λ b. may_want_memory geneve_rows (storage b).now };
-
-    ghost gives = { λ b v. Gives geneve_rows (storage b).now (geneve_entry v) × geneve_names_row v };
-
-    fn parse(alloc: Global, buf: &NlaBuffer<&'a [u8]>) -> Result<Self, DecodeError> {
-        InfoGeneveReader.read(alloc, buf)
+    fn read_row(_alloc: Global, kind: u16, payload: &[u8]) -> Result<Option<Self>, DecodeError> {
+        match kind {
+            IFLA_GENEVE_ID => typed!(Id, parse_u32(payload)),
+            IFLA_GENEVE_REMOTE => typed!(Remote, parse_ipv4_addr(payload)),
+            IFLA_GENEVE_TTL => typed!(Ttl, parse_u8(payload)),
+            IFLA_GENEVE_TOS => typed!(Tos, parse_u8(payload)),
+            IFLA_GENEVE_PORT => typed!(Port, parse_u16_be(payload)),
+            IFLA_GENEVE_COLLECT_METADATA => Ok(Some(Self::CollectMetadata)),
+            IFLA_GENEVE_REMOTE6 => typed!(Remote6, parse_ipv6_addr(payload)),
+            IFLA_GENEVE_UDP_CSUM => typed!(UdpCsum, parse_bool(payload)),
+            IFLA_GENEVE_UDP_ZERO_CSUM6_TX => typed!(UdpZeroCsum6Tx, parse_bool(payload)),
+            IFLA_GENEVE_UDP_ZERO_CSUM6_RX => typed!(UdpZeroCsum6Rx, parse_bool(payload)),
+            IFLA_GENEVE_LABEL => typed!(Label, parse_u32_be(payload)),
+            IFLA_GENEVE_TTL_INHERIT => typed!(TtlInherit, parse_bool(payload)),
+            IFLA_GENEVE_DF => typed!(Df, parse_u8(payload), GeneveDf),
+            IFLA_GENEVE_INNER_PROTO_INHERIT => Ok(Some(Self::InnerProtoInherit)),
+            IFLA_GENEVE_LOCAL => typed!(Local, parse_ipv4_addr(payload)),
+            IFLA_GENEVE_LOCAL6 => typed!(Local6, parse_ipv6_addr(payload)),
+            _ => Ok(None),
+        }
     }
+
+    fn other(nla: DefaultNla) -> Self {
+        Self::Other(nla)
+    }
+
+    ghost plain = { refl };
 }

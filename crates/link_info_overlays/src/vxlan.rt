@@ -1,20 +1,12 @@
 //! Data of the kind `vxlan` (if_link.h, IFLA_VXLAN_*). Numbers are little-endian unless told; a truth is 1 byte, zero or not.
 
-ghost use Rattle.std.specs.Prelude.{◌≡◌, true};
-ghost use Rattle.netlink_packet_core.specs.NlaBuffers.{storage};
-ghost use Rattle.netlink_packet_core.specs.AttributeViews.{IsAttribute};
-ghost use Rattle.link_info_grammar.specs.Families.{vxlan_rows};
-ghost use Rattle.link_info_grammar.specs.FlatTables.{flat_row, row_holds_bytes};
-ghost use Rattle.link_info_lists.specs.Families.{Gives, accepts, may_want_memory};
+ghost use Rattle.std.specs.Prelude.{refl};
+ghost use Rattle.link_info_grammar.specs.Families.{vxlan};
 ghost use Rattle.link_info_overlays.specs.Vxlan.{vxlan_entry, vxlan_names_row};
 
-use link_info_lists::Reader;
+use attribute_tables::typed;
 use link_info_tunnel_types::VxlanDf;
-use netlink_packet_core::{
-    DecodeError, DefaultNla, Nla, NlaBuffer, Parseable, fill_bool, fill_range, fill_u8,
-    fill_u16_be, fill_u32, fill_u32_be, fill_u64_be, parse_bool, parse_ipv4_addr, parse_ipv6_addr,
-    parse_range, parse_u8, parse_u16_be, parse_u32, parse_u32_be, parse_u64_be,
-};
+use netlink_packet_core::{DecodeError, DefaultNla, Family, Field, FieldNla, Nla, parse_bool, parse_ipv4_addr, parse_ipv6_addr, parse_range, parse_u8, parse_u16_be, parse_u32, parse_u32_be, parse_u64_be};
 use std::alloc::Global;
 use std::net::{Ipv4Addr, Ipv6Addr};
 
@@ -167,202 +159,100 @@ pub enum InfoVxlan {
     Other(DefaultNla),
 }
 
-impl Nla for InfoVxlan {
-    ghost entry = { vxlan_entry };
+impl FieldNla for InfoVxlan {
+    ghost field_entry = { vxlan_entry };
 
-    ghost inside_fits = { λ _. true };
-
-    #[tactic(auto, using(netlink_packet_core_grammar::proofs::Sizes::sizes, crate::proofs::Sizes::range))]
-    fn value_len(&self) -> usize {
+    fn field(&self) -> (u16, Field<'_>) {
         match self {
-            Self::Group6(address) => address.octets().len(),
-            Self::Local6(address) => address.octets().len(),
-            Self::ReservedBits(_) => 8,
-            Self::Id(_)
-            | Self::Link(_)
-            | Self::Ageing(_)
-            | Self::Limit(_)
-            | Self::PortRange(_)
-            | Self::Label(_)
-            | Self::LabelPolicy(_) => 4,
-            Self::Group(address) => address.octets().len(),
-            Self::Local(address) => address.octets().len(),
-            Self::Port(_) => 2,
-            Self::Ttl(_)
-            | Self::Tos(_)
-            | Self::Learning(_)
-            | Self::Proxy(_)
-            | Self::Rsc(_)
-            | Self::L2Miss(_)
-            | Self::L3Miss(_)
-            | Self::UDPCsum(_)
-            | Self::UDPZeroCsumTX(_)
-            | Self::UDPZeroCsumRX(_)
-            | Self::RemCsumTX(_)
-            | Self::RemCsumRX(_)
-            | Self::CollectMetadata(_)
-            | Self::TtlInherit(_)
-            | Self::Df(_)
-            | Self::Vnifilter(_)
-            | Self::Localbypass(_)
-            | Self::McRoute(_) => 1,
-            Self::Gbp | Self::RemCsumNoPartial | Self::Gpe | Self::TtlInheritFlag => 0,
-            Self::Other(nla) => nla.value_len(),
-        }
-    }
-
-    fn kind(&self) -> u16 {
-        match self {
-            Self::Id(_) => IFLA_VXLAN_ID,
-            Self::Group(_) => IFLA_VXLAN_GROUP,
-            Self::Link(_) => IFLA_VXLAN_LINK,
-            Self::Local(_) => IFLA_VXLAN_LOCAL,
-            Self::Ttl(_) => IFLA_VXLAN_TTL,
-            Self::Tos(_) => IFLA_VXLAN_TOS,
-            Self::Learning(_) => IFLA_VXLAN_LEARNING,
-            Self::Ageing(_) => IFLA_VXLAN_AGEING,
-            Self::Limit(_) => IFLA_VXLAN_LIMIT,
-            Self::PortRange(_) => IFLA_VXLAN_PORT_RANGE,
-            Self::Proxy(_) => IFLA_VXLAN_PROXY,
-            Self::Rsc(_) => IFLA_VXLAN_RSC,
-            Self::L2Miss(_) => IFLA_VXLAN_L2MISS,
-            Self::L3Miss(_) => IFLA_VXLAN_L3MISS,
-            Self::Port(_) => IFLA_VXLAN_PORT,
-            Self::Group6(_) => IFLA_VXLAN_GROUP6,
-            Self::Local6(_) => IFLA_VXLAN_LOCAL6,
-            Self::UDPCsum(_) => IFLA_VXLAN_UDP_CSUM,
-            Self::UDPZeroCsumTX(_) => IFLA_VXLAN_UDP_ZERO_CSUM6_TX,
-            Self::UDPZeroCsumRX(_) => IFLA_VXLAN_UDP_ZERO_CSUM6_RX,
-            Self::RemCsumTX(_) => IFLA_VXLAN_REMCSUM_TX,
-            Self::RemCsumRX(_) => IFLA_VXLAN_REMCSUM_RX,
-            Self::Gbp => IFLA_VXLAN_GBP,
-            Self::RemCsumNoPartial => IFLA_VXLAN_REMCSUM_NOPARTIAL,
-            Self::CollectMetadata(_) => IFLA_VXLAN_COLLECT_METADATA,
-            Self::Label(_) => IFLA_VXLAN_LABEL,
-            Self::Gpe => IFLA_VXLAN_GPE,
-            Self::TtlInheritFlag | Self::TtlInherit(_) => IFLA_VXLAN_TTL_INHERIT,
-            Self::Df(_) => IFLA_VXLAN_DF,
-            Self::Vnifilter(_) => IFLA_VXLAN_VNIFILTER,
-            Self::Localbypass(_) => IFLA_VXLAN_LOCALBYPASS,
-            Self::LabelPolicy(_) => IFLA_VXLAN_LABEL_POLICY,
-            Self::ReservedBits(_) => IFLA_VXLAN_RESERVED_BITS,
-            Self::McRoute(_) => IFLA_VXLAN_MC_ROUTE,
-            Self::Other(nla) => nla.kind(),
-        }
-    }
-
-    #[tactic(auto, using(netlink_packet_core_grammar::proofs::Sizes::sizes, crate::proofs::Sizes::range))]
-    fn emit_value(&self, buffer: &mut [u8]) {
-        match self {
-            Self::Id(number) => fill_u32(buffer, *number),
-            Self::Group(address) => buffer.copy_from_slice(&address.octets()),
-            Self::Link(number) => fill_u32(buffer, *number),
-            Self::Local(address) => buffer.copy_from_slice(&address.octets()),
-            Self::Ttl(number) => fill_u8(buffer, *number),
-            Self::Tos(number) => fill_u8(buffer, *number),
-            Self::Learning(truth) => fill_bool(buffer, *truth),
-            Self::Ageing(number) => fill_u32(buffer, *number),
-            Self::Limit(number) => fill_u32(buffer, *number),
-            Self::PortRange(range) => fill_range(buffer, *range),
-            Self::Proxy(truth) => fill_bool(buffer, *truth),
-            Self::Rsc(truth) => fill_bool(buffer, *truth),
-            Self::L2Miss(truth) => fill_bool(buffer, *truth),
-            Self::L3Miss(truth) => fill_bool(buffer, *truth),
-            Self::Port(port) => fill_u16_be(buffer, *port),
-            Self::Group6(address) => buffer.copy_from_slice(&address.octets()),
-            Self::Local6(address) => buffer.copy_from_slice(&address.octets()),
-            Self::UDPCsum(truth) => fill_bool(buffer, *truth),
-            Self::UDPZeroCsumTX(truth) => fill_bool(buffer, *truth),
-            Self::UDPZeroCsumRX(truth) => fill_bool(buffer, *truth),
-            Self::RemCsumTX(truth) => fill_bool(buffer, *truth),
-            Self::RemCsumRX(truth) => fill_bool(buffer, *truth),
-            Self::Gbp => {}
-            Self::RemCsumNoPartial => {}
-            Self::CollectMetadata(truth) => fill_bool(buffer, *truth),
-            Self::Label(label) => fill_u32_be(buffer, *label),
-            Self::Gpe => {}
-            Self::TtlInheritFlag => {}
-            Self::TtlInherit(number) => fill_u8(buffer, *number),
-            Self::Df(setting) => fill_u8(buffer, u8::from(*setting)),
-            Self::Vnifilter(truth) => fill_bool(buffer, *truth),
-            Self::Localbypass(truth) => fill_bool(buffer, *truth),
-            Self::LabelPolicy(policy) => fill_u32(buffer, *policy),
-            Self::ReservedBits(bits) => fill_u64_be(buffer, *bits),
-            Self::McRoute(truth) => fill_bool(buffer, *truth),
-            Self::Other(nla) => nla.emit_value(buffer),
-        }
-    }
-
-    fn contents_fit(&self) -> bool {
-        true
-    }
-}
-
-/// Reads the attributes of `vxlan`.
-pub struct InfoVxlanReader;
-
-impl Reader for InfoVxlanReader {
-    type Value = InfoVxlan;
-
-    ghost row_of = { λ _. flat_row vxlan_rows };
-
-    ghost names_row = { λ _. vxlan_names_row };
-
-    ghost may_want_memory = { λ _. row_holds_bytes vxlan_rows };
-
-    fn read(&self, alloc: Global, buf: &NlaBuffer<&[u8]>) -> Result<InfoVxlan, DecodeError> {
-        let payload = buf.value();
-        match buf.kind() {
-            IFLA_VXLAN_ID => Ok(InfoVxlan::Id(parse_u32(payload)?)),
-            IFLA_VXLAN_GROUP => Ok(InfoVxlan::Group(parse_ipv4_addr(payload)?)),
-            IFLA_VXLAN_LINK => Ok(InfoVxlan::Link(parse_u32(payload)?)),
-            IFLA_VXLAN_LOCAL => Ok(InfoVxlan::Local(parse_ipv4_addr(payload)?)),
-            IFLA_VXLAN_TTL => Ok(InfoVxlan::Ttl(parse_u8(payload)?)),
-            IFLA_VXLAN_TOS => Ok(InfoVxlan::Tos(parse_u8(payload)?)),
-            IFLA_VXLAN_LEARNING => Ok(InfoVxlan::Learning(parse_bool(payload)?)),
-            IFLA_VXLAN_AGEING => Ok(InfoVxlan::Ageing(parse_u32(payload)?)),
-            IFLA_VXLAN_LIMIT => Ok(InfoVxlan::Limit(parse_u32(payload)?)),
-            IFLA_VXLAN_PORT_RANGE => Ok(InfoVxlan::PortRange(parse_range(payload)?)),
-            IFLA_VXLAN_PROXY => Ok(InfoVxlan::Proxy(parse_bool(payload)?)),
-            IFLA_VXLAN_RSC => Ok(InfoVxlan::Rsc(parse_bool(payload)?)),
-            IFLA_VXLAN_L2MISS => Ok(InfoVxlan::L2Miss(parse_bool(payload)?)),
-            IFLA_VXLAN_L3MISS => Ok(InfoVxlan::L3Miss(parse_bool(payload)?)),
-            IFLA_VXLAN_PORT => Ok(InfoVxlan::Port(parse_u16_be(payload)?)),
-            IFLA_VXLAN_GROUP6 => Ok(InfoVxlan::Group6(parse_ipv6_addr(payload)?)),
-            IFLA_VXLAN_LOCAL6 => Ok(InfoVxlan::Local6(parse_ipv6_addr(payload)?)),
-            IFLA_VXLAN_UDP_CSUM => Ok(InfoVxlan::UDPCsum(parse_bool(payload)?)),
-            IFLA_VXLAN_UDP_ZERO_CSUM6_TX => Ok(InfoVxlan::UDPZeroCsumTX(parse_bool(payload)?)),
-            IFLA_VXLAN_UDP_ZERO_CSUM6_RX => Ok(InfoVxlan::UDPZeroCsumRX(parse_bool(payload)?)),
-            IFLA_VXLAN_REMCSUM_TX => Ok(InfoVxlan::RemCsumTX(parse_bool(payload)?)),
-            IFLA_VXLAN_REMCSUM_RX => Ok(InfoVxlan::RemCsumRX(parse_bool(payload)?)),
-            IFLA_VXLAN_GBP => Ok(InfoVxlan::Gbp),
-            IFLA_VXLAN_REMCSUM_NOPARTIAL => Ok(InfoVxlan::RemCsumNoPartial),
-            IFLA_VXLAN_COLLECT_METADATA => Ok(InfoVxlan::CollectMetadata(parse_bool(payload)?)),
-            IFLA_VXLAN_LABEL => Ok(InfoVxlan::Label(parse_u32_be(payload)?)),
-            IFLA_VXLAN_GPE => Ok(InfoVxlan::Gpe),
-            IFLA_VXLAN_TTL_INHERIT if payload.is_empty() => Ok(InfoVxlan::TtlInheritFlag),
-            IFLA_VXLAN_TTL_INHERIT => Ok(InfoVxlan::TtlInherit(parse_u8(payload)?)),
-            IFLA_VXLAN_DF => Ok(InfoVxlan::Df(VxlanDf::from(parse_u8(payload)?))),
-            IFLA_VXLAN_VNIFILTER => Ok(InfoVxlan::Vnifilter(parse_bool(payload)?)),
-            IFLA_VXLAN_LOCALBYPASS => Ok(InfoVxlan::Localbypass(parse_bool(payload)?)),
-            IFLA_VXLAN_LABEL_POLICY => Ok(InfoVxlan::LabelPolicy(parse_u32(payload)?)),
-            IFLA_VXLAN_RESERVED_BITS => Ok(InfoVxlan::ReservedBits(parse_u64_be(payload)?)),
-            IFLA_VXLAN_MC_ROUTE => Ok(InfoVxlan::McRoute(parse_bool(payload)?)),
-            _ => Ok(InfoVxlan::Other(DefaultNla::parse(alloc, buf)?)),
+            Self::Id(number) => (IFLA_VXLAN_ID, Field::U32(*number)),
+            Self::Group(address) => (IFLA_VXLAN_GROUP, Field::Ipv4(*address)),
+            Self::Link(number) => (IFLA_VXLAN_LINK, Field::U32(*number)),
+            Self::Local(address) => (IFLA_VXLAN_LOCAL, Field::Ipv4(*address)),
+            Self::Ttl(number) => (IFLA_VXLAN_TTL, Field::U8(*number)),
+            Self::Tos(number) => (IFLA_VXLAN_TOS, Field::U8(*number)),
+            Self::Learning(truth) => (IFLA_VXLAN_LEARNING, Field::Bool(*truth)),
+            Self::Ageing(number) => (IFLA_VXLAN_AGEING, Field::U32(*number)),
+            Self::Limit(number) => (IFLA_VXLAN_LIMIT, Field::U32(*number)),
+            Self::PortRange(range) => (IFLA_VXLAN_PORT_RANGE, Field::Range(*range)),
+            Self::Proxy(truth) => (IFLA_VXLAN_PROXY, Field::Bool(*truth)),
+            Self::Rsc(truth) => (IFLA_VXLAN_RSC, Field::Bool(*truth)),
+            Self::L2Miss(truth) => (IFLA_VXLAN_L2MISS, Field::Bool(*truth)),
+            Self::L3Miss(truth) => (IFLA_VXLAN_L3MISS, Field::Bool(*truth)),
+            Self::Port(port) => (IFLA_VXLAN_PORT, Field::U16Be(*port)),
+            Self::Group6(address) => (IFLA_VXLAN_GROUP6, Field::Ipv6(*address)),
+            Self::Local6(address) => (IFLA_VXLAN_LOCAL6, Field::Ipv6(*address)),
+            Self::UDPCsum(truth) => (IFLA_VXLAN_UDP_CSUM, Field::Bool(*truth)),
+            Self::UDPZeroCsumTX(truth) => (IFLA_VXLAN_UDP_ZERO_CSUM6_TX, Field::Bool(*truth)),
+            Self::UDPZeroCsumRX(truth) => (IFLA_VXLAN_UDP_ZERO_CSUM6_RX, Field::Bool(*truth)),
+            Self::RemCsumTX(truth) => (IFLA_VXLAN_REMCSUM_TX, Field::Bool(*truth)),
+            Self::RemCsumRX(truth) => (IFLA_VXLAN_REMCSUM_RX, Field::Bool(*truth)),
+            Self::Gbp => (IFLA_VXLAN_GBP, Field::Empty),
+            Self::RemCsumNoPartial => (IFLA_VXLAN_REMCSUM_NOPARTIAL, Field::Empty),
+            Self::CollectMetadata(truth) => (IFLA_VXLAN_COLLECT_METADATA, Field::Bool(*truth)),
+            Self::Label(label) => (IFLA_VXLAN_LABEL, Field::U32Be(*label)),
+            Self::Gpe => (IFLA_VXLAN_GPE, Field::Empty),
+            Self::TtlInheritFlag => (IFLA_VXLAN_TTL_INHERIT, Field::Empty),
+            Self::TtlInherit(number) => (IFLA_VXLAN_TTL_INHERIT, Field::U8(*number)),
+            Self::Df(setting) => (IFLA_VXLAN_DF, Field::U8(u8::from(*setting))),
+            Self::Vnifilter(truth) => (IFLA_VXLAN_VNIFILTER, Field::Bool(*truth)),
+            Self::Localbypass(truth) => (IFLA_VXLAN_LOCALBYPASS, Field::Bool(*truth)),
+            Self::LabelPolicy(policy) => (IFLA_VXLAN_LABEL_POLICY, Field::U32(*policy)),
+            Self::ReservedBits(bits) => (IFLA_VXLAN_RESERVED_BITS, Field::U64Be(*bits)),
+            Self::McRoute(truth) => (IFLA_VXLAN_MC_ROUTE, Field::Bool(*truth)),
+            Self::Other(nla) => (nla.kind(), Field::Bytes(nla.value())),
         }
     }
 }
 
-impl<'a> Parseable<NlaBuffer<&'a [u8]>> for InfoVxlan {
-    ghost can_parse = { λ b. IsAttribute (storage b).now };
+impl Family for InfoVxlan {
+    ghost rows = { vxlan };
 
-    ghost accepts = { λ b. accepts vxlan_rows (storage b).now };
+    ghost names_row = { vxlan_names_row };
 
-    ghost may_want_memory = { λ b. may_want_memory vxlan_rows (storage b).now };
-
-    ghost gives = { λ b v. Gives vxlan_rows (storage b).now (vxlan_entry v) × vxlan_names_row v };
-
-    fn parse(alloc: Global, buf: &NlaBuffer<&'a [u8]>) -> Result<Self, DecodeError> {
-        InfoVxlanReader.read(alloc, buf)
+    fn read_row(_alloc: Global, kind: u16, payload: &[u8]) -> Result<Option<Self>, DecodeError> {
+        match kind {
+            IFLA_VXLAN_ID => typed!(Id, parse_u32(payload)),
+            IFLA_VXLAN_GROUP => typed!(Group, parse_ipv4_addr(payload)),
+            IFLA_VXLAN_LINK => typed!(Link, parse_u32(payload)),
+            IFLA_VXLAN_LOCAL => typed!(Local, parse_ipv4_addr(payload)),
+            IFLA_VXLAN_TTL => typed!(Ttl, parse_u8(payload)),
+            IFLA_VXLAN_TOS => typed!(Tos, parse_u8(payload)),
+            IFLA_VXLAN_LEARNING => typed!(Learning, parse_bool(payload)),
+            IFLA_VXLAN_AGEING => typed!(Ageing, parse_u32(payload)),
+            IFLA_VXLAN_LIMIT => typed!(Limit, parse_u32(payload)),
+            IFLA_VXLAN_PORT_RANGE => typed!(PortRange, parse_range(payload)),
+            IFLA_VXLAN_PROXY => typed!(Proxy, parse_bool(payload)),
+            IFLA_VXLAN_RSC => typed!(Rsc, parse_bool(payload)),
+            IFLA_VXLAN_L2MISS => typed!(L2Miss, parse_bool(payload)),
+            IFLA_VXLAN_L3MISS => typed!(L3Miss, parse_bool(payload)),
+            IFLA_VXLAN_PORT => typed!(Port, parse_u16_be(payload)),
+            IFLA_VXLAN_GROUP6 => typed!(Group6, parse_ipv6_addr(payload)),
+            IFLA_VXLAN_LOCAL6 => typed!(Local6, parse_ipv6_addr(payload)),
+            IFLA_VXLAN_UDP_CSUM => typed!(UDPCsum, parse_bool(payload)),
+            IFLA_VXLAN_UDP_ZERO_CSUM6_TX => typed!(UDPZeroCsumTX, parse_bool(payload)),
+            IFLA_VXLAN_UDP_ZERO_CSUM6_RX => typed!(UDPZeroCsumRX, parse_bool(payload)),
+            IFLA_VXLAN_REMCSUM_TX => typed!(RemCsumTX, parse_bool(payload)),
+            IFLA_VXLAN_REMCSUM_RX => typed!(RemCsumRX, parse_bool(payload)),
+            IFLA_VXLAN_GBP => Ok(Some(Self::Gbp)),
+            IFLA_VXLAN_REMCSUM_NOPARTIAL => Ok(Some(Self::RemCsumNoPartial)),
+            IFLA_VXLAN_COLLECT_METADATA => typed!(CollectMetadata, parse_bool(payload)),
+            IFLA_VXLAN_LABEL => typed!(Label, parse_u32_be(payload)),
+            IFLA_VXLAN_GPE => Ok(Some(Self::Gpe)),
+            IFLA_VXLAN_TTL_INHERIT if payload.is_empty() => Ok(Some(Self::TtlInheritFlag)),
+            IFLA_VXLAN_TTL_INHERIT => typed!(TtlInherit, parse_u8(payload)),
+            IFLA_VXLAN_DF => typed!(Df, parse_u8(payload), VxlanDf),
+            IFLA_VXLAN_VNIFILTER => typed!(Vnifilter, parse_bool(payload)),
+            IFLA_VXLAN_LOCALBYPASS => typed!(Localbypass, parse_bool(payload)),
+            IFLA_VXLAN_LABEL_POLICY => typed!(LabelPolicy, parse_u32(payload)),
+            IFLA_VXLAN_RESERVED_BITS => typed!(ReservedBits, parse_u64_be(payload)),
+            IFLA_VXLAN_MC_ROUTE => typed!(McRoute, parse_bool(payload)),
+            _ => Ok(None),
+        }
     }
+
+    fn other(nla: DefaultNla) -> Self {
+        Self::Other(nla)
+    }
+
+    ghost plain = { refl };
 }

@@ -4,7 +4,7 @@
 ghost use Rattle.std.specs.Prelude.{◌≡◌, ⊤, true};
 ghost use Rattle.netlink_packet_core.specs.NlaBuffers.{storage};
 ghost use Rattle.netlink_packet_core.specs.AttributeViews.{IsAttribute};
-ghost use Rattle.link_info_grammar.specs.FlatTables.{flat_row, row_holds_bytes};
+ghost use Rattle.attribute_tables_grammar.specs.LookUps.{flat_row, row_holds_bytes};
 ghost use Rattle.link_info_lists.specs.Families.{Gives, accepts, may_want_memory};
 ghost use Rattle.link_info_raw.specs.RawRows.{raw_rows};
 ghost use Rattle.link_info_raw_ports.specs.RawPortData.{bond_port_entry, bridge_port_entry, team_port_entry};

@@ -3,9 +3,9 @@ use Rattle.std.specs.Prelude.{◌≡◌, []}
 use Rattle.netlink_packet_core.specs.Attributes.{Attribute, proper_kind}
 use Rattle.netlink_packet_core.specs.Ethernet.{ethernet_protocol_number, ethernet_protocol_of}
 use Rattle.netlink_packet_core.specs.Numbers.{be2, le2}
-use Rattle.link_info_grammar.specs.Families.{bareudp_rows}
-use Rattle.link_info_grammar.specs.FlatTables.{has_no_row}
-use Rattle.link_info_lists.specs.Families.{attribute}
+use Rattle.link_info_grammar.specs.Families.{bareudp}
+use Rattle.attribute_tables_grammar.specs.LookUps.{has_no_row}
+use Rattle.netlink_packet_core.specs.Families.{attribute}
 use Rattle.link_info_tunnels.specs.declared.bareudp.InfoBareUdp.{InfoBareUdp}
 use Rattle.link_info_tunnels.specs.declared.bareudp.InfoBareUdp.TheVariants.{Port, Ethertype, SrcPortMin, MultiprotoMode, Other}
 
@@ -19,5 +19,5 @@ bareudp_entry (Other a) = a
 -- a number that names a protocol is read as that protocol, and no kind that has a row as another attribute
 abbrev pub bareudp_names_row : InfoBareUdp → Type 0
 bareudp_names_row (Ethertype p) = p ≡ ethernet_protocol_of (ethernet_protocol_number p)
-bareudp_names_row (Other a) = has_no_row bareudp_rows (proper_kind a.kind)
+bareudp_names_row (Other a) = has_no_row bareudp (proper_kind a.kind)
 bareudp_names_row _ = Unit {0}

@@ -2,9 +2,9 @@
 use Rattle.netlink_packet_core.specs.Attributes.{Attribute, proper_kind}
 use Rattle.netlink_packet_core.specs.Numbers.{be4, le4}
 use Rattle.netlink_packet_core.specs.Addresses.{ip_octets}
-use Rattle.link_info_grammar.specs.Families.{vti_rows}
-use Rattle.link_info_grammar.specs.FlatTables.{has_no_row}
-use Rattle.link_info_lists.specs.Families.{attribute}
+use Rattle.link_info_grammar.specs.Families.{vti}
+use Rattle.attribute_tables_grammar.specs.LookUps.{has_no_row}
+use Rattle.netlink_packet_core.specs.Families.{attribute}
 use Rattle.link_info_tunnels.specs.declared.vti.InfoVti.{InfoVti}
 use Rattle.link_info_tunnels.specs.declared.vti.InfoVti.TheVariants.{Link, IKey, OKey, Local, Remote, FwMark, Other}
 
@@ -19,5 +19,5 @@ vti_entry (Other a) = a
 
 -- no kind that has a row is read as another attribute
 abbrev pub vti_names_row : InfoVti → Type 0
-vti_names_row (Other a) = has_no_row vti_rows (proper_kind a.kind)
+vti_names_row (Other a) = has_no_row vti (proper_kind a.kind)
 vti_names_row _ = Unit {0}

@@ -1,9 +1,9 @@
 -- The data of xfrm: the kind and the payload of each value.
 use Rattle.netlink_packet_core.specs.Attributes.{Attribute, proper_kind}
 use Rattle.netlink_packet_core.specs.Numbers.{le4}
-use Rattle.link_info_grammar.specs.Families.{xfrm_rows}
-use Rattle.link_info_grammar.specs.FlatTables.{has_no_row}
-use Rattle.link_info_lists.specs.Families.{attribute}
+use Rattle.link_info_grammar.specs.Families.{xfrm}
+use Rattle.attribute_tables_grammar.specs.LookUps.{has_no_row}
+use Rattle.netlink_packet_core.specs.Families.{attribute}
 use Rattle.link_info_tunnels.specs.declared.xfrm.InfoXfrm.{InfoXfrm}
 use Rattle.link_info_tunnels.specs.declared.xfrm.InfoXfrm.TheVariants.{Link, IfId, Other}
 
@@ -14,5 +14,5 @@ xfrm_entry (Other a) = a
 
 -- no kind that has a row is read as another attribute
 abbrev pub xfrm_names_row : InfoXfrm → Type 0
-xfrm_names_row (Other a) = has_no_row xfrm_rows (proper_kind a.kind)
+xfrm_names_row (Other a) = has_no_row xfrm (proper_kind a.kind)
 xfrm_names_row _ = Unit {0}

@@ -5,6 +5,6 @@ mod bareudp;
 mod vti;
 mod xfrm;
 
-pub use bareudp::{InfoBareUdp, InfoBareUdpReader};
-pub use vti::{InfoVti, InfoVtiReader};
-pub use xfrm::{InfoXfrm, InfoXfrmReader};
+pub use bareudp::{InfoBareUdp};
+pub use vti::{InfoVti};
+pub use xfrm::{InfoXfrm};

@@ -7,17 +7,17 @@ use Rattle.std.proofs.lemmas.Slice.Eq.{bytes_eq-Decides}
 use Rattle.netlink_packet_core_grammar.specs.Attributes.{nla_align}
 use Rattle.netlink_packet_core_grammar.specs.Bytes.{AreBytes}
 use Rattle.netlink_packet_core_grammar.proofs.Bytes.{AreBytes-append, AreBytes-take, AreBytes-drop}
-use Rattle.link_info_grammar.specs.Rules.{Rule, Lawful}
-use Rattle.link_info_grammar.specs.Peers.{Peer, LawfulPeer, bytes_peer}
-use Rattle.link_info_grammar.specs.Rules.{Renews}
-use Rattle.link_info_grammar.specs.Lists.{any}
-use Rattle.link_info_grammar.specs.Tables.{Payload.list}
-use Rattle.link_message_grammar.specs.LinkMessage.{attributes}
-use Rattle.link_info_grammar.proofs.Renewed.{renewed}
-use Rattle.link_info_grammar.proofs.Tables.{bytes_peer_lawful}
-use Rattle.link_message_grammar.proofs.Tables.{attributes_lawful, attributes_modest}
+use Rattle.attribute_tables_grammar.specs.Rules.{Rule, Lawful}
+use Rattle.attribute_tables_grammar.specs.Peers.{Peer, LawfulPeer, bytes_peer}
+use Rattle.attribute_tables_grammar.specs.Rules.{Renews}
+use Rattle.attribute_tables_grammar.specs.Lists.{any}
+use Rattle.attribute_tables_grammar.specs.Tables.{Payload.list}
+use Rattle.link_message_grammar.specs.LinkMessage.{link_table}
+use Rattle.attribute_tables_grammar.proofs.Renewed.{renewed}
+use Rattle.attribute_tables_grammar.proofs.Tables.{bytes_peer_lawful}
+use Rattle.link_message_grammar.proofs.Tables.{table_lawful, table_bounded}
 use Rattle.link_message_grammar.specs.LinkMessage.{Family, family_of}
-use Rattle.link_message_grammar.specs.Body.{is_listed, layer_type_text, header_text, attribute_bytes, family, attributes_rule, body_rule, link_peer_of, link_peer}
+use Rattle.link_message_grammar.specs.Body.{is_listed, layer_type_text, header_text, attribute_bytes, family, list_rule_of, body_rule, link_peer_of, link_peer}
 
 -- ---- the header
 
@@ -100,96 +100,96 @@ small_rest : (L l : ℕ) → nla_align (4 + L) ≤ 77 * (4 + l) → nla_align (4
 small_rest L l h = omega arith
 
 module _ (p : Peer) (lawful_peer : LawfulPeer p) where
-  law : (f : Family) → Lawful (attributes_rule p f)
-  law f = attributes_lawful p lawful_peer f
+  law : (f : Family) → Lawful (list_rule_of p f)
+  law f = table_lawful p lawful_peer f
 
   pub body_lawful : Lawful (body_rule p)
   unfolding body_rule
   body_lawful = record {
     again = λ b a m.
-        let s = and_parts (nat_le 16 (length b)) ((attributes_rule p (family b)).accepted (attribute_bytes b)) a in
+        let s = and_parts (nat_le 16 (length b)) ((list_rule_of p (family b)).accepted (attribute_bytes b)) a in
         let w = written_header b s.0 in
-        let r = attributes_rule p (family b) in
+        let r = list_rule_of p (family b) in
         let c = r.canonical (attribute_bytes b) in
         let o = (law (family b)).again (attribute_bytes b) s.1 m in
         let long : nat_le 16 (length (header_text b ++ c)) ≡ true = le-leb _ _ (omega (arith, length-append (header_text b) c, w.size)) in
         let fam = family_again b c w in (
-          and_from _ _ long (ap (λ f. (attributes_rule p f).accepted (attribute_bytes (header_text b ++ c))) fam ∙ ap r.accepted (w.rest c) ∙ o.0),
-          ap (λ f. (attributes_rule p f).emptied (attribute_bytes (header_text b ++ c))) fam ∙ ap r.emptied (w.rest c) ∙ o.1,
+          and_from _ _ long (ap (λ f. (list_rule_of p f).accepted (attribute_bytes (header_text b ++ c))) fam ∙ ap r.accepted (w.rest c) ∙ o.0),
+          ap (λ f. (list_rule_of p f).empty_ports (attribute_bytes (header_text b ++ c))) fam ∙ ap r.empty_ports (w.rest c) ∙ o.1,
         );
     fits_again = λ b a m.
-        let s = and_parts (nat_le 16 (length b)) ((attributes_rule p (family b)).accepted (attribute_bytes b)) a in
+        let s = and_parts (nat_le 16 (length b)) ((list_rule_of p (family b)).accepted (attribute_bytes b)) a in
         let w = written_header b s.0 in
-        let r = attributes_rule p (family b) in
+        let r = list_rule_of p (family b) in
         let c = r.canonical (attribute_bytes b) in
-        ap (λ f. (attributes_rule p f).fits (attribute_bytes (header_text b ++ c))) (family_again b c w) ∙ ap r.fits (w.rest c) ∙ (law (family b)).fits_again (attribute_bytes b) s.1 m;
+        ap (λ f. (list_rule_of p f).fits (attribute_bytes (header_text b ++ c))) (family_again b c w) ∙ ap r.fits (w.rest c) ∙ (law (family b)).fits_again (attribute_bytes b) s.1 m;
     itself = λ b a.
-        let s = and_parts (nat_le 16 (length b)) ((attributes_rule p (family b)).accepted (attribute_bytes b)) a in
+        let s = and_parts (nat_le 16 (length b)) ((list_rule_of p (family b)).accepted (attribute_bytes b)) a in
         let w = written_header b s.0 in
-        let r = attributes_rule p (family b) in
+        let r = list_rule_of p (family b) in
         let c = r.canonical (attribute_bytes b) in
-        let o : (attributes_rule p (family (header_text b ++ c))).canonical (attribute_bytes (header_text b ++ c)) ≡ c =
-        ap (λ f. (attributes_rule p f).canonical (attribute_bytes (header_text b ++ c))) (family_again b c w) ∙ ap r.canonical (w.rest c) ∙ (law (family b)).itself (attribute_bytes b) s.1 in
-        ap (λ z. z ++ (attributes_rule p (family (header_text b ++ c))).canonical (attribute_bytes (header_text b ++ c))) (w.again c) ∙ ap (λ z. header_text b ++ z) o;
+        let o : (list_rule_of p (family (header_text b ++ c))).canonical (attribute_bytes (header_text b ++ c)) ≡ c =
+        ap (λ f. (list_rule_of p f).canonical (attribute_bytes (header_text b ++ c))) (family_again b c w) ∙ ap r.canonical (w.rest c) ∙ (law (family b)).itself (attribute_bytes b) s.1 in
+        ap (λ z. z ++ (list_rule_of p (family (header_text b ++ c))).canonical (attribute_bytes (header_text b ++ c))) (w.again c) ∙ ap (λ z. header_text b ++ z) o;
     one_text = λ a b x y e.
-        let s = and_parts (nat_le 16 (length a)) ((attributes_rule p (family a)).accepted (attribute_bytes a)) x in
-        let t = and_parts (nat_le 16 (length b)) ((attributes_rule p (family b)).accepted (attribute_bytes b)) y in
-        let e' = and_parts (bytes_eq (header_text a) (header_text b)) ((attributes_rule p (family a)).same (attribute_bytes a) (attribute_bytes b)) e in
+        let s = and_parts (nat_le 16 (length a)) ((list_rule_of p (family a)).accepted (attribute_bytes a)) x in
+        let t = and_parts (nat_le 16 (length b)) ((list_rule_of p (family b)).accepted (attribute_bytes b)) y in
+        let e' = and_parts (bytes_eq (header_text a) (header_text b)) ((list_rule_of p (family a)).same (attribute_bytes a) (attribute_bytes b)) e in
         let h : header_text a ≡ header_text b = (bytes_eq-Decides (header_text a) (header_text b)).0 e'.0 in
         let fam = one_family a b (written_header a s.0) (written_header b t.0) h in
-        let t' : (attributes_rule p (family a)).accepted (attribute_bytes b) ≡ true = ap (λ f. (attributes_rule p f).accepted (attribute_bytes b)) fam ∙ t.1 in
+        let t' : (list_rule_of p (family a)).accepted (attribute_bytes b) ≡ true = ap (λ f. (list_rule_of p f).accepted (attribute_bytes b)) fam ∙ t.1 in
         let c = (law (family a)).one_text (attribute_bytes a) (attribute_bytes b) s.1 t' e'.1 in
-        ap (λ z. z ++ (attributes_rule p (family a)).canonical (attribute_bytes a)) h ∙ ap (λ z. header_text b ++ z) c ∙ ap (λ f. header_text b ++ (attributes_rule p f).canonical (attribute_bytes b)) fam;
+        ap (λ z. z ++ (list_rule_of p (family a)).canonical (attribute_bytes a)) h ∙ ap (λ z. header_text b ++ z) c ∙ ap (λ f. header_text b ++ (list_rule_of p f).canonical (attribute_bytes b)) fam;
     one_meaning = λ a b x y e.
-        let s = and_parts (nat_le 16 (length a)) ((attributes_rule p (family a)).accepted (attribute_bytes a)) x in
-        let t = and_parts (nat_le 16 (length b)) ((attributes_rule p (family b)).accepted (attribute_bytes b)) y in
-        let ca = (attributes_rule p (family a)).canonical (attribute_bytes a) in
-        let cb = (attributes_rule p (family b)).canonical (attribute_bytes b) in
+        let s = and_parts (nat_le 16 (length a)) ((list_rule_of p (family a)).accepted (attribute_bytes a)) x in
+        let t = and_parts (nat_le 16 (length b)) ((list_rule_of p (family b)).accepted (attribute_bytes b)) y in
+        let ca = (list_rule_of p (family a)).canonical (attribute_bytes a) in
+        let cb = (list_rule_of p (family b)).canonical (attribute_bytes b) in
         let v = written_header a s.0 in
         let w = written_header b t.0 in
         let h : header_text a ≡ header_text b = sym (take_at (header_text a) ca 16 v.size) ∙ ap (take 16) e ∙ take_at (header_text b) cb 16 w.size in
         let c : ca ≡ cb = sym (drop_at (header_text a) ca 16 v.size) ∙ ap (drop 16) e ∙ drop_at (header_text b) cb 16 w.size in
         let fam = one_family a b v w h in
-        let t' : (attributes_rule p (family a)).accepted (attribute_bytes b) ≡ true = ap (λ f. (attributes_rule p f).accepted (attribute_bytes b)) fam ∙ t.1 in
+        let t' : (list_rule_of p (family a)).accepted (attribute_bytes b) ≡ true = ap (λ f. (list_rule_of p f).accepted (attribute_bytes b)) fam ∙ t.1 in
         and_from _ _ ((bytes_eq-Decides (header_text a) (header_text b)).1 h)
-        ((law (family a)).one_meaning (attribute_bytes a) (attribute_bytes b) s.1 t' (c ∙ ap (λ f. (attributes_rule p f).canonical (attribute_bytes b)) (sym fam)));
+        ((law (family a)).one_meaning (attribute_bytes a) (attribute_bytes b) s.1 t' (c ∙ ap (λ f. (list_rule_of p f).canonical (attribute_bytes b)) (sym fam)));
     bounded = λ b a.
-        let s = and_parts (nat_le 16 (length b)) ((attributes_rule p (family b)).accepted (attribute_bytes b)) a in
+        let s = and_parts (nat_le 16 (length b)) ((list_rule_of p (family b)).accepted (attribute_bytes b)) a in
         let w = written_header b s.0 in
-        let c = (attributes_rule p (family b)).canonical (attribute_bytes b) in
+        let c = (list_rule_of p (family b)).canonical (attribute_bytes b) in
         let l : length (header_text b ++ c) ≡ 16 + length c = length-append (header_text b) c ∙ ap (λ n. n + length c) w.size in
         let lb : length b ≡ 16 + length (attribute_bytes b) = omega (arith, length-drop 16 b, leb-true 16 (length b) s.0) in
         rw (l, lb) (small_rest (length c) (length (attribute_bytes b)) ((law (family b)).bounded (attribute_bytes b) s.1));
     counted = λ b a.
-        let s = and_parts (nat_le 16 (length b)) ((attributes_rule p (family b)).accepted (attribute_bytes b)) a in
+        let s = and_parts (nat_le 16 (length b)) ((list_rule_of p (family b)).accepted (attribute_bytes b)) a in
         omega (arith, (law (family b)).counted (attribute_bytes b) s.1, length-drop 16 b);
     bytes = λ b a m h.
-        let s = and_parts (nat_le 16 (length b)) ((attributes_rule p (family b)).accepted (attribute_bytes b)) a in
+        let s = and_parts (nat_le 16 (length b)) ((list_rule_of p (family b)).accepted (attribute_bytes b)) a in
         let w = written_header b s.0 in
-        AreBytes-append (header_text b) ((attributes_rule p (family b)).canonical (attribute_bytes b)) (w.bytes h) ((law (family b)).bytes (attribute_bytes b) s.1 m (AreBytes-drop 16 b h));
+        AreBytes-append (header_text b) ((list_rule_of p (family b)).canonical (attribute_bytes b)) (w.bytes h) ((law (family b)).bytes (attribute_bytes b) s.1 m (AreBytes-drop 16 b h));
   }
 
   pub body_size : (b : List ℕ) → (body_rule p).accepted b ≡ true → length ((body_rule p).canonical b) ≤ 77 * length b
   unfolding body_rule
   body_size b a =
-      let s = and_parts (nat_le 16 (length b)) ((attributes_rule p (family b)).accepted (attribute_bytes b)) a in
+      let s = and_parts (nat_le 16 (length b)) ((list_rule_of p (family b)).accepted (attribute_bytes b)) a in
       let w = written_header b s.0 in
-      let c = (attributes_rule p (family b)).canonical (attribute_bytes b) in
+      let c = (list_rule_of p (family b)).canonical (attribute_bytes b) in
       omega (arith, length-append (header_text b) c, w.size, length-drop 16 b, leb-true 16 (length b) s.0, (law (family b)).bounded (attribute_bytes b) s.1)
 
 -- under a rule of peers an old text becomes what the first bytes become
 pub body_renewed : (p : Peer) → Renews (body_rule bytes_peer) (body_rule p)
 unfolding body_rule
 body_renewed p b x y =
-    let s = and_parts (nat_le 16 (length b)) ((attributes_rule bytes_peer (family b)).accepted (attribute_bytes b)) x in
-    let t = and_parts (nat_le 16 (length b)) ((attributes_rule p (family b)).accepted (attribute_bytes b)) y in
+    let s = and_parts (nat_le 16 (length b)) ((list_rule_of bytes_peer (family b)).accepted (attribute_bytes b)) x in
+    let t = and_parts (nat_le 16 (length b)) ((list_rule_of p (family b)).accepted (attribute_bytes b)) y in
     let w = written_header b s.0 in
-    let c = (attributes_rule bytes_peer (family b)).canonical (attribute_bytes b) in
-    let o : (attributes_rule p (family (header_text b ++ c))).canonical (attribute_bytes (header_text b ++ c)) ≡ (attributes_rule p (family b)).canonical (attribute_bytes b) =
-    ap (λ f. (attributes_rule p f).canonical (attribute_bytes (header_text b ++ c))) (family_again b c w)
-    ∙ ap (attributes_rule p (family b)).canonical (w.rest c)
-    ∙ renewed p (list any (attributes (family b))) (attributes_modest (family b)) (attribute_bytes b) s.1 t.1 in
-    ap (λ z. z ++ (attributes_rule p (family (header_text b ++ c))).canonical (attribute_bytes (header_text b ++ c))) (w.again c) ∙ ap (λ z. header_text b ++ z) o
+    let c = (list_rule_of bytes_peer (family b)).canonical (attribute_bytes b) in
+    let o : (list_rule_of p (family (header_text b ++ c))).canonical (attribute_bytes (header_text b ++ c)) ≡ (list_rule_of p (family b)).canonical (attribute_bytes b) =
+    ap (λ f. (list_rule_of p f).canonical (attribute_bytes (header_text b ++ c))) (family_again b c w)
+    ∙ ap (list_rule_of p (family b)).canonical (w.rest c)
+    ∙ renewed p (list any (link_table (family b))) (table_bounded (family b)) (attribute_bytes b) s.1 t.1 in
+    ap (λ z. z ++ (list_rule_of p (family (header_text b ++ c))).canonical (attribute_bytes (header_text b ++ c))) (w.again c) ∙ ap (λ z. header_text b ++ z) o
 
 -- ---- peers
 
@@ -207,11 +207,11 @@ link_peer_lawful_of r l small = record {
   bytes = λ b a h. l.bytes b (parts b a).0 (parts b a).2 h;
 }
   where
-    parts : (b : List ℕ) → (link_peer_of r).accepted b ≡ true → (r.accepted b ≡ true) × (r.emptied b ≡ false) × (r.fits b ≡ true)
+    parts : (b : List ℕ) → (link_peer_of r).accepted b ≡ true → (r.accepted b ≡ true) × (r.empty_ports b ≡ false) × (r.fits b ≡ true)
     parts b a =
-        let s = and_parts (r.accepted b && not (r.emptied b)) (r.fits b) a in
-        let t = and_parts (r.accepted b) (not (r.emptied b)) s.0 in
-        (t.0, not-true (r.emptied b) t.1, s.1)
+        let s = and_parts (r.accepted b && not (r.empty_ports b)) (r.fits b) a in
+        let t = and_parts (r.accepted b) (not (r.empty_ports b)) s.0 in
+        (t.0, not-true (r.empty_ports b) t.1, s.1)
 
 pub link_peer_lawful : LawfulPeer link_peer
 link_peer_lawful = link_peer_lawful_of (body_rule bytes_peer) (body_lawful bytes_peer bytes_peer_lawful) (body_size bytes_peer bytes_peer_lawful)

@@ -3,12 +3,12 @@ use Rattle.std.proofs.Common.{◌≡◌, ℕ, true, false, List, [], ◌∷◌, 
 use Rattle.std.specs.Str.{is_utf8, chars}
 use lib.Utf8.{encode}
 use Rattle.netlink_packet_core_grammar.specs.Attributes.{attribute_text, list_text, first_attribute, attributes_within}
-use Rattle.link_info_grammar.specs.Lists.{all_accepted, some_emptied, rewritten, all_fit, count_inside, all_same}
+use Rattle.attribute_tables_grammar.specs.Lists.{all_accepted, some_empty_ports, rewritten, all_fit, attributes_inside, all_same}
 use Rattle.link_message_grammar.specs.Body.{is_listed, body_rule, link_body}
 
 -- all that has to compute
 everything : ℕ
-unfolding is_utf8 chars encode attribute_text list_text first_attribute attributes_within all_accepted some_emptied rewritten all_fit count_inside all_same is_listed body_rule link_body
+unfolding is_utf8 chars encode attribute_text list_text first_attribute attributes_within all_accepted some_empty_ports rewritten all_fit attributes_inside all_same is_listed body_rule link_body
 everything = 0
 
 -- a header alone
@@ -19,7 +19,7 @@ no_attributes-accepted : link_body.accepted no_attributes ≡ true
 unfolding everything
 no_attributes-accepted = refl
 
-no_attributes-count : link_body.count no_attributes ≡ 0
+no_attributes-count : link_body.attributes no_attributes ≡ 0
 unfolding everything
 no_attributes-count = refl
 
@@ -43,7 +43,7 @@ name_with_flag_bits-accepted : link_body.accepted name_with_flag_bits ≡ true
 unfolding everything
 name_with_flag_bits-accepted = refl
 
-name_with_flag_bits-count : link_body.count name_with_flag_bits ≡ 2
+name_with_flag_bits-count : link_body.attributes name_with_flag_bits ≡ 2
 unfolding everything
 name_with_flag_bits-count = refl
 
@@ -67,7 +67,7 @@ name_without_nul-accepted : link_body.accepted name_without_nul ≡ true
 unfolding everything
 name_without_nul-accepted = refl
 
-name_without_nul-count : link_body.count name_without_nul ≡ 1
+name_without_nul-count : link_body.attributes name_without_nul ≡ 1
 unfolding everything
 name_without_nul-count = refl
 
@@ -91,7 +91,7 @@ empty_name-accepted : link_body.accepted empty_name ≡ true
 unfolding everything
 empty_name-accepted = refl
 
-empty_name-count : link_body.count empty_name ≡ 1
+empty_name-count : link_body.attributes empty_name ≡ 1
 unfolding everything
 empty_name-count = refl
 
@@ -115,7 +115,7 @@ inner_nul_kept-accepted : link_body.accepted inner_nul_kept ≡ true
 unfolding everything
 inner_nul_kept-accepted = refl
 
-inner_nul_kept-count : link_body.count inner_nul_kept ≡ 1
+inner_nul_kept-count : link_body.attributes inner_nul_kept ≡ 1
 unfolding everything
 inner_nul_kept-count = refl
 
@@ -155,7 +155,7 @@ raw_kind_keeps_flags-accepted : link_body.accepted raw_kind_keeps_flags ≡ true
 unfolding everything
 raw_kind_keeps_flags-accepted = refl
 
-raw_kind_keeps_flags-count : link_body.count raw_kind_keeps_flags ≡ 1
+raw_kind_keeps_flags-count : link_body.attributes raw_kind_keeps_flags ≡ 1
 unfolding everything
 raw_kind_keeps_flags-count = refl
 
@@ -179,7 +179,7 @@ nested_kind_is_raw-accepted : link_body.accepted nested_kind_is_raw ≡ true
 unfolding everything
 nested_kind_is_raw-accepted = refl
 
-nested_kind_is_raw-count : link_body.count nested_kind_is_raw ≡ 1
+nested_kind_is_raw-count : link_body.attributes nested_kind_is_raw ≡ 1
 unfolding everything
 nested_kind_is_raw-count = refl
 
@@ -203,7 +203,7 @@ unnamed_layer_type-accepted : link_body.accepted unnamed_layer_type ≡ true
 unfolding everything
 unnamed_layer_type-accepted = refl
 
-unnamed_layer_type-count : link_body.count unnamed_layer_type ≡ 0
+unnamed_layer_type-count : link_body.attributes unnamed_layer_type ≡ 0
 unfolding everything
 unnamed_layer_type-count = refl
 
@@ -227,7 +227,7 @@ named_layer_type-accepted : link_body.accepted named_layer_type ≡ true
 unfolding everything
 named_layer_type-accepted = refl
 
-named_layer_type-count : link_body.count named_layer_type ≡ 0
+named_layer_type-count : link_body.attributes named_layer_type ≡ 0
 unfolding everything
 named_layer_type-count = refl
 
@@ -283,7 +283,7 @@ two_attributes-accepted : link_body.accepted two_attributes ≡ true
 unfolding everything
 two_attributes-accepted = refl
 
-two_attributes-count : link_body.count two_attributes ≡ 2
+two_attributes-count : link_body.attributes two_attributes ≡ 2
 unfolding everything
 two_attributes-count = refl
 

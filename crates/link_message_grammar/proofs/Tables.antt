@@ -1,22 +1,22 @@
 -- The tables pass the tests.
 use Rattle.std.proofs.Common.{◌≡◌, true, refl}
-use Rattle.link_info_grammar.specs.Rules.{Lawful}
-use Rattle.link_info_grammar.specs.Lists.{any}
-use Rattle.link_info_grammar.specs.Peers.{Peer, LawfulPeer}
-use Rattle.link_info_grammar.specs.Tables.{Payload.list, modest_rows, rising, rule}
-use Rattle.link_info_grammar.proofs.Tables.{lawful}
-use Rattle.link_message_grammar.specs.LinkMessage.{Family, unspec, bridge, inet_6, other, attributes}
+use Rattle.attribute_tables_grammar.specs.Rules.{Lawful}
+use Rattle.attribute_tables_grammar.specs.Lists.{any}
+use Rattle.attribute_tables_grammar.specs.Peers.{Peer, LawfulPeer}
+use Rattle.attribute_tables_grammar.specs.Tables.{Payload.list, rows_bounded, rising, rule}
+use Rattle.attribute_tables_grammar.proofs.Tables.{lawful}
+use Rattle.link_message_grammar.specs.LinkMessage.{Family, unspec, bridge, inet_6, other, link_table}
 
-pub attributes_modest : (f : Family) → modest_rows (attributes f) ≡ true
-attributes_modest unspec = refl
-attributes_modest bridge = refl
-attributes_modest inet_6 = refl
-attributes_modest other = refl
+pub table_bounded : (f : Family) → rows_bounded (link_table f) ≡ true
+table_bounded unspec = refl
+table_bounded bridge = refl
+table_bounded inet_6 = refl
+table_bounded other = refl
 
-pub attributes_lawful : (p : Peer) → LawfulPeer p → (f : Family) → Lawful (rule p (list any (attributes f)))
-attributes_lawful p l f = lawful p l (list any (attributes f)) (attributes_modest f)
+pub table_lawful : (p : Peer) → LawfulPeer p → (f : Family) → Lawful (rule p (list any (link_table f)))
+table_lawful p l f = lawful p l (list any (link_table f)) (table_bounded f)
 
-pub kinds_rise : (f : Family) → rising (list any (attributes f)) ≡ true
+pub kinds_rise : (f : Family) → rising (list any (link_table f)) ≡ true
 kinds_rise unspec = refl
 kinds_rise bridge = refl
 kinds_rise inet_6 = refl

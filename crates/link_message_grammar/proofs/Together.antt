@@ -1,5 +1,5 @@
 -- The laws that want more than one lemma.
-use Rattle.link_info_grammar.proofs.Together.{one_text_each, keeps_meaning}
+use Rattle.attribute_tables_grammar.proofs.Together.{one_text_each, keeps_meaning}
 use Rattle.link_message_grammar.specs.Body.{body_rule}
 use Rattle.link_message_grammar.specs.Laws.{BodiesTellMeanings, BodiesKeepMeanings}
 use Rattle.link_message_grammar.proofs.Body.{body_lawful}

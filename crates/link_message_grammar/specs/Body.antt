@@ -1,11 +1,11 @@
 -- The body of a link message: a header of 16 bytes and a list of attributes.
 use Rattle.std.specs.Prelude.{ℕ, ◌+◌, ◌*◌, ◌==◌, ◌&&◌, not, nat_le, Bool, cond, List, [], ◌∷◌, ◌++◌, length, take, drop, bytes_eq, slice_index}
 use Rattle.std.specs.List.{list_any}
-use Rattle.link_info_grammar.specs.Rules.{Rule}
-use Rattle.link_info_grammar.specs.Lists.{any}
-use Rattle.link_info_grammar.specs.Peers.{Peer, bytes_peer}
-use Rattle.link_info_grammar.specs.Tables.{Payload.list, rule}
-use Rattle.link_message_grammar.specs.LinkMessage.{Family, family_of, attributes}
+use Rattle.attribute_tables_grammar.specs.Rules.{Rule}
+use Rattle.attribute_tables_grammar.specs.Lists.{any}
+use Rattle.attribute_tables_grammar.specs.Peers.{Peer, bytes_peer}
+use Rattle.attribute_tables_grammar.specs.Tables.{Payload.list, rule}
+use Rattle.link_message_grammar.specs.LinkMessage.{Family, family_of, link_table}
 
 abbrev pub layer_types : List ℕ
 layer_types =
@@ -32,26 +32,26 @@ abbrev pub family : List ℕ → Family
 family b = family_of (slice_index b 0)
 
 -- the attributes of a body of this family
-abbrev pub attributes_rule : Peer → Family → Rule
-attributes_rule p f = rule p (list any (attributes f))
+abbrev pub list_rule_of : Peer → Family → Rule
+list_rule_of p f = rule p (list any (link_table f))
 
 unfoldable pub body_rule : Peer → Rule
 body_rule p = record {
-  accepted = λ b. nat_le 16 (length b) && (attributes_rule p (family b)).accepted (attribute_bytes b);
-  same = λ a b. bytes_eq (header_text a) (header_text b) && (attributes_rule p (family a)).same (attribute_bytes a) (attribute_bytes b);
-  canonical = λ b. header_text b ++ (attributes_rule p (family b)).canonical (attribute_bytes b);
-  count = λ b. (attributes_rule p (family b)).count (attribute_bytes b);
-  fits = λ b. (attributes_rule p (family b)).fits (attribute_bytes b);
-  emptied = λ b. (attributes_rule p (family b)).emptied (attribute_bytes b);
+  accepted = λ b. nat_le 16 (length b) && (list_rule_of p (family b)).accepted (attribute_bytes b);
+  same = λ a b. bytes_eq (header_text a) (header_text b) && (list_rule_of p (family a)).same (attribute_bytes a) (attribute_bytes b);
+  canonical = λ b. header_text b ++ (list_rule_of p (family b)).canonical (attribute_bytes b);
+  attributes = λ b. (list_rule_of p (family b)).attributes (attribute_bytes b);
+  fits = λ b. (list_rule_of p (family b)).fits (attribute_bytes b);
+  empty_ports = λ b. (list_rule_of p (family b)).empty_ports (attribute_bytes b);
 }
 
 -- a peer that is itself a link body, whose own peers are bytes
 abbrev pub link_peer_of : Rule → Peer
 link_peer_of r = record {
-  accepted = λ b. r.accepted b && not (r.emptied b) && r.fits b;
+  accepted = λ b. r.accepted b && not (r.empty_ports b) && r.fits b;
   same = r.same;
   canonical = r.canonical;
-  count = r.count;
+  attributes = r.attributes;
 }
 
 abbrev pub link_peer : Peer

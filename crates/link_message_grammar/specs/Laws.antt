@@ -1,19 +1,19 @@
 -- The laws of the definitions, as the functions of `laws` state them.
 use Rattle.std.specs.Prelude.{◌≡◌, ℕ, ◌*◌, ◌≤◌, true, List, length}
-use Rattle.link_info_grammar.specs.Rules.{Lawful, Renews}
-use Rattle.link_info_grammar.specs.Lists.{any}
-use Rattle.link_info_grammar.specs.Peers.{Peer, LawfulPeer, bytes_peer}
-use Rattle.link_info_grammar.specs.Tables.{Payload.list, rule, rising}
-use Rattle.link_info_grammar.specs.Laws.{OneTextEach, KeepsMeaning}
-use Rattle.link_message_grammar.specs.LinkMessage.{Family, attributes}
+use Rattle.attribute_tables_grammar.specs.Rules.{Lawful, Renews}
+use Rattle.attribute_tables_grammar.specs.Lists.{any}
+use Rattle.attribute_tables_grammar.specs.Peers.{Peer, LawfulPeer, bytes_peer}
+use Rattle.attribute_tables_grammar.specs.Tables.{Payload.list, rule, rising}
+use Rattle.attribute_tables_grammar.specs.Laws.{OneTextEach, KeepsMeaning}
+use Rattle.link_message_grammar.specs.LinkMessage.{Family, link_table}
 use Rattle.link_message_grammar.specs.Body.{body_rule, link_peer}
 
 abbrev pub AttributesAreLawful : Type 0
-AttributesAreLawful = (p : Peer) → LawfulPeer p → (f : Family) → Lawful (rule p (list any (attributes f)))
+AttributesAreLawful = (p : Peer) → LawfulPeer p → (f : Family) → Lawful (rule p (list any (link_table f)))
 
 -- the kinds of each table rise, so none stands twice
 abbrev pub KindsRise : Type 0
-KindsRise = (f : Family) → rising (list any (attributes f)) ≡ true
+KindsRise = (f : Family) → rising (list any (link_table f)) ≡ true
 
 abbrev pub BodiesAreLawful : Type 0
 BodiesAreLawful = (p : Peer) → LawfulPeer p → Lawful (body_rule p)

@@ -3,3 +3,4 @@ pub mod Headers
 pub mod Walks
 pub mod WalkLaws
 pub mod Emits
+pub mod Families

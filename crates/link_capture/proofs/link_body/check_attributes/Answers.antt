@@ -1,5 +1,5 @@
 use Rattle.std.proofs.Common.{subst, sym, ap, arith}
-use Rattle.link_info_grammar.specs.Walk.{Measure}
+use Rattle.attribute_tables_grammar.specs.Walks.{Measure}
 use Rattle.link_capture.specs.LinkBody.{view}
 use Rattle.link_capture.proofs.LinkBody.{Met, start, more, refused, stop, done, small, measure_is}
 use Rattle.link_capture.proofs.link_body.check_attributes.Goals as goal
@@ -37,7 +37,7 @@ pub loop-rest-preserved : goal.loop-rest-preserved
 loop-rest-preserved c =
     let w = c.with_attribute-total.ensures in
     let size = ap (λ (m : Measure). m.size) w in
-    let headers = ap (λ (m : Measure). m.headers) w in
+    let attributes = ap (λ (m : Measure). m.attributes) w in
     let s = small c.loop-rest.rest.now (record { kind = c.in-Some.attribute.kind; payload = c.in-Some.attribute.payload.now }) c.in-Some.after.now (view c.in-Some-check_payload.inside) c.in-Some.ensures c.in-Some-check_payload.ensures in
     record {
       met = subst (λ m. Met c.args.bytes.now m c.in-Some.after.now) (sym w) (more c.args.bytes.now c.loop-rest.rest.now (record { kind = c.in-Some.attribute.kind; payload = c.in-Some.attribute.payload.now }) c.in-Some.after.now (view c.loop-rest.total) (view c.in-Some-check_payload.inside) c.in-Some.ensures c.in-Some-check_payload.ensures c.loop-rest.invariant.met);

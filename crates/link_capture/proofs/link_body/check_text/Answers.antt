@@ -1,5 +1,5 @@
 use Rattle.std.proofs.Common.{Some, ap, ◌∙◌}
-use Rattle.link_info_grammar.proofs.Texts.{text_none, text_some}
+use Rattle.attribute_tables_grammar.proofs.Texts.{text_none, text_some}
 use Rattle.link_capture.proofs.LinkBody.{measure_is}
 use Rattle.link_capture.proofs.link_body.check_text.Goals as goal
 

@@ -1,7 +1,7 @@
 use Rattle.std.proofs.Common.{◌++◌, sym, ap, ◌∙◌}
 use Rattle.std.proofs.lemmas.List.{append-nil}
 use Rattle.netlink_packet_core_grammar.specs.Attributes.{Attribute, attribute_text, proper_kind}
-use Rattle.link_info_grammar.specs.Lists.{rewrite}
+use Rattle.attribute_tables_grammar.specs.Lists.{rewrite}
 use Rattle.link_capture.specs.LinkBody.{link_row, link_attributes}
 use Rattle.link_capture.proofs.LinkBody.{step, ended, written_more, kept_more}
 use Rattle.link_capture.proofs.link_body.push_attributes.Goals as goal

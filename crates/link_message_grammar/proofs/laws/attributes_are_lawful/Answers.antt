@@ -1,5 +1,5 @@
-use Rattle.link_message_grammar.proofs.Tables.{attributes_lawful}
+use Rattle.link_message_grammar.proofs.Tables.{table_lawful}
 use Rattle.link_message_grammar.proofs.laws.attributes_are_lawful.Goals as goal
 
 pub returns : goal.returns
-returns c = attributes_lawful
+returns c = table_lawful

@@ -1,7 +1,7 @@
 use Rattle.std.proofs.Common.{ap, ◌∙◌, arith}
 use Rattle.std.proofs.lemmas.List.{take_rest}
 use Rattle.std.proofs.lemmas.Bool.{not-true}
-use Rattle.link_info_grammar.specs.Walk.{measure}
+use Rattle.attribute_tables_grammar.specs.Walks.{measure}
 use Rattle.link_capture.specs.LinkBody.{view, link_attributes}
 use Rattle.link_capture.proofs.LinkBody.{body_short, ruled_refused, body_refused, body_unfit, body_judged, not_false}
 use Rattle.link_capture.proofs.link_body.LinkBody.read.Goals as goal

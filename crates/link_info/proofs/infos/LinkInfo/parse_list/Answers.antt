@@ -3,8 +3,8 @@ use Rattle.std.proofs.lemmas.Bool.Decides.{nat_tests}
 use Rattle.netlink_packet_core_grammar.specs.Attributes.{nla_align, proper_kind}
 use Rattle.netlink_packet_core_grammar.specs.AttributeViews.{IsAttribute, length_of, attribute_of, raw_kind_of, payload_of, after_first}
 use Rattle.netlink_packet_core.specs.Errors.{is_memory}
-use Rattle.link_info_grammar.specs.Lists.{nothing, rewrite}
-use Rattle.link_info_grammar.specs.Tables.{info_next}
+use Rattle.attribute_tables_grammar.specs.Lists.{nothing, rewrite}
+use Rattle.attribute_tables_grammar.specs.Tables.{info_next}
 use Rattle.link_info.specs.LinkInfo.{in_force, info_rule, link_info_row, link_info_entry, link_info_fits}
 use Rattle.link_info.proofs.InfoReading.{State, Done, state_start, state_more, state_refused, state_stopped, state_done}
 use Rattle.link_info.proofs.infos.LinkInfo.parse_list.Goals as goal

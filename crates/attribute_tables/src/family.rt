@@ -1,0 +1,63 @@
+//! The reader of a family, and lists of its attributes.
+
+ghost use Rattle.std.specs.Prelude.{◌≡◌, ◌<◌, true, false, length, map, Some, IsTrue, IfOk, IfErr, OnOk};
+ghost use Rattle.std.specs.List.{All};
+ghost use Rattle.netlink_packet_core.specs.Errors.{is_memory};
+ghost use Rattle.netlink_packet_core.specs.Families.{family_row, may_want_memory};
+ghost use Rattle.netlink_packet_core.specs.Lists.{text_by, all_fit_by};
+ghost use Rattle.attribute_tables_grammar.specs.Lists.{any, without_context};
+ghost use Rattle.attribute_tables_grammar.specs.LookUps.{list_of};
+ghost use Rattle.attribute_tables_grammar.specs.Peers.{bytes_peer};
+ghost use Rattle.attribute_tables_grammar.specs.Readings.{reading_as};
+ghost use Rattle.attribute_tables.specs.Written.{written_as};
+
+use super::reader::{Reader, parse_list};
+use netlink_packet_core::{DecodeError, Family, NlaBuffer, read_attribute};
+use std::alloc::Global;
+use std::marker::PhantomData;
+
+/// Reads the attributes of a family.
+#[derive(Drop)]
+pub struct FamilyReader<F>(PhantomData<F>);
+
+impl<F> FamilyReader<F> {
+    /// The reader of the family.
+    pub const fn new() -> Self {
+        FamilyReader(PhantomData)
+    }
+}
+
+impl<F: Family + Drop> Reader for FamilyReader<F> {
+    type Value = F;
+
+    ghost row_of = { λ _. family_row F.rows };
+
+    ghost names_row = { λ _. F.names_row };
+
+    ghost may_want_memory = { λ _. may_want_memory F.rows };
+
+    #[tactic(auto, using(crate::proofs::Families::families))]
+    fn read(&self, alloc: Global, buf: &NlaBuffer<&[u8]>) -> Result<F, DecodeError> {
+        read_attribute(alloc, buf)
+    }
+}
+
+/// Reads a list of attributes of a family. It succeeds exactly where the list is accepted, memory
+/// aside; a list of no bytes is never refused.
+#[tactic(auto, using(crate::proofs::Families::family_lists))]
+pub fn parse_family<F: Family + Drop>(alloc: Global, bytes: &[u8]) -> Result<Vec<F>, DecodeError>
+    ensures ok { OnOk result (IsTrue ((list_of bytes_peer any F.rows).accepted bytes.now)) }
+    ensures read { IfOk result
+        (λ v. reading_as any (without_context (family_row F.rows)) bytes.now
+        ≡ Some (map (written_as F.field_entry (λ _. true)) v.items)) }
+    ensures text { IfOk result
+        (λ v. text_by F.field_entry v.items ≡ (list_of bytes_peer any F.rows).canonical bytes.now) }
+    ensures fits { IfOk result
+        (λ v. all_fit_by F.field_entry (λ _. true) v.items ≡ (list_of bytes_peer any F.rows).fits bytes.now) }
+    ensures names_row { IfOk result (λ v. All F.names_row v.items) }
+    ensures err { IfErr result
+        (λ e. is_memory e ≡ false → (list_of bytes_peer any F.rows).accepted bytes.now ≡ false) }
+    ensures not_empty { IfErr result (λ _. 0 < length bytes.now) }
+{
+    parse_list(alloc, &FamilyReader::<F>::new(), bytes)
+}

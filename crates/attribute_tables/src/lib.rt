@@ -1,0 +1,32 @@
+// Lists of attributes of one table, read into typed values.
+#![tactic(auto)]
+
+mod family;
+mod reader;
+
+pub use family::{FamilyReader, parse_family};
+pub use reader::{Reader, parse_list};
+
+/// The variant of a payload that was read, or the refusal. A number type or a flag set is made of
+/// the number. (A `match`, since `?` in each arm of a long table costs the check twice the time.)
+#[macro_export]
+macro_rules! typed {
+    ($variant:ident, $read:expr) => {
+        match $read {
+            Ok(value) => Ok(Some(Self::$variant(value))),
+            Err(error) => Err(error),
+        }
+    };
+    ($variant:ident, $read:expr, $name:ident) => {
+        match $read {
+            Ok(value) => Ok(Some(Self::$variant($name::from(value)))),
+            Err(error) => Err(error),
+        }
+    };
+    ($variant:ident, $read:expr, $name:ident::$make:ident) => {
+        match $read {
+            Ok(value) => Ok(Some(Self::$variant($name::$make(value)))),
+            Err(error) => Err(error),
+        }
+    };
+}

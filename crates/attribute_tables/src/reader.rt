@@ -1,0 +1,79 @@
+//! Readers of the attributes of one table, and lists of them.
+
+ghost use Rattle.std.specs.Prelude.{◌≡◌, ◌<◌, ℕ, List, Bool, true, false, length, map, Some, IsTrue, IfOk, IfErr, OnOk};
+ghost use Rattle.std.specs.List.{All};
+ghost use Rattle.netlink_packet_core_grammar.specs.AttributeViews.{attribute_of, payload_of, IsAttribute};
+ghost use Rattle.netlink_packet_core.specs.Errors.{is_memory};
+ghost use Rattle.netlink_packet_core.specs.NlaBuffers.{storage};
+ghost use Rattle.netlink_packet_core.specs.Lists.{text_by, all_fit_by};
+ghost use Rattle.attribute_tables_grammar.specs.Lists.{Row, any, row_at, rewrite, without_context};
+ghost use Rattle.attribute_tables_grammar.specs.LookUps.{rows_rule};
+ghost use Rattle.attribute_tables_grammar.specs.Readings.{reading_as};
+ghost use Rattle.attribute_tables.specs.Written.{written_as};
+
+use netlink_packet_core::{DecodeError, Nla, NlaBuffer, skip_first};
+use std::alloc::Global;
+
+/// A reader of the attributes of one table, under a context that it holds.
+pub trait Reader {
+    type Value: Nla + Drop;
+
+    /// The row of a kind without its flag bits.
+    ghost row_of: { Self → ℕ → Row };
+
+    /// The value is the variant that its row names.
+    ghost names_row: { Self → Self.Value → Type 0 };
+
+    /// Whether reading an attribute may take memory.
+    ghost may_want_memory: { Self → List ℕ → Bool };
+
+    /// Reads one attribute.
+    fn read(&self, alloc: Global, buf: &NlaBuffer<&[u8]>) -> Result<Self::Value, DecodeError>
+        requires { IsAttribute (storage buf.now).now }
+        ensures ok { OnOk result
+            (IsTrue ((row_at (row_of self.now) (attribute_of (storage buf.now).now)).rule.accepted (payload_of (storage buf.now).now))) }
+        ensures value { IfOk result
+            (λ v. Self.Value.entry v
+            ≡ rewrite (row_at (row_of self.now) (attribute_of (storage buf.now).now)) (attribute_of (storage buf.now).now)) }
+        ensures inside { IfOk result
+            (λ v. Self.Value.inside_fits v
+            ≡ (row_at (row_of self.now) (attribute_of (storage buf.now).now)).rule.fits (payload_of (storage buf.now).now)) }
+        ensures names_row { IfOk result (λ v. names_row self.now v) }
+        ensures err { IfErr result
+            (λ e. is_memory e ≡ false
+            → (row_at (row_of self.now) (attribute_of (storage buf.now).now)).rule.accepted (payload_of (storage buf.now).now)
+            ≡ false) }
+        ensures memory { IfErr result
+            (λ e. is_memory e ≡ true → may_want_memory self.now (storage buf.now).now ≡ true) };
+}
+
+/// Reads a list of attributes of one table. It succeeds exactly where the list is accepted, memory
+/// aside; a list of no bytes is never refused.
+pub fn parse_list<R: Reader>(
+    alloc: Global,
+    reader: &R,
+    bytes: &[u8],
+) -> Result<Vec<R::Value>, DecodeError>
+    ensures ok { OnOk result (IsTrue ((rows_rule any (R.row_of reader.now)).accepted bytes.now)) }
+    ensures read { IfOk result
+        (λ v. reading_as any (without_context (R.row_of reader.now)) bytes.now
+        ≡ Some (map (written_as R.Value.entry R.Value.inside_fits) v.items)) }
+    ensures text { IfOk result
+        (λ v. text_by R.Value.entry v.items ≡ (rows_rule any (R.row_of reader.now)).canonical bytes.now) }
+    ensures fits { IfOk result
+        (λ v. all_fit_by R.Value.entry R.Value.inside_fits v.items
+        ≡ (rows_rule any (R.row_of reader.now)).fits bytes.now) }
+    ensures names_row { IfOk result (λ v. All (R.names_row reader.now) v.items) }
+    ensures err { IfErr result
+        (λ e. is_memory e ≡ false → (rows_rule any (R.row_of reader.now)).accepted bytes.now ≡ false) }
+    ensures not_empty { IfErr result (λ _. 0 < length bytes.now) }
+{
+    let mut list = Vec::new(alloc);
+    let mut rest = bytes;
+    while !rest.is_empty() {
+        let buf = NlaBuffer::new_checked(rest)?;
+        list.push(reader.read(alloc, &buf)?)?;
+        rest = skip_first(rest);
+    }
+    Ok(list)
+}

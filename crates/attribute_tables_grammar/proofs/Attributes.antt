@@ -1,0 +1,197 @@
+-- Attributes in order, each in its context, and their canonical forms.
+use Rattle.std.proofs.Common.{◌≡◌, ℕ, ◌+◌, ◌<◌, Bool, true, false, cond, List, [], ◌∷◌, length, refl, sym, ap, ◌∙◌, arith}
+use Rattle.std.specs.Prelude.{◌&&◌, nat_le, ◌==◌}
+use Rattle.std.proofs.lemmas.Bool.{and_parts, and_from, or_parts, or_from, eqb-true, eq-eqb}
+use Rattle.netlink_packet_core_grammar.specs.Attributes.{Attribute, proper_kind, list_text, attributes_of}
+use Rattle.netlink_packet_core_grammar.proofs.Attributes.{attributes_of_text, got_is}
+use Rattle.attribute_tables_grammar.specs.Lists.{Context, Row, Grammar, row_of, written_kind, same_kind, same_attribute, all_accepted, some_empty_ports, rewrite, rewritten, all_fit, all_same, context_after, LawfulGrammar}
+
+-- ---- kinds
+
+proper_kind-written_by : (t n : Bool) (k : ℕ) → proper_kind (cond t (proper_kind k + cond n 0x8000 0) k) ≡ proper_kind k
+proper_kind-written_by true true k = omega arith
+proper_kind-written_by true false k = omega arith
+proper_kind-written_by false n k = refl
+
+pub proper_kind-written : (r : Row) (k : ℕ) → proper_kind (written_kind r k) ≡ proper_kind k
+proper_kind-written r k = proper_kind-written_by r.is_typed r.is_nested k
+
+written_kind_again_by : (t n : Bool) (k : ℕ) → cond t (proper_kind (cond t (proper_kind k + cond n 0x8000 0) k) + cond n 0x8000 0) (cond t (proper_kind k + cond n 0x8000 0) k) ≡ cond t (proper_kind k + cond n 0x8000 0) k
+written_kind_again_by true n k = ap (λ x. x + cond n 0x8000 0) (proper_kind-written_by true n k)
+written_kind_again_by false n k = refl
+
+pub written_kind_again : (r : Row) (k : ℕ) → written_kind r (written_kind r k) ≡ written_kind r k
+written_kind_again r k = written_kind_again_by r.is_typed r.is_nested k
+
+pub written_kind_small_by : (t n : Bool) (k : ℕ) → k < 65536 → cond t (proper_kind k + cond n 0x8000 0) k < 65536
+written_kind_small_by true true k h = omega arith
+written_kind_small_by true false k h = omega arith
+written_kind_small_by false n k h = h
+
+same_kind-written_by : (t u n : Bool) (k l : ℕ) → cond (t && u) (proper_kind k == proper_kind l) (k == l) ≡ true → (proper_kind k ≡ proper_kind l) × (cond t (proper_kind k + cond n 0x8000 0) k ≡ cond t (proper_kind l + cond n 0x8000 0) l)
+same_kind-written_by true true n k l h = let e = eqb-true (proper_kind k) (proper_kind l) h in (e, ap (λ x. x + cond n 0x8000 0) e)
+same_kind-written_by true false n k l h = let e = eqb-true k l h in (ap proper_kind e, ap (λ x. proper_kind x + cond n 0x8000 0) e)
+same_kind-written_by false u n k l h = let e = eqb-true k l h in (ap proper_kind e, e)
+
+-- attributes that are the same are of one kind, and are written with it
+same_kind-written : (r s : Row) (k l : ℕ) → same_kind r s k l ≡ true → (proper_kind k ≡ proper_kind l) × (written_kind r k ≡ written_kind r l)
+same_kind-written r s k l h = same_kind-written_by r.is_typed s.is_typed r.is_nested k l h
+
+written-same_kind_by : (t n : Bool) (k l : ℕ) → cond t (proper_kind k + cond n 0x8000 0) k ≡ cond t (proper_kind l + cond n 0x8000 0) l → cond (t && t) (proper_kind k == proper_kind l) (k == l) ≡ true
+written-same_kind_by true n k l h = eq-eqb (proper_kind k) (proper_kind l) (omega arith)
+written-same_kind_by false n k l h = eq-eqb k l h
+
+-- ---- one attribute
+
+module _ (g : Grammar) (lawful : LawfulGrammar g) where
+  -- an attribute and its canonical form have one row
+  row_again : (c : Context) (e : Attribute) → row_of g c (rewrite (row_of g c e) e) ≡ row_of g c e
+  row_again c e = ap (g.row c) (proper_kind-written (row_of g c e) e.kind)
+
+  pub next_again : (c : Context) (e : Attribute) → (row_of g c e).rule.accepted e.payload ≡ true → g.next c (rewrite (row_of g c e) e) ≡ g.next c e
+  next_again c e a =
+      let r = row_of g c e in
+      sym (lawful.steps c e (rewrite r e) (sym (proper_kind-written r e.kind)) (sym ((lawful.rows c (proper_kind e.kind)).itself e.payload a)))
+
+  pub rewrite_again : (c : Context) (e : Attribute) → (row_of g c e).rule.accepted e.payload ≡ true → rewrite (row_of g c (rewrite (row_of g c e) e)) (rewrite (row_of g c e) e) ≡ rewrite (row_of g c e) e
+  rewrite_again c e a =
+      let r = row_of g c e in
+      let l = (lawful.rows c (proper_kind e.kind)).itself e.payload a in
+      ap (λ s. rewrite s (rewrite r e)) (row_again c e)
+      ∙ ap (λ k. record { kind = k; payload = r.rule.canonical (r.rule.canonical e.payload) }) (written_kind_again r e.kind)
+      ∙ ap (λ p. record { kind = written_kind r e.kind; payload = p }) l
+
+  pub rewritten_again : (c : Context) (es : List Attribute) → all_accepted g c es ≡ true → rewritten g c (rewritten g c es) ≡ rewritten g c es
+  unfolding all_accepted rewritten
+  rewritten_again c [] a = refl
+  rewritten_again c (e ∷ es) a =
+      let b = and_parts _ _ a in
+      let e' = rewrite (row_of g c e) e in
+      let rest = rewritten g (g.next c e) es in
+      ap (λ x. x ∷ rewritten g (g.next c e') rest) (rewrite_again c e b.0)
+      ∙ ap (λ d. e' ∷ rewritten g d rest) (next_again c e b.0)
+      ∙ ap (λ x. e' ∷ x) (rewritten_again (g.next c e) es b.1)
+
+  pub accepted_again : (c : Context) (es : List Attribute) → all_accepted g c es ≡ true → some_empty_ports g c es ≡ false → (all_accepted g c (rewritten g c es) ≡ true) × (some_empty_ports g c (rewritten g c es) ≡ false)
+  unfolding all_accepted some_empty_ports rewritten
+  accepted_again c [] a m = (refl, refl)
+  accepted_again c (e ∷ es) a m =
+      let b = and_parts _ _ a in
+      let n = or_parts _ _ m in
+      let r = row_of g c e in
+      let e' = rewrite r e in
+      let rest = rewritten g (g.next c e) es in
+      let one = (lawful.rows c (proper_kind e.kind)).again e.payload b.0 n.0 in
+      let more = accepted_again (g.next c e) es b.1 n.1 in
+      let first_accepted : (row_of g c e').rule.accepted e'.payload ≡ true = ap (λ s. s.rule.accepted e'.payload) (row_again c e) ∙ one.0 in
+      let first_full : (row_of g c e').rule.empty_ports e'.payload ≡ false = ap (λ s. s.rule.empty_ports e'.payload) (row_again c e) ∙ one.1 in
+      let n_is = next_again c e b.0 in (
+        and_from _ _ first_accepted (ap (λ d. all_accepted g d rest) n_is ∙ more.0),
+        or_from _ _ first_full (ap (λ d. some_empty_ports g d rest) n_is ∙ more.1),
+      )
+
+  pub fit_again : (c : Context) (es : List Attribute) → all_accepted g c es ≡ true → all_fit g c es ≡ true → all_fit g c (rewritten g c es) ≡ true
+  unfolding all_accepted all_fit rewritten
+  fit_again c [] a f = refl
+  fit_again c (e ∷ es) a f =
+      let b = and_parts _ _ a in
+      let r = row_of g c e in
+      let e' = rewrite r e in
+      let rest = rewritten g (g.next c e) es in
+      let f1 = and_parts (nat_le (4 + length (r.rule.canonical e.payload)) 65535 && r.rule.fits e.payload) (all_fit g (g.next c e) es) f in
+      let f2 = and_parts (nat_le (4 + length (r.rule.canonical e.payload)) 65535) (r.rule.fits e.payload) f1.0 in
+      let law = lawful.rows c (proper_kind e.kind) in
+      let size_is : nat_le (4 + length ((row_of g c e').rule.canonical e'.payload)) 65535 ≡ true =
+      ap (λ s. nat_le (4 + length (s.rule.canonical e'.payload)) 65535) (row_again c e) ∙ ap (λ x. nat_le (4 + length x) 65535) (law.itself e.payload b.0) ∙ f2.0 in
+      let inside : (row_of g c e').rule.fits e'.payload ≡ true = ap (λ s. s.rule.fits e'.payload) (row_again c e) ∙ law.fits_again e.payload b.0 f2.1 in
+      and_from _ _ (and_from _ _ size_is inside) (ap (λ d. all_fit g d rest) (next_again c e b.0) ∙ fit_again (g.next c e) es b.1 f1.1)
+
+  -- ---- the same lists, and equal canonical forms
+
+  -- what two lists that are the same begin with: one row, whose payloads have one canonical form; and what follows is the same again
+  record SameFronts (c : Context) (e f : Attribute) (es fs : List Attribute) : Type 0 where
+    kinds : written_kind (row_of g c e) e.kind ≡ written_kind (row_of g c e) f.kind
+    rows : row_of g c f ≡ row_of g c e
+    payloads : (row_of g c e).rule.canonical e.payload ≡ (row_of g c e).rule.canonical f.payload
+    contexts : g.next c e ≡ g.next c f
+    accepted : all_accepted g (g.next c e) es ≡ true
+    accepted_too : all_accepted g (g.next c e) fs ≡ true
+    same : all_same g (g.next c e) (g.next c e) es fs ≡ true
+
+  same_fronts : (c : Context) (e f : Attribute) (es fs : List Attribute) → all_accepted g c (e ∷ es) ≡ true → all_accepted g c (f ∷ fs) ≡ true → all_same g c c (e ∷ es) (f ∷ fs) ≡ true → SameFronts c e f es fs
+  unfolding all_accepted all_same
+  same_fronts c e f es fs a b s =
+      let r = row_of g c e in
+      let q = row_of g c f in
+      let s1 = and_parts (same_attribute r q e f) (all_same g (g.next c e) (g.next c f) es fs) s in
+      let s2 = and_parts (same_kind r q e.kind f.kind) (r.rule.same e.payload f.payload && q.rule.same e.payload f.payload) s1.0 in
+      let s3 = and_parts (r.rule.same e.payload f.payload) (q.rule.same e.payload f.payload) s2.1 in
+      let k = same_kind-written r q e.kind f.kind s2.0 in
+      let row_is : row_of g c f ≡ r = ap (g.row c) (sym k.0) in
+      let a1 = and_parts _ _ a in
+      let b1 = and_parts _ _ b in
+      let f_accepted : r.rule.accepted f.payload ≡ true = ap (λ x. x.rule.accepted f.payload) (sym row_is) ∙ b1.0 in
+      let p_is : r.rule.canonical e.payload ≡ r.rule.canonical f.payload = (lawful.rows c (proper_kind e.kind)).one_text e.payload f.payload a1.0 f_accepted s3.0 in
+      let next_is : g.next c e ≡ g.next c f = lawful.steps c e f k.0 p_is in
+      record {
+        kinds = k.1;
+        rows = row_is;
+        payloads = p_is;
+        contexts = next_is;
+        accepted = a1.1;
+        accepted_too = ap (λ d. all_accepted g d fs) next_is ∙ b1.1;
+        same = ap (λ d. all_same g (g.next c e) d es fs) next_is ∙ s1.1;
+      }
+
+  pub same_rewritten : (c : Context) (es fs : List Attribute) → all_accepted g c es ≡ true → all_accepted g c fs ≡ true → all_same g c c es fs ≡ true → rewritten g c es ≡ rewritten g c fs
+  unfolding all_accepted all_same rewritten
+  same_rewritten c [] [] a b s = refl
+  same_rewritten c [] (f ∷ fs) a b s = absurd cc
+  same_rewritten c (e ∷ es) [] a b s = absurd cc
+  same_rewritten c (e ∷ es) (f ∷ fs) a b s =
+      let r = row_of g c e in
+      let w = same_fronts c e f es fs a b s in
+      let rest : rewritten g (g.next c e) es ≡ rewritten g (g.next c e) fs = same_rewritten (g.next c e) es fs w.accepted w.accepted_too w.same in
+      let head : rewrite r e ≡ rewrite (row_of g c f) f =
+      ap (λ x. record { kind = x; payload = r.rule.canonical e.payload }) w.kinds
+      ∙ ap (λ x. record { kind = written_kind r f.kind; payload = x }) w.payloads
+      ∙ ap (λ x. rewrite x f) (sym w.rows) in
+      ap (λ x. x ∷ rewritten g (g.next c e) es) head
+      ∙ ap (λ x. rewrite (row_of g c f) f ∷ x) rest
+      ∙ ap (λ d. rewrite (row_of g c f) f ∷ rewritten g d fs) w.contexts
+
+  -- the same lists leave the same in force
+  pub one_context : (c : Context) (es fs : List Attribute) → all_accepted g c es ≡ true → all_accepted g c fs ≡ true → all_same g c c es fs ≡ true → context_after g c es ≡ context_after g c fs
+  unfolding all_accepted all_same context_after
+  one_context c [] [] a b s = refl
+  one_context c [] (f ∷ fs) a b s = absurd cc
+  one_context c (e ∷ es) [] a b s = absurd cc
+  one_context c (e ∷ es) (f ∷ fs) a b s =
+      let w = same_fronts c e f es fs a b s in
+      one_context (g.next c e) es fs w.accepted w.accepted_too w.same ∙ ap (λ d. context_after g d fs) w.contexts
+
+  pub rewritten_same : (c : Context) (es fs : List Attribute) → all_accepted g c es ≡ true → all_accepted g c fs ≡ true → rewritten g c es ≡ rewritten g c fs → all_same g c c es fs ≡ true
+  unfolding all_accepted all_same rewritten
+  rewritten_same c [] [] a b s = refl
+  rewritten_same c [] (f ∷ fs) a b s = absurd cc
+  rewritten_same c (e ∷ es) [] a b s = absurd cc
+  rewritten_same c (e ∷ es) (f ∷ fs) a b s =
+      let r = row_of g c e in
+      let head : rewrite r e ≡ rewrite (row_of g c f) f = cc in
+      let tails : rewritten g (g.next c e) es ≡ rewritten g (g.next c f) fs = cc in
+      let kinds : proper_kind e.kind ≡ proper_kind f.kind = sym (proper_kind-written r e.kind) ∙ ap (λ x. proper_kind x.kind) head ∙ proper_kind-written (row_of g c f) f.kind in
+      let row_is : row_of g c f ≡ r = ap (g.row c) (sym kinds) in
+      let a1 = and_parts _ _ a in
+      let b1 = and_parts _ _ b in
+      let f_accepted : r.rule.accepted f.payload ≡ true = ap (λ x. x.rule.accepted f.payload) (sym row_is) ∙ b1.0 in
+      let p_is : r.rule.canonical e.payload ≡ r.rule.canonical f.payload = ap (λ x. x.payload) head ∙ ap (λ x. x.rule.canonical f.payload) row_is in
+      let w_is : written_kind r e.kind ≡ written_kind r f.kind = ap (λ x. x.kind) head ∙ ap (λ x. written_kind x f.kind) row_is in
+      let next_is : g.next c e ≡ g.next c f = lawful.steps c e f kinds p_is in
+      let rest = rewritten_same (g.next c e) es fs a1.1 (ap (λ d. all_accepted g d fs) next_is ∙ b1.1) (tails ∙ ap (λ d. rewritten g d fs) (sym next_is)) in
+      let meaning = (lawful.rows c (proper_kind e.kind)).one_meaning e.payload f.payload a1.0 f_accepted p_is in
+      let one : same_attribute r r e f ≡ true = and_from _ _ (written-same_kind_by r.is_typed r.is_nested e.kind f.kind w_is) (and_from _ _ meaning meaning) in
+      and_from _ _ (ap (λ q. same_attribute r q e f) row_is ∙ one) (ap (λ d. all_same g (g.next c e) d es fs) (sym next_is) ∙ rest)
+
+-- equal texts are texts of equal lists
+pub one_list : (es fs : List Attribute) → list_text es ≡ list_text fs → es ≡ fs
+one_list es fs h = got_is es fs (sym (attributes_of_text es) ∙ ap attributes_of h ∙ attributes_of_text fs)

@@ -1,0 +1,15 @@
+pub mod Shapes
+pub mod Attributes
+pub mod Sizes
+pub mod Lists
+pub mod Tables
+pub mod LookUps
+pub mod Renewed
+pub mod Together
+pub mod Kept
+pub mod Readings
+pub mod Named
+pub mod Texts
+pub mod Walks
+pub mod TableWalk
+pub mod TableText

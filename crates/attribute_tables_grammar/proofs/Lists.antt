@@ -1,0 +1,225 @@
+-- A list over lawful rows is a lawful rule.
+use Rattle.std.proofs.Common.{◌≡◌, ℕ, ◌+◌, ◌*◌, ◌≤◌, Bool, true, false, cond, eqb, List, [], ◌∷◌, length, Option, Some, None, refl, sym, ap, subst, ◌∙◌, arith}
+use Rattle.std.specs.Prelude.{◌||◌, filter, option_map}
+use Rattle.std.proofs.lemmas.Bool.{or_parts, or_from}
+use Rattle.netlink_packet_core_grammar.specs.Attributes.{Attribute, list_text, list_size, first_attribute, if_some, attributes_within, attributes_of}
+use Rattle.netlink_packet_core_grammar.specs.Bytes.{AreBytes}
+use Rattle.netlink_packet_core_grammar.proofs.Attributes.{attributes_of_text, attributes_cut, got_is, sized, first_attribute_text, if_some-got, option_map-got}
+use Rattle.netlink_packet_core_grammar.proofs.Bytes.{AreBytes-first_attribute}
+use Rattle.netlink_packet_core_grammar.proofs.Sizes.{length-list_text, text_fours}
+use Rattle.attribute_tables_grammar.specs.Rules.{Lawful}
+use Rattle.attribute_tables_grammar.specs.Lists.{Context, nothing, Grammar, row_of, all_accepted, some_empty_ports, rewrite, rewritten, all_fit, attributes_inside, all_same, ListForm, any, non_empty, of_kind_one, ports, first_alone, not_empty, read_as, is_of_kind_one, kept, is_empty_ports, if_read, list_rule, LawfulGrammar}
+use Rattle.attribute_tables_grammar.proofs.Attributes.{proper_kind-written, rewritten_again, accepted_again, fit_again, same_rewritten, rewritten_same, one_list}
+use Rattle.attribute_tables_grammar.proofs.Sizes.{weight, weight_within, weight-filter, weight-filter_le, AreAttributes, AreAttributes-cut, AreAttributes-filter, rewritten_small, counts, text_bytes}
+
+pub at_true : {A : Type 0} (f : List A → Bool) (o : Option (List A)) → elim o [ None ↦ false | Some x ↦ f x ] ≡ true → (x : List A) × (o ≡ Some x) × (f x ≡ true)
+at_true f None h = absurd cc
+at_true f (Some x) h = (x, refl, h)
+
+pub read_true : (f : List Attribute → Bool) (o : Option (List Attribute)) → if_read false f o ≡ true → (es : List Attribute) × (o ≡ Some es) × (f es ≡ true)
+read_true f None h = absurd cc
+read_true f (Some es) h = (es, refl, h)
+
+-- ---- what is shown
+
+not_empty_is : (es fs : List Attribute) → not_empty es ≡ Some fs → es ≡ fs
+not_empty_is [] fs h = absurd cc
+not_empty_is (e ∷ es) fs h = got_is (e ∷ es) fs h
+
+non_empty_attributes : (bytes : List ℕ) (es : List Attribute) → if_some (attributes_of bytes) not_empty ≡ Some es → attributes_of bytes ≡ Some es
+non_empty_attributes bytes es h =
+    let s = if_some-got (attributes_of bytes) not_empty es h in
+    s.1 ∙ ap Some (not_empty_is s.0 es s.2)
+
+first_alone_attribute : (bytes : List ℕ) (es : List Attribute) → read_as first_alone bytes ≡ Some es → (e : Attribute) × (rest : List ℕ) × (first_attribute bytes ≡ Some (e, rest)) × (es ≡ e ∷ [])
+first_alone_attribute bytes es h =
+    let s = option_map-got (λ (x : Attribute × List ℕ). x.0 ∷ []) (first_attribute bytes) es h in
+    (s.0.0, s.0.1, s.1, sym s.2)
+
+pub read_weight : (form : ListForm) (bytes : List ℕ) (es : List Attribute) → read_as form bytes ≡ Some es → weight es ≤ length bytes
+read_weight any bytes es h = weight_within bytes es (attributes_cut bytes es h)
+read_weight non_empty bytes es h = weight_within bytes es (attributes_cut bytes es (non_empty_attributes bytes es h))
+read_weight of_kind_one bytes es h = weight_within bytes es (attributes_cut bytes es h)
+read_weight ports bytes es h = weight_within bytes es (attributes_cut bytes es (non_empty_attributes bytes es h))
+read_weight first_alone bytes es h =
+    let l = first_alone_attribute bytes es h in
+    rw l.3 (omega (arith, (sized bytes l.0 l.1 l.2).within))
+
+pub read_bytes : (form : ListForm) (bytes : List ℕ) (es : List Attribute) → read_as form bytes ≡ Some es → AreBytes bytes → AreAttributes es
+read_bytes any bytes es h b = AreAttributes-cut bytes es (attributes_cut bytes es h) b
+read_bytes non_empty bytes es h b = AreAttributes-cut bytes es (attributes_cut bytes es (non_empty_attributes bytes es h)) b
+read_bytes of_kind_one bytes es h b = AreAttributes-cut bytes es (attributes_cut bytes es h) b
+read_bytes ports bytes es h b = AreAttributes-cut bytes es (attributes_cut bytes es (non_empty_attributes bytes es h)) b
+read_bytes first_alone bytes es h b =
+    let l = first_alone_attribute bytes es h in
+    let f = AreBytes-first_attribute bytes l.0 l.1 l.2 b in
+    rw l.3 (f.0, f.1, tt)
+
+kept_bytes : (form : ListForm) (es : List Attribute) → AreAttributes es → AreAttributes (kept form es)
+kept_bytes any es h = h
+kept_bytes non_empty es h = h
+kept_bytes of_kind_one es h = AreAttributes-filter is_of_kind_one es h
+kept_bytes ports es h = AreAttributes-filter is_of_kind_one es h
+kept_bytes first_alone es h = h
+
+kept_weight : (form : ListForm) (es : List Attribute) → weight (kept form es) ≤ weight es
+kept_weight any es = omega arith
+kept_weight non_empty es = omega arith
+kept_weight of_kind_one es = weight-filter_le is_of_kind_one es
+kept_weight ports es = weight-filter_le is_of_kind_one es
+kept_weight first_alone es = omega arith
+
+kept_count : (form : ListForm) (es : List Attribute) → weight (kept form es) + 4 * length es ≤ weight es + 4 * length (kept form es)
+kept_count any es = omega arith
+kept_count non_empty es = omega arith
+kept_count of_kind_one es = weight-filter is_of_kind_one es
+kept_count ports es = weight-filter is_of_kind_one es
+kept_count first_alone es = omega arith
+
+-- ---- the text of what is kept
+
+module _ (g : Grammar) where
+  of_kind_one_again : (c : Context) (es : List Attribute) → filter is_of_kind_one (rewritten g c (filter is_of_kind_one es)) ≡ rewritten g c (filter is_of_kind_one es)
+  unfolding rewritten
+  of_kind_one_again c [] = refl
+  of_kind_one_again c (e ∷ es) = go (is_of_kind_one e) refl (λ d. of_kind_one_again d es)
+    where
+      go : (t : Bool) → is_of_kind_one e ≡ t → ((d : Context) → filter is_of_kind_one (rewritten g d (filter is_of_kind_one es)) ≡ rewritten g d (filter is_of_kind_one es)) → filter is_of_kind_one (rewritten g c (cond t (e ∷ filter is_of_kind_one es) (filter is_of_kind_one es))) ≡ rewritten g c (cond t (e ∷ filter is_of_kind_one es) (filter is_of_kind_one es))
+      go true is more =
+          let e' = rewrite (row_of g c e) e in
+          let rest = rewritten g (g.next c e) (filter is_of_kind_one es) in
+          let keeps : is_of_kind_one e' ≡ true = ap (λ k. eqb k 1) (proper_kind-written (row_of g c e) e.kind) ∙ is in
+          ap (λ t. cond t (e' ∷ filter is_of_kind_one rest) (filter is_of_kind_one rest)) keeps ∙ ap (λ x. e' ∷ x) (more (g.next c e))
+      go false is more = more c
+
+  rewritten_non_empty : (c : Context) (es : List Attribute) → not_empty es ≡ Some es → not_empty (rewritten g c es) ≡ Some (rewritten g c es)
+  unfolding rewritten
+  rewritten_non_empty c [] h = absurd cc
+  rewritten_non_empty c (e ∷ es) h = refl
+
+  non_empty_from_attributes : (bytes : List ℕ) (es : List Attribute) → if_some (attributes_of bytes) not_empty ≡ Some es → not_empty es ≡ Some es
+  non_empty_from_attributes bytes es h =
+      let s = if_some-got (attributes_of bytes) not_empty es h in
+      ap not_empty (sym (not_empty_is s.0 es s.2)) ∙ s.2
+
+  non_empty_from_kept : (es : List Attribute) → is_empty_ports ports es ≡ false → not_empty es ≡ Some es
+  non_empty_from_kept [] h = absurd cc
+  non_empty_from_kept (e ∷ es) h = refl
+
+  read_non_empty : (rs : List Attribute) → not_empty rs ≡ Some rs → if_some (attributes_of (list_text rs)) not_empty ≡ Some rs
+  read_non_empty rs h = ap (λ o. if_some o not_empty) (attributes_of_text rs) ∙ h
+
+  -- the canonical text shows what was kept, rewritten, and keeps it all
+  pub read_again : (form : ListForm) (c : Context) (bytes : List ℕ) (es : List Attribute) → read_as form bytes ≡ Some es → is_empty_ports form (kept form es) ≡ false →
+      (read_as form (list_text (rewritten g c (kept form es))) ≡ Some (rewritten g c (kept form es))) × (kept form (rewritten g c (kept form es)) ≡ rewritten g c (kept form es))
+  unfolding list_text rewritten
+  read_again any c bytes es h k = (attributes_of_text (rewritten g c es), refl)
+  read_again non_empty c bytes es h k = (read_non_empty (rewritten g c es) (rewritten_non_empty c es (non_empty_from_attributes bytes es h)), refl)
+  read_again of_kind_one c bytes es h k = (attributes_of_text (rewritten g c (filter is_of_kind_one es)), of_kind_one_again c es)
+  read_again ports c bytes es h k = (read_non_empty (rewritten g c (filter is_of_kind_one es)) (rewritten_non_empty c (filter is_of_kind_one es) (non_empty_from_kept (filter is_of_kind_one es) k)), of_kind_one_again c es)
+  read_again first_alone c bytes es h k =
+      let l = first_alone_attribute bytes es h in
+      let e' = rewrite (row_of g c l.0) l.0 in
+      let one : read_as first_alone (list_text (e' ∷ [])) ≡ Some (e' ∷ []) = ap (λ o. option_map (λ (x : Attribute × List ℕ). x.0 ∷ []) o) (first_attribute_text e' []) in
+      (subst (λ x. read_as first_alone (list_text (rewritten g c x)) ≡ Some (rewritten g c x)) (sym l.3) one, refl)
+
+  pub keeps_again : (form : ListForm) (c : Context) (es : List Attribute) → is_empty_ports form (rewritten g c es) ≡ is_empty_ports form es
+  unfolding rewritten
+  keeps_again any c es = refl
+  keeps_again non_empty c es = refl
+  keeps_again of_kind_one c es = refl
+  keeps_again ports c [] = refl
+  keeps_again ports c (e ∷ es) = refl
+  keeps_again first_alone c es = refl
+
+  -- a list that keeps nothing and may not be empty
+  pub none_again : {A : Type 0} (d : A) (f : List Attribute → A) (form : ListForm) (c : Context) (es : List Attribute) → is_empty_ports form es ≡ true → (list_text (rewritten g c es) ≡ []) × (if_read d f (read_as form []) ≡ d)
+  unfolding list_text rewritten attributes_within
+  none_again d f any c es h = absurd cc
+  none_again d f non_empty c es h = absurd cc
+  none_again d f of_kind_one c es h = absurd cc
+  none_again d f ports c [] h = (refl, refl)
+  none_again d f ports c (e ∷ es) h = absurd cc
+  none_again d f first_alone c es h = absurd cc
+
+-- what is known of accepted bytes
+pub record AcceptedList (form : ListForm) (g : Grammar) (bytes : List ℕ) : Type 0 where
+  pub es : List Attribute
+  pub reads : read_as form bytes ≡ Some es
+  pub accepted : all_accepted g nothing (kept form es) ≡ true
+  pub canonical : (list_rule form g).canonical bytes ≡ list_text (rewritten g nothing (kept form es))
+
+pub accepted_list : (form : ListForm) (g : Grammar) (bytes : List ℕ) → (list_rule form g).accepted bytes ≡ true → AcceptedList form g bytes
+accepted_list form g bytes a =
+    let s = read_true (λ es. all_accepted g nothing (kept form es)) (read_as form bytes) a in
+    record { es = s.0; reads = s.1; accepted = s.2; canonical = ap (if_read [] (λ es. list_text (rewritten g nothing (kept form es)))) s.1 }
+
+module _ (form : ListForm) (g : Grammar) (lawful : LawfulGrammar g) where
+  canonical_of : List Attribute → List ℕ
+  canonical_of es = list_text (rewritten g nothing (kept form es))
+
+  itself_by : (p : List ℕ) (k : AcceptedList form g p) (t : Bool) → is_empty_ports form (kept form k.es) ≡ t → (list_rule form g).canonical (list_text (rewritten g nothing (kept form k.es))) ≡ list_text (rewritten g nothing (kept form k.es))
+  itself_by p k true t =
+      let n = none_again g [] (λ es. list_text (rewritten g nothing (kept form es))) form nothing (kept form k.es) t in
+      ap (λ b. (list_rule form g).canonical b) n.0 ∙ n.1 ∙ sym n.0
+  itself_by p k false t =
+      let s = read_again g form nothing p k.es k.reads t in
+      ap (if_read [] (λ es. list_text (rewritten g nothing (kept form es)))) s.0
+      ∙ ap (λ x. list_text (rewritten g nothing x)) s.1
+      ∙ ap list_text (rewritten_again g lawful nothing (kept form k.es) k.accepted)
+
+  list_again : (p : List ℕ) → (list_rule form g).accepted p ≡ true → (list_rule form g).empty_ports p ≡ false → ((list_rule form g).accepted ((list_rule form g).canonical p) ≡ true) × ((list_rule form g).empty_ports ((list_rule form g).canonical p) ≡ false)
+  list_again p a m =
+      let k = accepted_list form g p a in
+      let E = λ (es : List Attribute). is_empty_ports form (kept form es) || some_empty_ports g nothing (kept form es) in
+      let full : E k.es ≡ false = sym (ap (if_read false E) k.reads) ∙ m in
+      let n = or_parts _ _ full in
+      let rs = rewritten g nothing (kept form k.es) in
+      let s = read_again g form nothing p k.es k.reads n.0 in
+      let o = accepted_again g lawful nothing (kept form k.es) k.accepted n.1 in (
+        ap (λ b. (list_rule form g).accepted b) k.canonical ∙ ap (if_read false (λ es. all_accepted g nothing (kept form es))) s.0 ∙ ap (all_accepted g nothing) s.1 ∙ o.0,
+        ap (λ b. (list_rule form g).empty_ports b) k.canonical ∙ ap (if_read false E) s.0 ∙ ap (λ x. is_empty_ports form x || some_empty_ports g nothing x) s.1 ∙ or_from _ _ (keeps_again g form nothing (kept form k.es) ∙ n.0) o.1,
+      )
+
+  fits_by : (p : List ℕ) (k : AcceptedList form g p) (t : Bool) → all_fit g nothing (kept form k.es) ≡ true → is_empty_ports form (kept form k.es) ≡ t → (list_rule form g).fits (list_text (rewritten g nothing (kept form k.es))) ≡ true
+  fits_by p k true f is =
+      let n = none_again g true (λ es. all_fit g nothing (kept form es)) form nothing (kept form k.es) is in
+      ap (λ b. (list_rule form g).fits b) n.0 ∙ n.1
+  fits_by p k false f is =
+      let s = read_again g form nothing p k.es k.reads is in
+      ap (if_read true (λ es. all_fit g nothing (kept form es))) s.0 ∙ ap (all_fit g nothing) s.1 ∙ fit_again g lawful nothing (kept form k.es) k.accepted f
+
+  pub list_lawful : Lawful (list_rule form g)
+  list_lawful = record {
+    again = list_again;
+    fits_again = λ p a f.
+        let k = accepted_list form g p a in
+        let fit : all_fit g nothing (kept form k.es) ≡ true = sym (ap (if_read true (λ es. all_fit g nothing (kept form es))) k.reads) ∙ f in
+        ap (λ b. (list_rule form g).fits b) k.canonical ∙ fits_by p k (is_empty_ports form (kept form k.es)) fit refl;
+    itself = λ p a. let k = accepted_list form g p a in ap (λ b. (list_rule form g).canonical b) k.canonical ∙ itself_by p k (is_empty_ports form (kept form k.es)) refl ∙ sym k.canonical;
+    one_text = λ p q a b same.
+        let k = accepted_list form g p a in
+        let l = accepted_list form g q b in
+        let h : all_same g nothing nothing (kept form k.es) (kept form l.es) ≡ true =
+        sym (ap (if_read false (λ es. if_read false (λ fs. all_same g nothing nothing (kept form es) (kept form fs)) (read_as form q))) k.reads ∙ ap (if_read false (λ fs. all_same g nothing nothing (kept form k.es) (kept form fs))) l.reads) ∙ same in
+        k.canonical ∙ ap list_text (same_rewritten g lawful nothing (kept form k.es) (kept form l.es) k.accepted l.accepted h) ∙ sym l.canonical;
+    one_meaning = λ p q a b e.
+        let k = accepted_list form g p a in
+        let l = accepted_list form g q b in
+        let lists = one_list (rewritten g nothing (kept form k.es)) (rewritten g nothing (kept form l.es)) (sym k.canonical ∙ e ∙ l.canonical) in
+        ap (if_read false (λ es. if_read false (λ fs. all_same g nothing nothing (kept form es) (kept form fs)) (read_as form q))) k.reads ∙ ap (if_read false (λ fs. all_same g nothing nothing (kept form k.es) (kept form fs))) l.reads
+        ∙ rewritten_same g lawful nothing (kept form k.es) (kept form l.es) k.accepted l.accepted lists;
+    bounded = λ p a.
+        let k = accepted_list form g p a in
+        let ks = kept form k.es in
+        let l : length ((list_rule form g).canonical p) ≡ list_size (rewritten g nothing ks) = ap length k.canonical ∙ length-list_text (rewritten g nothing ks) in
+        rw l (omega (arith, text_fours (rewritten g nothing ks), rewritten_small g lawful nothing ks k.accepted, kept_weight form k.es, read_weight form p k.es k.reads));
+    counted = λ p a.
+        let k = accepted_list form g p a in
+        let n : (list_rule form g).attributes p ≡ length k.es + attributes_inside g nothing (kept form k.es) = ap (if_read 0 (λ es. length es + attributes_inside g nothing (kept form es))) k.reads in
+        rw n (omega (arith, counts g lawful nothing (kept form k.es) k.accepted, kept_count form k.es, read_weight form p k.es k.reads));
+    bytes = λ p a f h.
+        let k = accepted_list form g p a in
+        let fit : all_fit g nothing (kept form k.es) ≡ true = sym (ap (if_read true (λ es. all_fit g nothing (kept form es))) k.reads) ∙ f in
+        rw k.canonical (text_bytes g lawful nothing (kept form k.es) k.accepted fit (kept_bytes form k.es (read_bytes form p k.es k.reads h)));
+  }

@@ -1,0 +1,256 @@
+-- A reading tells what the rule of a list tells, and goes on by steps.
+use Rattle.std.proofs.Common.{◌≡◌, ℕ, ◌<◌, Bool, true, false, cond, List, [], ◌∷◌, ◌++◌, length, map, Option, Some, None, refl, sym, ap, ◌∙◌, arith, append_assoc, append-nil}
+use Rattle.std.specs.Prelude.{◌&&◌, option_map}
+use Rattle.netlink_packet_core_grammar.specs.Attributes.{Attribute, list_text, first_attribute, if_some, attributes_within, attributes_of}
+use Rattle.netlink_packet_core_grammar.specs.Fits.{attribute_fits}
+use Rattle.netlink_packet_core_grammar.proofs.FirstAttribute.{attributes_step, attributes_stop}
+use Rattle.attribute_tables_grammar.specs.Rules.{Rule}
+use Rattle.attribute_tables_grammar.specs.Lists.{Context, nothing, Row, Grammar, without_context, row_of, rewritten, all_accepted, all_fit, ListForm, any, non_empty, of_kind_one, ports, first_alone, not_empty, read_as, is_kept, kept, if_read, list_rule}
+use Rattle.attribute_tables_grammar.specs.LookUps.{rows_rule}
+use Rattle.attribute_tables_grammar.specs.Readings.{Written, written_by, written_list, reading, reading_as, all_written_fit}
+use Rattle.attribute_tables_grammar.proofs.Kept.{kept_more, kept_past, kept_none}
+
+-- ---- the steps
+
+abbrev pub then : List Written → Option (List Written) → Option (List Written)
+then ws o = option_map (λ rest. ws ++ rest) o
+
+onto : (form : ListForm) (o : Option (List Attribute)) (g : Grammar) (c : Context) (e : Attribute) → is_kept form e ≡ true → (row_of g c e).rule.accepted e.payload ≡ true →
+    if_some (option_map (λ es. e ∷ es) o) (λ es. written_list g c (kept form es)) ≡ then (written_by (row_of g c e) e ∷ []) (if_some o (λ es. written_list g (g.next c e) (kept form es)))
+unfolding written_list
+onto form None g c e k a = refl
+onto form (Some es) g c e k a = ap (written_list g c) (kept_more form e es k) ∙ ap (λ b. cond b (option_map (λ ws. written_by (row_of g c e) e ∷ ws) (written_list g (g.next c e) (kept form es))) None) a
+
+against : (form : ListForm) (o : Option (List Attribute)) (g : Grammar) (c : Context) (e : Attribute) → is_kept form e ≡ true → (row_of g c e).rule.accepted e.payload ≡ false →
+    if_some (option_map (λ es. e ∷ es) o) (λ es. written_list g c (kept form es)) ≡ None
+unfolding written_list
+against form None g c e k a = refl
+against form (Some es) g c e k a = ap (written_list g c) (kept_more form e es k) ∙ ap (λ b. cond b (option_map (λ ws. written_by (row_of g c e) e ∷ ws) (written_list g (g.next c e) (kept form es))) None) a
+
+beside : (form : ListForm) (o : Option (List Attribute)) (g : Grammar) (c : Context) (e : Attribute) → is_kept form e ≡ false →
+    if_some (option_map (λ es. e ∷ es) o) (λ es. written_list g c (kept form es)) ≡ if_some o (λ es. written_list g c (kept form es))
+beside form None g c e k = refl
+beside form (Some es) g c e k = ap (written_list g c) (kept_past form e es k)
+
+module _ (form : ListForm) (g : Grammar) where
+  reading_step : (c : Context) (bytes : List ℕ) (e : Attribute) (rest : List ℕ) → first_attribute bytes ≡ Some (e, rest) → is_kept form e ≡ true → (row_of g c e).rule.accepted e.payload ≡ true →
+      reading form g c bytes ≡ then (written_by (row_of g c e) e ∷ []) (reading form g (g.next c e) rest)
+  unfolding reading
+  reading_step c bytes e rest f k a = ap (λ o. if_some o (λ es. written_list g c (kept form es))) (attributes_step bytes e rest f) ∙ onto form (attributes_of rest) g c e k a
+
+  reading_refused : (c : Context) (bytes : List ℕ) (e : Attribute) (rest : List ℕ) → first_attribute bytes ≡ Some (e, rest) → is_kept form e ≡ true → (row_of g c e).rule.accepted e.payload ≡ false → reading form g c bytes ≡ None
+  unfolding reading
+  reading_refused c bytes e rest f k a = ap (λ o. if_some o (λ es. written_list g c (kept form es))) (attributes_step bytes e rest f) ∙ against form (attributes_of rest) g c e k a
+
+  reading_past : (c : Context) (bytes : List ℕ) (e : Attribute) (rest : List ℕ) → first_attribute bytes ≡ Some (e, rest) → is_kept form e ≡ false → reading form g c bytes ≡ reading form g c rest
+  unfolding reading
+  reading_past c bytes e rest f k = ap (λ o. if_some o (λ es. written_list g c (kept form es))) (attributes_step bytes e rest f) ∙ beside form (attributes_of rest) g c e k
+
+  reading_end : (c : Context) (bytes : List ℕ) → length bytes ≡ 0 → reading form g c bytes ≡ Some []
+  unfolding reading attributes_within written_list
+  reading_end c [] h = ap (written_list g c) (kept_none form)
+  reading_end c (b ∷ bytes) h = absurd (omega arith)
+
+  reading_stop : (c : Context) (bytes : List ℕ) → first_attribute bytes ≡ None → 0 < length bytes → reading form g c bytes ≡ None
+  unfolding reading
+  reading_stop c bytes f l = ap (λ o. if_some o (λ es. written_list g c (kept form es))) (attributes_stop bytes f l)
+
+-- ---- a loop's state: what was read, and the rest in its context
+
+pub record SoFar (form : ListForm) (g : Grammar) (bytes : List ℕ) (ws : List Written) (c : Context) (rest : List ℕ) : Type 0 where
+  pub whole : reading form g nothing bytes ≡ then ws (reading form g c rest)
+
+then_nil : (o : Option (List Written)) → then [] o ≡ o
+then_nil None = refl
+then_nil (Some ws) = refl
+
+then_then : (us vs : List Written) (o : Option (List Written)) → then us (then vs o) ≡ then (us ++ vs) o
+then_then us vs None = refl
+then_then us vs (Some ws) = ap Some (sym (append_assoc us vs ws))
+
+module _ (form : ListForm) (g : Grammar) (bytes : List ℕ) where
+  pub start : SoFar form g bytes [] nothing bytes
+  start = record { whole = sym (then_nil (reading form g nothing bytes)) }
+
+  pub more : (ws : List Written) (c : Context) (rest : List ℕ) (e : Attribute) (after : List ℕ) (w : Written) → first_attribute rest ≡ Some (e, after) → is_kept form e ≡ true → (row_of g c e).rule.accepted e.payload ≡ true → w ≡ written_by (row_of g c e) e →
+      SoFar form g bytes ws c rest → SoFar form g bytes (ws ++ w ∷ []) (g.next c e) after
+  more ws c rest e after w f k a is s = record {
+    whole = s.whole ∙ ap (then ws) (reading_step form g c rest e after f k a ∙ ap (λ x. then (x ∷ []) (reading form g (g.next c e) after)) (sym is)) ∙ then_then ws (w ∷ []) (reading form g (g.next c e) after);
+  }
+
+  -- an attribute that its list drops
+  pub past : (ws : List Written) (c : Context) (rest : List ℕ) (e : Attribute) (after : List ℕ) → first_attribute rest ≡ Some (e, after) → is_kept form e ≡ false → SoFar form g bytes ws c rest → SoFar form g bytes ws c after
+  past ws c rest e after f k s = record { whole = s.whole ∙ ap (then ws) (reading_past form g c rest e after f k) }
+
+  pub refused : (ws : List Written) (c : Context) (rest : List ℕ) (e : Attribute) (after : List ℕ) → first_attribute rest ≡ Some (e, after) → is_kept form e ≡ true → (row_of g c e).rule.accepted e.payload ≡ false → SoFar form g bytes ws c rest → reading form g nothing bytes ≡ None
+  refused ws c rest e after f k a s = s.whole ∙ ap (then ws) (reading_refused form g c rest e after f k a)
+
+  pub stopped : (ws : List Written) (c : Context) (rest : List ℕ) → first_attribute rest ≡ None → 0 < length rest → SoFar form g bytes ws c rest → reading form g nothing bytes ≡ None
+  stopped ws c rest f l s = s.whole ∙ ap (then ws) (reading_stop form g c rest f l)
+
+  pub done : (ws : List Written) (c : Context) (rest : List ℕ) → length rest ≡ 0 → SoFar form g bytes ws c rest → reading form g nothing bytes ≡ Some ws
+  done ws c rest l s = s.whole ∙ ap (then ws) (reading_end form g c rest l) ∙ ap Some (append-nil ws)
+
+-- ---- the reading of whole bytes
+
+pub as_any : (g : Grammar) (bytes : List ℕ) → reading_as any g bytes ≡ reading any g nothing bytes
+unfolding reading_as reading
+as_any g bytes = refl
+
+pub as_of_kind_one : (g : Grammar) (bytes : List ℕ) → reading_as of_kind_one g bytes ≡ reading of_kind_one g nothing bytes
+unfolding reading_as reading
+as_of_kind_one g bytes = refl
+
+inside_not_empty : (o : Option (List Attribute)) (e : Attribute) → if_some (option_map (λ es. e ∷ es) o) not_empty ≡ option_map (λ es. e ∷ es) o
+inside_not_empty None e = refl
+inside_not_empty (Some es) e = refl
+
+first_not_empty : (o : Option (Attribute × List ℕ)) (f : List ℕ → Option (List Attribute)) → if_some (if_some o (λ x. option_map (λ es. x.0 ∷ es) (f x.1))) not_empty ≡ if_some o (λ x. option_map (λ es. x.0 ∷ es) (f x.1))
+first_not_empty None f = refl
+first_not_empty (Some x) f = inside_not_empty (f x.1) x.0
+
+-- some bytes are no list without an attribute
+bytes_not_empty : (bytes : List ℕ) → 0 < length bytes → if_some (attributes_of bytes) not_empty ≡ attributes_of bytes
+unfolding attributes_within
+bytes_not_empty [] l = absurd (omega arith)
+bytes_not_empty (b ∷ bytes) l = first_not_empty (first_attribute (b ∷ bytes)) (attributes_within (length bytes))
+
+-- a form that takes no bytes as well reads all others alike
+pub record AlikeOn (r s : ListForm) (g : Grammar) (bytes : List ℕ) : Type 0 where
+  pub accepted : (list_rule r g).accepted bytes ≡ (list_rule s g).accepted bytes
+  pub canonical : (list_rule r g).canonical bytes ≡ (list_rule s g).canonical bytes
+  pub fits : (list_rule r g).fits bytes ≡ (list_rule s g).fits bytes
+  pub read : reading_as r g bytes ≡ reading_as s g bytes
+
+alike_at : {A : Type 0} (r s : ListForm) (bytes : List ℕ) (d : A) (f : List Attribute → A) → read_as r bytes ≡ read_as s bytes → ((es : List Attribute) → kept r es ≡ kept s es) → if_read d (λ es. f (kept r es)) (read_as r bytes) ≡ if_read d (λ es. f (kept s es)) (read_as s bytes)
+alike_at r s bytes d f h k = ap (if_read d (λ es. f (kept r es))) h ∙ ap (λ (q : List Attribute → List Attribute). if_read d (λ es. f (q es)) (read_as s bytes)) (λ i es. k es i)
+
+alike_by : (r s : ListForm) (g : Grammar) (bytes : List ℕ) → read_as r bytes ≡ read_as s bytes → ((es : List Attribute) → kept r es ≡ kept s es) → AlikeOn r s g bytes
+unfolding reading_as
+alike_by r s g bytes h k = record {
+  accepted = alike_at r s bytes false (all_accepted g nothing) h k;
+  canonical = alike_at r s bytes [] (λ es. list_text (rewritten g nothing es)) h k;
+  fits = alike_at r s bytes true (all_fit g nothing) h k;
+  read = ap (λ o. if_some o (λ es. written_list g nothing (kept r es))) h ∙ ap (λ (q : List Attribute → List Attribute). if_some (read_as s bytes) (λ es. written_list g nothing (q es))) (λ i es. k es i);
+}
+
+pub non_empty_alike : (g : Grammar) (bytes : List ℕ) → 0 < length bytes → AlikeOn non_empty any g bytes
+non_empty_alike g bytes l = alike_by non_empty any g bytes (bytes_not_empty bytes l) (λ es. refl)
+
+pub ports_alike : (g : Grammar) (bytes : List ℕ) → 0 < length bytes → AlikeOn ports of_kind_one g bytes
+ports_alike g bytes l = alike_by ports of_kind_one g bytes (bytes_not_empty bytes l) (λ es. refl)
+
+-- these forms refuse no bytes
+pub non_empty_refuses : (g : Grammar) (bytes : List ℕ) → length bytes ≡ 0 → (list_rule non_empty g).accepted bytes ≡ false
+unfolding attributes_within
+non_empty_refuses g [] l = refl
+non_empty_refuses g (b ∷ bytes) l = absurd (omega arith)
+
+pub ports_refuses : (g : Grammar) (bytes : List ℕ) → length bytes ≡ 0 → (list_rule ports g).accepted bytes ≡ false
+unfolding attributes_within
+ports_refuses g [] l = refl
+ports_refuses g (b ∷ bytes) l = absurd (omega arith)
+
+-- ---- one attribute, and any bytes
+
+pub first_read : (g : Grammar) (bytes : List ℕ) (e : Attribute) (rest : List ℕ) (w : Written) → first_attribute bytes ≡ Some (e, rest) → (row_of g nothing e).rule.accepted e.payload ≡ true → w ≡ written_by (row_of g nothing e) e → reading_as first_alone g bytes ≡ Some (w ∷ [])
+unfolding reading_as written_list
+first_read g bytes e rest w f a is =
+    ap (λ o. if_some (option_map (λ (x : Attribute × List ℕ). x.0 ∷ []) o) (λ es. written_list g nothing es)) f
+    ∙ ap (λ b. cond b (Some (written_by (row_of g nothing e) e ∷ [])) None) a
+    ∙ ap (λ x. Some (x ∷ [])) (sym is)
+
+pub first_refused : (g : Grammar) (bytes : List ℕ) (e : Attribute) (rest : List ℕ) → first_attribute bytes ≡ Some (e, rest) → (row_of g nothing e).rule.accepted e.payload ≡ false → reading_as first_alone g bytes ≡ None
+unfolding reading_as written_list
+first_refused g bytes e rest f a =
+    ap (λ o. if_some (option_map (λ (x : Attribute × List ℕ). x.0 ∷ []) o) (λ es. written_list g nothing es)) f
+    ∙ ap (λ b. cond b (Some (written_by (row_of g nothing e) e ∷ [])) None) a
+
+pub first_missing : (g : Grammar) (bytes : List ℕ) → first_attribute bytes ≡ None → reading_as first_alone g bytes ≡ None
+unfolding reading_as
+first_missing g bytes f = ap (λ o. if_some (option_map (λ (x : Attribute × List ℕ). x.0 ∷ []) o) (λ es. written_list g nothing es)) f
+
+-- ---- what a reading tells of the rule
+
+written_all : Grammar → Context → List Attribute → List Written
+written_all g c [] = []
+written_all g c (e ∷ es) = written_by (row_of g c e) e ∷ written_all g (g.next c e) es
+
+found_step : (a b : Bool) (w : Written) (ws : List Written) → cond a (option_map (λ vs. w ∷ vs) (cond b (Some ws) None)) None ≡ cond (a && b) (Some (w ∷ ws)) None
+found_step true true w ws = refl
+found_step true false w ws = refl
+found_step false b w ws = refl
+
+found : (g : Grammar) (c : Context) (es : List Attribute) → written_list g c es ≡ cond (all_accepted g c es) (Some (written_all g c es)) None
+unfolding written_list all_accepted written_all
+found g c [] = refl
+found g c (e ∷ es) =
+    let a = (row_of g c e).rule.accepted e.payload in
+    let w = written_by (row_of g c e) e in
+    ap (λ o. cond a (option_map (λ vs. w ∷ vs) o) None) (found g (g.next c e) es) ∙ found_step a (all_accepted g (g.next c e) es) w (written_all g (g.next c e) es)
+
+entries_of : (g : Grammar) (c : Context) (es : List Attribute) → map (λ (w : Written). w.entry) (written_all g c es) ≡ rewritten g c es
+unfolding rewritten written_all
+entries_of g c [] = refl
+entries_of g c (e ∷ es) = ap (λ r. (written_by (row_of g c e) e).entry ∷ r) (entries_of g (g.next c e) es)
+
+fits_of : (g : Grammar) (c : Context) (es : List Attribute) → all_written_fit (written_all g c es) ≡ all_fit g c es
+unfolding all_fit written_all all_written_fit
+fits_of g c [] = refl
+fits_of g c (e ∷ es) = ap (λ b. (attribute_fits (written_by (row_of g c e) e).entry && (row_of g c e).rule.fits e.payload) && b) (fits_of g (g.next c e) es)
+
+some_list : List Written → Option (List Written)
+some_list ws = Some ws
+
+list_or : Option (List Written) → List Written
+list_or None = []
+list_or (Some ws) = ws
+
+tells_by : (g : Grammar) (es : List Attribute) (ws : List Written) (b : Bool) → all_accepted g nothing es ≡ b → cond b (Some (written_all g nothing es)) None ≡ some_list ws → (all_accepted g nothing es ≡ true) × (written_all g nothing es ≡ ws)
+unfolding list_or some_list
+tells_by g es ws true a h = (a, ap list_or h)
+tells_by g es ws false a h = absurd cc
+
+-- what a list that was read says of its bytes
+pub record Tells (r : Rule) (bytes : List ℕ) (ws : List Written) : Type 0 where
+  pub accepted : r.accepted bytes ≡ true
+  pub canonical : r.canonical bytes ≡ list_text (map (λ (w : Written). w.entry) ws)
+  pub fits : r.fits bytes ≡ all_written_fit ws
+
+tells_in : (form : ListForm) (g : Grammar) (o : Option (List Attribute)) (ws : List Written) → if_some o (λ es. written_list g nothing (kept form es)) ≡ some_list ws →
+    (if_read false (λ es. all_accepted g nothing (kept form es)) o ≡ true) × (if_read [] (λ es. list_text (rewritten g nothing (kept form es))) o ≡ list_text (map (λ (w : Written). w.entry) ws)) × (if_read true (λ es. all_fit g nothing (kept form es)) o ≡ all_written_fit ws)
+unfolding some_list
+tells_in form g None ws h = absurd cc
+tells_in form g (Some es) ws h =
+    let ks = kept form es in
+    let t = tells_by g ks ws (all_accepted g nothing ks) refl (sym (found g nothing ks) ∙ h) in
+    (t.0, ap list_text (sym (entries_of g nothing ks) ∙ ap (map (λ (w : Written). w.entry)) t.1), sym (fits_of g nothing ks) ∙ ap all_written_fit t.1)
+
+pub tells : (form : ListForm) (g : Grammar) (bytes : List ℕ) (ws : List Written) → reading_as form g bytes ≡ Some ws → Tells (list_rule form g) bytes ws
+unfolding reading_as some_list
+tells form g bytes ws h =
+    let t = tells_in form g (read_as form bytes) ws h in
+    record { accepted = t.0; canonical = t.1; fits = t.2 }
+
+denies_by : (b : Bool) (ws : List Written) → cond b (some_list ws) None ≡ None → b ≡ false
+unfolding some_list
+denies_by true ws h = absurd cc
+denies_by false ws h = refl
+
+denies_in : (form : ListForm) (g : Grammar) (o : Option (List Attribute)) → if_some o (λ es. written_list g nothing (kept form es)) ≡ None → if_read false (λ es. all_accepted g nothing (kept form es)) o ≡ false
+unfolding some_list
+denies_in form g None h = refl
+denies_in form g (Some es) h = let ks = kept form es in denies_by (all_accepted g nothing ks) (written_all g nothing ks) (sym (found g nothing ks) ∙ h)
+
+pub denies : (form : ListForm) (g : Grammar) (bytes : List ℕ) → reading_as form g bytes ≡ None → (list_rule form g).accepted bytes ≡ false
+unfolding reading_as
+denies form g bytes h = denies_in form g (read_as form bytes) h
+
+-- the same of rows that are the same wherever an attribute stands
+pub tells_rows : (form : ListForm) (f : ℕ → Row) (bytes : List ℕ) (ws : List Written) → reading_as form (without_context f) bytes ≡ Some ws → Tells (rows_rule form f) bytes ws
+unfolding rows_rule
+tells_rows form f bytes ws h = let t = tells form (without_context f) bytes ws h in record { accepted = t.accepted; canonical = t.canonical; fits = t.fits }
+
+pub denies_rows : (form : ListForm) (f : ℕ → Row) (bytes : List ℕ) → reading_as form (without_context f) bytes ≡ None → (rows_rule form f).accepted bytes ≡ false
+unfolding rows_rule
+denies_rows form f bytes h = denies form (without_context f) bytes h

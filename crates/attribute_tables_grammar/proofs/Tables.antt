@@ -1,0 +1,109 @@
+-- Every payload of a table that passes the test is a lawful rule.
+use Rattle.std.proofs.Common.{◌≡◌, ℕ, zero, suc, Bool, true, false, List, [], ◌∷◌, ◌++◌, Option, Some, None, refl, sym, ap, ◌∙◌, arith}
+use Rattle.std.specs.Prelude.{bytes_eq, ◌==◌}
+use Rattle.std.proofs.lemmas.Bool.{and_parts}
+use Rattle.std.proofs.lemmas.Slice.Eq.{bytes_eq-Decides}
+use Rattle.netlink_packet_core_grammar.specs.Attributes.{Attribute, proper_kind}
+use Rattle.netlink_packet_core_grammar.specs.Texts.{without_nul}
+use Rattle.netlink_packet_core_grammar.proofs.Texts.{without_nul-end}
+use Rattle.attribute_tables_grammar.specs.Shapes.{text, raw, never}
+use Rattle.attribute_tables_grammar.specs.Rules.{Rule, Lawful, shape_rule}
+use Rattle.attribute_tables_grammar.specs.Lists.{Context, Row, Grammar, LawfulGrammar}
+use Rattle.attribute_tables_grammar.specs.Peers.{Peer, LawfulPeer, bytes_peer, peer_rule}
+use Rattle.attribute_tables_grammar.specs.Tables.{Payload, Payload.plain, Payload.peer, Payload.list, Payload.link_info, Table, Table.end, Table.row, Names, Names.others, Names.name, row_in_force, info_row, info_next, names_grammar, rule, row_in, named, grammar, payload_bounded, rows_bounded, names_bounded}
+use Rattle.attribute_tables_grammar.proofs.Shapes.{shape_lawful}
+use Rattle.attribute_tables_grammar.proofs.Lists.{list_lawful}
+
+pub peer_lawful : (p : Peer) → LawfulPeer p → Lawful (peer_rule p)
+peer_lawful p l = record {
+  again = λ b a e. (l.again b a, refl);
+  fits_again = λ b a f. refl;
+  itself = l.itself;
+  one_text = l.one_text;
+  one_meaning = l.one_meaning;
+  bounded = λ b a. omega (arith, l.bounded b a);
+  counted = l.counted;
+  bytes = λ b a f h. l.bytes b a h;
+}
+
+pub bytes_peer_lawful : LawfulPeer bytes_peer
+bytes_peer_lawful = record {
+  again = λ b a. refl;
+  itself = λ b a. refl;
+  one_text = λ a b x y s. (bytes_eq-Decides a b).0 s;
+  one_meaning = λ a b x y e. (bytes_eq-Decides a b).1 e;
+  bounded = λ b a. omega arith;
+  counted = λ b a. omega arith;
+  bytes = λ b a h. h;
+}
+
+-- ---- link info
+
+row_in_force_lawful : (o : Option (List ℕ)) (f : List ℕ → Rule) → ((n : List ℕ) → Lawful (f n)) → Lawful (row_in_force o f).rule
+row_in_force_lawful None f h = shape_lawful never refl
+row_in_force_lawful (Some n) f h = h n
+
+info_rows : (data' ports : List ℕ → Rule) → ((n : List ℕ) → Lawful (data' n)) → ((n : List ℕ) → Lawful (ports n)) → (c : Context) (k : ℕ) → Lawful (info_row data' ports c k).rule
+info_rows data' ports d p c zero = shape_lawful raw refl
+info_rows data' ports d p c (suc zero) = shape_lawful text refl
+info_rows data' ports d p c (suc (suc zero)) = row_in_force_lawful c.kind data' d
+info_rows data' ports d p c (suc (suc (suc zero))) = row_in_force_lawful c.kind (λ n. shape_rule raw) (λ n. shape_lawful raw refl)
+info_rows data' ports d p c (suc (suc (suc (suc zero)))) = shape_lawful text refl
+info_rows data' ports d p c (suc (suc (suc (suc (suc zero))))) = row_in_force_lawful c.port_kind ports p
+info_rows data' ports d p c (suc (suc (suc (suc (suc (suc k)))))) = shape_lawful raw refl
+
+same_words : (p q : List ℕ) → without_nul p ++ 0 ∷ [] ≡ without_nul q ++ 0 ∷ [] → without_nul p ≡ without_nul q
+same_words p q h = sym (without_nul-end (without_nul p)) ∙ ap without_nul h ∙ without_nul-end (without_nul q)
+
+info_steps : (data' ports : List ℕ → Rule) (c : Context) (k : ℕ) (p q : List ℕ) → (info_row data' ports c k).rule.canonical p ≡ (info_row data' ports c k).rule.canonical q → info_next c k p ≡ info_next c k q
+info_steps data' ports c zero p q h = refl
+info_steps data' ports c (suc zero) p q h = ap (λ (n : List ℕ). record { kind = Some n; port_kind = c.port_kind }) (same_words p q h)
+info_steps data' ports c (suc (suc zero)) p q h = refl
+info_steps data' ports c (suc (suc (suc zero))) p q h = refl
+info_steps data' ports c (suc (suc (suc (suc zero)))) p q h = ap (λ (n : List ℕ). record { kind = c.kind; port_kind = Some n }) (same_words p q h)
+info_steps data' ports c (suc (suc (suc (suc (suc zero))))) p q h = refl
+info_steps data' ports c (suc (suc (suc (suc (suc (suc k)))))) p q h = refl
+
+-- ---- tables
+
+pub names_lawful_by : (data' ports : List ℕ → Rule) → ((n : List ℕ) → Lawful (data' n)) → ((n : List ℕ) → Lawful (ports n)) → LawfulGrammar (names_grammar data' ports)
+names_lawful_by data' ports d p = record {
+  rows = info_rows data' ports d p;
+  steps = λ c e f k h. info_steps data' ports c (proper_kind e.kind) e.payload f.payload h ∙ ap (λ x. info_next c x f.payload) k;
+}
+
+pick_lawful : (b : Bool) (r s : Row) → Lawful r.rule → Lawful s.rule → Lawful (elim b as (λ x. Row) [ true ↦ r | false ↦ s ]).rule
+pick_lawful true r s p q = p
+pick_lawful false r s p q = q
+
+pick_rule : (b : Bool) (r s : Rule) → Lawful r → Lawful s → Lawful (elim b as (λ x. Rule) [ true ↦ r | false ↦ s ])
+pick_rule true r s p q = p
+pick_rule false r s p q = q
+
+module _ (p : Peer) (lawful_peer : LawfulPeer p) where
+  mutual
+    pub lawful : (s : Payload) → payload_bounded s ≡ true → Lawful (rule p s)
+    lawful (plain s) m = shape_lawful s m
+    lawful peer m = peer_lawful p lawful_peer
+    lawful (list form t) m = list_lawful form (grammar p t) (record { rows = λ c k. rows_lawful t m k; steps = λ c e f k h. refl })
+    lawful (link_info form data' ports) m =
+        let b = and_parts (names_bounded data') (names_bounded ports) m in
+        list_lawful form (names_grammar (named p data') (named p ports)) (names_lawful_by (named p data') (named p ports) (names_lawful data' b.0) (names_lawful ports b.1))
+
+    pub rows_lawful : (t : Table) → rows_bounded t ≡ true → (k : ℕ) → Lawful (row_in p t k).rule
+    rows_lawful end m k = shape_lawful raw refl
+    rows_lawful (row l n s t) m k =
+        let b = and_parts (payload_bounded s) (rows_bounded t) m in
+        pick_lawful (k == l) (record { is_typed = true; is_nested = n; rule = rule p s }) (row_in p t k) (lawful s b.0) (rows_lawful t b.1 k)
+
+    pub names_lawful : (ns : Names) → names_bounded ns ≡ true → (n : List ℕ) → Lawful (named p ns n)
+    names_lawful others m n = shape_lawful raw refl
+    names_lawful (name l s ns) m n =
+        let b = and_parts (payload_bounded s) (names_bounded ns) m in
+        pick_rule (bytes_eq n l) (rule p s) (named p ns n) (lawful s b.0) (names_lawful ns b.1 n)
+
+  pub table_lawful : (t : Table) → rows_bounded t ≡ true → LawfulGrammar (grammar p t)
+  table_lawful t m = record { rows = λ c k. rows_lawful t m k; steps = λ c e f k h. refl }
+
+  pub info_lawful : (data' ports : Names) → names_bounded data' ≡ true → names_bounded ports ≡ true → LawfulGrammar (names_grammar (named p data') (named p ports))
+  info_lawful data' ports d q = names_lawful_by (named p data') (named p ports) (names_lawful data' d) (names_lawful ports q)

@@ -1,0 +1,201 @@
+-- A walk tells what the rule of a list tells, and goes on by steps.
+use Rattle.std.proofs.Common.{◌≡◌, ℕ, suc, ◌+◌, ◌*◌, ◌<◌, ◌≤◌, Bool, true, false, cond, List, [], ◌∷◌, length, Option, Some, None, refl, sym, ap, ◌∙◌, arith, add_assoc}
+use Rattle.std.proofs.Math.Nat.{zero-add}
+use Rattle.std.specs.Prelude.{◌&&◌, ◌||◌, nat_le, option_map}
+use Rattle.netlink_packet_core_grammar.specs.Attributes.{nla_align, Attribute, list_text, list_size, first_attribute, if_some, attributes_within, attributes_of}
+use Rattle.netlink_packet_core_grammar.proofs.FirstAttribute.{attributes_step, attributes_stop}
+use Rattle.netlink_packet_core_grammar.proofs.Sizes.{length-list_text}
+use Rattle.attribute_tables_grammar.specs.Rules.{Rule, Lawful}
+use Rattle.attribute_tables_grammar.specs.Lists.{Context, nothing, Grammar, row_of, rewritten, all_accepted, all_fit, attributes_inside, some_empty_ports, ListForm, any, of_kind_one, read_as, is_kept, kept, is_empty_ports, if_read, list_rule}
+use Rattle.attribute_tables_grammar.specs.Walks.{Measure, measure, plus, none_yet, dropped, with_header, both, measures, walk, or_empty, walk_as}
+use Rattle.attribute_tables_grammar.proofs.Kept.{kept_more, kept_past, kept_none}
+
+-- ---- sums
+
+and_assoc : (a b c : Bool) → ((a && b) && c) ≡ (a && (b && c))
+and_assoc true b c = refl
+and_assoc false b c = refl
+
+or_assoc : (a b c : Bool) → ((a || b) || c) ≡ (a || (b || c))
+or_assoc true b c = refl
+or_assoc false b c = refl
+
+plus_assoc : (l m n : Measure) → plus (plus l m) n ≡ plus l (plus m n)
+plus_assoc l m n = λ i. record {
+  size = add_assoc l.size m.size n.size i;
+  attributes = add_assoc l.attributes m.attributes n.attributes i;
+  fits = and_assoc l.fits m.fits n.fits i;
+  empty_ports = or_assoc l.empty_ports m.empty_ports n.empty_ports i;
+}
+
+both_assoc : (l m n : Option Measure) → both (both l m) n ≡ both l (both m n)
+both_assoc None m n = refl
+both_assoc (Some l) None n = refl
+both_assoc (Some l) (Some m) None = refl
+both_assoc (Some l) (Some m) (Some n) = ap Some (plus_assoc l m n)
+
+both_none : (m : Option Measure) → both m None ≡ None
+both_none None = refl
+both_none (Some m) = refl
+
+-- ---- the steps of a walk
+
+-- what an attribute in front adds
+in_front : (form : ListForm) (g : Grammar) (c : Context) (e : Attribute) → Option Measure → Option Measure → Option Measure
+in_front form g c e more past = cond (is_kept form e) (both (option_map with_header (measure (row_of g c e).rule e.payload)) more) (both (Some dropped) past)
+
+in_front_none : (form : ListForm) (g : Grammar) (c : Context) (e : Attribute) (b : Bool) → is_kept form e ≡ b → None ≡ in_front form g c e None None
+unfolding in_front
+in_front_none form g c e true h = sym (ap (λ b. cond b (both (option_map with_header (measure (row_of g c e).rule e.payload)) None) None) h ∙ both_none (option_map with_header (measure (row_of g c e).rule e.payload)))
+in_front_none form g c e false h = sym (ap (λ b. cond b (both (option_map with_header (measure (row_of g c e).rule e.payload)) None) None) h)
+
+if_some_map : (form : ListForm) (o : Option (List Attribute)) (g : Grammar) (c : Context) (e : Attribute) → if_some (option_map (λ es. e ∷ es) o) (measures form g c) ≡ in_front form g c e (if_some o (measures form g (g.next c e))) (if_some o (measures form g c))
+unfolding measures in_front
+if_some_map form None g c e = in_front_none form g c e (is_kept form e) refl
+if_some_map form (Some es) g c e = refl
+
+walk_step : (form : ListForm) (g : Grammar) (c : Context) (bytes : List ℕ) (e : Attribute) (rest : List ℕ) → first_attribute bytes ≡ Some (e, rest) → walk form g c bytes ≡ in_front form g c e (walk form g (g.next c e) rest) (walk form g c rest)
+unfolding walk
+walk_step form g c bytes e rest f = ap (λ o. if_some o (measures form g c)) (attributes_step bytes e rest f) ∙ if_some_map form (attributes_of rest) g c e
+
+walk_kept : (form : ListForm) (g : Grammar) (c : Context) (bytes : List ℕ) (e : Attribute) (rest : List ℕ) → first_attribute bytes ≡ Some (e, rest) → is_kept form e ≡ true → walk form g c bytes ≡ both (option_map with_header (measure (row_of g c e).rule e.payload)) (walk form g (g.next c e) rest)
+unfolding in_front
+walk_kept form g c bytes e rest f k =
+    walk_step form g c bytes e rest f
+    ∙ ap (λ b. cond b (both (option_map with_header (measure (row_of g c e).rule e.payload)) (walk form g (g.next c e) rest)) (both (Some dropped) (walk form g c rest))) k
+
+walk_dropped : (form : ListForm) (g : Grammar) (c : Context) (bytes : List ℕ) (e : Attribute) (rest : List ℕ) → first_attribute bytes ≡ Some (e, rest) → is_kept form e ≡ false → walk form g c bytes ≡ both (Some dropped) (walk form g c rest)
+unfolding in_front
+walk_dropped form g c bytes e rest f k =
+    walk_step form g c bytes e rest f
+    ∙ ap (λ b. cond b (both (option_map with_header (measure (row_of g c e).rule e.payload)) (walk form g (g.next c e) rest)) (both (Some dropped) (walk form g c rest))) k
+
+pub walk_end : (form : ListForm) (g : Grammar) (c : Context) (bytes : List ℕ) → length bytes ≡ 0 → walk form g c bytes ≡ Some none_yet
+unfolding walk attributes_within measures
+walk_end form g c [] h = refl
+walk_end form g c (b ∷ bytes) h = absurd (omega arith)
+
+pub walk_stop : (form : ListForm) (g : Grammar) (c : Context) (bytes : List ℕ) → first_attribute bytes ≡ None → 0 < length bytes → walk form g c bytes ≡ None
+unfolding walk
+walk_stop form g c bytes f l = ap (λ o. if_some o (measures form g c)) (attributes_stop bytes f l)
+
+-- so far and still to come, with one more attribute
+pub walk_more : (form : ListForm) (g : Grammar) (c : Context) (bytes : List ℕ) (e : Attribute) (rest : List ℕ) (so_far : Measure) (m : Measure) (total : Option Measure) →
+    first_attribute bytes ≡ Some (e, rest) → is_kept form e ≡ true → measure (row_of g c e).rule e.payload ≡ Some m → total ≡ both (Some so_far) (walk form g c bytes) → total ≡ both (Some (plus so_far (with_header m))) (walk form g (g.next c e) rest)
+walk_more form g c bytes e rest so_far m total f k is t =
+    t ∙ ap (both (Some so_far)) (walk_kept form g c bytes e rest f k ∙ ap (λ o. both (option_map with_header o) (walk form g (g.next c e) rest)) is)
+    ∙ sym (both_assoc (Some so_far) (Some (with_header m)) (walk form g (g.next c e) rest))
+
+-- with one that is dropped
+pub walk_past : (form : ListForm) (g : Grammar) (c : Context) (bytes : List ℕ) (e : Attribute) (rest : List ℕ) (so_far : Measure) (total : Option Measure) →
+    first_attribute bytes ≡ Some (e, rest) → is_kept form e ≡ false → total ≡ both (Some so_far) (walk form g c bytes) → total ≡ both (Some (plus so_far dropped)) (walk form g c rest)
+walk_past form g c bytes e rest so_far total f k t =
+    t ∙ ap (both (Some so_far)) (walk_dropped form g c bytes e rest f k) ∙ sym (both_assoc (Some so_far) (Some dropped) (walk form g c rest))
+
+pub walk_refused : (form : ListForm) (g : Grammar) (c : Context) (bytes : List ℕ) (e : Attribute) (rest : List ℕ) (so_far : Measure) (total : Option Measure) →
+    first_attribute bytes ≡ Some (e, rest) → is_kept form e ≡ true → measure (row_of g c e).rule e.payload ≡ None → total ≡ both (Some so_far) (walk form g c bytes) → total ≡ None
+walk_refused form g c bytes e rest so_far total f k is t =
+    t ∙ ap (both (Some so_far)) (walk_kept form g c bytes e rest f k ∙ ap (λ o. both (option_map with_header o) (walk form g (g.next c e) rest)) is)
+
+-- ---- a walk of a whole list
+
+found_step : (a b : Bool) (s t h i : ℕ) (f r p q : Bool) →
+    both (option_map with_header (cond a (Some (record { size = s; attributes = h; fits = f; empty_ports = p })) None)) (cond b (Some (record { size = t; attributes = i; fits = r; empty_ports = q })) None)
+    ≡ cond (a && b) (Some (record { size = nla_align (4 + s) + t; attributes = 1 + h + i; fits = (nat_le (4 + s) 65535 && f) && r; empty_ports = p || q })) None
+found_step true true s t h i f r p q = refl
+found_step true false s t h i f r p q = refl
+found_step false b s t h i f r p q = refl
+
+dropped_step : (b : Bool) (t n : ℕ) (l h : ℕ) (r q : Bool) → n ≡ suc l + h → both (Some dropped) (cond b (Some (record { size = t; attributes = l + h; fits = r; empty_ports = q })) None) ≡ cond b (Some (record { size = t; attributes = n; fits = r; empty_ports = q })) None
+dropped_step true t n l h r q e = let sum : 1 + (l + h) ≡ n = omega (arith, e) in λ i. Some (record { size = zero-add t i; attributes = sum i; fits = r; empty_ports = q })
+dropped_step false t n l h r q e = refl
+
+regroup : (l h n : ℕ) → 1 + h + (l + n) ≡ suc l + (h + n)
+regroup l h n = omega arith
+
+module _ (form : ListForm) (g : Grammar) where
+  -- the attributes of a list, of which these are kept
+  found_of : Context → ℕ → List Attribute → Option Measure
+  found_of c n ks = cond (all_accepted g c ks) (Some (record { size = list_size (rewritten g c ks); attributes = n + attributes_inside g c ks; fits = all_fit g c ks; empty_ports = some_empty_ports g c ks })) None
+
+  measures_by : (c : Context) (e : Attribute) (es : List Attribute) (b : Bool) → is_kept form e ≡ b → ((d : Context) → measures form g d es ≡ found_of d (length es) (kept form es)) → measures form g c (e ∷ es) ≡ found_of c (suc (length es)) (kept form (e ∷ es))
+  unfolding measures found_of all_accepted rewritten attributes_inside all_fit some_empty_ports
+  measures_by c e es true k more =
+      let r = (row_of g c e).rule in
+      let d = g.next c e in
+      let p = e.payload in
+      let ks = kept form es in
+      ap (λ b. cond b (both (option_map with_header (measure r p)) (measures form g d es)) (both (Some dropped) (measures form g c es))) k
+      ∙ ap (both (option_map with_header (measure r p))) (more d)
+      ∙ found_step (r.accepted p) (all_accepted g d ks) (length (r.canonical p)) (list_size (rewritten g d ks)) (r.attributes p) (length es + attributes_inside g d ks) (r.fits p) (all_fit g d ks) (r.empty_ports p) (some_empty_ports g d ks)
+      ∙ ap (λ n. cond (r.accepted p && all_accepted g d ks) (Some (record { size = nla_align (4 + length (r.canonical p)) + list_size (rewritten g d ks); attributes = n; fits = (nat_le (4 + length (r.canonical p)) 65535 && r.fits p) && all_fit g d ks; empty_ports = r.empty_ports p || some_empty_ports g d ks })) None) (regroup (length es) (r.attributes p) (attributes_inside g d ks))
+      ∙ ap (found_of c (suc (length es))) (sym (kept_more form e es k))
+  measures_by c e es false k more =
+      let r = (row_of g c e).rule in
+      let ks = kept form es in
+      ap (λ b. cond b (both (option_map with_header (measure r e.payload)) (measures form g (g.next c e) es)) (both (Some dropped) (measures form g c es))) k
+      ∙ ap (both (Some dropped)) (more c)
+      ∙ dropped_step (all_accepted g c ks) (list_size (rewritten g c ks)) (suc (length es) + attributes_inside g c ks) (length es) (attributes_inside g c ks) (all_fit g c ks) (some_empty_ports g c ks) refl
+      ∙ ap (found_of c (suc (length es))) (sym (kept_past form e es k))
+
+  measures_found : (c : Context) (es : List Attribute) → measures form g c es ≡ found_of c (length es) (kept form es)
+  unfolding measures found_of all_accepted rewritten attributes_inside all_fit some_empty_ports
+  measures_found c [] = sym (ap (found_of c 0) (kept_none form))
+  measures_found c (e ∷ es) = measures_by c e es (is_kept form e) refl (λ d. measures_found d es)
+
+  closed : (a b : Bool) (s h : ℕ) (f p : Bool) → option_map (or_empty b) (cond a (Some (record { size = s; attributes = h; fits = f; empty_ports = p })) None) ≡ cond a (Some (record { size = s; attributes = h; fits = f; empty_ports = b || p })) None
+  closed true b s h f p = refl
+  closed false b s h f p = refl
+
+  whole : (o : Option (List Attribute)) → if_some o (λ es. option_map (or_empty (is_empty_ports form (kept form es))) (measures form g nothing es)) ≡ cond (if_read false (λ es. all_accepted g nothing (kept form es)) o) (Some (record { size = length (if_read [] (λ es. list_text (rewritten g nothing (kept form es))) o); attributes = if_read 0 (λ es. length es + attributes_inside g nothing (kept form es)) o; fits = if_read true (λ es. all_fit g nothing (kept form es)) o; empty_ports = if_read false (λ es. is_empty_ports form (kept form es) || some_empty_ports g nothing (kept form es)) o })) None
+  unfolding found_of
+  whole None = refl
+  whole (Some es) =
+      let ks = kept form es in
+      ap (option_map (or_empty (is_empty_ports form ks))) (measures_found nothing es)
+      ∙ closed (all_accepted g nothing ks) (is_empty_ports form ks) (list_size (rewritten g nothing ks)) (length es + attributes_inside g nothing ks) (all_fit g nothing ks) (some_empty_ports g nothing ks)
+      ∙ ap (λ n. cond (all_accepted g nothing ks) (Some (record { size = n; attributes = length es + attributes_inside g nothing ks; fits = all_fit g nothing ks; empty_ports = is_empty_ports form ks || some_empty_ports g nothing ks })) None) (sym (length-list_text (rewritten g nothing ks)))
+
+  -- a walk of whole bytes tells what the rule tells, for any form
+  pub walk_list : (bytes : List ℕ) → walk_as form g bytes ≡ measure (list_rule form g) bytes
+  unfolding walk_as
+  walk_list bytes = whole (read_as form bytes)
+
+or_nothing : (m : Option Measure) → option_map (or_empty false) m ≡ m
+or_nothing None = refl
+or_nothing (Some m) = refl
+
+if_some_nothing : (o : Option (List Attribute)) (f : List Attribute → Option Measure) → if_some o (λ es. option_map (or_empty false) (f es)) ≡ if_some o f
+if_some_nothing None f = refl
+if_some_nothing (Some es) f = or_nothing (f es)
+
+pub walk_any : (g : Grammar) (bytes : List ℕ) → walk any g nothing bytes ≡ measure (list_rule any g) bytes
+unfolding walk walk_as
+walk_any g bytes = sym (if_some_nothing (attributes_of bytes) (measures any g nothing)) ∙ walk_list any g bytes
+
+pub walk_of_kind_one : (g : Grammar) (bytes : List ℕ) → walk of_kind_one g nothing bytes ≡ measure (list_rule of_kind_one g) bytes
+unfolding walk walk_as
+walk_of_kind_one g bytes = sym (if_some_nothing (attributes_of bytes) (measures of_kind_one g nothing)) ∙ walk_list of_kind_one g bytes
+
+-- ---- bounds
+
+abbrev some_measure : Measure → Option Measure
+some_measure m = Some m
+
+size_or : Option Measure → ℕ
+size_or None = 0
+size_or (Some m) = m.size
+
+attributes_or : Option Measure → ℕ
+attributes_or None = 0
+attributes_or (Some m) = m.attributes
+
+measured_by : (r : Rule) (p : List ℕ) (m : Measure) (a : Bool) → r.accepted p ≡ a → cond a (Some (record { size = length (r.canonical p); attributes = r.attributes p; fits = r.fits p; empty_ports = r.empty_ports p })) None ≡ some_measure m → (r.accepted p ≡ true) × (m.size ≡ length (r.canonical p)) × (m.attributes ≡ r.attributes p)
+unfolding size_or attributes_or
+measured_by r p m true a h = (a, ap size_or (sym h), ap attributes_or (sym h))
+measured_by r p m false a h = absurd cc
+
+pub measured_small : (r : Rule) → Lawful r → (p : List ℕ) (m : Measure) → measure r p ≡ Some m → (nla_align (4 + m.size) ≤ 77 * (4 + length p)) × (4 * m.attributes ≤ length p)
+measured_small r l p m h =
+    let k = measured_by r p m (r.accepted p) refl h in
+    (rw k.1 (l.bounded p k.0), rw k.2 (l.counted p k.0))

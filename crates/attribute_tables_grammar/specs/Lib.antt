@@ -1,0 +1,10 @@
+pub mod Shapes
+pub mod Rules
+pub mod Lists
+pub mod Peers
+pub mod Tables
+pub mod Rows
+pub mod LookUps
+pub mod Readings
+pub mod Walks
+pub mod Laws

@@ -1,0 +1,81 @@
+-- Payloads that hold no attributes: which are accepted, what they mean, and how a meaning is spelled.
+use Rattle.std.specs.Prelude.{ℕ, ◌+◌, ◌-◌, ◌*◌, ◌==◌, ◌&&◌, ◌||◌, nat_le, Bool, true, false, List, [], ◌∷◌, ◌++◌, length, take, drop, map}
+use Rattle.netlink_packet_core_grammar.specs.Attributes.{nla_align, zeros}
+use Rattle.netlink_packet_core_grammar.specs.Texts.{without_nul, is_text}
+use Rattle.netlink_packet_core_grammar.specs.Truths.{truth_of, one_of}
+
+pub data Shape : Type 0 where
+  exact : ℕ → Shape  -- that many bytes
+  either : ℕ → ℕ → Shape  -- one of two sizes
+  at_most : ℕ → Shape  -- no more bytes than that
+  nonzero_byte : Shape  -- a byte that is zero or not
+  one_byte : Shape  -- a byte that is one or not
+  truth_of_four : Shape  -- a number of 4 bytes that is zero or not
+  presence : Shape  -- there or not, whatever it holds
+  text : Shape  -- UTF-8, with or without a last NUL
+  raw : Shape
+  never : Shape  -- no payload is accepted
+  fixed_record : ℕ → ℕ → Shape  -- at least m bytes, of which the first m count, written as n
+  id_and_truth : Shape  -- 4 bytes and a number of 4 bytes that is zero or not
+  resized : ℕ → Shape  -- any number of bytes, cut or filled up to n
+
+-- the bytes' number, the lower bytes first
+abbrev pub number : List ℕ → ℕ
+number [] = 0
+number (b ∷ bytes) = b + 256 * number bytes
+
+abbrev pub number_truth : List ℕ → List ℕ
+number_truth bytes = truth_of (number bytes) ∷ 0 ∷ 0 ∷ 0 ∷ []
+
+abbrev pub accepts : Shape → List ℕ → Bool
+accepts (exact n) p = length p == n
+accepts (either m n) p = (length p == m) || (length p == n)
+accepts (at_most n) p = nat_le (length p) n
+accepts nonzero_byte p = length p == 1
+accepts one_byte p = length p == 1
+accepts truth_of_four p = length p == 4
+accepts presence p = true
+accepts text p = is_text p
+accepts raw p = true
+accepts never p = false
+accepts (fixed_record m n) p = nat_le m (length p)
+accepts id_and_truth p = nat_le 8 (length p)
+accepts (resized n) p = true
+
+-- two payloads mean the same where this is equal
+abbrev pub meaning : Shape → List ℕ → List ℕ
+meaning (exact n) p = p
+meaning (either m n) p = p
+meaning (at_most n) p = p
+meaning nonzero_byte p = map truth_of p
+meaning one_byte p = map one_of p
+meaning truth_of_four p = number_truth p
+meaning presence p = []
+meaning text p = without_nul p
+meaning raw p = p
+meaning never p = p
+meaning (fixed_record m n) p = take m p
+meaning id_and_truth p = take 4 p ++ number_truth (take 4 (drop 4 p))
+meaning (resized n) p = take n (p ++ zeros n)
+
+-- the canonical payload of a meaning
+abbrev pub spelling : Shape → List ℕ → List ℕ
+spelling (exact n) v = v
+spelling (either m n) v = v
+spelling (at_most n) v = v
+spelling nonzero_byte v = v
+spelling one_byte v = v
+spelling truth_of_four v = v
+spelling presence v = v
+spelling text v = v ++ 0 ∷ []
+spelling raw v = v
+spelling never v = v
+spelling (fixed_record m n) v = v ++ zeros (n - m)
+spelling id_and_truth v = v
+spelling (resized n) v = v
+
+-- no attribute of this shape is written more than 77 times as long
+abbrev pub shape_bounded : Shape → Bool
+shape_bounded (fixed_record m n) = nat_le m n && nat_le (nla_align (4 + n)) (77 * (4 + m))
+shape_bounded (resized n) = nat_le (nla_align (4 + n)) 308
+shape_bounded _ = true

@@ -1,0 +1,119 @@
+-- Tables of rows, and the rules that they make.
+use Rattle.std.specs.Prelude.{ℕ, zero, suc, ◌==◌, ◌&&◌, not, nat_lt, Bool, true, false, List, Option, Some, None, bytes_eq}
+use Rattle.netlink_packet_core_grammar.specs.Attributes.{Attribute, proper_kind}
+use Rattle.netlink_packet_core_grammar.specs.Texts.{without_nul}
+use Rattle.attribute_tables_grammar.specs.Shapes.{Shape, text, raw, never, shape_bounded}
+use Rattle.attribute_tables_grammar.specs.Rules.{Rule, shape_rule}
+use Rattle.attribute_tables_grammar.specs.Lists.{Context, Row, raw_row, Grammar, without_context, ListForm, list_rule}
+use Rattle.attribute_tables_grammar.specs.Peers.{Peer, peer_rule}
+
+mutual
+  pub data Payload : Type 0 where
+    plain : Shape → Payload
+    peer : Payload
+    list : ListForm → Table → Payload
+    link_info : ListForm → Names → Names → Payload  -- a list in which a kind's name tells the data, and a port kind's name the port data
+
+  -- rows of kinds without flag bits; a kind with no row is a raw attribute
+  pub data Table : Type 0 where
+    end : Table
+    row : ℕ → Bool → Payload → Table → Table  -- a kind, and whether it is written with the nested bit
+
+  -- payloads by name; the others hold raw bytes
+  pub data Names : Type 0 where
+    others : Names
+    name : List ℕ → Payload → Names → Names
+
+-- ---- link info: a kind stays in force until the next, and port data uses a port kind up
+
+abbrev pub typed : Rule → Row
+typed r = record { is_typed = true; is_nested = false; rule = r }
+
+-- what a name in force tells; nothing is accepted where no name is in force
+abbrev pub row_in_force : Option (List ℕ) → (List ℕ → Rule) → Row
+row_in_force None f = typed (shape_rule never)
+row_in_force (Some n) f = typed (f n)
+
+abbrev pub info_row : (List ℕ → Rule) → (List ℕ → Rule) → Context → ℕ → Row
+info_row data' ports c zero = raw_row
+info_row data' ports c (suc zero) = typed (shape_rule text)
+info_row data' ports c (suc (suc zero)) = row_in_force c.kind data'
+info_row data' ports c (suc (suc (suc zero))) = row_in_force c.kind (λ n. shape_rule raw)
+info_row data' ports c (suc (suc (suc (suc zero)))) = typed (shape_rule text)
+info_row data' ports c (suc (suc (suc (suc (suc zero))))) = row_in_force c.port_kind ports
+info_row data' ports c (suc (suc (suc (suc (suc (suc k)))))) = raw_row
+
+abbrev pub info_next : Context → ℕ → List ℕ → Context
+info_next c zero p = c
+info_next c (suc zero) p = record { kind = Some (without_nul p); port_kind = c.port_kind }
+info_next c (suc (suc zero)) p = c
+info_next c (suc (suc (suc zero))) p = c
+info_next c (suc (suc (suc (suc zero)))) p = record { kind = c.kind; port_kind = Some (without_nul p) }
+info_next c (suc (suc (suc (suc (suc zero))))) p = record { kind = c.kind; port_kind = None }
+info_next c (suc (suc (suc (suc (suc (suc k)))))) p = c
+
+-- the rows of link info, from the rules of data and of port data by name
+abbrev pub names_grammar : (List ℕ → Rule) → (List ℕ → Rule) → Grammar
+names_grammar data' ports = record { row = info_row data' ports; next = λ c e. info_next c (proper_kind e.kind) e.payload }
+
+-- ---- the rules
+
+abbrev mutual
+  pub rule : Peer → Payload → Rule
+  rule p (plain s) = shape_rule s
+  rule p peer = peer_rule p
+  rule p (list form t) = list_rule form (without_context (row_in p t))
+  rule p (link_info form data' ports) = list_rule form (names_grammar (named p data') (named p ports))
+
+  pub row_in : Peer → Table → ℕ → Row
+  row_in p end k = raw_row
+  row_in p (row l n s t) k = elim (k == l) [ true ↦ record { is_typed = true; is_nested = n; rule = rule p s } | false ↦ row_in p t k ]
+
+  pub named : Peer → Names → List ℕ → Rule
+  named p others n = shape_rule raw
+  named p (name m s ns) n = elim (bytes_eq n m) [ true ↦ rule p s | false ↦ named p ns n ]
+
+abbrev pub grammar : Peer → Table → Grammar
+grammar p t = without_context (row_in p t)
+
+-- ---- a test of whole tables: no row is written more than 77 times as long
+
+abbrev mutual
+  pub payload_bounded : Payload → Bool
+  payload_bounded (plain s) = shape_bounded s
+  payload_bounded peer = true
+  payload_bounded (list form t) = rows_bounded t
+  payload_bounded (link_info form data' ports) = names_bounded data' && names_bounded ports
+
+  pub rows_bounded : Table → Bool
+  rows_bounded end = true
+  rows_bounded (row k n s t) = payload_bounded s && rows_bounded t
+
+  pub names_bounded : Names → Bool
+  names_bounded others = true
+  names_bounded (name m s ns) = payload_bounded s && names_bounded ns
+
+-- ---- a test of whole tables: kinds rise, and no name stands twice
+
+abbrev pub above : ℕ → Table → Bool
+above k end = true
+above k (row l n s t) = nat_lt k l
+
+abbrev pub lacks_name : List ℕ → Names → Bool
+lacks_name n others = true
+lacks_name n (name m s ns) = not (bytes_eq n m) && lacks_name n ns
+
+abbrev mutual
+  pub rising : Payload → Bool
+  rising (plain s) = true
+  rising peer = true
+  rising (list form t) = rising_rows t
+  rising (link_info form data' ports) = rising_names data' && rising_names ports
+
+  pub rising_rows : Table → Bool
+  rising_rows end = true
+  rising_rows (row k n s t) = above k t && rising s && rising_rows t
+
+  pub rising_names : Names → Bool
+  rising_names others = true
+  rising_names (name n s ns) = lacks_name n ns && rising s && rising_names ns

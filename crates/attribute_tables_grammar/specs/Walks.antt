@@ -1,0 +1,53 @@
+-- What one walk tells of a list: whether it is accepted, and then the size of its text, its attributes, whether it fits, and whether ports in it keep nothing.
+use Rattle.std.specs.Prelude.{ℕ, ◌+◌, ◌&&◌, ◌||◌, nat_le, Bool, true, false, cond, List, [], ◌∷◌, length, Option, Some, None, option_map}
+use Rattle.netlink_packet_core_grammar.specs.Attributes.{nla_align, Attribute, if_some, attributes_of}
+use Rattle.attribute_tables_grammar.specs.Rules.{Rule}
+use Rattle.attribute_tables_grammar.specs.Lists.{Context, nothing, Grammar, row_of, ListForm, read_as, kept, is_kept, is_empty_ports}
+
+pub record Measure : Type 0 where
+  pub size : ℕ
+  -- the attribute headers, at all depths
+  pub attributes : ℕ
+  pub fits : Bool
+  pub empty_ports : Bool
+
+abbrev pub measure : Rule → List ℕ → Option Measure
+measure r p = cond (r.accepted p) (Some (record { size = length (r.canonical p); attributes = r.attributes p; fits = r.fits p; empty_ports = r.empty_ports p })) None
+
+abbrev pub plus : Measure → Measure → Measure
+plus m n = record { size = m.size + n.size; attributes = m.attributes + n.attributes; fits = m.fits && n.fits; empty_ports = m.empty_ports || n.empty_ports }
+
+abbrev pub none_yet : Measure
+none_yet = record { size = 0; attributes = 0; fits = true; empty_ports = false }
+
+-- an attribute that its list drops
+abbrev pub dropped : Measure
+dropped = record { size = 0; attributes = 1; fits = true; empty_ports = false }
+
+-- an attribute around a payload
+abbrev pub with_header : Measure → Measure
+with_header m = record { size = nla_align (4 + m.size); attributes = 1 + m.attributes; fits = nat_le (4 + m.size) 65535 && m.fits; empty_ports = m.empty_ports }
+
+abbrev pub both : Option Measure → Option Measure → Option Measure
+both None n = None
+both (Some m) None = None
+both (Some m) (Some n) = Some (plus m n)
+
+unfoldable pub measures : ListForm → Grammar → Context → List Attribute → Option Measure
+measures form g c [] = Some none_yet
+measures form g c (e ∷ es) =
+    cond (is_kept form e)
+    (both (option_map with_header (measure (row_of g c e).rule e.payload)) (measures form g (g.next c e) es))
+    (both (Some dropped) (measures form g c es))
+
+-- of the rest of a list, in the context where it begins
+unfoldable pub walk : ListForm → Grammar → Context → List ℕ → Option Measure
+walk form g c bytes = if_some (attributes_of bytes) (measures form g c)
+
+-- a list of ports that keeps nothing has no text
+abbrev pub or_empty : Bool → Measure → Measure
+or_empty b m = record { size = m.size; attributes = m.attributes; fits = m.fits; empty_ports = b || m.empty_ports }
+
+-- of whole bytes, by their form
+unfoldable pub walk_as : ListForm → Grammar → List ℕ → Option Measure
+walk_as form g bytes = if_some (read_as form bytes) (λ es. option_map (or_empty (is_empty_ports form (kept form es))) (measures form g nothing es))

@@ -1,0 +1,39 @@
+//! Facts of the definitions. No function here makes a call.
+
+ghost use Rattle.attribute_tables_grammar.specs.Laws.{CanonicalIsCut, TablesAreLawful, BytesAreLawful, TextsTellMeanings};
+ghost use Rattle.attribute_tables_grammar.specs.Laws.{TextsKeepMeanings, OldTextsAreRenewed, OneContext};
+
+/// A canonical text is cut into the kept attributes, each in its canonical form.
+pub fn canonical_texts_are_cut_again()
+    ensures { CanonicalIsCut }
+{}
+
+/// Every payload of a table without large rows is lawful.
+pub fn tables_are_lawful()
+    ensures { TablesAreLawful }
+{}
+
+/// Peers whose bytes are kept are lawful.
+pub fn peers_that_are_bytes_are_lawful()
+    ensures { BytesAreLawful }
+{}
+
+/// Two accepted payloads mean the same exactly where they have one canonical payload.
+pub fn texts_tell_meanings()
+    ensures { TextsTellMeanings }
+{}
+
+/// A canonical payload means what the bytes mean.
+pub fn texts_keep_meanings()
+    ensures { TextsKeepMeanings }
+{}
+
+/// Under a rule of peers an old text becomes what the first bytes become.
+pub fn old_texts_are_renewed()
+    ensures { OldTextsAreRenewed }
+{}
+
+/// Lists that are the same leave the same in force.
+pub fn same_lists_leave_one_context()
+    ensures { OneContext }
+{}

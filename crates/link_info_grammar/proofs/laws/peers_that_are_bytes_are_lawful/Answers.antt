@@ -1,5 +1,0 @@
-use Rattle.link_info_grammar.proofs.Tables.{bytes_peer_lawful}
-use Rattle.link_info_grammar.proofs.laws.peers_that_are_bytes_are_lawful.Goals as goal
-
-pub returns : goal.returns
-returns c = bytes_peer_lawful

@@ -1,0 +1,28 @@
+-- Attributes of one family, by its table.
+use Rattle.std.specs.Prelude.{◌≡◌, ◌&&◌, ℕ, Bool, List}
+use Rattle.netlink_packet_core_grammar.specs.Attributes.{Attribute, proper_kind}
+use Rattle.netlink_packet_core_grammar.specs.AttributeViews.{attribute_of, raw_kind_of, payload_of}
+use Rattle.attribute_tables_grammar.specs.Lists.{Row, rewrite, row_at}
+use Rattle.attribute_tables_grammar.specs.LookUps.{table_row, row_holds_bytes}
+use Rattle.attribute_tables_grammar.specs.Peers.{bytes_peer}
+use Rattle.attribute_tables_grammar.specs.Tables.{Table}
+
+-- an attribute of this kind and payload
+abbrev pub attribute : ℕ → List ℕ → Attribute
+attribute k p = record { kind = k; payload = p }
+
+-- the row of a kind without its flag bits, where peers are bytes
+abbrev pub family_row : Table → ℕ → Row
+family_row t k = table_row bytes_peer t k
+
+-- the attribute that the bytes begin with is accepted by its row
+abbrev pub accepts : Table → List ℕ → Bool
+accepts t b = (row_at (family_row t) (attribute_of b)).rule.accepted (payload_of b)
+
+-- its row holds bytes or text, and accepts it
+abbrev pub may_want_memory : Table → List ℕ → Bool
+may_want_memory t b = row_holds_bytes t (proper_kind (raw_kind_of b)) && accepts t b
+
+-- it is written as this one: with its row's kind, and its canonical payload
+abbrev pub Gives : Table → List ℕ → Attribute → Type 0
+Gives t b e = e ≡ rewrite (row_at (family_row t) (attribute_of b)) (attribute_of b)

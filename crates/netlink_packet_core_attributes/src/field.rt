@@ -1,0 +1,114 @@
+//! Values that are written as an attribute of one payload, and read from one.
+
+ghost use Rattle.std.specs.Prelude.{◌≡◌, true, IsTrue, IfOk, IfErr, IfSome, IfNone, OnOk};
+ghost use Rattle.netlink_packet_core_grammar.specs.Attributes.{Attribute, proper_kind};
+ghost use Rattle.netlink_packet_core_grammar.specs.AttributeViews.{raw_kind_of, IsAttribute};
+ghost use Rattle.netlink_packet_core_grammar.specs.Numbers.{as_usize};
+ghost use Rattle.netlink_packet_core_numbers.specs.Errors.{is_memory};
+ghost use Rattle.netlink_packet_core_attributes.specs.NlaBuffers.{storage};
+ghost use Rattle.netlink_packet_core_attributes.specs.Fields.{field_bytes};
+ghost use Rattle.netlink_packet_core_attributes.specs.Families.{Gives, accepts, attribute, family_row, may_want_memory};
+ghost use Rattle.attribute_tables_grammar.specs.Lists.{rewrite};
+ghost use Rattle.attribute_tables_grammar.specs.LookUps.{has_no_row, holds_no_lists, row_holds_bytes};
+ghost use Rattle.attribute_tables_grammar.specs.Tables.{Table};
+
+use super::nla::{DefaultNla, Nla};
+use super::nla_buffer::NlaBuffer;
+use super::payload::Field;
+use super::traits::Parseable;
+use netlink_packet_core_numbers::error::DecodeError;
+use std::alloc::Global;
+
+/// A value that is written as an attribute of one payload.
+pub trait FieldNla {
+    /// The kind with its flags, and the bytes of the payload.
+    ghost field_entry: { Self → Attribute };
+
+    /// The kind and the payload.
+    fn field(&self) -> (u16, Field<'_>)
+        ensures kind { result.0 ≡ (field_entry self.now).kind }
+        ensures payload { field_bytes result.1 ≡ (field_entry self.now).payload };
+}
+
+impl<F: FieldNla> Nla for F {
+    ghost entry = { F.field_entry };
+
+    ghost inside_fits = { λ _. true };
+
+    fn value_len(&self) -> usize {
+        self.field().1.len()
+    }
+
+    fn kind(&self) -> u16 {
+        self.field().0
+    }
+
+    fn emit_value(&self, buffer: &mut [u8]) {
+        self.field().1.fill(buffer);
+    }
+
+    fn contents_fit(&self) -> bool {
+        true
+    }
+}
+
+/// A value of a family of attributes whose rows hold no attributes.
+pub trait Family: FieldNla + Sized {
+    /// The table of the family.
+    ghost rows: { Table };
+
+    /// The value is the variant that its row names.
+    ghost names_row: { Self → Type 0 };
+
+    /// Reads the payload of a kind without its flag bits; `None` where the kind has no row.
+    fn read_row(alloc: Global, kind: u16, payload: &[u8]) -> Result<Option<Self>, DecodeError>
+        ensures ok { OnOk result (IsTrue ((family_row rows kind).rule.accepted payload.now)) }
+        ensures none { IfOk result (λ o. IfNone o (has_no_row rows kind)) }
+        ensures typed { IfOk result (λ o. IfSome o (λ _. (family_row rows kind).is_typed ≡ true)) }
+        ensures value { IfOk result
+            (λ o. IfSome o
+            (λ v. Self.field_entry v ≡ rewrite (family_row rows kind) (attribute kind payload.now))) }
+        ensures names_row { IfOk result (λ o. IfSome o (λ v. names_row v)) }
+        ensures err { IfErr result (λ e. (family_row rows kind).rule.accepted payload.now ≡ is_memory e) }
+        ensures memory { IfErr result (λ e. is_memory e ≡ true → row_holds_bytes rows kind ≡ true) };
+
+    /// An attribute of a kind that has no row.
+    fn other(nla: DefaultNla) -> Self
+        ensures entry { Self.field_entry result ≡ nla }
+        ensures names_row { has_no_row rows (proper_kind nla.kind) → names_row result };
+
+    /// No row holds attributes.
+    ghost plain: { holds_no_lists rows ≡ true };
+}
+
+/// Reads one attribute of a family.
+#[tactic(auto, using(crate::proofs::Families::families))]
+pub fn read_attribute<F: Family>(alloc: Global, buf: &NlaBuffer<&[u8]>) -> Result<F, DecodeError>
+    requires { IsAttribute (storage buf.now).now }
+    ensures ok { OnOk result (IsTrue (accepts F.rows (storage buf.now).now)) }
+    ensures value { IfOk result (λ v. Gives F.rows (storage buf.now).now (F.field_entry v)) }
+    ensures names_row { IfOk result (λ v. F.names_row v) }
+    ensures err { IfErr result (λ e. accepts F.rows (storage buf.now).now ≡ is_memory e) }
+    ensures memory { IfErr result
+        (λ e. is_memory e ≡ true → row_holds_bytes F.rows (proper_kind (raw_kind_of (storage buf.now).now)) ≡ true) }
+{
+    match F::read_row(alloc, buf.kind(), buf.value()) {
+        Ok(Some(value)) => Ok(value),
+        Ok(None) => Ok(F::other(DefaultNla::parse(alloc, buf)?)),
+        Err(error) => Err(error),
+    }
+}
+
+impl<'a, F: Family> Parseable<NlaBuffer<&'a [u8]>> for F {
+    ghost can_parse = { λ b. IsAttribute (storage b).now };
+
+    ghost accepts = { λ b. accepts F.rows (storage b).now };
+
+    ghost may_want_memory = { λ b. may_want_memory F.rows (storage b).now };
+
+    ghost gives = { λ b v. Gives F.rows (storage b).now (F.field_entry v) × F.names_row v };
+
+    fn parse(alloc: Global, buf: &NlaBuffer<&'a [u8]>) -> Result<Self, DecodeError> {
+        read_attribute(alloc, buf)
+    }
+}

@@ -1,11 +1,11 @@
 -- The look-up of a kind finds the row that the table has, so a list of a table's rows has the rule of what is looked up.
 use Rattle.std.proofs.Common.{◌≡◌, ℕ, Bool, true, false, cond, List, Option, Some, None, refl, sym, ap, ◌∙◌}
-use Rattle.std.specs.Prelude.{◌==◌}
+use Rattle.std.specs.Prelude.{◌==◌, bytes_eq}
 use Rattle.attribute_tables_grammar.specs.Rules.{Rule}
 use Rattle.attribute_tables_grammar.specs.Lists.{Row, ListForm, without_context, list_rule}
 use Rattle.attribute_tables_grammar.specs.Peers.{Peer}
-use Rattle.attribute_tables_grammar.specs.Tables.{Payload, Payload.plain, Payload.peer, Payload.list, Payload.link_info, Table, Table.end, Table.row, rule, row_in, grammar}
-use Rattle.attribute_tables_grammar.specs.LookUps.{Line, list_of, link_info_of, payload_rule, line_at, row_of_line, table_row, rows_rule, only_one, holds_no_lists}
+use Rattle.attribute_tables_grammar.specs.Tables.{Payload, Payload.plain, Payload.peer, Payload.list, Payload.link_info, Table, Table.end, Table.row, Names, Names.others, Names.name, rule, row_in, named, grammar}
+use Rattle.attribute_tables_grammar.specs.LookUps.{Line, list_of, link_info_of, payload_rule, line_at, row_of_line, table_row, rows_rule, only_one, holds_no_lists, payload_at, rule_or_raw}
 
 pub payload-rule : (p : Peer) (s : Payload) → payload_rule p s ≡ rule p s
 unfolding list_of link_info_of
@@ -56,3 +56,14 @@ fits-without_lists p (row l n (plain s) t) k bytes h = fits_by p (k == l) (recor
 fits-without_lists p (row l n peer t) k bytes h = fits_by p (k == l) (record { is_nested = n; payload = peer }) (line_at t k) bytes refl (fits-without_lists p t k bytes h)
 fits-without_lists p (row l n (list form s) t) k bytes h = absurd cc
 fits-without_lists p (row l n (link_info form data' ports) t) k bytes h = absurd cc
+
+-- ---- payloads by name
+
+picked_rule : (p : Peer) (b : Bool) (s : Payload) (r : Rule) (o : Option Payload) → r ≡ rule_or_raw p o → elim b as (λ x. Rule) [ true ↦ rule p s | false ↦ r ] ≡ rule_or_raw p (cond b (Some s) o)
+picked_rule p true s r o h = sym (payload-rule p s)
+picked_rule p false s r o h = h
+
+-- the rule under a name is that of the payload that is looked up
+pub named-payload : (p : Peer) (ns : Names) (n : List ℕ) → named p ns n ≡ rule_or_raw p (payload_at ns n)
+named-payload p others n = refl
+named-payload p (name m s ns) n = picked_rule p (bytes_eq n m) s (named p ns n) (payload_at ns n) (named-payload p ns n)

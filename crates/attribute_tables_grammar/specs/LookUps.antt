@@ -1,10 +1,10 @@
 -- The row of a kind in a table, under a rule of peers.
-use Rattle.std.specs.Prelude.{◌≡◌, ℕ, ◌==◌, cond, Bool, true, false, Option, Some, None}
+use Rattle.std.specs.Prelude.{◌≡◌, ℕ, ◌==◌, cond, Bool, true, false, List, Option, Some, None, bytes_eq}
 use Rattle.attribute_tables_grammar.specs.Shapes.{Shape, text, raw}
-use Rattle.attribute_tables_grammar.specs.Rules.{Rule, shape_rule}
+use Rattle.attribute_tables_grammar.specs.Rules.{Rule, shape_rule, raw_rule}
 use Rattle.attribute_tables_grammar.specs.Lists.{Row, raw_row, ListForm, without_context, list_rule}
 use Rattle.attribute_tables_grammar.specs.Peers.{Peer, peer_rule}
-use Rattle.attribute_tables_grammar.specs.Tables.{Payload, Payload.plain, Payload.peer, Payload.list, Payload.link_info, Table, Table.end, Table.row, Names, rule}
+use Rattle.attribute_tables_grammar.specs.Tables.{Payload, Payload.plain, Payload.peer, Payload.list, Payload.link_info, Table, Table.end, Table.row, Names, Names.others, Names.name, rule}
 
 -- what a table says of a kind: whether it is written with the nested bit, and what its payload holds
 pub record Line : Type 0 where
@@ -70,3 +70,13 @@ holds_no_lists end = true
 holds_no_lists (row k n (list form t) rows) = false
 holds_no_lists (row k n (link_info form data' ports) rows) = false
 holds_no_lists (row k n _ rows) = holds_no_lists rows
+
+-- the payload of a name, where it has one of its own
+abbrev pub payload_at : Names → List ℕ → Option Payload
+payload_at others n = None
+payload_at (name m s ns) n = cond (bytes_eq n m) (Some s) (payload_at ns n)
+
+-- the rule of a payload; other payloads are raw bytes
+abbrev pub rule_or_raw : Peer → Option Payload → Rule
+rule_or_raw p None = raw_rule
+rule_or_raw p (Some s) = payload_rule p s

@@ -1,15 +1,17 @@
 -- The data of a kind of links: the rule of each kind, and what each value is written as.
 use Rattle.std.specs.Prelude.{◌≡◌, ℕ, Bool, true, ⊤, List, Option, Some, None, ◌||◌, nat_lt, length}
-use Rattle.std.specs.Option.{unwrap_or, is_none}
+use Rattle.std.specs.Option.{is_none}
 use Rattle.std.specs.List.{All}
 use Rattle.netlink_packet_core.specs.Attributes.{Attribute}
 use Rattle.netlink_packet_core.specs.Lists.{text_by, all_fit_by}
-use Rattle.link_info_grammar.specs.Families.{amt_rows, bareudp_rows, batadv_rows, geneve_rows, gtp_rows, ipoib_rows, ipvlan_rows, rmnet_rows, vrf_rows, vti_rows, vxlan_rows, wwan_rows, xfrm_rows}
-use Rattle.attribute_tables_grammar.specs.LookUps.{flat_row, rows_rule}
-use Rattle.attribute_tables_grammar.specs.Rules.{Rule, raw_rule}
+use Rattle.attribute_tables_grammar.specs.LookUps.{payload_at, rule_or_raw}
+use Rattle.attribute_tables_grammar.specs.Peers.{Peer, bytes_peer}
+use Rattle.attribute_tables_grammar.specs.Rules.{Rule}
+use Rattle.attribute_tables_grammar.specs.Tables.{Payload}
+use Rattle.link_info_grammar.specs.Families.{kinds}
 use Rattle.link_info_devices.specs.Batadv.{batadv_entry, batadv_names_row}
 use Rattle.link_info_devices.specs.Ipoib.{ipoib_entry, ipoib_names_row}
-use Rattle.link_info_devices.specs.Ipvlan.{ipvlan_entry, ipvlan_names_row, ipvtap_entry, ipvtap_names_row}
+use Rattle.link_info_devices.specs.Ipvlan.{ipvlan_entry, ipvlan_names_row}
 use Rattle.link_info_devices.specs.Rmnet.{rmnet_entry, rmnet_names_row}
 use Rattle.link_info_devices.specs.Vrf.{vrf_entry, vrf_names_row}
 use Rattle.link_info_devices.specs.Wwan.{wwan_entry, wwan_names_row}
@@ -17,49 +19,30 @@ use Rattle.link_info_overlays.specs.Amt.{amt_entry, amt_names_row}
 use Rattle.link_info_overlays.specs.Geneve.{geneve_entry, geneve_names_row}
 use Rattle.link_info_overlays.specs.Gtp.{gtp_entry, gtp_names_row}
 use Rattle.link_info_overlays.specs.Vxlan.{vxlan_entry, vxlan_names_row}
-use Rattle.link_info_raw.specs.RawData.{bond_entry, bridge_entry, can_entry, dsa_entry, hsr_entry, tun_entry, vlan_entry, wireguard_entry}
-use Rattle.link_info_raw.specs.RawRows.{raw_rows}
+use Rattle.link_info_raw.specs.RawData.{raw_entry}
 use Rattle.link_info_tunnels.specs.Bareudp.{bareudp_entry, bareudp_names_row}
 use Rattle.link_info_tunnels.specs.Vti.{vti_entry, vti_names_row}
 use Rattle.link_info_tunnels.specs.Xfrm.{xfrm_entry, xfrm_names_row}
+use Rattle.link_info_kinds.specs.Kinds.{info_kind_text}
 use Rattle.link_info_kinds.specs.declared.info_kind.InfoKind.{InfoKind}
 use Rattle.link_info_kinds.specs.declared.info_kind.InfoKind.TheVariants as Kind
 use Rattle.link_info_data.specs.declared.info_data.InfoData.{InfoData}
 use Rattle.link_info_data.specs.declared.info_data.InfoData.TheVariants as Data
 
--- the rule of the data of a kind that has a table, by its variant
-abbrev pub typed_rule_of : InfoKind → Option Rule
-typed_rule_of Kind.Bridge = Some (rows_rule (flat_row raw_rows))
-typed_rule_of Kind.Can = Some (rows_rule (flat_row raw_rows))
-typed_rule_of Kind.Tun = Some (rows_rule (flat_row raw_rows))
-typed_rule_of Kind.Vlan = Some (rows_rule (flat_row raw_rows))
-typed_rule_of Kind.Vxlan = Some (rows_rule (flat_row vxlan_rows))
-typed_rule_of Kind.Bond = Some (rows_rule (flat_row raw_rows))
-typed_rule_of Kind.IpVlan = Some (rows_rule (flat_row ipvlan_rows))
-typed_rule_of Kind.IpVtap = Some (rows_rule (flat_row ipvlan_rows))
-typed_rule_of Kind.Vti = Some (rows_rule (flat_row vti_rows))
-typed_rule_of Kind.Vti6 = Some (rows_rule (flat_row vti_rows))
-typed_rule_of Kind.Vrf = Some (rows_rule (flat_row vrf_rows))
-typed_rule_of Kind.Gtp = Some (rows_rule (flat_row gtp_rows))
-typed_rule_of Kind.Ipoib = Some (rows_rule (flat_row ipoib_rows))
-typed_rule_of Kind.Xfrm = Some (rows_rule (flat_row xfrm_rows))
-typed_rule_of Kind.Hsr = Some (rows_rule (flat_row raw_rows))
-typed_rule_of Kind.Geneve = Some (rows_rule (flat_row geneve_rows))
-typed_rule_of Kind.Amt = Some (rows_rule (flat_row amt_rows))
-typed_rule_of Kind.BatAdv = Some (rows_rule (flat_row batadv_rows))
-typed_rule_of Kind.BareUdp = Some (rows_rule (flat_row bareudp_rows))
-typed_rule_of Kind.Dsa = Some (rows_rule (flat_row raw_rows))
-typed_rule_of Kind.Wwan = Some (rows_rule (flat_row wwan_rows))
-typed_rule_of Kind.RmNet = Some (rows_rule (flat_row rmnet_rows))
-typed_rule_of Kind.Wireguard = Some (rows_rule (flat_row raw_rows))
-typed_rule_of _ = None
+-- the payload of the data of a kind that has a table; a kind counts by its variant, so `Other` has none
+abbrev pub data_payload_of : InfoKind → Option Payload
+data_payload_of (Kind.Other s) = None
+data_payload_of k = payload_at kinds (info_kind_text k)
 
 -- the rule of the data of a kind: data of every other kind are kept as bytes
+abbrev pub data_rule_of_under : Peer → InfoKind → Rule
+data_rule_of_under p k = rule_or_raw p (data_payload_of k)
+
 abbrev pub data_rule_of : InfoKind → Rule
-data_rule_of k = unwrap_or (typed_rule_of k) raw_rule
+data_rule_of = data_rule_of_under bytes_peer
 
 abbrev pub keeps_bytes : InfoKind → Bool
-keeps_bytes k = is_none (typed_rule_of k)
+keeps_bytes k = is_none (data_payload_of k)
 
 -- bytes may want memory, and so may a list that isn't empty
 abbrev pub data_may_want_memory : InfoKind → List ℕ → Bool
@@ -67,54 +50,54 @@ data_may_want_memory k p = keeps_bytes k || nat_lt 0 (length p)
 
 -- the payload that a value is written as
 abbrev pub info_data_payload : InfoData → List ℕ
-info_data_payload (Data.Bridge vs) = text_by bridge_entry vs.items
-info_data_payload (Data.Can vs) = text_by can_entry vs.items
-info_data_payload (Data.Tun vs) = text_by tun_entry vs.items
-info_data_payload (Data.Vlan vs) = text_by vlan_entry vs.items
+info_data_payload (Data.Bridge vs) = text_by raw_entry vs.items
+info_data_payload (Data.Can vs) = text_by raw_entry vs.items
+info_data_payload (Data.Tun vs) = text_by raw_entry vs.items
+info_data_payload (Data.Vlan vs) = text_by raw_entry vs.items
 info_data_payload (Data.Vxlan vs) = text_by vxlan_entry vs.items
-info_data_payload (Data.Bond vs) = text_by bond_entry vs.items
+info_data_payload (Data.Bond vs) = text_by raw_entry vs.items
 info_data_payload (Data.IpVlan vs) = text_by ipvlan_entry vs.items
-info_data_payload (Data.IpVtap vs) = text_by ipvtap_entry vs.items
+info_data_payload (Data.IpVtap vs) = text_by ipvlan_entry vs.items
 info_data_payload (Data.Vti vs) = text_by vti_entry vs.items
 info_data_payload (Data.Vrf vs) = text_by vrf_entry vs.items
 info_data_payload (Data.Gtp vs) = text_by gtp_entry vs.items
 info_data_payload (Data.Ipoib vs) = text_by ipoib_entry vs.items
 info_data_payload (Data.Xfrm vs) = text_by xfrm_entry vs.items
-info_data_payload (Data.Hsr vs) = text_by hsr_entry vs.items
+info_data_payload (Data.Hsr vs) = text_by raw_entry vs.items
 info_data_payload (Data.Geneve vs) = text_by geneve_entry vs.items
 info_data_payload (Data.Amt vs) = text_by amt_entry vs.items
 info_data_payload (Data.BatAdv vs) = text_by batadv_entry vs.items
 info_data_payload (Data.BareUdp vs) = text_by bareudp_entry vs.items
-info_data_payload (Data.Dsa vs) = text_by dsa_entry vs.items
+info_data_payload (Data.Dsa vs) = text_by raw_entry vs.items
 info_data_payload (Data.Wwan vs) = text_by wwan_entry vs.items
 info_data_payload (Data.RmNet vs) = text_by rmnet_entry vs.items
-info_data_payload (Data.Wireguard vs) = text_by wireguard_entry vs.items
+info_data_payload (Data.Wireguard vs) = text_by raw_entry vs.items
 info_data_payload (Data.Other b) = b.items
 
 -- each length inside a value fits the 2 bytes of its header
 abbrev pub info_data_fits : InfoData → Bool
-info_data_fits (Data.Bridge vs) = all_fit_by bridge_entry (λ _. true) vs.items
-info_data_fits (Data.Can vs) = all_fit_by can_entry (λ _. true) vs.items
-info_data_fits (Data.Tun vs) = all_fit_by tun_entry (λ _. true) vs.items
-info_data_fits (Data.Vlan vs) = all_fit_by vlan_entry (λ _. true) vs.items
+info_data_fits (Data.Bridge vs) = all_fit_by raw_entry (λ _. true) vs.items
+info_data_fits (Data.Can vs) = all_fit_by raw_entry (λ _. true) vs.items
+info_data_fits (Data.Tun vs) = all_fit_by raw_entry (λ _. true) vs.items
+info_data_fits (Data.Vlan vs) = all_fit_by raw_entry (λ _. true) vs.items
 info_data_fits (Data.Vxlan vs) = all_fit_by vxlan_entry (λ _. true) vs.items
-info_data_fits (Data.Bond vs) = all_fit_by bond_entry (λ _. true) vs.items
+info_data_fits (Data.Bond vs) = all_fit_by raw_entry (λ _. true) vs.items
 info_data_fits (Data.IpVlan vs) = all_fit_by ipvlan_entry (λ _. true) vs.items
-info_data_fits (Data.IpVtap vs) = all_fit_by ipvtap_entry (λ _. true) vs.items
+info_data_fits (Data.IpVtap vs) = all_fit_by ipvlan_entry (λ _. true) vs.items
 info_data_fits (Data.Vti vs) = all_fit_by vti_entry (λ _. true) vs.items
 info_data_fits (Data.Vrf vs) = all_fit_by vrf_entry (λ _. true) vs.items
 info_data_fits (Data.Gtp vs) = all_fit_by gtp_entry (λ _. true) vs.items
 info_data_fits (Data.Ipoib vs) = all_fit_by ipoib_entry (λ _. true) vs.items
 info_data_fits (Data.Xfrm vs) = all_fit_by xfrm_entry (λ _. true) vs.items
-info_data_fits (Data.Hsr vs) = all_fit_by hsr_entry (λ _. true) vs.items
+info_data_fits (Data.Hsr vs) = all_fit_by raw_entry (λ _. true) vs.items
 info_data_fits (Data.Geneve vs) = all_fit_by geneve_entry (λ _. true) vs.items
 info_data_fits (Data.Amt vs) = all_fit_by amt_entry (λ _. true) vs.items
 info_data_fits (Data.BatAdv vs) = all_fit_by batadv_entry (λ _. true) vs.items
 info_data_fits (Data.BareUdp vs) = all_fit_by bareudp_entry (λ _. true) vs.items
-info_data_fits (Data.Dsa vs) = all_fit_by dsa_entry (λ _. true) vs.items
+info_data_fits (Data.Dsa vs) = all_fit_by raw_entry (λ _. true) vs.items
 info_data_fits (Data.Wwan vs) = all_fit_by wwan_entry (λ _. true) vs.items
 info_data_fits (Data.RmNet vs) = all_fit_by rmnet_entry (λ _. true) vs.items
-info_data_fits (Data.Wireguard vs) = all_fit_by wireguard_entry (λ _. true) vs.items
+info_data_fits (Data.Wireguard vs) = all_fit_by raw_entry (λ _. true) vs.items
 info_data_fits (Data.Other b) = true
 
 abbrev pub info_data_entry : InfoData → Attribute
@@ -129,7 +112,7 @@ info_data_names_row Kind.Vlan (Data.Vlan vs) = ⊤
 info_data_names_row Kind.Vxlan (Data.Vxlan vs) = All vxlan_names_row vs.items
 info_data_names_row Kind.Bond (Data.Bond vs) = ⊤
 info_data_names_row Kind.IpVlan (Data.IpVlan vs) = All ipvlan_names_row vs.items
-info_data_names_row Kind.IpVtap (Data.IpVtap vs) = All ipvtap_names_row vs.items
+info_data_names_row Kind.IpVtap (Data.IpVtap vs) = All ipvlan_names_row vs.items
 info_data_names_row Kind.Vti (Data.Vti vs) = All vti_names_row vs.items
 info_data_names_row Kind.Vti6 (Data.Vti vs) = All vti_names_row vs.items
 info_data_names_row Kind.Vrf (Data.Vrf vs) = All vrf_names_row vs.items

@@ -1,29 +1,36 @@
 -- The data of a kind of ports: the rule of each port kind, and what each value is written as.
-use Rattle.std.specs.Prelude.{ℕ, Bool, true, false, ⊤, List, ◌||◌, nat_lt, length}
+use Rattle.std.specs.Prelude.{ℕ, Bool, true, ⊤, List, Option, None, ◌||◌, nat_lt, length}
 use Rattle.std.specs.List.{All}
+use Rattle.std.specs.Option.{is_none}
 use Rattle.netlink_packet_core.specs.Attributes.{Attribute}
 use Rattle.netlink_packet_core.specs.Lists.{text_by, all_fit_by}
-use Rattle.link_info_grammar.specs.Families.{vrf_rows}
-use Rattle.attribute_tables_grammar.specs.LookUps.{flat_row, rows_rule}
-use Rattle.attribute_tables_grammar.specs.Rules.{Rule, raw_rule}
+use Rattle.attribute_tables_grammar.specs.LookUps.{payload_at, rule_or_raw}
+use Rattle.attribute_tables_grammar.specs.Peers.{Peer, bytes_peer}
+use Rattle.attribute_tables_grammar.specs.Rules.{Rule}
+use Rattle.attribute_tables_grammar.specs.Tables.{Payload}
+use Rattle.link_info_grammar.specs.Families.{port_kinds}
 use Rattle.link_info_devices.specs.Vrf.{vrf_entry, vrf_names_row}
-use Rattle.link_info_raw.specs.RawRows.{raw_rows}
-use Rattle.link_info_raw_ports.specs.RawPortData.{bond_port_entry, bridge_port_entry, team_port_entry}
+use Rattle.link_info_raw.specs.RawData.{raw_entry}
+use Rattle.link_info_kinds.specs.PortKinds.{info_port_kind_text}
 use Rattle.link_info_kinds.specs.declared.info_port_kind.InfoPortKind.{InfoPortKind}
 use Rattle.link_info_kinds.specs.declared.info_port_kind.InfoPortKind.TheVariants as PortKind
 use Rattle.link_info_data.specs.declared.info_port.InfoPortData.{InfoPortData}
 use Rattle.link_info_data.specs.declared.info_port.InfoPortData.TheVariants as PortData
 
--- the rule of the data of a port kind, by its variant
-abbrev pub port_data_rule_of : InfoPortKind → Rule
-port_data_rule_of PortKind.Vrf = rows_rule (flat_row vrf_rows)
-port_data_rule_of (PortKind.Other s) = raw_rule
-port_data_rule_of _ = rows_rule (flat_row raw_rows)
+-- the payload of the data of a port kind that has a table; a port kind counts by its variant, so `Other` has none
+abbrev pub port_data_payload_of : InfoPortKind → Option Payload
+port_data_payload_of (PortKind.Other s) = None
+port_data_payload_of k = payload_at port_kinds (info_port_kind_text k)
 
--- the data of a port kind are kept as bytes
+-- the rule of the data of a port kind: data of every other port kind are kept as bytes
+abbrev pub port_data_rule_of_under : Peer → InfoPortKind → Rule
+port_data_rule_of_under p k = rule_or_raw p (port_data_payload_of k)
+
+abbrev pub port_data_rule_of : InfoPortKind → Rule
+port_data_rule_of = port_data_rule_of_under bytes_peer
+
 abbrev pub port_keeps_bytes : InfoPortKind → Bool
-port_keeps_bytes (PortKind.Other s) = true
-port_keeps_bytes _ = false
+port_keeps_bytes k = is_none (port_data_payload_of k)
 
 -- bytes may want memory, and so may a list that isn't empty
 abbrev pub port_data_may_want_memory : InfoPortKind → List ℕ → Bool
@@ -31,18 +38,18 @@ port_data_may_want_memory k p = port_keeps_bytes k || nat_lt 0 (length p)
 
 -- the payload that a value is written as
 abbrev pub info_port_data_payload : InfoPortData → List ℕ
-info_port_data_payload (PortData.BondPort vs) = text_by bond_port_entry vs.items
-info_port_data_payload (PortData.BridgePort vs) = text_by bridge_port_entry vs.items
+info_port_data_payload (PortData.BondPort vs) = text_by raw_entry vs.items
+info_port_data_payload (PortData.BridgePort vs) = text_by raw_entry vs.items
 info_port_data_payload (PortData.VrfPort vs) = text_by vrf_entry vs.items
-info_port_data_payload (PortData.TeamPort vs) = text_by team_port_entry vs.items
+info_port_data_payload (PortData.TeamPort vs) = text_by raw_entry vs.items
 info_port_data_payload (PortData.Other b) = b.items
 
 -- each length inside a value fits the 2 bytes of its header
 abbrev pub info_port_data_fits : InfoPortData → Bool
-info_port_data_fits (PortData.BondPort vs) = all_fit_by bond_port_entry (λ _. true) vs.items
-info_port_data_fits (PortData.BridgePort vs) = all_fit_by bridge_port_entry (λ _. true) vs.items
+info_port_data_fits (PortData.BondPort vs) = all_fit_by raw_entry (λ _. true) vs.items
+info_port_data_fits (PortData.BridgePort vs) = all_fit_by raw_entry (λ _. true) vs.items
 info_port_data_fits (PortData.VrfPort vs) = all_fit_by vrf_entry (λ _. true) vs.items
-info_port_data_fits (PortData.TeamPort vs) = all_fit_by team_port_entry (λ _. true) vs.items
+info_port_data_fits (PortData.TeamPort vs) = all_fit_by raw_entry (λ _. true) vs.items
 info_port_data_fits (PortData.Other b) = true
 
 abbrev pub info_port_data_entry : InfoPortData → Attribute

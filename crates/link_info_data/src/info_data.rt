@@ -4,25 +4,16 @@ ghost use Rattle.std.specs.Prelude.{◌≡◌, false, true, IsTrue, IfOk, IfErr,
 ghost use Rattle.netlink_packet_core.specs.Errors.{is_memory};
 ghost use Rattle.link_info_data.specs.Data.{info_data_entry, info_data_fits, info_data_payload, info_data_names_row, data_rule_of, data_may_want_memory};
 
+use attribute_tables::parse_family;
 use link_info_devices::{
-    InfoBatAdv, InfoBatAdvReader, InfoIpVlan, InfoIpVlanReader, InfoIpVtap, InfoIpVtapReader,
-    InfoIpoib, InfoIpoibReader, InfoRmNet, InfoRmNetReader, InfoVrf, InfoVrfReader, InfoWwan,
-    InfoWwanReader,
+    InfoBatAdv, InfoIpVlan, InfoIpVtap, InfoIpoib, InfoRmNet, InfoVrf, InfoWwan,
 };
 use link_info_kinds::InfoKind;
-use link_info_lists::parse_list;
-use link_info_overlays::{
-    InfoAmt, InfoAmtReader, InfoGeneve, InfoGeneveReader, InfoGtp, InfoGtpReader, InfoVxlan,
-    InfoVxlanReader,
-};
+use link_info_overlays::{InfoAmt, InfoGeneve, InfoGtp, InfoVxlan};
 use link_info_raw::{
-    InfoBond, InfoBondReader, InfoBridge, InfoBridgeReader, InfoCan, InfoCanReader, InfoDsa,
-    InfoDsaReader, InfoHsr, InfoHsrReader, InfoTun, InfoTunReader, InfoVlan, InfoVlanReader,
-    InfoWireguard, InfoWireguardReader,
+    InfoBond, InfoBridge, InfoCan, InfoDsa, InfoHsr, InfoTun, InfoVlan, InfoWireguard,
 };
-use link_info_tunnels::{
-    InfoBareUdp, InfoBareUdpReader, InfoVti, InfoVtiReader, InfoXfrm, InfoXfrmReader,
-};
+use link_info_tunnels::{InfoBareUdp, InfoVti, InfoXfrm};
 use netlink_packet_core::{DecodeError, Nla, emit_all, fits_all, len_all};
 use std::alloc::Global;
 
@@ -98,39 +89,85 @@ impl InfoData {
         ensures memory { IfErr result (λ e. is_memory e ≡ true → data_may_want_memory kind.now payload.now ≡ true) }
     {
         match kind {
-            InfoKind::Bridge => Ok(Self::Bridge(parse_list(alloc, &InfoBridgeReader, payload)?)),
-            InfoKind::Can => Ok(Self::Can(parse_list(alloc, &InfoCanReader, payload)?)),
-            InfoKind::Tun => Ok(Self::Tun(parse_list(alloc, &InfoTunReader, payload)?)),
-            InfoKind::Vlan => Ok(Self::Vlan(parse_list(alloc, &InfoVlanReader, payload)?)),
-            InfoKind::Vxlan => Ok(Self::Vxlan(parse_list(alloc, &InfoVxlanReader, payload)?)),
-            InfoKind::Bond => Ok(Self::Bond(parse_list(alloc, &InfoBondReader, payload)?)),
-            InfoKind::IpVlan => Ok(Self::IpVlan(parse_list(alloc, &InfoIpVlanReader, payload)?)),
-            InfoKind::IpVtap => Ok(Self::IpVtap(parse_list(alloc, &InfoIpVtapReader, payload)?)),
-            InfoKind::Vti | InfoKind::Vti6 => Ok(Self::Vti(parse_list(
-                alloc,
-                &InfoVtiReader,
-                payload,
-            )?)),
-            InfoKind::Vrf => Ok(Self::Vrf(parse_list(alloc, &InfoVrfReader, payload)?)),
-            InfoKind::Gtp => Ok(Self::Gtp(parse_list(alloc, &InfoGtpReader, payload)?)),
-            InfoKind::Ipoib => Ok(Self::Ipoib(parse_list(alloc, &InfoIpoibReader, payload)?)),
-            InfoKind::Xfrm => Ok(Self::Xfrm(parse_list(alloc, &InfoXfrmReader, payload)?)),
-            InfoKind::Hsr => Ok(Self::Hsr(parse_list(alloc, &InfoHsrReader, payload)?)),
-            InfoKind::Geneve => Ok(Self::Geneve(parse_list(alloc, &InfoGeneveReader, payload)?)),
-            InfoKind::Amt => Ok(Self::Amt(parse_list(alloc, &InfoAmtReader, payload)?)),
-            InfoKind::BatAdv => Ok(Self::BatAdv(parse_list(alloc, &InfoBatAdvReader, payload)?)),
-            InfoKind::BareUdp => Ok(Self::BareUdp(parse_list(alloc, &InfoBareUdpReader, payload)?)),
-            InfoKind::Dsa => Ok(Self::Dsa(parse_list(alloc, &InfoDsaReader, payload)?)),
-            InfoKind::Wwan => Ok(Self::Wwan(parse_list(alloc, &InfoWwanReader, payload)?)),
-            InfoKind::RmNet => Ok(Self::RmNet(parse_list(alloc, &InfoRmNetReader, payload)?)),
-            InfoKind::Wireguard => Ok(Self::Wireguard(parse_list(
-                alloc,
-                &InfoWireguardReader,
-                payload,
-            )?)),
-            _ => Ok(Self::Other(Vec::from_slice(alloc, payload)?)),
+            InfoKind::Bridge => Ok(Self::Bridge(parse_family(alloc, payload)?)),
+            InfoKind::Can => Ok(Self::Can(parse_family(alloc, payload)?)),
+            InfoKind::Tun => Ok(Self::Tun(parse_family(alloc, payload)?)),
+            InfoKind::Vlan => Ok(Self::Vlan(parse_family(alloc, payload)?)),
+            InfoKind::Vxlan => Ok(Self::Vxlan(parse_family(alloc, payload)?)),
+            InfoKind::Bond => Ok(Self::Bond(parse_family(alloc, payload)?)),
+            InfoKind::IpVlan => Ok(Self::IpVlan(parse_family(alloc, payload)?)),
+            InfoKind::IpVtap => Ok(Self::IpVtap(parse_family(alloc, payload)?)),
+            InfoKind::Vti | InfoKind::Vti6 => Ok(Self::Vti(parse_family(alloc, payload)?)),
+            InfoKind::Vrf => Ok(Self::Vrf(parse_family(alloc, payload)?)),
+            InfoKind::Gtp => Ok(Self::Gtp(parse_family(alloc, payload)?)),
+            InfoKind::Ipoib => Ok(Self::Ipoib(parse_family(alloc, payload)?)),
+            InfoKind::Xfrm => Ok(Self::Xfrm(parse_family(alloc, payload)?)),
+            InfoKind::Hsr => Ok(Self::Hsr(parse_family(alloc, payload)?)),
+            InfoKind::Geneve => Ok(Self::Geneve(parse_family(alloc, payload)?)),
+            InfoKind::Amt => Ok(Self::Amt(parse_family(alloc, payload)?)),
+            InfoKind::BatAdv => Ok(Self::BatAdv(parse_family(alloc, payload)?)),
+            InfoKind::BareUdp => Ok(Self::BareUdp(parse_family(alloc, payload)?)),
+            InfoKind::Dsa => Ok(Self::Dsa(parse_family(alloc, payload)?)),
+            InfoKind::Wwan => Ok(Self::Wwan(parse_family(alloc, payload)?)),
+            InfoKind::RmNet => Ok(Self::RmNet(parse_family(alloc, payload)?)),
+            InfoKind::Wireguard => Ok(Self::Wireguard(parse_family(alloc, payload)?)),
+            InfoKind::Dummy
+            | InfoKind::Ifb
+            | InfoKind::Nlmon
+            | InfoKind::Veth
+            | InfoKind::MacVlan
+            | InfoKind::MacVtap
+            | InfoKind::GreTap
+            | InfoKind::GreTap6
+            | InfoKind::IpIp
+            | InfoKind::Ip6Tnl
+            | InfoKind::SitTun
+            | InfoKind::GreTun
+            | InfoKind::GreTun6
+            | InfoKind::MacSec
+            | InfoKind::Netkit
+            | InfoKind::Vcan
+            | InfoKind::Vxcan
+            | InfoKind::Netdevsim
+            | InfoKind::VirtWifi
+            | InfoKind::Team
+            | InfoKind::ErSpan
+            | InfoKind::Ip6ErSpan
+            | InfoKind::Pfcp
+            | InfoKind::Other(_) => Ok(Self::Other(Vec::from_slice(alloc, payload)?)),
         }
     }
+}
+
+/// What each list of attributes answers, or the bytes of a kind that has no table.
+macro_rules! of_lists {
+    ($data:expr, $list:ident => $answer:expr, $bytes:pat => $of_bytes:expr) => {
+        match $data {
+            Self::Bridge($list) => $answer,
+            Self::Can($list) => $answer,
+            Self::Tun($list) => $answer,
+            Self::Vlan($list) => $answer,
+            Self::Vxlan($list) => $answer,
+            Self::Bond($list) => $answer,
+            Self::IpVlan($list) => $answer,
+            Self::IpVtap($list) => $answer,
+            Self::Vti($list) => $answer,
+            Self::Vrf($list) => $answer,
+            Self::Gtp($list) => $answer,
+            Self::Ipoib($list) => $answer,
+            Self::Xfrm($list) => $answer,
+            Self::Hsr($list) => $answer,
+            Self::Geneve($list) => $answer,
+            Self::Amt($list) => $answer,
+            Self::BatAdv($list) => $answer,
+            Self::BareUdp($list) => $answer,
+            Self::Dsa($list) => $answer,
+            Self::Wwan($list) => $answer,
+            Self::RmNet($list) => $answer,
+            Self::Wireguard($list) => $answer,
+            Self::Other($bytes) => $of_bytes,
+        }
+    };
 }
 
 impl Nla for InfoData {
@@ -138,93 +175,21 @@ impl Nla for InfoData {
 
     ghost inside_fits = { info_data_fits };
 
-    #[tactic(auto, using(link_info_lists::proofs::Lists::lists))]
+    #[tactic(auto, using(attribute_tables::proofs::Lists::lists))]
     fn value_len(&self) -> usize {
-        match self {
-            Self::Bridge(list) => len_all(list),
-            Self::Can(list) => len_all(list),
-            Self::Tun(list) => len_all(list),
-            Self::Vlan(list) => len_all(list),
-            Self::Vxlan(list) => len_all(list),
-            Self::Bond(list) => len_all(list),
-            Self::IpVlan(list) => len_all(list),
-            Self::IpVtap(list) => len_all(list),
-            Self::Vti(list) => len_all(list),
-            Self::Vrf(list) => len_all(list),
-            Self::Gtp(list) => len_all(list),
-            Self::Ipoib(list) => len_all(list),
-            Self::Xfrm(list) => len_all(list),
-            Self::Hsr(list) => len_all(list),
-            Self::Geneve(list) => len_all(list),
-            Self::Amt(list) => len_all(list),
-            Self::BatAdv(list) => len_all(list),
-            Self::BareUdp(list) => len_all(list),
-            Self::Dsa(list) => len_all(list),
-            Self::Wwan(list) => len_all(list),
-            Self::RmNet(list) => len_all(list),
-            Self::Wireguard(list) => len_all(list),
-            Self::Other(bytes) => bytes.len(),
-        }
+        of_lists!(self, list => len_all(list), bytes => bytes.len())
     }
 
     fn kind(&self) -> u16 {
         IFLA_INFO_DATA
     }
 
-    #[tactic(auto, using(link_info_lists::proofs::Lists::lists))]
+    #[tactic(auto, using(attribute_tables::proofs::Lists::lists))]
     fn emit_value(&self, buffer: &mut [u8]) {
-        match self {
-            Self::Bridge(list) => emit_all(list, buffer),
-            Self::Can(list) => emit_all(list, buffer),
-            Self::Tun(list) => emit_all(list, buffer),
-            Self::Vlan(list) => emit_all(list, buffer),
-            Self::Vxlan(list) => emit_all(list, buffer),
-            Self::Bond(list) => emit_all(list, buffer),
-            Self::IpVlan(list) => emit_all(list, buffer),
-            Self::IpVtap(list) => emit_all(list, buffer),
-            Self::Vti(list) => emit_all(list, buffer),
-            Self::Vrf(list) => emit_all(list, buffer),
-            Self::Gtp(list) => emit_all(list, buffer),
-            Self::Ipoib(list) => emit_all(list, buffer),
-            Self::Xfrm(list) => emit_all(list, buffer),
-            Self::Hsr(list) => emit_all(list, buffer),
-            Self::Geneve(list) => emit_all(list, buffer),
-            Self::Amt(list) => emit_all(list, buffer),
-            Self::BatAdv(list) => emit_all(list, buffer),
-            Self::BareUdp(list) => emit_all(list, buffer),
-            Self::Dsa(list) => emit_all(list, buffer),
-            Self::Wwan(list) => emit_all(list, buffer),
-            Self::RmNet(list) => emit_all(list, buffer),
-            Self::Wireguard(list) => emit_all(list, buffer),
-            Self::Other(bytes) => buffer.copy_from_slice(bytes),
-        }
+        of_lists!(self, list => emit_all(list, buffer), bytes => buffer.copy_from_slice(bytes))
     }
 
     fn contents_fit(&self) -> bool {
-        match self {
-            Self::Bridge(list) => fits_all(list),
-            Self::Can(list) => fits_all(list),
-            Self::Tun(list) => fits_all(list),
-            Self::Vlan(list) => fits_all(list),
-            Self::Vxlan(list) => fits_all(list),
-            Self::Bond(list) => fits_all(list),
-            Self::IpVlan(list) => fits_all(list),
-            Self::IpVtap(list) => fits_all(list),
-            Self::Vti(list) => fits_all(list),
-            Self::Vrf(list) => fits_all(list),
-            Self::Gtp(list) => fits_all(list),
-            Self::Ipoib(list) => fits_all(list),
-            Self::Xfrm(list) => fits_all(list),
-            Self::Hsr(list) => fits_all(list),
-            Self::Geneve(list) => fits_all(list),
-            Self::Amt(list) => fits_all(list),
-            Self::BatAdv(list) => fits_all(list),
-            Self::BareUdp(list) => fits_all(list),
-            Self::Dsa(list) => fits_all(list),
-            Self::Wwan(list) => fits_all(list),
-            Self::RmNet(list) => fits_all(list),
-            Self::Wireguard(list) => fits_all(list),
-            Self::Other(_) => true,
-        }
+        of_lists!(self, list => fits_all(list), _ => true)
     }
 }

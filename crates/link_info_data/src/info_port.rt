@@ -4,13 +4,10 @@ ghost use Rattle.std.specs.Prelude.{◌≡◌, false, true, IsTrue, IfOk, IfErr,
 ghost use Rattle.netlink_packet_core.specs.Errors.{is_memory};
 ghost use Rattle.link_info_data.specs.PortData.{info_port_data_entry, info_port_data_fits, info_port_data_payload, info_port_data_names_row, port_data_rule_of, port_data_may_want_memory};
 
-use link_info_devices::{InfoVrf, InfoVrfReader};
+use attribute_tables::parse_family;
+use link_info_devices::InfoVrf;
 use link_info_kinds::InfoPortKind;
-use link_info_lists::parse_list;
-use link_info_raw_ports::{
-    InfoBondPort, InfoBondPortReader, InfoBridgePort, InfoBridgePortReader, InfoTeamPort,
-    InfoTeamPortReader,
-};
+use link_info_raw::{InfoBondPort, InfoBridgePort, InfoTeamPort};
 use netlink_packet_core::{DecodeError, Nla, emit_all, fits_all, len_all};
 use std::alloc::Global;
 
@@ -55,22 +52,10 @@ impl InfoPortData {
             (λ e. is_memory e ≡ true → port_data_may_want_memory kind.now payload.now ≡ true) }
     {
         match kind {
-            InfoPortKind::Bond => Ok(Self::BondPort(parse_list(
-                alloc,
-                &InfoBondPortReader,
-                payload,
-            )?)),
-            InfoPortKind::Bridge => Ok(Self::BridgePort(parse_list(
-                alloc,
-                &InfoBridgePortReader,
-                payload,
-            )?)),
-            InfoPortKind::Vrf => Ok(Self::VrfPort(parse_list(alloc, &InfoVrfReader, payload)?)),
-            InfoPortKind::Team => Ok(Self::TeamPort(parse_list(
-                alloc,
-                &InfoTeamPortReader,
-                payload,
-            )?)),
+            InfoPortKind::Bond => Ok(Self::BondPort(parse_family(alloc, payload)?)),
+            InfoPortKind::Bridge => Ok(Self::BridgePort(parse_family(alloc, payload)?)),
+            InfoPortKind::Vrf => Ok(Self::VrfPort(parse_family(alloc, payload)?)),
+            InfoPortKind::Team => Ok(Self::TeamPort(parse_family(alloc, payload)?)),
             InfoPortKind::Other(_) => Ok(Self::Other(Vec::from_slice(alloc, payload)?)),
         }
     }
@@ -81,7 +66,7 @@ impl Nla for InfoPortData {
 
     ghost inside_fits = { info_port_data_fits };
 
-    #[tactic(auto, using(link_info_lists::proofs::Lists::lists))]
+    #[tactic(auto, using(attribute_tables::proofs::Lists::lists))]
     fn value_len(&self) -> usize {
         match self {
             Self::BondPort(list) => len_all(list),
@@ -96,7 +81,7 @@ impl Nla for InfoPortData {
         IFLA_INFO_PORT_DATA
     }
 
-    #[tactic(auto, using(link_info_lists::proofs::Lists::lists))]
+    #[tactic(auto, using(attribute_tables::proofs::Lists::lists))]
     fn emit_value(&self, buffer: &mut [u8]) {
         match self {
             Self::BondPort(list) => emit_all(list, buffer),

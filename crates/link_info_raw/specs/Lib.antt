@@ -1,2 +1,1 @@
-pub mod RawRows
 pub mod RawData

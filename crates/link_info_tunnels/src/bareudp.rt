@@ -5,7 +5,7 @@ ghost use Rattle.link_info_grammar.specs.Families.{bareudp};
 ghost use Rattle.link_info_tunnels.specs.Bareudp.{bareudp_entry, bareudp_names_row};
 
 use attribute_tables::typed;
-use netlink_packet_core::{DecodeError, DefaultNla, Family, Field, FieldNla, Nla, parse_u16, parse_u16_be};
+use netlink_packet_core::{DecodeError, DefaultNla, EthernetProtocol, Family, Field, FieldNla, Nla, parse_u16, parse_u16_be};
 use std::alloc::Global;
 
 const IFLA_BAREUDP_PORT: u16 = 1;

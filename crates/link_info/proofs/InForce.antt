@@ -1,84 +1,100 @@
 -- The rule under a name in force is the rule of the kind that the name names.
 use Rattle.std.proofs.Common.{◌≡◌, ℕ, true, List, refl, sym, ap, ◌∙◌}
-use Rattle.std.specs.Prelude.{string_bytes}
-use Rattle.link_info_grammar.specs.Families.{kinds, port_kinds, amt_rows, bareudp_rows, batadv_rows, geneve_rows, gtp_rows, ipoib_rows, ipvlan_rows, rmnet_rows, vrf_rows, vti_rows, vxlan_rows, wwan_rows, xfrm_rows}
+use Rattle.std.specs.Prelude.{string_bytes, Some}
+use Rattle.attribute_tables_grammar.specs.LookUps.{payload_at, rule_or_raw}
+use Rattle.attribute_tables_grammar.specs.Peers.{Peer, bytes_peer}
+use Rattle.attribute_tables_grammar.proofs.LookUps.{named-payload}
+use Rattle.link_info_grammar.specs.Families.{kinds, port_kinds}
 use Rattle.link_info_grammar.specs.KindNames.{kind_names, port_kind_names}
-use Rattle.attribute_tables_grammar.specs.Peers.{bytes_peer}
-use Rattle.link_info_grammar.proofs.Families.{kinds_are_listed, port_kinds_are_listed}
-use Rattle.attribute_tables_grammar.proofs.LookUps.{family-rule}
+use Rattle.link_info_grammar.specs.LinkInfo.{data_rule_under, port_data_rule_under}
+use Rattle.link_info_grammar.proofs.Families.{tables_are_listed}
 use Rattle.link_info_grammar.proofs.Names.{named-lacks, lacks_name-unlisted}
-use Rattle.link_info_raw.specs.RawRows.{raw_rows}
 use Rattle.link_info_kinds.specs.Kinds.{info_kind_text, info_kind_is_named, IsNamedBy}
 use Rattle.link_info_kinds.specs.PortKinds.{info_port_kind_text, info_port_kind_is_named, IsPortNamedBy}
 use Rattle.link_info_kinds.specs.declared.info_kind.InfoKind.{InfoKind}
 use Rattle.link_info_kinds.specs.declared.info_kind.InfoKind.TheVariants as Kind
 use Rattle.link_info_kinds.specs.declared.info_port_kind.InfoPortKind.{InfoPortKind}
 use Rattle.link_info_kinds.specs.declared.info_port_kind.InfoPortKind.TheVariants as PortKind
-use Rattle.link_info_data.specs.Data.{data_rule_of}
-use Rattle.link_info_data.specs.PortData.{port_data_rule_of}
-use Rattle.link_info.specs.LinkInfo.{data_rule, port_data_rule}
+use Rattle.link_info_data.specs.Data.{data_payload_of, data_rule_of_under}
+use Rattle.link_info_data.specs.PortData.{port_data_payload_of, port_data_rule_of_under}
 
-data_rule-kind : (k : InfoKind) → info_kind_is_named k ≡ true → data_rule (info_kind_text k) ≡ data_rule_of k
-unfolding data_rule
-data_rule-kind Kind.Dummy h = refl
-data_rule-kind Kind.Ifb h = refl
-data_rule-kind Kind.Bridge h = family-rule bytes_peer raw_rows
-data_rule-kind Kind.Tun h = family-rule bytes_peer raw_rows
-data_rule-kind Kind.Nlmon h = refl
-data_rule-kind Kind.Vlan h = family-rule bytes_peer raw_rows
-data_rule-kind Kind.Veth h = refl
-data_rule-kind Kind.Vxlan h = family-rule bytes_peer vxlan_rows
-data_rule-kind Kind.Bond h = family-rule bytes_peer raw_rows
-data_rule-kind Kind.IpVlan h = family-rule bytes_peer ipvlan_rows
-data_rule-kind Kind.IpVtap h = family-rule bytes_peer ipvlan_rows
-data_rule-kind Kind.MacVlan h = refl
-data_rule-kind Kind.MacVtap h = refl
-data_rule-kind Kind.GreTap h = refl
-data_rule-kind Kind.GreTap6 h = refl
-data_rule-kind Kind.IpIp h = refl
-data_rule-kind Kind.Ip6Tnl h = refl
-data_rule-kind Kind.SitTun h = refl
-data_rule-kind Kind.GreTun h = refl
-data_rule-kind Kind.GreTun6 h = refl
-data_rule-kind Kind.Vti h = family-rule bytes_peer vti_rows
-data_rule-kind Kind.Vti6 h = family-rule bytes_peer vti_rows
-data_rule-kind Kind.Vrf h = family-rule bytes_peer vrf_rows
-data_rule-kind Kind.Gtp h = family-rule bytes_peer gtp_rows
-data_rule-kind Kind.Ipoib h = family-rule bytes_peer ipoib_rows
-data_rule-kind Kind.Wireguard h = family-rule bytes_peer raw_rows
-data_rule-kind Kind.Xfrm h = family-rule bytes_peer xfrm_rows
-data_rule-kind Kind.MacSec h = refl
-data_rule-kind Kind.Hsr h = family-rule bytes_peer raw_rows
-data_rule-kind Kind.Geneve h = family-rule bytes_peer geneve_rows
-data_rule-kind Kind.Netkit h = refl
-data_rule-kind Kind.Vcan h = refl
-data_rule-kind Kind.Vxcan h = refl
-data_rule-kind Kind.Amt h = family-rule bytes_peer amt_rows
-data_rule-kind Kind.BatAdv h = family-rule bytes_peer batadv_rows
-data_rule-kind Kind.BareUdp h = family-rule bytes_peer bareudp_rows
-data_rule-kind Kind.Netdevsim h = refl
-data_rule-kind Kind.VirtWifi h = refl
-data_rule-kind Kind.Wwan h = family-rule bytes_peer wwan_rows
-data_rule-kind Kind.Can h = family-rule bytes_peer raw_rows
-data_rule-kind Kind.Dsa h = family-rule bytes_peer raw_rows
-data_rule-kind Kind.Team h = refl
-data_rule-kind Kind.ErSpan h = refl
-data_rule-kind Kind.Ip6ErSpan h = refl
-data_rule-kind Kind.Pfcp h = refl
-data_rule-kind Kind.RmNet h = family-rule bytes_peer rmnet_rows
-data_rule-kind (Kind.Other s) h = named-lacks bytes_peer kinds (string_bytes s) (lacks_name-unlisted kinds kind_names (string_bytes s) kinds_are_listed h)
+module _ (p : Peer) where
+  listed : (k : InfoKind) → data_payload_of k ≡ payload_at kinds (info_kind_text k) → data_rule_under p (info_kind_text k) ≡ data_rule_of_under p k
+  unfolding data_rule_under
+  listed k h = named-payload p kinds (info_kind_text k) ∙ ap (rule_or_raw p) (sym h)
 
-port_data_rule-kind : (k : InfoPortKind) → info_port_kind_is_named k ≡ true → port_data_rule (info_port_kind_text k) ≡ port_data_rule_of k
-unfolding port_data_rule
-port_data_rule-kind PortKind.Bond h = family-rule bytes_peer raw_rows
-port_data_rule-kind PortKind.Bridge h = family-rule bytes_peer raw_rows
-port_data_rule-kind PortKind.Vrf h = family-rule bytes_peer vrf_rows
-port_data_rule-kind PortKind.Team h = family-rule bytes_peer raw_rows
-port_data_rule-kind (PortKind.Other s) h =
-    named-lacks bytes_peer port_kinds (string_bytes s) (lacks_name-unlisted port_kinds port_kind_names (string_bytes s) port_kinds_are_listed h)
+  data_rule-kind : (k : InfoKind) → info_kind_is_named k ≡ true → data_rule_under p (info_kind_text k) ≡ data_rule_of_under p k
+  unfolding data_rule_under
+  data_rule-kind Kind.Dummy h = listed Kind.Dummy refl
+  data_rule-kind Kind.Ifb h = listed Kind.Ifb refl
+  data_rule-kind Kind.Bridge h = listed Kind.Bridge refl
+  data_rule-kind Kind.Tun h = listed Kind.Tun refl
+  data_rule-kind Kind.Nlmon h = listed Kind.Nlmon refl
+  data_rule-kind Kind.Vlan h = listed Kind.Vlan refl
+  data_rule-kind Kind.Veth h = listed Kind.Veth refl
+  data_rule-kind Kind.Vxlan h = listed Kind.Vxlan refl
+  data_rule-kind Kind.Bond h = listed Kind.Bond refl
+  data_rule-kind Kind.IpVlan h = listed Kind.IpVlan refl
+  data_rule-kind Kind.IpVtap h = listed Kind.IpVtap refl
+  data_rule-kind Kind.MacVlan h = listed Kind.MacVlan refl
+  data_rule-kind Kind.MacVtap h = listed Kind.MacVtap refl
+  data_rule-kind Kind.GreTap h = listed Kind.GreTap refl
+  data_rule-kind Kind.GreTap6 h = listed Kind.GreTap6 refl
+  data_rule-kind Kind.IpIp h = listed Kind.IpIp refl
+  data_rule-kind Kind.Ip6Tnl h = listed Kind.Ip6Tnl refl
+  data_rule-kind Kind.SitTun h = listed Kind.SitTun refl
+  data_rule-kind Kind.GreTun h = listed Kind.GreTun refl
+  data_rule-kind Kind.GreTun6 h = listed Kind.GreTun6 refl
+  data_rule-kind Kind.Vti h = listed Kind.Vti refl
+  data_rule-kind Kind.Vti6 h = listed Kind.Vti6 refl
+  data_rule-kind Kind.Vrf h = listed Kind.Vrf refl
+  data_rule-kind Kind.Gtp h = listed Kind.Gtp refl
+  data_rule-kind Kind.Ipoib h = listed Kind.Ipoib refl
+  data_rule-kind Kind.Wireguard h = listed Kind.Wireguard refl
+  data_rule-kind Kind.Xfrm h = listed Kind.Xfrm refl
+  data_rule-kind Kind.MacSec h = listed Kind.MacSec refl
+  data_rule-kind Kind.Hsr h = listed Kind.Hsr refl
+  data_rule-kind Kind.Geneve h = listed Kind.Geneve refl
+  data_rule-kind Kind.Netkit h = listed Kind.Netkit refl
+  data_rule-kind Kind.Vcan h = listed Kind.Vcan refl
+  data_rule-kind Kind.Vxcan h = listed Kind.Vxcan refl
+  data_rule-kind Kind.Amt h = listed Kind.Amt refl
+  data_rule-kind Kind.BatAdv h = listed Kind.BatAdv refl
+  data_rule-kind Kind.BareUdp h = listed Kind.BareUdp refl
+  data_rule-kind Kind.Netdevsim h = listed Kind.Netdevsim refl
+  data_rule-kind Kind.VirtWifi h = listed Kind.VirtWifi refl
+  data_rule-kind Kind.Wwan h = listed Kind.Wwan refl
+  data_rule-kind Kind.Can h = listed Kind.Can refl
+  data_rule-kind Kind.Dsa h = listed Kind.Dsa refl
+  data_rule-kind Kind.Team h = listed Kind.Team refl
+  data_rule-kind Kind.ErSpan h = listed Kind.ErSpan refl
+  data_rule-kind Kind.Ip6ErSpan h = listed Kind.Ip6ErSpan refl
+  data_rule-kind Kind.Pfcp h = listed Kind.Pfcp refl
+  data_rule-kind Kind.RmNet h = listed Kind.RmNet refl
+  data_rule-kind (Kind.Other s) h = named-lacks p kinds (string_bytes s) (lacks_name-unlisted kinds kind_names (string_bytes s) tables_are_listed.0 h)
 
-pub data_rule_at : (n : List ℕ) (k : InfoKind) → IsNamedBy n k → data_rule n ≡ data_rule_of k
-data_rule_at n k h = ap data_rule (sym h.0) ∙ data_rule-kind k h.1
+  listed_port : (k : InfoPortKind) → port_data_payload_of k ≡ payload_at port_kinds (info_port_kind_text k) → port_data_rule_under p (info_port_kind_text k) ≡ port_data_rule_of_under p k
+  unfolding port_data_rule_under
+  listed_port k h = named-payload p port_kinds (info_port_kind_text k) ∙ ap (rule_or_raw p) (sym h)
 
-pub port_data_rule_at : (n : List ℕ) (k : InfoPortKind) → IsPortNamedBy n k → port_data_rule n ≡ port_data_rule_of k
-port_data_rule_at n k h = ap port_data_rule (sym h.0) ∙ port_data_rule-kind k h.1
+  port_data_rule-kind : (k : InfoPortKind) → info_port_kind_is_named k ≡ true → port_data_rule_under p (info_port_kind_text k) ≡ port_data_rule_of_under p k
+  unfolding port_data_rule_under
+  port_data_rule-kind PortKind.Bond h = listed_port PortKind.Bond refl
+  port_data_rule-kind PortKind.Bridge h = listed_port PortKind.Bridge refl
+  port_data_rule-kind PortKind.Vrf h = listed_port PortKind.Vrf refl
+  port_data_rule-kind PortKind.Team h = listed_port PortKind.Team refl
+  port_data_rule-kind (PortKind.Other s) h =
+      named-lacks p port_kinds (string_bytes s) (lacks_name-unlisted port_kinds port_kind_names (string_bytes s) tables_are_listed.1 h)
+
+  pub names_tell_rules : (n : List ℕ) (k : InfoKind) → IsNamedBy n k → data_rule_under p n ≡ data_rule_of_under p k
+  names_tell_rules n k h = ap (data_rule_under p) (sym h.0) ∙ data_rule-kind k h.1
+
+  pub port_names_tell_rules : (n : List ℕ) (k : InfoPortKind) → IsPortNamedBy n k → port_data_rule_under p n ≡ port_data_rule_of_under p k
+  port_names_tell_rules n k h = ap (port_data_rule_under p) (sym h.0) ∙ port_data_rule-kind k h.1
+
+-- the same where peers are bytes
+pub data_rule_at : (n : List ℕ) (k : InfoKind) → IsNamedBy n k → data_rule_under bytes_peer n ≡ data_rule_of_under bytes_peer k
+data_rule_at = names_tell_rules bytes_peer
+
+pub port_data_rule_at : (n : List ℕ) (k : InfoPortKind) → IsPortNamedBy n k → port_data_rule_under bytes_peer n ≡ port_data_rule_of_under bytes_peer k
+port_data_rule_at = port_names_tell_rules bytes_peer

@@ -1,75 +1,74 @@
 -- The steps of a list of link info, as the loop takes them.
-use Rattle.std.proofs.Common.{◌≡◌, ℕ, ◌<◌, true, false, List, [], ◌∷◌, ◌++◌, length, map, Some, sym, ap, subst, ◌∙◌}
+use Rattle.std.proofs.Common.{◌≡◌, ℕ, ◌<◌, true, false, List, [], ◌∷◌, ◌++◌, length, map, Some, refl, sym, ap, subst, ◌∙◌}
 use Rattle.std.proofs.lemmas.List.{map-append}
 use Rattle.netlink_packet_core_grammar.specs.Attributes.{proper_kind, list_text}
 use Rattle.netlink_packet_core_grammar.specs.AttributeViews.{IsAttribute, attribute_of, raw_kind_of, payload_of, after_first}
 use Rattle.netlink_packet_core_grammar.proofs.FirstAttribute.{first_attribute_is, first_attribute_none}
 use Rattle.netlink_packet_core.specs.Lists.{text_by, all_fit_by}
-use Rattle.link_info_grammar.specs.Families.{info}
-use Rattle.attribute_tables_grammar.specs.Lists.{Context, nothing, LawfulGrammar, row_of, rewrite}
+use Rattle.attribute_tables_grammar.specs.Lists.{Context, nothing, any, LawfulGrammar, row_of, rewrite}
 use Rattle.attribute_tables_grammar.specs.Peers.{bytes_peer}
 use Rattle.attribute_tables_grammar.specs.Tables.{info_next}
-use Rattle.attribute_tables_grammar.specs.Readings.{Written, reading, written_by}
-use Rattle.link_info_grammar.proofs.Families.{info_modest}
-use Rattle.attribute_tables_grammar.proofs.Tables.{rows_lawful, steps, bytes_peer_lawful}
-use Rattle.attribute_tables_grammar.proofs.Readings.{SoFar, start, more, refused, stopped, done, tells, denies}
+use Rattle.attribute_tables_grammar.specs.Readings.{Written, reading_as, written_by}
+use Rattle.link_info_grammar.proofs.Families.{info_grammar_is_lawful}
+use Rattle.attribute_tables_grammar.proofs.Tables.{bytes_peer_lawful}
+use Rattle.attribute_tables_grammar.proofs.Readings.{SoFar, start, more, refused, stopped, done, as_any, tells, denies}
 use Rattle.attribute_tables_grammar.proofs.Named.{NamedSoFar, named_none, named_next}
-use Rattle.link_info_lists.specs.Written.{written_as}
-use Rattle.link_info_lists.proofs.Lists.{all_written, entries_written}
-use Rattle.link_info.specs.LinkInfo.{data_rule, port_data_rule, info_grammar, info_rule, link_info_row, link_info_entry, link_info_fits, link_info_names_row}
+use Rattle.attribute_tables.specs.Written.{written_as}
+use Rattle.attribute_tables.proofs.Lists.{all_written, entries_written}
+use Rattle.link_info_grammar.specs.LinkInfo.{data_rule_under, port_data_rule_under, info_grammar_under, info_grammar, info_rule_under, info_rule, link_info_row}
+use Rattle.link_info.specs.LinkInfo.{link_info_entry, link_info_fits, link_info_names_row}
 use Rattle.link_info.specs.declared.infos.LinkInfo.{LinkInfo}
 
 info_lawful : LawfulGrammar info_grammar
-unfolding info_grammar
-info_lawful = record { rows = rows_lawful bytes_peer bytes_peer_lawful info info_modest; steps = steps bytes_peer info }
+info_lawful = info_grammar_is_lawful bytes_peer bytes_peer_lawful
 
 abbrev pub written : List LinkInfo → List Written
 written vs = map (written_as link_info_entry link_info_fits) vs
 
 -- what holds between two turns of the loop
 pub record State (bytes : List ℕ) (vs : List LinkInfo) (c : Context) (rest : List ℕ) : Type 0 where
-  pub so_far : SoFar info_grammar bytes (written vs) c rest
+  pub so_far : SoFar any info_grammar bytes (written vs) c rest
   pub named : NamedSoFar info_grammar link_info_entry link_info_names_row vs c
 
 pub state_start : (bytes : List ℕ) → State bytes [] nothing bytes
-state_start bytes = record { so_far = start info_grammar bytes; named = named_none info_grammar link_info_entry link_info_names_row }
+state_start bytes = record { so_far = start any info_grammar bytes; named = named_none info_grammar link_info_entry link_info_names_row }
 
 pub state_more : (bytes : List ℕ) (vs : List LinkInfo) (c : Context) (rest : List ℕ) (v : LinkInfo) → IsAttribute rest →
     (link_info_row c (proper_kind (raw_kind_of rest))).rule.accepted (payload_of rest) ≡ true →
     link_info_entry v ≡ rewrite (link_info_row c (proper_kind (raw_kind_of rest))) (attribute_of rest) →
     link_info_fits v ≡ (link_info_row c (proper_kind (raw_kind_of rest))).rule.fits (payload_of rest) →
     link_info_names_row c v → State bytes vs c rest → State bytes (vs ++ v ∷ []) (info_next c (proper_kind (raw_kind_of rest)) (payload_of rest)) (after_first rest)
-unfolding info_grammar data_rule port_data_rule
+unfolding info_grammar_under data_rule_under port_data_rule_under
 state_more bytes vs c rest v h a entry inside n s =
     let e = attribute_of rest in
     let w = written_as link_info_entry link_info_fits in
     let is : w v ≡ written_by (row_of info_grammar c e) e = λ i. record { entry = entry i; inside_fits = inside i } in
     record {
-      so_far = subst (λ ws. SoFar info_grammar bytes ws (info_next c (proper_kind (raw_kind_of rest)) (payload_of rest)) (after_first rest)) (sym (map-append w vs (v ∷ [])))
-          (more info_grammar bytes (written vs) c rest e (after_first rest) (w v) (first_attribute_is rest h) a is s.so_far);
+      so_far = subst (λ ws. SoFar any info_grammar bytes ws (info_next c (proper_kind (raw_kind_of rest)) (payload_of rest)) (after_first rest)) (sym (map-append w vs (v ∷ [])))
+          (more any info_grammar bytes (written vs) c rest e (after_first rest) (w v) (first_attribute_is rest h) refl a is s.so_far);
       named = named_next info_grammar info_lawful link_info_entry link_info_names_row vs c e v a entry n s.named;
     }
 
 pub state_refused : (bytes : List ℕ) (vs : List LinkInfo) (c : Context) (rest : List ℕ) → IsAttribute rest →
     (link_info_row c (proper_kind (raw_kind_of rest))).rule.accepted (payload_of rest) ≡ false → State bytes vs c rest → info_rule.accepted bytes ≡ false
-unfolding info_grammar data_rule port_data_rule info_rule
-state_refused bytes vs c rest h a s = denies info_grammar bytes (refused info_grammar bytes (written vs) c rest (attribute_of rest) (after_first rest) (first_attribute_is rest h) a s.so_far)
+unfolding info_grammar_under data_rule_under port_data_rule_under info_rule_under
+state_refused bytes vs c rest h a s = denies any info_grammar bytes (as_any _ _ ∙ refused any info_grammar bytes (written vs) c rest (attribute_of rest) (after_first rest) (first_attribute_is rest h) refl a s.so_far)
 
 pub state_stopped : (bytes : List ℕ) (vs : List LinkInfo) (c : Context) (rest : List ℕ) → (IsAttribute rest → ⊥) → 0 < length rest → State bytes vs c rest → info_rule.accepted bytes ≡ false
-unfolding info_grammar info_rule
-state_stopped bytes vs c rest h l s = denies info_grammar bytes (stopped info_grammar bytes (written vs) c rest (first_attribute_none rest h) l s.so_far)
+unfolding info_grammar_under info_rule_under
+state_stopped bytes vs c rest h l s = denies any info_grammar bytes (as_any _ _ ∙ stopped any info_grammar bytes (written vs) c rest (first_attribute_none rest h) l s.so_far)
 
 pub record Done (bytes : List ℕ) (vs : List LinkInfo) : Type 0 where
-  pub read : reading info_grammar nothing bytes ≡ Some (written vs)
+  pub read : reading_as any info_grammar bytes ≡ Some (written vs)
   pub accepted : info_rule.accepted bytes ≡ true
   pub canonical : text_by link_info_entry vs ≡ info_rule.canonical bytes
   pub fits : all_fit_by link_info_entry link_info_fits vs ≡ info_rule.fits bytes
 
 pub state_done : (bytes : List ℕ) (vs : List LinkInfo) (c : Context) (rest : List ℕ) → length rest ≡ 0 → State bytes vs c rest → Done bytes vs
-unfolding info_grammar info_rule
+unfolding info_grammar_under info_rule_under
 state_done bytes vs c rest l s =
-    let d = done info_grammar bytes (written vs) c rest l s.so_far in
-    let t = tells info_grammar bytes (written vs) d in
+    let d = as_any _ _ ∙ done any info_grammar bytes (written vs) c rest l s.so_far in
+    let t = tells any info_grammar bytes (written vs) d in
     record {
       read = d;
       accepted = t.accepted;

@@ -1,3 +1,2 @@
 pub mod InForce
-pub mod InfoLaws
 pub mod InfoReading

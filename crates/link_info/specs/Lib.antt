@@ -1,16 +1,19 @@
 pub mod LinkInfo
 pub mod Laws
-pub use Rattle.link_info_grammar.specs.Families
-pub use Rattle.attribute_tables_grammar.specs.LookUps
-pub use Rattle.link_info_grammar.specs.KindNames
-pub use Rattle.attribute_tables_grammar.specs.Laws as GrammarLaws
+pub use Rattle.attribute_tables_grammar.specs.Laws as TableLaws
 pub use Rattle.attribute_tables_grammar.specs.Lists
+pub use Rattle.attribute_tables_grammar.specs.LookUps
 pub use Rattle.attribute_tables_grammar.specs.Peers
 pub use Rattle.attribute_tables_grammar.specs.Readings
 pub use Rattle.attribute_tables_grammar.specs.Rows
 pub use Rattle.attribute_tables_grammar.specs.Rules
 pub use Rattle.attribute_tables_grammar.specs.Shapes
 pub use Rattle.attribute_tables_grammar.specs.Tables
+pub use Rattle.attribute_tables.specs.Written
+pub use Rattle.link_info_grammar.specs.Families
+pub use Rattle.link_info_grammar.specs.KindNames
+pub use Rattle.link_info_grammar.specs.Laws as GrammarLaws
+pub use Rattle.link_info_grammar.specs.LinkInfo as InfoGrammar
 pub use Rattle.link_info_types.specs.IpVlanTypes
 pub use Rattle.link_info_types.specs.IpoibTypes
 pub use Rattle.link_info_types.specs.MacSecTypes
@@ -24,8 +27,6 @@ pub use Rattle.link_info_tunnel_types.specs.GtpTypes
 pub use Rattle.link_info_tunnel_types.specs.IpProtocols
 pub use Rattle.link_info_tunnel_types.specs.IpTunnelTypes
 pub use Rattle.link_info_tunnel_types.specs.VxlanTypes
-pub use Rattle.link_info_lists.specs.Families as FamilyRows
-pub use Rattle.link_info_lists.specs.Written
 pub use Rattle.link_info_tunnels.specs.Bareudp
 pub use Rattle.link_info_tunnels.specs.Vti
 pub use Rattle.link_info_tunnels.specs.Xfrm
@@ -40,8 +41,6 @@ pub use Rattle.link_info_overlays.specs.Geneve
 pub use Rattle.link_info_overlays.specs.Gtp
 pub use Rattle.link_info_overlays.specs.Vxlan
 pub use Rattle.link_info_raw.specs.RawData
-pub use Rattle.link_info_raw.specs.RawRows
-pub use Rattle.link_info_raw_ports.specs.RawPortData
 pub use Rattle.link_info_kinds.specs.Kinds
 pub use Rattle.link_info_kinds.specs.Named
 pub use Rattle.link_info_kinds.specs.PortKinds

@@ -2,11 +2,10 @@
 use Rattle.std.specs.Prelude.{◌≡◌, ℕ, Bool, true, false, ⊤, List, Option, Some, None, option_map}
 use Rattle.std.specs.Borrow.{Bor}
 use Rattle.netlink_packet_core.specs.Attributes.{Attribute, proper_kind}
-use Rattle.link_info_grammar.specs.Families.{kinds, port_kinds, info}
-use Rattle.attribute_tables_grammar.specs.Lists.{Context, Row, Grammar, any}
-use Rattle.attribute_tables_grammar.specs.Peers.{bytes_peer}
-use Rattle.attribute_tables_grammar.specs.Rules.{Rule}
-use Rattle.attribute_tables_grammar.specs.Tables.{Payload.list, rule, named, grammar, info_row}
+use Rattle.netlink_packet_core.specs.AttributeViews.{attribute_of, raw_kind_of, payload_of}
+use Rattle.attribute_tables_grammar.specs.Lists.{Context, Row, rewrite}
+use Rattle.attribute_tables_grammar.specs.Tables.{info_next}
+use Rattle.link_info_grammar.specs.LinkInfo.{link_info_row}
 use Rattle.link_info_kinds.specs.Kinds.{info_kind_entry, info_kind_is_named, IsNamedBy}
 use Rattle.link_info_kinds.specs.PortKinds.{info_port_kind_entry, info_port_kind_is_named, IsPortNamedBy}
 use Rattle.link_info_kinds.specs.declared.info_kind.InfoKind.{InfoKind}
@@ -18,13 +17,6 @@ use Rattle.link_info_data.specs.declared.info_data.InfoData.{InfoData}
 use Rattle.link_info_data.specs.declared.info_port.InfoPortData.{InfoPortData}
 use Rattle.link_info.specs.declared.infos.LinkInfo.{LinkInfo}
 use Rattle.link_info.specs.declared.infos.LinkInfo.TheVariants as Info
-
--- the rule of the data under a kind, by its name
-unfoldable pub data_rule : List ℕ → Rule
-data_rule n = named bytes_peer kinds n
-
-unfoldable pub port_data_rule : List ℕ → Rule
-port_data_rule n = named bytes_peer port_kinds n
 
 -- ---- what values are written as
 
@@ -41,19 +33,30 @@ link_info_fits (Info.Data d) = info_data_fits d
 link_info_fits (Info.PortData d) = info_port_data_fits d
 link_info_fits _ = true
 
--- ---- the rule of a list, and what is in force
+-- ---- what is in force
 
-unfoldable pub info_grammar : Grammar
-info_grammar = grammar bytes_peer info
+-- the context of a kind's and a port kind's name, where they lie in the list
+abbrev pub context_of : Option (Bor (List ℕ)) → Option (Bor (List ℕ)) → Context
+context_of kind port_kind = record { kind = option_map (λ b. b.now) kind; port_kind = option_map (λ b. b.now) port_kind }
 
-unfoldable pub info_rule : Rule
-info_rule = rule bytes_peer (list any info)
+-- ---- the attribute that the bytes begin with, where these kinds are in force
 
-abbrev pub in_force : Option (Bor (List ℕ)) → Option (Bor (List ℕ)) → Context
-in_force kind port = record { kind = option_map (λ b. b.now) kind; port = option_map (λ b. b.now) port }
+abbrev pub row_in : Context → List ℕ → Row
+row_in c b = link_info_row c (proper_kind (raw_kind_of b))
 
-abbrev pub link_info_row : Context → ℕ → Row
-link_info_row c k = info_row data_rule port_data_rule c k
+abbrev pub is_accepted_in : Context → List ℕ → Bool
+is_accepted_in c b = (row_in c b).rule.accepted (payload_of b)
+
+abbrev pub fits_in : Context → List ℕ → Bool
+fits_in c b = (row_in c b).rule.fits (payload_of b)
+
+-- what it is written as
+abbrev pub written_in : Context → List ℕ → Attribute
+written_in c b = rewrite (row_in c b) (attribute_of b)
+
+-- what is in force after it
+abbrev pub context_after_first : Context → List ℕ → Context
+context_after_first c b = info_next c (proper_kind (raw_kind_of b)) (payload_of b)
 
 -- ---- the variants that rows name
 
@@ -71,5 +74,5 @@ link_info_names_row c (Info.Xstats x) = ⊤
 link_info_names_row c (Info.Kind k) = info_kind_is_named k ≡ true
 link_info_names_row c (Info.Data d) = data_names_row c.kind d
 link_info_names_row c (Info.PortKind k) = info_port_kind_is_named k ≡ true
-link_info_names_row c (Info.PortData d) = port_data_names_row c.port d
+link_info_names_row c (Info.PortData d) = port_data_names_row c.port_kind d
 link_info_names_row c (Info.Other a) = (link_info_row c (proper_kind a.kind)).is_typed ≡ false

@@ -3,19 +3,19 @@
 //! port data use the latest port kind up.
 
 ghost use Rattle.std.specs.Prelude.{◌≡◌, ◌<◌, false, true, length, map, Some, IsTrue, IfOk, IfErr, OnOk};
-ghost use Rattle.netlink_packet_core.specs.Attributes.{proper_kind};
-ghost use Rattle.netlink_packet_core.specs.AttributeViews.{attribute_of, raw_kind_of, payload_of, IsAttribute};
+ghost use Rattle.netlink_packet_core.specs.AttributeViews.{IsAttribute};
 ghost use Rattle.netlink_packet_core.specs.Errors.{is_memory};
 ghost use Rattle.netlink_packet_core.specs.Lists.{text_by, all_fit_by};
 ghost use Rattle.netlink_packet_core.specs.NlaBuffers.{storage};
-ghost use Rattle.attribute_tables_grammar.specs.Lists.{nothing, rewrite};
-ghost use Rattle.attribute_tables_grammar.specs.Readings.{reading, all_named};
-ghost use Rattle.attribute_tables_grammar.specs.Tables.{info_next};
-ghost use Rattle.link_info_lists.specs.Written.{written_as};
+ghost use Rattle.attribute_tables_grammar.specs.Lists.{any, nothing};
+ghost use Rattle.attribute_tables_grammar.specs.Readings.{reading_as, all_named};
+ghost use Rattle.attribute_tables.specs.Written.{written_as};
+ghost use Rattle.link_info_grammar.specs.LinkInfo.{data_rule, port_data_rule, info_grammar, info_rule};
 ghost use Rattle.link_info_data.specs.Data.{info_data_fits, info_data_payload};
 ghost use Rattle.link_info_data.specs.PortData.{info_port_data_fits, info_port_data_payload};
-ghost use Rattle.link_info.specs.LinkInfo.{data_rule, port_data_rule, data_names_row, port_data_names_row};
-ghost use Rattle.link_info.specs.LinkInfo.{in_force, info_grammar, info_rule, link_info_row, link_info_entry, link_info_fits, link_info_names_row};
+ghost use Rattle.link_info.specs.LinkInfo.{data_names_row, port_data_names_row};
+ghost use Rattle.link_info.specs.LinkInfo.{context_of, context_after_first, is_accepted_in, fits_in, written_in};
+ghost use Rattle.link_info.specs.LinkInfo.{link_info_entry, link_info_fits, link_info_names_row};
 
 use link_info_data::{InfoData, InfoPortData, LinkXstats};
 use link_info_kinds::{InfoKind, InfoPortKind};
@@ -111,10 +111,10 @@ fn next_in_force<'a>(
     buf: &NlaBuffer<&'a [u8]>,
 ) -> Result<InForce<'a>, DecodeError>
     requires { IsAttribute (storage buf.now).now }
-    ensures next { IfOk result (λ f. in_force f.kind f.port_kind
-        ≡ info_next (in_force force.entry.kind force.entry.port_kind) (proper_kind (raw_kind_of (storage buf.now).now)) (payload_of (storage buf.now).now)) }
+    ensures next { IfOk result (λ f. context_of f.kind f.port_kind
+        ≡ context_after_first (context_of force.entry.kind force.entry.port_kind) (storage buf.now).now) }
     ensures err { IfErr result (λ e.
-        (link_info_row (in_force force.entry.kind force.entry.port_kind) (proper_kind (raw_kind_of (storage buf.now).now))).rule.accepted (payload_of (storage buf.now).now)
+        is_accepted_in (context_of force.entry.kind force.entry.port_kind) (storage buf.now).now
         ≡ false) }
 {
     match buf.kind() {
@@ -169,18 +169,18 @@ impl LinkInfo {
     ) -> Result<LinkInfo, DecodeError>
         requires { IsAttribute (storage buf.now).now }
         ensures ok { OnOk result
-            (IsTrue ((link_info_row (in_force force.entry.kind force.entry.port_kind) (proper_kind (raw_kind_of (storage buf.now).now))).rule.accepted (payload_of (storage buf.now).now))) }
+            (IsTrue (is_accepted_in (context_of force.entry.kind force.entry.port_kind) (storage buf.now).now)) }
         ensures value { IfOk result
             (λ v. link_info_entry v
-            ≡ rewrite (link_info_row (in_force force.entry.kind force.entry.port_kind) (proper_kind (raw_kind_of (storage buf.now).now))) (attribute_of (storage buf.now).now)) }
+            ≡ written_in (context_of force.entry.kind force.entry.port_kind) (storage buf.now).now) }
         ensures inside { IfOk result
             (λ v. link_info_fits v
-            ≡ (link_info_row (in_force force.entry.kind force.entry.port_kind) (proper_kind (raw_kind_of (storage buf.now).now))).rule.fits (payload_of (storage buf.now).now)) }
+            ≡ fits_in (context_of force.entry.kind force.entry.port_kind) (storage buf.now).now) }
         ensures names_row { IfOk result
-            (λ v. link_info_names_row (in_force force.entry.kind force.entry.port_kind) v) }
+            (λ v. link_info_names_row (context_of force.entry.kind force.entry.port_kind) v) }
         ensures err { IfErr result
             (λ e. is_memory e ≡ false
-            → (link_info_row (in_force force.entry.kind force.entry.port_kind) (proper_kind (raw_kind_of (storage buf.now).now))).rule.accepted (payload_of (storage buf.now).now)
+            → is_accepted_in (context_of force.entry.kind force.entry.port_kind) (storage buf.now).now
             ≡ false) }
     {
         let payload = buf.value();
@@ -212,7 +212,8 @@ impl LinkInfo {
     pub fn parse_list(alloc: Global, bytes: &[u8]) -> Result<Vec<LinkInfo>, DecodeError>
         ensures ok { OnOk result (IsTrue (info_rule.accepted bytes.now)) }
         ensures read { IfOk result
-            (λ v. reading info_grammar nothing bytes.now ≡ Some (map (written_as link_info_entry link_info_fits) v.items)) }
+            (λ v. reading_as any info_grammar bytes.now
+            ≡ Some (map (written_as link_info_entry link_info_fits) v.items)) }
         ensures text { IfOk result (λ v. text_by link_info_entry v.items ≡ info_rule.canonical bytes.now) }
         ensures fits { IfOk result
             (λ v. all_fit_by link_info_entry link_info_fits v.items ≡ info_rule.fits bytes.now) }

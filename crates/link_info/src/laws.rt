@@ -2,9 +2,12 @@
 
 ghost use Rattle.link_info.specs.Laws.{LinkInfoIsLawful, NamesTellRules, PortNamesTellRules, KindsAreTheNames, NamesTellKinds, NamesTellPortKinds};
 
-pub use link_info_grammar::laws::{
+pub use attribute_tables_grammar::laws::{
     canonical_texts_are_cut_again, old_texts_are_renewed, peers_that_are_bytes_are_lawful,
     same_lists_leave_one_context, tables_are_lawful, texts_keep_meanings, texts_tell_meanings,
+};
+pub use link_info_grammar::laws::{
+    info_grammar_is_lawful, info_is_a_payload, tables_are_listed, tables_pass,
 };
 
 /// The canonical text of legal link info is legal, its own canonical text, and at most 77 times as

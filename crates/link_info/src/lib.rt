@@ -10,31 +10,25 @@ pub mod laws;
 pub use infos::LinkInfo;
 pub use link_info_data::{InfoData, InfoPortData, InfoVrfPort, LinkXstats};
 pub use link_info_devices::{
-    InfoBatAdv, InfoBatAdvReader, InfoIpVlan, InfoIpVlanReader, InfoIpVtap, InfoIpVtapReader,
-    InfoIpoib, InfoIpoibReader, InfoRmNet, InfoRmNetFlags, InfoRmNetReader, InfoVrf, InfoVrfReader,
-    InfoWwan, InfoWwanReader,
+    InfoBatAdv, InfoIpVlan, InfoIpVtap, IpVlanData,
+    InfoIpoib, InfoRmNet, InfoRmNetFlags, InfoVrf,
+    InfoWwan,
 };
 pub use link_info_kinds::{InfoKind, InfoPortKind};
-pub use link_info_lists::{Reader, parse_list};
+pub use attribute_tables::{FamilyReader, Reader, parse_family, parse_list};
 pub use link_info_overlays::{
-    InfoAmt, InfoAmtReader, InfoGeneve, InfoGeneveReader, InfoGtp, InfoGtpReader, InfoVxlan,
-    InfoVxlanReader,
-};
+    InfoAmt, InfoGeneve, InfoGtp, InfoVxlan,
+    };
 pub use link_info_raw::{
-    InfoBond, InfoBondReader, InfoBridge, InfoBridgeReader, InfoCan, InfoCanReader, InfoDsa,
-    InfoDsaReader, InfoHsr, InfoHsrReader, InfoTun, InfoTunReader, InfoVlan, InfoVlanReader,
-    InfoWireguard, InfoWireguardReader,
-};
-pub use link_info_raw_ports::{
-    InfoBondPort, InfoBondPortReader, InfoBridgePort, InfoBridgePortReader, InfoTeamPort,
-    InfoTeamPortReader,
+    InfoBond, InfoBondPort, InfoBridge, InfoBridgePort, InfoCan, InfoDsa, InfoHsr, InfoTeamPort,
+    InfoTun, InfoVlan, InfoWireguard, RawData,
 };
 pub use link_info_tunnel_types::{
     AmtMode, ErSpanDir, GeneveDf, GreEncapFlags, GreEncapType, GreIOFlags, GtpRole, Ip6TunnelFlags,
     IpProtocol, TunnelEncapFlags, TunnelEncapType, VxlanDf,
 };
 pub use link_info_tunnels::{
-    InfoBareUdp, InfoBareUdpReader, InfoVti, InfoVtiReader, InfoXfrm, InfoXfrmReader,
+    InfoBareUdp, InfoVti, InfoXfrm,
 };
 pub use link_info_types::{
     Flags, IpVlanFlags, IpVlanMode, IpVtapFlags, IpVtapMode, IpoibMode, MacSecCipherId,

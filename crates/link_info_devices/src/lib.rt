@@ -8,9 +8,9 @@ mod rmnet;
 mod vrf;
 mod wwan;
 
-pub use batadv::{InfoBatAdv};
-pub use ipoib::{InfoIpoib};
-pub use ipvlan::{InfoIpVlan, InfoIpVtap};
+pub use batadv::InfoBatAdv;
+pub use ipoib::InfoIpoib;
+pub use ipvlan::{InfoIpVlan, InfoIpVtap, IpVlanData};
 pub use rmnet::{InfoRmNet, InfoRmNetFlags};
-pub use vrf::{InfoVrf};
-pub use wwan::{InfoWwan};
+pub use vrf::InfoVrf;
+pub use wwan::InfoWwan;

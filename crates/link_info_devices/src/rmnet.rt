@@ -67,7 +67,10 @@ impl FieldNla for InfoRmNet {
     fn field(&self) -> (u16, Field<'_>) {
         match self {
             Self::MuxId(channel) => (IFLA_RMNET_MUX_ID, Field::U16(*channel)),
-            Self::Flags(flags) => (IFLA_RMNET_FLAGS, Field::U32Pair(flags.flags.bits(), flags.mask.bits())),
+            Self::Flags(flags) => (
+                IFLA_RMNET_FLAGS,
+                Field::U32Pair(flags.flags.bits(), flags.mask.bits()),
+            ),
             Self::Other(nla) => (nla.kind(), Field::Bytes(nla.value())),
         }
     }

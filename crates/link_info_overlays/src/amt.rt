@@ -6,7 +6,9 @@ ghost use Rattle.link_info_overlays.specs.Amt.{amt_entry, amt_names_row};
 
 use attribute_tables::typed;
 use link_info_tunnel_types::AmtMode;
-use netlink_packet_core::{DecodeError, DefaultNla, Family, Field, FieldNla, Nla, parse_ip, parse_u16_be, parse_u32};
+use netlink_packet_core::{
+    DecodeError, DefaultNla, Family, Field, FieldNla, Nla, parse_ip, parse_u16_be, parse_u32,
+};
 use std::alloc::Global;
 use std::net::IpAddr;
 

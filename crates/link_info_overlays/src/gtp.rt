@@ -6,7 +6,10 @@ ghost use Rattle.link_info_overlays.specs.Gtp.{gtp_entry, gtp_names_row};
 
 use attribute_tables::typed;
 use link_info_tunnel_types::GtpRole;
-use netlink_packet_core::{DecodeError, DefaultNla, Family, Field, FieldNla, Nla, parse_bool, parse_ipv4_addr, parse_ipv6_addr, parse_u8, parse_u32};
+use netlink_packet_core::{
+    DecodeError, DefaultNla, Family, Field, FieldNla, Nla, parse_bool, parse_ipv4_addr,
+    parse_ipv6_addr, parse_u8, parse_u32,
+};
 use std::alloc::Global;
 use std::net::{Ipv4Addr, Ipv6Addr};
 

@@ -6,7 +6,10 @@ ghost use Rattle.link_info_overlays.specs.Vxlan.{vxlan_entry, vxlan_names_row};
 
 use attribute_tables::typed;
 use link_info_tunnel_types::VxlanDf;
-use netlink_packet_core::{DecodeError, DefaultNla, Family, Field, FieldNla, Nla, parse_bool, parse_ipv4_addr, parse_ipv6_addr, parse_range, parse_u8, parse_u16_be, parse_u32, parse_u32_be, parse_u64_be};
+use netlink_packet_core::{
+    DecodeError, DefaultNla, Family, Field, FieldNla, Nla, parse_bool, parse_ipv4_addr,
+    parse_ipv6_addr, parse_range, parse_u8, parse_u16_be, parse_u32, parse_u32_be, parse_u64_be,
+};
 use std::alloc::Global;
 use std::net::{Ipv4Addr, Ipv6Addr};
 

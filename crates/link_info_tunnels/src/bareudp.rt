@@ -5,7 +5,10 @@ ghost use Rattle.link_info_grammar.specs.Families.{bareudp};
 ghost use Rattle.link_info_tunnels.specs.Bareudp.{bareudp_entry, bareudp_names_row};
 
 use attribute_tables::typed;
-use netlink_packet_core::{DecodeError, DefaultNla, EthernetProtocol, Family, Field, FieldNla, Nla, parse_u16, parse_u16_be};
+use netlink_packet_core::{
+    DecodeError, DefaultNla, EthernetProtocol, Family, Field, FieldNla, Nla, parse_u16,
+    parse_u16_be,
+};
 use std::alloc::Global;
 
 const IFLA_BAREUDP_PORT: u16 = 1;
@@ -38,7 +41,10 @@ impl FieldNla for InfoBareUdp {
     fn field(&self) -> (u16, Field<'_>) {
         match self {
             Self::Port(port) => (IFLA_BAREUDP_PORT, Field::U16Be(*port)),
-            Self::Ethertype(protocol) => (IFLA_BAREUDP_ETHERTYPE, Field::U16Be(u16::from(*protocol))),
+            Self::Ethertype(protocol) => (
+                IFLA_BAREUDP_ETHERTYPE,
+                Field::U16Be(u16::from(*protocol)),
+            ),
             Self::SrcPortMin(port) => (IFLA_BAREUDP_SRCPORT_MIN, Field::U16(*port)),
             Self::MultiprotoMode => (IFLA_BAREUDP_MULTIPROTO_MODE, Field::Empty),
             Self::Other(nla) => (nla.kind(), Field::Bytes(nla.value())),

@@ -5,6 +5,6 @@ mod bareudp;
 mod vti;
 mod xfrm;
 
-pub use bareudp::{InfoBareUdp};
-pub use vti::{InfoVti};
-pub use xfrm::{InfoXfrm};
+pub use bareudp::InfoBareUdp;
+pub use vti::InfoVti;
+pub use xfrm::InfoXfrm;

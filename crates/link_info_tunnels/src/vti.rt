@@ -5,7 +5,9 @@ ghost use Rattle.link_info_grammar.specs.Families.{vti};
 ghost use Rattle.link_info_tunnels.specs.Vti.{vti_entry, vti_names_row};
 
 use attribute_tables::typed;
-use netlink_packet_core::{DecodeError, DefaultNla, Family, Field, FieldNla, Nla, parse_ip, parse_u32, parse_u32_be};
+use netlink_packet_core::{
+    DecodeError, DefaultNla, Family, Field, FieldNla, Nla, parse_ip, parse_u32, parse_u32_be,
+};
 use std::alloc::Global;
 use std::net::IpAddr;
 

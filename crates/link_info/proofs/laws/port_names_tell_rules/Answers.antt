@@ -1,5 +1,5 @@
-use Rattle.link_info.proofs.InForce.{port_data_rule_at}
+use Rattle.link_info.proofs.InForce.{port_names_tell_rules}
 use Rattle.link_info.proofs.laws.port_names_tell_rules.Goals as goal
 
 pub returns : goal.returns
-returns c = port_data_rule_at
+returns c = port_names_tell_rules

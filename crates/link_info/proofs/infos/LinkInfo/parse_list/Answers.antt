@@ -5,7 +5,8 @@ use Rattle.netlink_packet_core_grammar.specs.AttributeViews.{IsAttribute, length
 use Rattle.netlink_packet_core.specs.Errors.{is_memory}
 use Rattle.attribute_tables_grammar.specs.Lists.{nothing, rewrite}
 use Rattle.attribute_tables_grammar.specs.Tables.{info_next}
-use Rattle.link_info.specs.LinkInfo.{in_force, info_rule, link_info_row, link_info_entry, link_info_fits}
+use Rattle.link_info_grammar.specs.LinkInfo.{info_rule, link_info_row}
+use Rattle.link_info.specs.LinkInfo.{context_of, link_info_entry, link_info_fits}
 use Rattle.link_info.proofs.InfoReading.{State, Done, state_start, state_more, state_refused, state_stopped, state_done}
 use Rattle.link_info.proofs.infos.LinkInfo.parse_list.Goals as goal
 
@@ -25,7 +26,7 @@ returns-in_err-buf-clause-err c =
 pub returns-in_err-read-clause-err : goal.returns-in_err-read-clause-err
 returns-in_err-read-clause-err c =
     let b = c.loop-force.rest.now in
-    let f = in_force c.loop-force.force.kind c.loop-force.force.port_kind in
+    let f = context_of c.loop-force.force.kind c.loop-force.force.port_kind in
     let h : IsAttribute b = c.in_ok-buf.ensures.whole.0 refl in
     let k : is_memory c.in_err-read.field-0.0 ≡ false → info_rule.accepted c.args.bytes.now ≡ false =
     λ m.
@@ -36,7 +37,7 @@ returns-in_err-read-clause-err c =
 pub returns-in_err-force-clause-err : goal.returns-in_err-force-clause-err
 returns-in_err-force-clause-err c =
     let b = c.loop-force.rest.now in
-    let f = in_force c.loop-force.force.kind c.loop-force.force.port_kind in
+    let f = context_of c.loop-force.force.kind c.loop-force.force.port_kind in
     let h : IsAttribute b = c.in_ok-buf.ensures.whole.0 refl in
     let was : (link_info_row f (proper_kind (raw_kind_of b))).rule.accepted (payload_of b) ≡ false = rw c.in_ok-buf.ensures.ok at c.in_err-force.ensures.err in
     let k = state_refused _ _ f b h was c.loop-force.invariant.state in
@@ -45,17 +46,17 @@ returns-in_err-force-clause-err c =
 pub loop-force-preserved : goal.loop-force-preserved
 loop-force-preserved c =
     let b = c.loop-force.rest.now in
-    let f = in_force c.loop-force.force.kind c.loop-force.force.port_kind in
+    let f = context_of c.loop-force.force.kind c.loop-force.force.port_kind in
     let v = c.in_ok-read.field-0 in
     let h : IsAttribute b = c.in_ok-buf.ensures.whole.0 refl in
     let was : (link_info_row f (proper_kind (raw_kind_of b))).rule.accepted (payload_of b) ≡ true = rw c.in_ok-buf.ensures.ok at c.in_ok-read.ensures.ok in
     let entry : link_info_entry v ≡ rewrite (link_info_row f (proper_kind (raw_kind_of b))) (attribute_of b) = rw c.in_ok-buf.ensures.ok at c.in_ok-read.ensures.value in
     let inside : link_info_fits v ≡ (link_info_row f (proper_kind (raw_kind_of b))).rule.fits (payload_of b) = rw c.in_ok-buf.ensures.ok at c.in_ok-read.ensures.inside in
-    let next : in_force c.in_ok-force.force.kind c.in_ok-force.force.port_kind ≡ info_next f (proper_kind (raw_kind_of b)) (payload_of b) = rw c.in_ok-buf.ensures.ok at c.in_ok-force.ensures.next in
+    let next : context_of c.in_ok-force.force.kind c.in_ok-force.force.port_kind ≡ info_next f (proper_kind (raw_kind_of b)) (payload_of b) = rw c.in_ok-buf.ensures.ok at c.in_ok-force.ensures.next in
     let rest : length c.skip_first-rest.result.now ≡ length (after_first b) = ap length c.skip_first-rest.ensures in
     let s = state_more c.args.bytes.now c.loop-force.list.items f b v h was entry inside c.in_ok-read.ensures.names_row c.loop-force.invariant.state in
     record {
-      state = subst (λ vs. State c.args.bytes.now vs (in_force c.in_ok-force.force.kind c.in_ok-force.force.port_kind) c.skip_first-rest.result.now) (sym c.in_ok-push.ensures.items)
+      state = subst (λ vs. State c.args.bytes.now vs (context_of c.in_ok-force.force.kind c.in_ok-force.force.port_kind) c.skip_first-rest.result.now) (sym c.in_ok-push.ensures.items)
           (subst (λ d. State c.args.bytes.now (c.loop-force.list.items ++ v ∷ []) d c.skip_first-rest.result.now) (sym next)
           (subst (λ r. State c.args.bytes.now (c.loop-force.list.items ++ v ∷ []) (info_next f (proper_kind (raw_kind_of b)) (payload_of b)) r) (sym c.skip_first-rest.ensures) s));
       within = omega (arith, rest, length-drop (nla_align (length_of b)) b, c.loop-force.invariant.within);

@@ -1,5 +1,5 @@
 -- The attributes of a link body, as a loop meets them, and the body that they make.
-use Rattle.std.proofs.Common.{◌≡◌, ℕ, ◌+◌, ◌<◌, ◌≤◌, List, [], ◌∷◌, ◌++◌, length, drop, take, Option, Some, None, Ok, Err, Bool, true, false, cond, not, eqb, refl, sym, ap, ◌∙◌, arith, length-append, append_assoc}
+use Rattle.std.proofs.Common.{◌≡◌, ℕ, ◌+◌, ◌<◌, ◌≤◌, List, [], ◌∷◌, ◌++◌, length, drop, take, Option, Some, None, Ok, Err, Bool, true, false, cond, not, eqb, refl, sym, ap, subst, ◌∙◌, arith, length-append, append_assoc}
 use Rattle.std.specs.Prelude.{◌==◌, nat_le, slice_index}
 use Rattle.std.proofs.lemmas.Bool.{eqb-true, or_from, le-leb, lt-leb}
 use Rattle.std.proofs.lemmas.List.{length-take, take-append-le, take-take}
@@ -8,17 +8,18 @@ use Rattle.netlink_packet_core_grammar.proofs.Attributes.{got, got_is, sized}
 use Rattle.attribute_tables_grammar.specs.Rules.{Rule}
 use Rattle.attribute_tables_grammar.specs.Lists.{Context, nothing, Row, raw_row, some_empty_ports, if_read, any, rewrite}
 use Rattle.attribute_tables_grammar.specs.Peers.{bytes_peer}
-use Rattle.attribute_tables_grammar.specs.Tables.{Payload.list, rule, grammar, line_of, rule_of_line}
+use Rattle.attribute_tables_grammar.specs.Tables.{Payload.list, rule, grammar}
 use Rattle.attribute_tables_grammar.specs.Rows.{string}
 use Rattle.attribute_tables_grammar.specs.Walks.{Measure, measure, plus, with_header}
-use Rattle.attribute_tables_grammar.proofs.Tables.{bytes_peer_lawful, row-line}
-use Rattle.attribute_tables_grammar.proofs.TableWalk as Flat
-use Rattle.attribute_tables_grammar.proofs.TableWalk.{Walkable, SoFar, Small}
-use Rattle.attribute_tables_grammar.proofs.TableText as FlatText
+use Rattle.attribute_tables_grammar.proofs.Tables.{bytes_peer_lawful}
+use Rattle.attribute_tables_grammar.proofs.LookUps.{row-table}
+use Rattle.attribute_tables_grammar.proofs.TableWalk as Walk
+use Rattle.attribute_tables_grammar.proofs.TableWalk.{SoFar, Small, walked}
+use Rattle.attribute_tables_grammar.proofs.TableText as Text
 use Rattle.attribute_tables_grammar.proofs.TableText.{Stepped}
-use Rattle.link_message_grammar.specs.LinkMessage.{unspec, attributes}
+use Rattle.link_message_grammar.specs.LinkMessage.{unspec, link_table}
 use Rattle.link_message_grammar.specs.Body.{header_text, layer_type_text, body_rule, link_body}
-use Rattle.link_message_grammar.proofs.Tables.{attributes_modest}
+use Rattle.link_message_grammar.proofs.Tables.{table_bounded}
 use Rattle.link_message_grammar.proofs.Body.{written_header}
 use Rattle.link_capture_grammar.specs.declared.fault.FaultKind.TheVariants.{Refused, Unfit}
 use Rattle.link_capture_grammar.specs.Bodies.{ruled_text}
@@ -28,24 +29,18 @@ use Rattle.link_capture.specs.Judged.{IsJudged}
 use Rattle.link_capture.specs.Bodies.{HasText}
 
 abbrev pub Met : List ℕ → Measure → List ℕ → Type 0
-Met bytes m rest = SoFar bytes_peer (attributes unspec) bytes m rest
+Met bytes m rest = SoFar bytes_peer any (link_table unspec) bytes m rest
 
-walkable : Walkable (attributes unspec)
-walkable = record { flat = refl; payload_bounded = attributes_modest unspec }
-
-inside : (e : Attribute) (o : Option Measure) → o ≡ measure (link_row (proper_kind e.kind)).rule e.payload → o ≡ measure (rule_of_line bytes_peer (line_of (attributes unspec) (proper_kind e.kind))) e.payload
-unfolding link_row
-inside e o h = h ∙ ap (λ r. measure r e.payload) (row-line bytes_peer (attributes unspec) nothing (proper_kind e.kind) refl)
-
-pub start : (bytes : List ℕ) → Met bytes (record { size = 0; attributes = 0; fits = true }) bytes
-start bytes = Flat.start bytes_peer bytes_peer_lawful (attributes unspec) walkable bytes
+pub start : (bytes : List ℕ) → Met bytes (record { size = 0; attributes = 0; fits = true; empty_ports = false }) bytes
+start bytes = Walk.start bytes_peer any (link_table unspec) bytes
 
 pub more : (bytes rest : List ℕ) (e : Attribute) (after : List ℕ) (so_far m : Measure) → first_attribute rest ≡ Some (e, after) → Some m ≡ measure (link_row (proper_kind e.kind)).rule e.payload → Met bytes so_far rest → Met bytes (plus so_far (with_header m)) after
-more bytes rest e after so_far m f is h = Flat.more bytes_peer bytes_peer_lawful (attributes unspec) walkable bytes rest e after so_far m f (inside e (Some m) is) h
+unfolding link_row
+more bytes rest e after so_far m f is h = Walk.more bytes_peer any (link_table unspec) bytes rest e after so_far m f refl is h
 
 pub refused : (bytes rest : List ℕ) (e : Attribute) (after : List ℕ) (so_far : Measure) → first_attribute rest ≡ Some (e, after) → None ≡ measure (link_row (proper_kind e.kind)).rule e.payload → Met bytes so_far rest → None ≡ measure link_attributes bytes
-unfolding link_attributes
-refused bytes rest e after so_far f is h = Flat.refused bytes_peer bytes_peer_lawful (attributes unspec) walkable bytes rest e after so_far f (inside e None is) h
+unfolding link_attributes link_row
+refused bytes rest e after so_far f is h = Walk.refused bytes_peer any (link_table unspec) bytes rest e after so_far f refl is h ∙ walked bytes_peer (link_table unspec) bytes
 
 not_empty : (xs : List ℕ) (b : Bool) → b ≡ false → b ≡ eqb (length xs) 0 → 0 < length xs
 not_empty [] b p q = absurd (let e : true ≡ false = sym q ∙ p in cc)
@@ -53,36 +48,37 @@ not_empty (x ∷ xs) b p q = omega arith
 
 pub stop : (bytes rest : List ℕ) (so_far : Measure) (b : Bool) → first_attribute rest ≡ None → b ≡ false → b ≡ eqb (length rest) 0 → Met bytes so_far rest → None ≡ measure link_attributes bytes
 unfolding link_attributes
-stop bytes rest so_far b f p q h = Flat.stop bytes_peer bytes_peer_lawful (attributes unspec) walkable bytes rest so_far f (not_empty rest b p q) h
+stop bytes rest so_far b f p q h = Walk.stop bytes_peer any (link_table unspec) bytes rest so_far f (not_empty rest b p q) h ∙ walked bytes_peer (link_table unspec) bytes
 
 pub done : (bytes rest : List ℕ) (so_far : Measure) (b : Bool) → b ≡ true → b ≡ eqb (length rest) 0 → Met bytes so_far rest → Some so_far ≡ measure link_attributes bytes
 unfolding link_attributes
-done bytes rest so_far b p q h = Flat.done bytes_peer bytes_peer_lawful (attributes unspec) walkable bytes rest so_far (eqb-true (length rest) 0 (sym q ∙ p)) h
+done bytes rest so_far b p q h = Walk.done bytes_peer any (link_table unspec) bytes rest so_far (eqb-true (length rest) 0 (sym q ∙ p)) h ∙ walked bytes_peer (link_table unspec) bytes
 
 pub small : (rest : List ℕ) (e : Attribute) (after : List ℕ) (m : Measure) → first_attribute rest ≡ Some (e, after) → Some m ≡ measure (link_row (proper_kind e.kind)).rule e.payload → Small rest after m
-small rest e after m f is = Flat.small bytes_peer bytes_peer_lawful (attributes unspec) walkable rest e after m f (inside e (Some m) is)
+unfolding link_row
+small rest e after m f is = Walk.small bytes_peer bytes_peer_lawful (link_table unspec) (table_bounded unspec) rest e after m f is
 
 -- a measure, field by field
-pub measure_is : (m : Measure) (n : ℕ) → m.size ≡ n → m.attributes ≡ 0 → m.fits ≡ true → m ≡ record { size = n; attributes = 0; fits = true }
-measure_is m n a b c = λ i. record { size = a i; attributes = b i; fits = c i }
+pub measure_is : (m : Measure) (n : ℕ) → m.size ≡ n → m.attributes ≡ 0 → m.fits ≡ true → m.empty_ports ≡ false → m ≡ record { size = n; attributes = 0; fits = true; empty_ports = false }
+measure_is m n a b c d = λ i. record { size = a i; attributes = b i; fits = c i; empty_ports = d i }
 
 -- ---- the whole body
 
-row_full : (b : Bool) (n : ℕ) (p : List ℕ) → (elim b as (λ x. Row) [ true ↦ record { is_typed = true; is_nested = false; rule = rule bytes_peer string } | false ↦ raw_row ]).rule.empty_ports p ≡ false
-row_full true n p = refl
-row_full false n p = refl
+row_full : (b : Bool) (p : List ℕ) → (elim b as (λ x. Row) [ true ↦ record { is_typed = true; is_nested = false; rule = rule bytes_peer string } | false ↦ raw_row ]).rule.empty_ports p ≡ false
+row_full true p = refl
+row_full false p = refl
 
-none_emptied : (c : Context) (es : List Attribute) → some_empty_ports (grammar bytes_peer (attributes unspec)) c es ≡ false
+none_empty : (c : Context) (es : List Attribute) → some_empty_ports (grammar bytes_peer (link_table unspec)) c es ≡ false
 unfolding some_empty_ports
-none_emptied c [] = refl
-none_emptied c (e ∷ es) = or_from _ _ (row_full (proper_kind e.kind == 3) (proper_kind e.kind) e.payload) (none_emptied c es)
+none_empty c [] = refl
+none_empty c (e ∷ es) = or_from _ _ (row_full (proper_kind e.kind == 3) e.payload) (none_empty c es)
 
-at_none : (o : Option (List Attribute)) → if_read false (λ es. some_empty_ports (grammar bytes_peer (attributes unspec)) nothing es) o ≡ false
+at_none : (o : Option (List Attribute)) → if_read false (λ es. some_empty_ports (grammar bytes_peer (link_table unspec)) nothing es) o ≡ false
 at_none None = refl
-at_none (Some es) = none_emptied nothing es
+at_none (Some es) = none_empty nothing es
 
 abbrev measure_of : Rule → List ℕ → Measure
-measure_of r p = record { size = length (r.canonical p); attributes = r.attributes p; fits = r.fits p }
+measure_of r p = record { size = length (r.canonical p); attributes = r.attributes p; fits = r.fits p; empty_ports = r.empty_ports p }
 
 -- what a measure tells of its rule
 pub record Measured (r : Rule) (p : List ℕ) (m : Measure) : Type 0 where
@@ -115,7 +111,7 @@ pub body_parts : (b : List ℕ) → 16 ≤ length b → BodyParts b
 unfolding link_body body_rule link_attributes
 body_parts b h =
     let long : nat_le 16 (length b) ≡ true = le-leb _ _ h in
-    let c = (rule bytes_peer (list any (attributes unspec))).canonical (drop 16 b) in record {
+    let c = (rule bytes_peer (list any (link_table unspec))).canonical (drop 16 b) in record {
       accepted = rw long refl;
       empty_ports = at_none (attributes_of (drop 16 b));
       fits = refl;
@@ -177,13 +173,20 @@ pub record Step (e : Attribute) (bytes after : List ℕ) : Type 0 where
 pub step : (e : Attribute) (bytes after : List ℕ) → first_attribute bytes ≡ Some (e, after) → link_attributes.accepted bytes ≡ true → link_attributes.fits bytes ≡ true → Step e bytes after
 unfolding link_attributes link_row
 step e bytes after f x y =
-    let s = FlatText.stepped bytes_peer (attributes unspec) refl e bytes after f x y in
+    let s = Text.stepped bytes_peer (link_table unspec) e bytes after f x y in
     let z = sized bytes e after f in
-    record { short = s.short; accepted = s.accepted; fits = s.fits; text_is = s.text_is; shorter = omega (arith, z.within, z.rest_length) }
+    let row = row-table bytes_peer (link_table unspec) (proper_kind e.kind) in
+    record {
+      short = subst (λ (r : Row). 4 + length (r.rule.canonical e.payload) ≤ 65535) row s.short;
+      accepted = s.accepted;
+      fits = s.fits;
+      text_is = s.text_is ∙ ap (λ (r : Row). attribute_text (rewrite r e) ++ (rule bytes_peer (list any (link_table unspec))).canonical after) row;
+      shorter = omega (arith, z.within, z.rest_length);
+    }
 
 pub ended : (bytes : List ℕ) → first_attribute bytes ≡ None → link_attributes.accepted bytes ≡ true → link_attributes.canonical bytes ≡ []
 unfolding link_attributes
-ended bytes f x = FlatText.ended bytes_peer (attributes unspec) refl bytes f x
+ended bytes f x = Text.ended bytes_peer (link_table unspec) bytes f x
 
 -- one attribute more is written
 pub written_more : (out old text rest new now all : List ℕ) → out ++ now ≡ old ++ all → now ≡ text ++ rest → new ≡ out ++ text → new ++ rest ≡ old ++ all

@@ -1,4 +1,4 @@
-use Rattle.std.proofs.Common.{subst, sym, ap, arith}
+use Rattle.std.proofs.Common.{refl, subst, sym, ap, arith}
 use Rattle.attribute_tables_grammar.specs.Walks.{Measure}
 use Rattle.link_capture.specs.LinkBody.{view}
 use Rattle.link_capture.proofs.LinkBody.{Met, start, more, refused, stop, done, small, measure_is}
@@ -7,7 +7,7 @@ use Rattle.link_capture.proofs.link_body.check_attributes.Goals as goal
 pub loop-rest-init : goal.loop-rest-init
 loop-rest-init c =
     let e = c.payload_of-total.ensures in record {
-      met = subst (λ m. Met c.args.bytes.now m c.args.bytes.now) (sym (measure_is (view c.payload_of-total.result) 0 e.length e.none e.fits)) (start c.args.bytes.now);
+      met = subst (λ m. Met c.args.bytes.now m c.args.bytes.now) (sym (measure_is (view c.payload_of-total.result) 0 e.length e.none e.fits refl)) (start c.args.bytes.now);
       small = omega arith;
       few = omega arith;
     }
@@ -42,7 +42,7 @@ loop-rest-preserved c =
     record {
       met = subst (λ m. Met c.args.bytes.now m c.in-Some.after.now) (sym w) (more c.args.bytes.now c.loop-rest.rest.now (record { kind = c.in-Some.attribute.kind; payload = c.in-Some.attribute.payload.now }) c.in-Some.after.now (view c.loop-rest.total) (view c.in-Some-check_payload.inside) c.in-Some.ensures c.in-Some-check_payload.ensures c.loop-rest.invariant.met);
       small = omega (arith, size, s.within, c.loop-rest.invariant.small);
-      few = omega (arith, headers, s.few, c.loop-rest.invariant.few);
+      few = omega (arith, attributes, s.few, c.loop-rest.invariant.few);
     }
 
 pub returns-clause-measure : goal.returns-clause-measure

@@ -1,11 +1,13 @@
 //! The reader of a family, and lists of its attributes.
 
-ghost use Rattle.std.specs.Prelude.{◌≡◌, ◌<◌, true, false, length, map, Some, IsTrue, IfOk, IfErr, OnOk};
+ghost use Rattle.std.specs.Prelude.{◌≡◌, ◌<◌, ◌∷◌, [], true, false, length, map, Some, IsTrue, IfOk, IfErr, OnOk};
 ghost use Rattle.std.specs.List.{All};
+ghost use Rattle.netlink_packet_core_grammar.specs.Attributes.{list_text};
+ghost use Rattle.netlink_packet_core_grammar.specs.Fits.{attribute_fits};
 ghost use Rattle.netlink_packet_core.specs.Errors.{is_memory};
 ghost use Rattle.netlink_packet_core.specs.Families.{family_row, may_want_memory};
 ghost use Rattle.netlink_packet_core.specs.Lists.{text_by, all_fit_by};
-ghost use Rattle.attribute_tables_grammar.specs.Lists.{any, without_context};
+ghost use Rattle.attribute_tables_grammar.specs.Lists.{any, first_alone, without_context};
 ghost use Rattle.attribute_tables_grammar.specs.LookUps.{list_of};
 ghost use Rattle.attribute_tables_grammar.specs.Peers.{bytes_peer};
 ghost use Rattle.attribute_tables_grammar.specs.Readings.{reading_as};
@@ -60,4 +62,21 @@ pub fn parse_family<F: Family + Drop>(alloc: Global, bytes: &[u8]) -> Result<Vec
     ensures not_empty { IfErr result (λ _. 0 < length bytes.now) }
 {
     parse_list(alloc, &FamilyReader::<F>::new(), bytes)
+}
+
+/// Reads the attribute of a family that a payload begins with; any bytes may follow it, and are
+/// dropped. It succeeds exactly where that attribute is accepted, memory aside.
+pub fn parse_first<F: Family + Drop>(alloc: Global, bytes: &[u8]) -> Result<F, DecodeError>
+    ensures ok { OnOk result (IsTrue ((list_of bytes_peer first_alone F.rows).accepted bytes.now)) }
+    ensures text { IfOk result
+        (λ v. list_text (F.field_entry v ∷ []) ≡ (list_of bytes_peer first_alone F.rows).canonical bytes.now) }
+    ensures fits { IfOk result
+        (λ v. attribute_fits (F.field_entry v) ≡ (list_of bytes_peer first_alone F.rows).fits bytes.now) }
+    ensures names_row { IfOk result (λ v. F.names_row v) }
+    ensures err { IfErr result
+        (λ e. (list_of bytes_peer first_alone F.rows).accepted bytes.now ≡ is_memory e) }
+{
+    let buf = NlaBuffer::new_checked(bytes)?;
+    let value = read_attribute(alloc, &buf)?;
+    Ok(value)
 }

@@ -4,7 +4,7 @@
 mod family;
 mod reader;
 
-pub use family::{FamilyReader, parse_family};
+pub use family::{FamilyReader, parse_family, parse_first};
 pub use reader::{Reader, parse_list};
 
 /// The variant of a payload that was read, or the refusal. A number type or a flag set is made of

@@ -43,7 +43,6 @@ pub use Rattle.link_info_raw.specs.RawData
 pub use Rattle.link_info_raw.specs.RawRows
 pub use Rattle.link_info_raw_ports.specs.RawPortData
 pub use Rattle.link_info_kinds.specs.Kinds
-pub use Rattle.link_info_kinds.specs.Named
 pub use Rattle.link_info_kinds.specs.PortKinds
 pub use Rattle.link_info_data.specs.Data
 pub use Rattle.link_info_data.specs.PortData

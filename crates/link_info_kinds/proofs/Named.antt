@@ -1,11 +1,11 @@
 -- Values and their texts: what a text finds has that text, and each kind is what its name finds.
 use Rattle.std.proofs.Common.{◌≡◌, ℕ, Bool, true, false, cond, List, [], ◌∷◌, map, Option, Some, None, refl, sym, ap, ◌∙◌}
 use Rattle.std.specs.List.{list_all}
-use Rattle.std.specs.Prelude.{◌&&◌, not, bytes_eq, string_bytes}
+use Rattle.std.specs.Prelude.{not, bytes_eq, string_bytes}
 use Rattle.std.proofs.lemmas.Bool.{and_parts}
 use Rattle.std.proofs.lemmas.Slice.Eq.{bytes_eq-Decides}
+use Rattle.netlink_packet_core.specs.Named.{named_by}
 use Rattle.link_info_grammar.specs.KindNames.{is_unlisted}
-use Rattle.link_info_kinds.specs.Named.{named_by}
 use Rattle.link_info_kinds.specs.Kinds.{info_kind_text, info_kind_is_named, listed_kind, listed_kinds, IsNamedBy}
 use Rattle.link_info_kinds.specs.PortKinds.{info_port_kind_text, info_port_kind_is_named, listed_port_kind, listed_port_kinds}
 use Rattle.link_info_kinds.specs.declared.info_kind.InfoKind.{InfoKind}

@@ -1,6 +1,8 @@
 -- The kind of a link, by its name.
-use Rattle.std.specs.Prelude.{◌≡◌, ℕ, Bool, true, List, [], ◌∷◌, ◌++◌, codes, string_bytes, Option, Some, None}
-use Rattle.netlink_packet_core.specs.Attributes.{Attribute}
+use Rattle.std.specs.Prelude.{◌≡◌, ◌==◌, ◌&&◌, ℕ, Bool, true, List, [], ◌∷◌, ◌++◌, codes, string_bytes, Option, Some, None}
+use Rattle.netlink_packet_core.specs.Attributes.{Attribute, proper_kind}
+use Rattle.netlink_packet_core.specs.AttributeViews.{raw_kind_of, payload_of}
+use Rattle.netlink_packet_core.specs.Texts.{is_text, without_nul}
 use Rattle.link_info_grammar.specs.KindNames.{kind_names, is_unlisted}
 use Rattle.link_info_kinds.specs.declared.info_kind.InfoKind.{InfoKind}
 use Rattle.link_info_kinds.specs.declared.info_kind.InfoKind.TheVariants as Kind
@@ -79,3 +81,12 @@ IsNamedBy n k = (info_kind_text k ≡ n) × (info_kind_is_named k ≡ true)
 
 abbrev pub info_kind_entry : InfoKind → Attribute
 info_kind_entry k = record { kind = 1; payload = info_kind_text k ++ 0 ∷ [] }
+
+-- the attribute that some bytes begin with is accepted
+abbrev pub info_kind_accepted : List ℕ → Bool
+info_kind_accepted b = (proper_kind (raw_kind_of b) == 1) && is_text (payload_of b)
+
+-- it is accepted, and its name is kept, being none of those listed
+abbrev pub info_kind_takes_memory : List ℕ → Bool
+info_kind_takes_memory b =
+    info_kind_accepted b && is_unlisted kind_names (without_nul (payload_of b))

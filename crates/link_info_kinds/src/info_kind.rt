@@ -1,14 +1,13 @@
 //! The kind of a link (if_link.h, IFLA_INFO_KIND): the name of its driver (`rtnl_link_ops.kind`).
 
-ghost use Rattle.std.specs.Prelude.{◌≡◌, ◌&&◌, ◌==◌, ◌++◌, ◌∷◌, [], true, Some, IfOk, IfErr};
-ghost use Rattle.netlink_packet_core.specs.Attributes.{proper_kind};
-ghost use Rattle.netlink_packet_core.specs.AttributeViews.{IsAttribute, raw_kind_of, payload_of};
+ghost use Rattle.std.specs.Prelude.{◌≡◌, ◌++◌, ◌∷◌, [], true, Some, IfOk, IfErr};
+ghost use Rattle.netlink_packet_core.specs.AttributeViews.{IsAttribute, payload_of};
 ghost use Rattle.netlink_packet_core.specs.Errors.{is_memory};
+ghost use Rattle.netlink_packet_core.specs.Named.{named_by};
 ghost use Rattle.netlink_packet_core.specs.NlaBuffers.{storage};
-ghost use Rattle.netlink_packet_core.specs.Texts.{is_text, without_nul};
+ghost use Rattle.netlink_packet_core.specs.Texts.{without_nul};
 ghost use Rattle.link_info_grammar.specs.KindNames.{kind_names, is_unlisted};
-ghost use Rattle.link_info_kinds.specs.Kinds.{info_kind_entry, info_kind_text, info_kind_is_named, listed_kinds, IsNamedBy};
-ghost use Rattle.link_info_kinds.specs.Named.{named_by};
+ghost use Rattle.link_info_kinds.specs.Kinds.{info_kind_accepted, info_kind_takes_memory, info_kind_entry, info_kind_text, info_kind_is_named, listed_kinds, IsNamedBy};
 
 use netlink_packet_core::{DecodeError, Nla, NlaBuffer, Parseable, fill_text, parse_str};
 use std::alloc::Global;
@@ -367,9 +366,10 @@ impl Nla for InfoKind {
 impl<'a> Parseable<NlaBuffer<&'a [u8]>> for InfoKind {
     ghost can_parse = { λ b. IsAttribute (storage b).now };
 
-    ghost accepts = { λ b. (proper_kind (raw_kind_of (storage b).now) == 1) && is_text (payload_of (storage b).now) };
+    ghost accepts = { λ b. info_kind_accepted (storage b).now };
 
-    ghost may_want_memory = { λ b. is_unlisted kind_names (without_nul (payload_of (storage b).now)) };
+    // Want of memory hides no refusal.
+    ghost may_want_memory = { λ b. info_kind_takes_memory (storage b).now };
 
     ghost gives = { λ b k. IsNamedBy (without_nul (payload_of (storage b).now)) k };
 

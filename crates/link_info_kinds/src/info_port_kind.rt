@@ -1,15 +1,14 @@
 //! The kind of a port (if_link.h, IFLA_INFO_SLAVE_KIND): the name of the driver of the link that it
 //! is a port of.
 
-ghost use Rattle.std.specs.Prelude.{◌≡◌, ◌&&◌, ◌==◌, ◌++◌, ◌∷◌, [], true, Some, IfOk, IfErr};
-ghost use Rattle.netlink_packet_core.specs.Attributes.{proper_kind};
-ghost use Rattle.netlink_packet_core.specs.AttributeViews.{IsAttribute, raw_kind_of, payload_of};
+ghost use Rattle.std.specs.Prelude.{◌≡◌, ◌++◌, ◌∷◌, [], true, Some, IfOk, IfErr};
+ghost use Rattle.netlink_packet_core.specs.AttributeViews.{IsAttribute, payload_of};
 ghost use Rattle.netlink_packet_core.specs.Errors.{is_memory};
+ghost use Rattle.netlink_packet_core.specs.Named.{named_by};
 ghost use Rattle.netlink_packet_core.specs.NlaBuffers.{storage};
-ghost use Rattle.netlink_packet_core.specs.Texts.{is_text, without_nul};
+ghost use Rattle.netlink_packet_core.specs.Texts.{without_nul};
 ghost use Rattle.link_info_grammar.specs.KindNames.{port_kind_names, is_unlisted};
-ghost use Rattle.link_info_kinds.specs.PortKinds.{info_port_kind_entry, info_port_kind_text, info_port_kind_is_named, listed_port_kinds, IsPortNamedBy};
-ghost use Rattle.link_info_kinds.specs.Named.{named_by};
+ghost use Rattle.link_info_kinds.specs.PortKinds.{info_port_kind_accepted, info_port_kind_takes_memory, info_port_kind_entry, info_port_kind_text, info_port_kind_is_named, listed_port_kinds, IsPortNamedBy};
 
 use netlink_packet_core::{DecodeError, Nla, NlaBuffer, Parseable, fill_text, parse_str};
 use std::alloc::Global;
@@ -116,9 +115,10 @@ impl Nla for InfoPortKind {
 impl<'a> Parseable<NlaBuffer<&'a [u8]>> for InfoPortKind {
     ghost can_parse = { λ b. IsAttribute (storage b).now };
 
-    ghost accepts = { λ b. (proper_kind (raw_kind_of (storage b).now) == 4) && is_text (payload_of (storage b).now) };
+    ghost accepts = { λ b. info_port_kind_accepted (storage b).now };
 
-    ghost may_want_memory = { λ b. is_unlisted port_kind_names (without_nul (payload_of (storage b).now)) };
+    // Want of memory hides no refusal.
+    ghost may_want_memory = { λ b. info_port_kind_takes_memory (storage b).now };
 
     ghost gives = { λ b k. IsPortNamedBy (without_nul (payload_of (storage b).now)) k };
 

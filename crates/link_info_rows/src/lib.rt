@@ -14,6 +14,8 @@ mod kinds;
 #[cfg(test)]
 mod lists;
 #[cfg(test)]
+mod number_types;
+#[cfg(test)]
 mod overlays;
 #[cfg(test)]
 mod raw_data;

@@ -1,31 +1,26 @@
 -- The numbers and texts of AMT.
-use Rattle.std.specs.Prelude.{ℕ, List, if◌then◌else◌, ◌==◌, codes, Option, Some, None}
+use Rattle.std.specs.Prelude.{ℕ, List, [], ◌∷◌, codes, Option}
 use Rattle.std.specs.Fmt.{decimal}
-use Rattle.std.specs.Str.{bytes_eq}
+use Rattle.netlink_packet_core.specs.Named.{numbered_by, named_by}
 use Rattle.link_info_tunnel_types.specs.declared.amt.AmtMode.{AmtMode}
 
--- the number of a mode
+-- the number and the text of a mode
+abbrev pub amt_mode_row : AmtMode → ℕ × List ℕ
+amt_mode_row AmtMode.Gateway = (0, codes "gateway")
+amt_mode_row AmtMode.Relay = (1, codes "relay")
+amt_mode_row (AmtMode.Other n) = (n, decimal n)
+
+abbrev pub listed_amt_modes : List AmtMode
+listed_amt_modes = AmtMode.Gateway ∷ AmtMode.Relay ∷ []
+
 abbrev pub amt_mode_number : AmtMode → ℕ
-amt_mode_number AmtMode.Gateway = 0
-amt_mode_number AmtMode.Relay = 1
-amt_mode_number (AmtMode.Other n) = n
+amt_mode_number v = (amt_mode_row v).0
 
--- the mode of a number
 abbrev pub amt_mode_of : ℕ → AmtMode
-amt_mode_of n =
-    if n == 0 then AmtMode.Gateway else (
-    if n == 1 then AmtMode.Relay else
-    AmtMode.Other n)
+amt_mode_of n = numbered_by amt_mode_number listed_amt_modes AmtMode.Other n
 
--- what a mode is displayed as
 abbrev pub amt_mode_text : AmtMode → List ℕ
-amt_mode_text AmtMode.Gateway = codes "gateway"
-amt_mode_text AmtMode.Relay = codes "relay"
-amt_mode_text (AmtMode.Other n) = decimal n
+amt_mode_text v = (amt_mode_row v).1
 
--- the mode that a text names
 abbrev pub amt_mode_named : List ℕ → Option AmtMode
-amt_mode_named s =
-    if bytes_eq s (codes "gateway") then Some AmtMode.Gateway else (
-    if bytes_eq s (codes "relay") then Some AmtMode.Relay else
-    None)
+amt_mode_named s = named_by amt_mode_text listed_amt_modes s

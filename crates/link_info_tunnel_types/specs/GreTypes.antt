@@ -1,6 +1,7 @@
 -- The numbers, texts and flags of GRE and ERSPAN.
-use Rattle.std.specs.Prelude.{ℕ, List, [], ◌∷◌, ◌++◌, if◌then◌else◌, ◌==◌, codes}
+use Rattle.std.specs.Prelude.{ℕ, List, [], ◌∷◌, ◌++◌, codes}
 use Rattle.std.specs.Fmt.{decimal}
+use Rattle.netlink_packet_core.specs.Named.{numbered_by}
 use Rattle.link_info_tunnel_types.specs.declared.gre.GreIOFlags.{GreIOFlags}
 use Rattle.link_info_tunnel_types.specs.declared.gre.GreEncapFlags.{GreEncapFlags}
 use Rattle.link_info_tunnel_types.specs.declared.gre.GreEncapType.{GreEncapType}
@@ -36,43 +37,39 @@ gre_encap_flags_table =
     (codes "RemoteChecksum", 0x04) ∷
     []
 
--- the number of an encapsulation
+-- the number and the text of an encapsulation
+abbrev pub gre_encap_type_row : GreEncapType → ℕ × List ℕ
+gre_encap_type_row GreEncapType.None = (0, codes "none")
+gre_encap_type_row GreEncapType.Fou = (1, codes "fou")
+gre_encap_type_row GreEncapType.Gue = (2, codes "gue")
+gre_encap_type_row (GreEncapType.Other n) = (n, codes "other(" ++ (decimal n ++ codes ")"))
+
+abbrev pub listed_gre_encap_types : List GreEncapType
+listed_gre_encap_types = GreEncapType.None ∷ GreEncapType.Fou ∷ GreEncapType.Gue ∷ []
+
 abbrev pub gre_encap_type_number : GreEncapType → ℕ
-gre_encap_type_number GreEncapType.None = 0
-gre_encap_type_number GreEncapType.Fou = 1
-gre_encap_type_number GreEncapType.Gue = 2
-gre_encap_type_number (GreEncapType.Other n) = n
+gre_encap_type_number v = (gre_encap_type_row v).0
 
--- the encapsulation of a number
 abbrev pub gre_encap_type_of : ℕ → GreEncapType
-gre_encap_type_of n =
-    if n == 0 then GreEncapType.None else (
-    if n == 1 then GreEncapType.Fou else (
-    if n == 2 then GreEncapType.Gue else
-    GreEncapType.Other n))
+gre_encap_type_of n = numbered_by gre_encap_type_number listed_gre_encap_types GreEncapType.Other n
 
--- what an encapsulation is displayed as
 abbrev pub gre_encap_type_text : GreEncapType → List ℕ
-gre_encap_type_text GreEncapType.None = codes "none"
-gre_encap_type_text GreEncapType.Fou = codes "fou"
-gre_encap_type_text GreEncapType.Gue = codes "gue"
-gre_encap_type_text (GreEncapType.Other n) = codes "other(" ++ (decimal n ++ codes ")")
+gre_encap_type_text v = (gre_encap_type_row v).1
 
--- the number of a direction
+-- the number and the text of a direction
+abbrev pub er_span_dir_row : ErSpanDir → ℕ × List ℕ
+er_span_dir_row ErSpanDir.Ingress = (0, codes "ingress")
+er_span_dir_row ErSpanDir.Egress = (1, codes "egress")
+er_span_dir_row (ErSpanDir.Other n) = (n, codes "other(" ++ (decimal n ++ codes ")"))
+
+abbrev pub listed_er_span_dirs : List ErSpanDir
+listed_er_span_dirs = ErSpanDir.Ingress ∷ ErSpanDir.Egress ∷ []
+
 abbrev pub er_span_dir_number : ErSpanDir → ℕ
-er_span_dir_number ErSpanDir.Ingress = 0
-er_span_dir_number ErSpanDir.Egress = 1
-er_span_dir_number (ErSpanDir.Other n) = n
+er_span_dir_number v = (er_span_dir_row v).0
 
--- the direction of a number
 abbrev pub er_span_dir_of : ℕ → ErSpanDir
-er_span_dir_of n =
-    if n == 0 then ErSpanDir.Ingress else (
-    if n == 1 then ErSpanDir.Egress else
-    ErSpanDir.Other n)
+er_span_dir_of n = numbered_by er_span_dir_number listed_er_span_dirs ErSpanDir.Other n
 
--- what a direction is displayed as
 abbrev pub er_span_dir_text : ErSpanDir → List ℕ
-er_span_dir_text ErSpanDir.Ingress = codes "ingress"
-er_span_dir_text ErSpanDir.Egress = codes "egress"
-er_span_dir_text (ErSpanDir.Other n) = codes "other(" ++ (decimal n ++ codes ")")
+er_span_dir_text v = (er_span_dir_row v).1

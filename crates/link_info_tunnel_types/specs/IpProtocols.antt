@@ -1,5 +1,6 @@
 -- The numbers of the protocols that IP carries.
-use Rattle.std.specs.Prelude.{ℕ, if◌then◌else◌, ◌==◌}
+use Rattle.std.specs.Prelude.{ℕ, List, [], ◌∷◌}
+use Rattle.netlink_packet_core.specs.Named.{numbered_by}
 use Rattle.link_info_tunnel_types.specs.declared.ip_protocol.IpProtocol.{IpProtocol}
 
 -- the number of a protocol
@@ -16,17 +17,10 @@ ip_protocol_number IpProtocol.Icmpv6 = 58
 ip_protocol_number IpProtocol.Sctp = 132
 ip_protocol_number (IpProtocol.Other n) = n
 
--- the protocol of a number
+abbrev pub listed_ip_protocols : List IpProtocol
+listed_ip_protocols =
+    IpProtocol.Icmp ∷ IpProtocol.IpIp ∷ IpProtocol.Tcp ∷ IpProtocol.Udp ∷ IpProtocol.Ipv6 ∷
+    IpProtocol.Gre ∷ IpProtocol.Esp ∷ IpProtocol.Ah ∷ IpProtocol.Icmpv6 ∷ IpProtocol.Sctp ∷ []
+
 abbrev pub ip_protocol_of : ℕ → IpProtocol
-ip_protocol_of n =
-    if n == 1 then IpProtocol.Icmp else (
-    if n == 4 then IpProtocol.IpIp else (
-    if n == 6 then IpProtocol.Tcp else (
-    if n == 17 then IpProtocol.Udp else (
-    if n == 41 then IpProtocol.Ipv6 else (
-    if n == 47 then IpProtocol.Gre else (
-    if n == 50 then IpProtocol.Esp else (
-    if n == 51 then IpProtocol.Ah else (
-    if n == 58 then IpProtocol.Icmpv6 else (
-    if n == 132 then IpProtocol.Sctp else
-    IpProtocol.Other n)))))))))
+ip_protocol_of n = numbered_by ip_protocol_number listed_ip_protocols IpProtocol.Other n

@@ -1,34 +1,32 @@
 -- The numbers, texts and flags of IP tunnels.
-use Rattle.std.specs.Prelude.{ℕ, List, [], ◌∷◌, if◌then◌else◌, ◌==◌, codes}
+use Rattle.std.specs.Prelude.{ℕ, List, [], ◌∷◌, codes}
 use Rattle.std.specs.Fmt.{decimal}
+use Rattle.netlink_packet_core.specs.Named.{numbered_by}
 use Rattle.link_info_tunnel_types.specs.declared.iptunnel.TunnelEncapType.{TunnelEncapType}
 use Rattle.link_info_tunnel_types.specs.declared.iptunnel.TunnelEncapFlags.{TunnelEncapFlags}
 use Rattle.link_info_tunnel_types.specs.declared.iptunnel.Ip6TunnelFlags.{Ip6TunnelFlags}
 
--- the number of an encapsulation
-abbrev pub tunnel_encap_type_number : TunnelEncapType → ℕ
-tunnel_encap_type_number TunnelEncapType.None = 0
-tunnel_encap_type_number TunnelEncapType.Fou = 1
-tunnel_encap_type_number TunnelEncapType.Gue = 2
-tunnel_encap_type_number TunnelEncapType.Mpls = 3
-tunnel_encap_type_number (TunnelEncapType.Other n) = n
+-- the number and the text of an encapsulation
+abbrev pub tunnel_encap_type_row : TunnelEncapType → ℕ × List ℕ
+tunnel_encap_type_row TunnelEncapType.None = (0, codes "none")
+tunnel_encap_type_row TunnelEncapType.Fou = (1, codes "fou")
+tunnel_encap_type_row TunnelEncapType.Gue = (2, codes "gue")
+tunnel_encap_type_row TunnelEncapType.Mpls = (3, codes "mpls")
+tunnel_encap_type_row (TunnelEncapType.Other n) = (n, decimal n)
 
--- the encapsulation of a number
+abbrev pub listed_tunnel_encap_types : List TunnelEncapType
+listed_tunnel_encap_types =
+    TunnelEncapType.None ∷ TunnelEncapType.Fou ∷ TunnelEncapType.Gue ∷ TunnelEncapType.Mpls ∷ []
+
+abbrev pub tunnel_encap_type_number : TunnelEncapType → ℕ
+tunnel_encap_type_number v = (tunnel_encap_type_row v).0
+
 abbrev pub tunnel_encap_type_of : ℕ → TunnelEncapType
 tunnel_encap_type_of n =
-    if n == 0 then TunnelEncapType.None else (
-    if n == 1 then TunnelEncapType.Fou else (
-    if n == 2 then TunnelEncapType.Gue else (
-    if n == 3 then TunnelEncapType.Mpls else
-    TunnelEncapType.Other n)))
+    numbered_by tunnel_encap_type_number listed_tunnel_encap_types TunnelEncapType.Other n
 
--- what an encapsulation is displayed as
 abbrev pub tunnel_encap_type_text : TunnelEncapType → List ℕ
-tunnel_encap_type_text TunnelEncapType.None = codes "none"
-tunnel_encap_type_text TunnelEncapType.Fou = codes "fou"
-tunnel_encap_type_text TunnelEncapType.Gue = codes "gue"
-tunnel_encap_type_text TunnelEncapType.Mpls = codes "mpls"
-tunnel_encap_type_text (TunnelEncapType.Other n) = decimal n
+tunnel_encap_type_text v = (tunnel_encap_type_row v).1
 
 -- the bits of a set of encapsulation flags
 abbrev pub tunnel_encap_flags_bits : TunnelEncapFlags → ℕ

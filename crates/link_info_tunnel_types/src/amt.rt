@@ -9,10 +9,6 @@ use netlink_packet_core::DecodeError;
 use std::fmt;
 use std::str::FromStr;
 
-const AMT_MODE_GATEWAY: u32 = 0;
-
-const AMT_MODE_RELAY: u32 = 1;
-
 /// Which end of an AMT tunnel the device is, `AMT_MODE_*` of `linux/amt.h`. On the wire 4 bytes in
 /// native order.
 #[derive(Debug, PartialEq, Eq, Clone, Copy)]
@@ -33,8 +29,8 @@ impl From<u32> for AmtMode {
         ensures keeps_the_number { amt_mode_number result ≡ number }
     {
         match number {
-            AMT_MODE_GATEWAY => Self::Gateway,
-            AMT_MODE_RELAY => Self::Relay,
+            0 => Self::Gateway,
+            1 => Self::Relay,
             _ => Self::Other(number),
         }
     }
@@ -45,8 +41,8 @@ impl From<AmtMode> for u32 {
 
     fn from(value: AmtMode) -> Self {
         match value {
-            AmtMode::Gateway => AMT_MODE_GATEWAY,
-            AmtMode::Relay => AMT_MODE_RELAY,
+            AmtMode::Gateway => 0,
+            AmtMode::Relay => 1,
             AmtMode::Other(number) => number,
         }
     }

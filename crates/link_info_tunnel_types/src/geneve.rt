@@ -9,12 +9,6 @@ use netlink_packet_core::DecodeError;
 use std::fmt;
 use std::str::FromStr;
 
-const GENEVE_DF_UNSET: u8 = 0;
-
-const GENEVE_DF_SET: u8 = 1;
-
-const GENEVE_DF_INHERIT: u8 = 2;
-
 /// The "don't fragment" bit of the outer IPv4 header of a GENEVE tunnel, `GENEVE_DF_*` of
 /// `linux/if_link.h`. On the wire 1 byte.
 #[derive(Debug, PartialEq, Eq, Clone, Copy)]
@@ -37,9 +31,9 @@ impl From<u8> for GeneveDf {
         ensures keeps_the_number { geneve_df_number result ≡ number }
     {
         match number {
-            GENEVE_DF_UNSET => Self::Unset,
-            GENEVE_DF_SET => Self::Set,
-            GENEVE_DF_INHERIT => Self::Inherit,
+            0 => Self::Unset,
+            1 => Self::Set,
+            2 => Self::Inherit,
             _ => Self::Other(number),
         }
     }
@@ -50,9 +44,9 @@ impl From<GeneveDf> for u8 {
 
     fn from(value: GeneveDf) -> Self {
         match value {
-            GeneveDf::Unset => GENEVE_DF_UNSET,
-            GeneveDf::Set => GENEVE_DF_SET,
-            GeneveDf::Inherit => GENEVE_DF_INHERIT,
+            GeneveDf::Unset => 0,
+            GeneveDf::Set => 1,
+            GeneveDf::Inherit => 2,
             GeneveDf::Other(number) => number,
         }
     }

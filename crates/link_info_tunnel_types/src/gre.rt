@@ -6,24 +6,6 @@ ghost use Rattle.link_info_tunnel_types.specs.GreTypes.{gre_io_flags_bits, gre_i
 use bitflags::{Flag, Flags};
 use std::fmt;
 
-const GRE_CSUM: u16 = 0x8000;
-
-const GRE_ROUTING: u16 = 0x4000;
-
-const GRE_KEY: u16 = 0x2000;
-
-const GRE_SEQ: u16 = 0x1000;
-
-const GRE_STRICT: u16 = 0x0800;
-
-const GRE_REC: u16 = 0x0700;
-
-const GRE_ACK: u16 = 0x0080;
-
-const GRE_FLAGS: u16 = 0x0078;
-
-const GRE_VERSION: u16 = 0x0007;
-
 /// The flags of a GRE header, `GRE_*` of `linux/if_tunnel.h`. On the wire 2 bytes, big-endian; all
 /// bits are kept.
 #[derive(Debug, Clone, Copy, PartialEq, Eq)]
@@ -31,23 +13,23 @@ pub struct GreIOFlags(u16);
 
 impl GreIOFlags {
     /// There is a checksum: `GRE_CSUM`.
-    pub const Checksum: Self = Self(GRE_CSUM);
+    pub const Checksum: Self = Self(0x8000);
     /// There is routing information: `GRE_ROUTING`.
-    pub const Routing: Self = Self(GRE_ROUTING);
+    pub const Routing: Self = Self(0x4000);
     /// There is a key: `GRE_KEY`.
-    pub const Key: Self = Self(GRE_KEY);
+    pub const Key: Self = Self(0x2000);
     /// There is a sequence number: `GRE_SEQ`.
-    pub const Seq: Self = Self(GRE_SEQ);
+    pub const Seq: Self = Self(0x1000);
     /// The source route is strict: `GRE_STRICT`.
-    pub const Strict0: Self = Self(GRE_STRICT);
+    pub const Strict0: Self = Self(0x0800);
     /// The bits of recursion control: `GRE_REC`.
-    pub const Rec: Self = Self(GRE_REC);
+    pub const Rec: Self = Self(0x0700);
     /// There is an acknowledgment number: `GRE_ACK`.
-    pub const Ack: Self = Self(GRE_ACK);
+    pub const Ack: Self = Self(0x0080);
     /// The bits that are reserved: `GRE_FLAGS`.
-    pub const Flags: Self = Self(GRE_FLAGS);
+    pub const Flags: Self = Self(0x0078);
     /// The bits of the version: `GRE_VERSION`.
-    pub const Version: Self = Self(GRE_VERSION);
+    pub const Version: Self = Self(0x0007);
 
     const FLAGS: [Flag<GreIOFlags>; 9] = [
         Flag {
@@ -119,12 +101,6 @@ impl Default for GreIOFlags {
     }
 }
 
-const TUNNEL_ENCAP_FLAG_CSUM: u16 = 0x01;
-
-const TUNNEL_ENCAP_FLAG_CSUM6: u16 = 0x02;
-
-const TUNNEL_ENCAP_FLAG_REMCSUM: u16 = 0x04;
-
 /// What the outer UDP header of a GRE tunnel holds, `TUNNEL_ENCAP_FLAG_*` of `linux/if_tunnel.h`.
 /// On the wire 2 bytes in native order; all bits are kept.
 #[derive(Debug, Clone, Copy, PartialEq, Eq)]
@@ -132,11 +108,11 @@ pub struct GreEncapFlags(u16);
 
 impl GreEncapFlags {
     /// A checksum over IPv4: `TUNNEL_ENCAP_FLAG_CSUM`.
-    pub const Checksum: Self = Self(TUNNEL_ENCAP_FLAG_CSUM);
+    pub const Checksum: Self = Self(0x01);
     /// A checksum over IPv6: `TUNNEL_ENCAP_FLAG_CSUM6`.
-    pub const Checksum6: Self = Self(TUNNEL_ENCAP_FLAG_CSUM6);
+    pub const Checksum6: Self = Self(0x02);
     /// A remote checksum: `TUNNEL_ENCAP_FLAG_REMCSUM`.
-    pub const RemoteChecksum: Self = Self(TUNNEL_ENCAP_FLAG_REMCSUM);
+    pub const RemoteChecksum: Self = Self(0x04);
 
     const FLAGS: [Flag<GreEncapFlags>; 3] = [
         Flag {
@@ -184,12 +160,6 @@ impl Default for GreEncapFlags {
     }
 }
 
-const TUNNEL_ENCAP_NONE: u16 = 0;
-
-const TUNNEL_ENCAP_FOU: u16 = 1;
-
-const TUNNEL_ENCAP_GUE: u16 = 2;
-
 /// What a GRE tunnel is wrapped in, `TUNNEL_ENCAP_*` of `linux/if_tunnel.h`. On the wire 2 bytes in
 /// native order.
 #[derive(Debug, PartialEq, Eq, Clone, Copy, Default)]
@@ -213,9 +183,9 @@ impl From<u16> for GreEncapType {
         ensures keeps_the_number { gre_encap_type_number result ≡ number }
     {
         match number {
-            TUNNEL_ENCAP_NONE => Self::None,
-            TUNNEL_ENCAP_FOU => Self::Fou,
-            TUNNEL_ENCAP_GUE => Self::Gue,
+            0 => Self::None,
+            1 => Self::Fou,
+            2 => Self::Gue,
             _ => Self::Other(number),
         }
     }
@@ -226,9 +196,9 @@ impl From<&GreEncapType> for u16 {
 
     fn from(value: &GreEncapType) -> Self {
         match value {
-            GreEncapType::None => TUNNEL_ENCAP_NONE,
-            GreEncapType::Fou => TUNNEL_ENCAP_FOU,
-            GreEncapType::Gue => TUNNEL_ENCAP_GUE,
+            GreEncapType::None => 0,
+            GreEncapType::Fou => 1,
+            GreEncapType::Gue => 2,
             GreEncapType::Other(number) => *number,
         }
     }
@@ -246,10 +216,6 @@ impl fmt::Display for GreEncapType {
         }
     }
 }
-
-const ERSPAN_DIR_INGRESS: u8 = 0;
-
-const ERSPAN_DIR_EGRESS: u8 = 1;
 
 /// Which frames an ERSPAN tunnel of version 2 mirrors, as in `IFLA_GRE_ERSPAN_DIR`. On the wire 1
 /// byte.
@@ -272,8 +238,8 @@ impl From<u8> for ErSpanDir {
         ensures keeps_the_number { er_span_dir_number result ≡ number }
     {
         match number {
-            ERSPAN_DIR_INGRESS => Self::Ingress,
-            ERSPAN_DIR_EGRESS => Self::Egress,
+            0 => Self::Ingress,
+            1 => Self::Egress,
             _ => Self::Other(number),
         }
     }
@@ -284,8 +250,8 @@ impl From<&ErSpanDir> for u8 {
 
     fn from(value: &ErSpanDir) -> Self {
         match value {
-            ErSpanDir::Ingress => ERSPAN_DIR_INGRESS,
-            ErSpanDir::Egress => ERSPAN_DIR_EGRESS,
+            ErSpanDir::Ingress => 0,
+            ErSpanDir::Egress => 1,
             ErSpanDir::Other(number) => *number,
         }
     }

@@ -5,10 +5,6 @@ ghost use Rattle.link_info_tunnel_types.specs.GtpTypes.{gtp_role_number, gtp_rol
 
 use std::fmt;
 
-const GTP_ROLE_GGSN: u32 = 0;
-
-const GTP_ROLE_SGSN: u32 = 1;
-
 /// Which end of a GTP tunnel the device is, `GTP_ROLE_*` of `linux/if_link.h`. On the wire 4 bytes
 /// in native order.
 #[derive(Debug, PartialEq, Eq, Clone, Copy, Default)]
@@ -30,8 +26,8 @@ impl From<u32> for GtpRole {
         ensures keeps_the_number { gtp_role_number result ≡ number }
     {
         match number {
-            GTP_ROLE_GGSN => Self::Ggsn,
-            GTP_ROLE_SGSN => Self::Sgsn,
+            0 => Self::Ggsn,
+            1 => Self::Sgsn,
             _ => Self::Other(number),
         }
     }
@@ -42,8 +38,8 @@ impl From<GtpRole> for u32 {
 
     fn from(value: GtpRole) -> Self {
         match value {
-            GtpRole::Ggsn => GTP_ROLE_GGSN,
-            GtpRole::Sgsn => GTP_ROLE_SGSN,
+            GtpRole::Ggsn => 0,
+            GtpRole::Sgsn => 1,
             GtpRole::Other(number) => number,
         }
     }

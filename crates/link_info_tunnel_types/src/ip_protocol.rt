@@ -3,26 +3,6 @@
 ghost use Rattle.std.specs.Prelude.{◌≡◌};
 ghost use Rattle.link_info_tunnel_types.specs.IpProtocols.{ip_protocol_number, ip_protocol_of};
 
-const IPPROTO_ICMP: u8 = 1;
-
-const IPPROTO_IPIP: u8 = 4;
-
-const IPPROTO_TCP: u8 = 6;
-
-const IPPROTO_UDP: u8 = 17;
-
-const IPPROTO_IPV6: u8 = 41;
-
-const IPPROTO_GRE: u8 = 47;
-
-const IPPROTO_ESP: u8 = 50;
-
-const IPPROTO_AH: u8 = 51;
-
-const IPPROTO_ICMPV6: u8 = 58;
-
-const IPPROTO_SCTP: u8 = 132;
-
 /// The protocol that an IP packet carries, `IPPROTO_*` of `linux/in.h` and `linux/in6.h`. On the
 /// wire 1 byte.
 #[derive(Debug, PartialEq, Eq, Clone, Copy)]
@@ -59,16 +39,16 @@ impl From<u8> for IpProtocol {
         ensures keeps_the_number { ip_protocol_number result ≡ number }
     {
         match number {
-            IPPROTO_ICMP => Self::Icmp,
-            IPPROTO_IPIP => Self::IpIp,
-            IPPROTO_TCP => Self::Tcp,
-            IPPROTO_UDP => Self::Udp,
-            IPPROTO_IPV6 => Self::Ipv6,
-            IPPROTO_GRE => Self::Gre,
-            IPPROTO_ESP => Self::Esp,
-            IPPROTO_AH => Self::Ah,
-            IPPROTO_ICMPV6 => Self::Icmpv6,
-            IPPROTO_SCTP => Self::Sctp,
+            1 => Self::Icmp,
+            4 => Self::IpIp,
+            6 => Self::Tcp,
+            17 => Self::Udp,
+            41 => Self::Ipv6,
+            47 => Self::Gre,
+            50 => Self::Esp,
+            51 => Self::Ah,
+            58 => Self::Icmpv6,
+            132 => Self::Sctp,
             _ => Self::Other(number),
         }
     }
@@ -79,16 +59,16 @@ impl From<IpProtocol> for u8 {
 
     fn from(value: IpProtocol) -> Self {
         match value {
-            IpProtocol::Icmp => IPPROTO_ICMP,
-            IpProtocol::IpIp => IPPROTO_IPIP,
-            IpProtocol::Tcp => IPPROTO_TCP,
-            IpProtocol::Udp => IPPROTO_UDP,
-            IpProtocol::Ipv6 => IPPROTO_IPV6,
-            IpProtocol::Gre => IPPROTO_GRE,
-            IpProtocol::Esp => IPPROTO_ESP,
-            IpProtocol::Ah => IPPROTO_AH,
-            IpProtocol::Icmpv6 => IPPROTO_ICMPV6,
-            IpProtocol::Sctp => IPPROTO_SCTP,
+            IpProtocol::Icmp => 1,
+            IpProtocol::IpIp => 4,
+            IpProtocol::Tcp => 6,
+            IpProtocol::Udp => 17,
+            IpProtocol::Ipv6 => 41,
+            IpProtocol::Gre => 47,
+            IpProtocol::Esp => 50,
+            IpProtocol::Ah => 51,
+            IpProtocol::Icmpv6 => 58,
+            IpProtocol::Sctp => 132,
             IpProtocol::Other(number) => number,
         }
     }

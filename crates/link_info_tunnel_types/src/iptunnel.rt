@@ -6,14 +6,6 @@ ghost use Rattle.link_info_tunnel_types.specs.IpTunnelTypes.{tunnel_encap_type_n
 use bitflags::{Flag, Flags};
 use std::fmt;
 
-const TUNNEL_ENCAP_NONE: u16 = 0;
-
-const TUNNEL_ENCAP_FOU: u16 = 1;
-
-const TUNNEL_ENCAP_GUE: u16 = 2;
-
-const TUNNEL_ENCAP_MPLS: u16 = 3;
-
 /// What an IP tunnel is wrapped in, `TUNNEL_ENCAP_*` of `linux/if_tunnel.h`. On the wire 2 bytes in
 /// native order.
 #[derive(Debug, PartialEq, Eq, Clone, Copy)]
@@ -38,10 +30,10 @@ impl From<u16> for TunnelEncapType {
         ensures keeps_the_number { tunnel_encap_type_number result ≡ number }
     {
         match number {
-            TUNNEL_ENCAP_NONE => Self::None,
-            TUNNEL_ENCAP_FOU => Self::Fou,
-            TUNNEL_ENCAP_GUE => Self::Gue,
-            TUNNEL_ENCAP_MPLS => Self::Mpls,
+            0 => Self::None,
+            1 => Self::Fou,
+            2 => Self::Gue,
+            3 => Self::Mpls,
             _ => Self::Other(number),
         }
     }
@@ -52,10 +44,10 @@ impl From<TunnelEncapType> for u16 {
 
     fn from(value: TunnelEncapType) -> Self {
         match value {
-            TunnelEncapType::None => TUNNEL_ENCAP_NONE,
-            TunnelEncapType::Fou => TUNNEL_ENCAP_FOU,
-            TunnelEncapType::Gue => TUNNEL_ENCAP_GUE,
-            TunnelEncapType::Mpls => TUNNEL_ENCAP_MPLS,
+            TunnelEncapType::None => 0,
+            TunnelEncapType::Fou => 1,
+            TunnelEncapType::Gue => 2,
+            TunnelEncapType::Mpls => 3,
             TunnelEncapType::Other(number) => number,
         }
     }
@@ -75,12 +67,6 @@ impl fmt::Display for TunnelEncapType {
     }
 }
 
-const TUNNEL_ENCAP_FLAG_CSUM: u16 = 0x01;
-
-const TUNNEL_ENCAP_FLAG_CSUM6: u16 = 0x02;
-
-const TUNNEL_ENCAP_FLAG_REMCSUM: u16 = 0x04;
-
 /// What the outer UDP header of an IP tunnel holds, `TUNNEL_ENCAP_FLAG_*` of `linux/if_tunnel.h`.
 /// On the wire 2 bytes in native order; all bits are kept.
 #[derive(Debug, Clone, Copy, PartialEq, Eq, Hash)]
@@ -88,11 +74,11 @@ pub struct TunnelEncapFlags(u16);
 
 impl TunnelEncapFlags {
     /// A checksum over IPv4: `TUNNEL_ENCAP_FLAG_CSUM`.
-    pub const CSum: Self = Self(TUNNEL_ENCAP_FLAG_CSUM);
+    pub const CSum: Self = Self(0x01);
     /// A checksum over IPv6: `TUNNEL_ENCAP_FLAG_CSUM6`.
-    pub const CSum6: Self = Self(TUNNEL_ENCAP_FLAG_CSUM6);
+    pub const CSum6: Self = Self(0x02);
     /// A remote checksum: `TUNNEL_ENCAP_FLAG_REMCSUM`.
-    pub const RemCSum: Self = Self(TUNNEL_ENCAP_FLAG_REMCSUM);
+    pub const RemCSum: Self = Self(0x04);
 
     const FLAGS: [Flag<TunnelEncapFlags>; 3] = [
         Flag {
@@ -132,26 +118,6 @@ impl Flags for TunnelEncapFlags {
     }
 }
 
-const IP6_TNL_F_IGN_ENCAP_LIMIT: u32 = 0x01;
-
-const IP6_TNL_F_USE_ORIG_TCLASS: u32 = 0x02;
-
-const IP6_TNL_F_USE_ORIG_FLOWLABEL: u32 = 0x04;
-
-const IP6_TNL_F_MIP6_DEV: u32 = 0x08;
-
-const IP6_TNL_F_RCV_DSCP_COPY: u32 = 0x10;
-
-const IP6_TNL_F_USE_ORIG_FWMARK: u32 = 0x20;
-
-const IP6_TNL_F_ALLOW_LOCAL_REMOTE: u32 = 0x40;
-
-const IP6_TNL_F_CAP_XMIT: u32 = 0x10000;
-
-const IP6_TNL_F_CAP_RCV: u32 = 0x20000;
-
-const IP6_TNL_F_CAP_PER_PACKET: u32 = 0x40000;
-
 /// How an IPv6 tunnel makes its outer header and what it may do, `IP6_TNL_F_*` of
 /// `linux/ip6_tunnel.h`, the last three of the kernel's `net/ip6_tunnel.h`. On the wire 4 bytes in
 /// native order; all bits are kept.
@@ -160,25 +126,25 @@ pub struct Ip6TunnelFlags(u32);
 
 impl Ip6TunnelFlags {
     /// No encapsulation limit is added: `IP6_TNL_F_IGN_ENCAP_LIMIT`.
-    pub const IgnEncapLimit: Self = Self(IP6_TNL_F_IGN_ENCAP_LIMIT);
+    pub const IgnEncapLimit: Self = Self(0x01);
     /// The traffic class is that of the inner packet: `IP6_TNL_F_USE_ORIG_TCLASS`.
-    pub const UseOrigTclass: Self = Self(IP6_TNL_F_USE_ORIG_TCLASS);
+    pub const UseOrigTclass: Self = Self(0x02);
     /// The flow label is that of the inner packet: `IP6_TNL_F_USE_ORIG_FLOWLABEL`.
-    pub const UseOrigFlowlabel: Self = Self(IP6_TNL_F_USE_ORIG_FLOWLABEL);
+    pub const UseOrigFlowlabel: Self = Self(0x04);
     /// The device serves mobile IPv6: `IP6_TNL_F_MIP6_DEV`.
-    pub const Mip6Dev: Self = Self(IP6_TNL_F_MIP6_DEV);
+    pub const Mip6Dev: Self = Self(0x08);
     /// The DSCP of the outer packet is copied at the end of the tunnel: `IP6_TNL_F_RCV_DSCP_COPY`.
-    pub const RcvDscpCopy: Self = Self(IP6_TNL_F_RCV_DSCP_COPY);
+    pub const RcvDscpCopy: Self = Self(0x10);
     /// The firewall mark is that of the inner packet: `IP6_TNL_F_USE_ORIG_FWMARK`.
-    pub const UseOrigFwMark: Self = Self(IP6_TNL_F_USE_ORIG_FWMARK);
+    pub const UseOrigFwMark: Self = Self(0x20);
     /// The other end may be on this host: `IP6_TNL_F_ALLOW_LOCAL_REMOTE`.
-    pub const AllowLocalRemote: Self = Self(IP6_TNL_F_ALLOW_LOCAL_REMOTE);
+    pub const AllowLocalRemote: Self = Self(0x40);
     /// The tunnel can send: `IP6_TNL_F_CAP_XMIT`.
-    pub const CapXmit: Self = Self(IP6_TNL_F_CAP_XMIT);
+    pub const CapXmit: Self = Self(0x10000);
     /// The tunnel can receive: `IP6_TNL_F_CAP_RCV`.
-    pub const CapRcv: Self = Self(IP6_TNL_F_CAP_RCV);
+    pub const CapRcv: Self = Self(0x20000);
     /// What it can do is decided for each packet: `IP6_TNL_F_CAP_PER_PACKET`.
-    pub const CapPerPacket: Self = Self(IP6_TNL_F_CAP_PER_PACKET);
+    pub const CapPerPacket: Self = Self(0x40000);
 
     const FLAGS: [Flag<Ip6TunnelFlags>; 10] = [
         Flag {

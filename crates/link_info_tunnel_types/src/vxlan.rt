@@ -5,12 +5,6 @@ ghost use Rattle.link_info_tunnel_types.specs.VxlanTypes.{vxlan_df_number, vxlan
 
 use std::fmt;
 
-const VXLAN_DF_UNSET: u8 = 0;
-
-const VXLAN_DF_SET: u8 = 1;
-
-const VXLAN_DF_INHERIT: u8 = 2;
-
 /// The "don't fragment" bit of the outer IPv4 header of a VXLAN tunnel, `VXLAN_DF_*` of
 /// `linux/if_link.h`. On the wire 1 byte.
 #[derive(Debug, PartialEq, Eq, Clone, Copy)]
@@ -33,9 +27,9 @@ impl From<u8> for VxlanDf {
         ensures keeps_the_number { vxlan_df_number result ≡ number }
     {
         match number {
-            VXLAN_DF_UNSET => Self::Unset,
-            VXLAN_DF_SET => Self::Set,
-            VXLAN_DF_INHERIT => Self::Inherit,
+            0 => Self::Unset,
+            1 => Self::Set,
+            2 => Self::Inherit,
             _ => Self::Other(number),
         }
     }
@@ -46,9 +40,9 @@ impl From<VxlanDf> for u8 {
 
     fn from(value: VxlanDf) -> Self {
         match value {
-            VxlanDf::Unset => VXLAN_DF_UNSET,
-            VxlanDf::Set => VXLAN_DF_SET,
-            VxlanDf::Inherit => VXLAN_DF_INHERIT,
+            VxlanDf::Unset => 0,
+            VxlanDf::Set => 1,
+            VxlanDf::Inherit => 2,
             VxlanDf::Other(number) => number,
         }
     }

@@ -1,39 +1,31 @@
 -- The numbers, texts and flags of IPVLAN and IPVTAP.
-use Rattle.std.specs.Prelude.{ℕ, List, [], ◌∷◌, if◌then◌else◌, ◌==◌, codes, Option, Some, None}
+use Rattle.std.specs.Prelude.{ℕ, List, [], ◌∷◌, codes, Option}
 use Rattle.std.specs.Fmt.{decimal}
-use Rattle.std.specs.Str.{bytes_eq}
+use Rattle.netlink_packet_core.specs.Named.{numbered_by, named_by}
 use Rattle.link_info_types.specs.declared.ipvlan.IpVlanMode.{IpVlanMode}
 use Rattle.link_info_types.specs.declared.ipvlan.IpVlanFlags.{IpVlanFlags}
 
--- the number of a mode
+-- the number and the text of a mode
+abbrev pub ip_vlan_mode_row : IpVlanMode → ℕ × List ℕ
+ip_vlan_mode_row IpVlanMode.L2 = (0, codes "l2")
+ip_vlan_mode_row IpVlanMode.L3 = (1, codes "l3")
+ip_vlan_mode_row IpVlanMode.L3S = (2, codes "l3s")
+ip_vlan_mode_row (IpVlanMode.Other n) = (n, decimal n)
+
+abbrev pub listed_ip_vlan_modes : List IpVlanMode
+listed_ip_vlan_modes = IpVlanMode.L2 ∷ IpVlanMode.L3 ∷ IpVlanMode.L3S ∷ []
+
 abbrev pub ip_vlan_mode_number : IpVlanMode → ℕ
-ip_vlan_mode_number IpVlanMode.L2 = 0
-ip_vlan_mode_number IpVlanMode.L3 = 1
-ip_vlan_mode_number IpVlanMode.L3S = 2
-ip_vlan_mode_number (IpVlanMode.Other n) = n
+ip_vlan_mode_number v = (ip_vlan_mode_row v).0
 
--- the mode of a number
 abbrev pub ip_vlan_mode_of : ℕ → IpVlanMode
-ip_vlan_mode_of n =
-    if n == 0 then IpVlanMode.L2 else (
-    if n == 1 then IpVlanMode.L3 else (
-    if n == 2 then IpVlanMode.L3S else
-    IpVlanMode.Other n))
+ip_vlan_mode_of n = numbered_by ip_vlan_mode_number listed_ip_vlan_modes IpVlanMode.Other n
 
--- what a mode is displayed as
 abbrev pub ip_vlan_mode_text : IpVlanMode → List ℕ
-ip_vlan_mode_text IpVlanMode.L2 = codes "l2"
-ip_vlan_mode_text IpVlanMode.L3 = codes "l3"
-ip_vlan_mode_text IpVlanMode.L3S = codes "l3s"
-ip_vlan_mode_text (IpVlanMode.Other n) = decimal n
+ip_vlan_mode_text v = (ip_vlan_mode_row v).1
 
--- the mode that a text names
 abbrev pub ip_vlan_mode_named : List ℕ → Option IpVlanMode
-ip_vlan_mode_named s =
-    if bytes_eq s (codes "l2") then Some IpVlanMode.L2 else (
-    if bytes_eq s (codes "l3") then Some IpVlanMode.L3 else (
-    if bytes_eq s (codes "l3s") then Some IpVlanMode.L3S else
-    None))
+ip_vlan_mode_named s = named_by ip_vlan_mode_text listed_ip_vlan_modes s
 
 -- the bits of a set of flags
 abbrev pub ip_vlan_flags_bits : IpVlanFlags → ℕ

@@ -1,5 +1,6 @@
 -- The numbers of IP over InfiniBand.
-use Rattle.std.specs.Prelude.{ℕ, if◌then◌else◌, ◌==◌}
+use Rattle.std.specs.Prelude.{ℕ, List, [], ◌∷◌}
+use Rattle.netlink_packet_core.specs.Named.{numbered_by}
 use Rattle.link_info_types.specs.declared.ipoib.IpoibMode.{IpoibMode}
 
 -- the number of a transport mode
@@ -8,9 +9,8 @@ ipoib_mode_number IpoibMode.Datagram = 0
 ipoib_mode_number IpoibMode.Connected = 1
 ipoib_mode_number (IpoibMode.Other n) = n
 
--- the mode of a number
+abbrev pub listed_ipoib_modes : List IpoibMode
+listed_ipoib_modes = IpoibMode.Datagram ∷ IpoibMode.Connected ∷ []
+
 abbrev pub ipoib_mode_of : ℕ → IpoibMode
-ipoib_mode_of n =
-    if n == 0 then IpoibMode.Datagram else (
-    if n == 1 then IpoibMode.Connected else
-    IpoibMode.Other n)
+ipoib_mode_of n = numbered_by ipoib_mode_number listed_ipoib_modes IpoibMode.Other n

@@ -3,10 +3,6 @@
 ghost use Rattle.std.specs.Prelude.{◌≡◌};
 ghost use Rattle.link_info_types.specs.IpoibTypes.{ipoib_mode_number, ipoib_mode_of};
 
-const IPOIB_MODE_DATAGRAM: u16 = 0;
-
-const IPOIB_MODE_CONNECTED: u16 = 1;
-
 /// How IP over InfiniBand sends its packets, `IPOIB_MODE_*` of `linux/if_link.h`. On the wire 2
 /// bytes in native order.
 #[derive(Debug, PartialEq, Eq, Clone, Copy)]
@@ -27,8 +23,8 @@ impl From<u16> for IpoibMode {
         ensures keeps_the_number { ipoib_mode_number result ≡ number }
     {
         match number {
-            IPOIB_MODE_DATAGRAM => Self::Datagram,
-            IPOIB_MODE_CONNECTED => Self::Connected,
+            0 => Self::Datagram,
+            1 => Self::Connected,
             _ => Self::Other(number),
         }
     }
@@ -39,8 +35,8 @@ impl From<IpoibMode> for u16 {
 
     fn from(value: IpoibMode) -> Self {
         match value {
-            IpoibMode::Datagram => IPOIB_MODE_DATAGRAM,
-            IpoibMode::Connected => IPOIB_MODE_CONNECTED,
+            IpoibMode::Datagram => 0,
+            IpoibMode::Connected => 1,
             IpoibMode::Other(number) => number,
         }
     }

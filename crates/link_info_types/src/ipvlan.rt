@@ -10,12 +10,6 @@ use netlink_packet_core::DecodeError;
 use std::fmt;
 use std::str::FromStr;
 
-const IPVLAN_MODE_L2: u16 = 0;
-
-const IPVLAN_MODE_L3: u16 = 1;
-
-const IPVLAN_MODE_L3S: u16 = 2;
-
 /// At which layer an IPVLAN device switches packets, `IPVLAN_MODE_*` of `linux/if_link.h`. On the
 /// wire 2 bytes in native order.
 #[derive(Debug, PartialEq, Eq, Clone, Copy)]
@@ -38,9 +32,9 @@ impl From<u16> for IpVlanMode {
         ensures keeps_the_number { ip_vlan_mode_number result ≡ number }
     {
         match number {
-            IPVLAN_MODE_L2 => Self::L2,
-            IPVLAN_MODE_L3 => Self::L3,
-            IPVLAN_MODE_L3S => Self::L3S,
+            0 => Self::L2,
+            1 => Self::L3,
+            2 => Self::L3S,
             _ => Self::Other(number),
         }
     }
@@ -51,9 +45,9 @@ impl From<IpVlanMode> for u16 {
 
     fn from(value: IpVlanMode) -> Self {
         match value {
-            IpVlanMode::L2 => IPVLAN_MODE_L2,
-            IpVlanMode::L3 => IPVLAN_MODE_L3,
-            IpVlanMode::L3S => IPVLAN_MODE_L3S,
+            IpVlanMode::L2 => 0,
+            IpVlanMode::L3 => 1,
+            IpVlanMode::L3S => 2,
             IpVlanMode::Other(number) => number,
         }
     }
@@ -94,10 +88,6 @@ impl FromStr for IpVlanMode {
 /// The mode of an IPVTAP device, which has the numbers of IPVLAN.
 pub type IpVtapMode = IpVlanMode;
 
-const IPVLAN_F_PRIVATE: u16 = 0x01;
-
-const IPVLAN_F_VEPA: u16 = 0x02;
-
 /// How an IPVLAN device treats its neighbours, `IPVLAN_F_*` of `linux/if_link.h`. On the wire 2
 /// bytes in native order; all bits are kept.
 #[derive(Debug, Clone, Copy, PartialEq, Eq)]
@@ -105,9 +95,9 @@ pub struct IpVlanFlags(u16);
 
 impl IpVlanFlags {
     /// The devices of one parent don't reach one another: `IPVLAN_F_PRIVATE`.
-    pub const Private: Self = Self(IPVLAN_F_PRIVATE);
+    pub const Private: Self = Self(0x01);
     /// The devices of one parent reach one another by way of a switch outside: `IPVLAN_F_VEPA`.
-    pub const Vepa: Self = Self(IPVLAN_F_VEPA);
+    pub const Vepa: Self = Self(0x02);
 
     const FLAGS: [Flag<IpVlanFlags>; 2] = [
         Flag {

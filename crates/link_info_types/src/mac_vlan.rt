@@ -10,16 +10,6 @@ use netlink_packet_core::DecodeError;
 use std::fmt;
 use std::str::FromStr;
 
-const MACVLAN_MODE_PRIVATE: u32 = 1;
-
-const MACVLAN_MODE_VEPA: u32 = 2;
-
-const MACVLAN_MODE_BRIDGE: u32 = 4;
-
-const MACVLAN_MODE_PASSTHRU: u32 = 8;
-
-const MACVLAN_MODE_SOURCE: u32 = 16;
-
 /// How the MACVLAN devices of one parent reach one another, `MACVLAN_MODE_*` of `linux/if_link.h`.
 /// On the wire 4 bytes in native order.
 #[derive(Debug, PartialEq, Eq, Clone, Copy)]
@@ -46,11 +36,11 @@ impl From<u32> for MacVlanMode {
         ensures keeps_the_number { mac_vlan_mode_number result ≡ number }
     {
         match number {
-            MACVLAN_MODE_PRIVATE => Self::Private,
-            MACVLAN_MODE_VEPA => Self::Vepa,
-            MACVLAN_MODE_BRIDGE => Self::Bridge,
-            MACVLAN_MODE_PASSTHRU => Self::Passthrough,
-            MACVLAN_MODE_SOURCE => Self::Source,
+            1 => Self::Private,
+            2 => Self::Vepa,
+            4 => Self::Bridge,
+            8 => Self::Passthrough,
+            16 => Self::Source,
             _ => Self::Other(number),
         }
     }
@@ -61,11 +51,11 @@ impl From<MacVlanMode> for u32 {
 
     fn from(value: MacVlanMode) -> Self {
         match value {
-            MacVlanMode::Private => MACVLAN_MODE_PRIVATE,
-            MacVlanMode::Vepa => MACVLAN_MODE_VEPA,
-            MacVlanMode::Bridge => MACVLAN_MODE_BRIDGE,
-            MacVlanMode::Passthrough => MACVLAN_MODE_PASSTHRU,
-            MacVlanMode::Source => MACVLAN_MODE_SOURCE,
+            MacVlanMode::Private => 1,
+            MacVlanMode::Vepa => 2,
+            MacVlanMode::Bridge => 4,
+            MacVlanMode::Passthrough => 8,
+            MacVlanMode::Source => 16,
             MacVlanMode::Other(number) => number,
         }
     }
@@ -113,10 +103,6 @@ pub type MacVtapMode = MacVlanMode;
 /// The flags of a MACVTAP device, which are those of MACVLAN.
 pub type MacVtapFlags = MacVlanFlags;
 
-const MACVLAN_FLAG_NOPROMISC: u16 = 1;
-
-const MACVLAN_FLAG_NODST: u16 = 2;
-
 /// How a MACVLAN device treats its parent, `MACVLAN_FLAG_*` of `linux/if_link.h`. On the wire 2
 /// bytes in native order; all bits are kept.
 #[derive(Debug, Clone, Copy, PartialEq, Eq)]
@@ -124,10 +110,10 @@ pub struct MacVlanFlags(u16);
 
 impl MacVlanFlags {
     /// The parent isn't made promiscuous: `MACVLAN_FLAG_NOPROMISC`.
-    pub const NoPromisc: Self = Self(MACVLAN_FLAG_NOPROMISC);
+    pub const NoPromisc: Self = Self(1);
     /// What a device with the source address takes isn't delivered by its destination:
     /// `MACVLAN_FLAG_NODST`.
-    pub const NoDst: Self = Self(MACVLAN_FLAG_NODST);
+    pub const NoDst: Self = Self(2);
 
     const FLAGS: [Flag<MacVlanFlags>; 2] = [
         Flag {
@@ -163,14 +149,6 @@ impl Flags for MacVlanFlags {
     }
 }
 
-const MACVLAN_MACADDR_ADD: u32 = 0;
-
-const MACVLAN_MACADDR_DEL: u32 = 1;
-
-const MACVLAN_MACADDR_FLUSH: u32 = 2;
-
-const MACVLAN_MACADDR_SET: u32 = 3;
-
 /// What is done to the list of source addresses of a MACVLAN device, `MACVLAN_MACADDR_*` of
 /// `linux/if_link.h`. On the wire 4 bytes in native order.
 #[derive(Debug, PartialEq, Eq, Clone, Copy)]
@@ -195,10 +173,10 @@ impl From<u32> for MacVlanMacAddressMode {
         ensures keeps_the_number { mac_vlan_mac_address_mode_number result ≡ number }
     {
         match number {
-            MACVLAN_MACADDR_ADD => Self::Add,
-            MACVLAN_MACADDR_DEL => Self::Del,
-            MACVLAN_MACADDR_FLUSH => Self::Flush,
-            MACVLAN_MACADDR_SET => Self::Set,
+            0 => Self::Add,
+            1 => Self::Del,
+            2 => Self::Flush,
+            3 => Self::Set,
             _ => Self::Other(number),
         }
     }
@@ -209,10 +187,10 @@ impl From<MacVlanMacAddressMode> for u32 {
 
     fn from(value: MacVlanMacAddressMode) -> Self {
         match value {
-            MacVlanMacAddressMode::Add => MACVLAN_MACADDR_ADD,
-            MacVlanMacAddressMode::Del => MACVLAN_MACADDR_DEL,
-            MacVlanMacAddressMode::Flush => MACVLAN_MACADDR_FLUSH,
-            MacVlanMacAddressMode::Set => MACVLAN_MACADDR_SET,
+            MacVlanMacAddressMode::Add => 0,
+            MacVlanMacAddressMode::Del => 1,
+            MacVlanMacAddressMode::Flush => 2,
+            MacVlanMacAddressMode::Set => 3,
             MacVlanMacAddressMode::Other(number) => number,
         }
     }

@@ -64,12 +64,6 @@ impl From<MacSecCipherId> for u64 {
     }
 }
 
-const MACSEC_VALIDATE_DISABLED: u8 = 0;
-
-const MACSEC_VALIDATE_CHECK: u8 = 1;
-
-const MACSEC_VALIDATE_STRICT: u8 = 2;
-
 /// How strictly received frames are validated, `MACSEC_VALIDATE_*` of `linux/if_link.h`. On the
 /// wire 1 byte.
 #[derive(Debug, PartialEq, Eq, Clone, Copy)]
@@ -92,9 +86,9 @@ impl From<u8> for MacSecValidate {
         ensures keeps_the_number { mac_sec_validate_number result ≡ number }
     {
         match number {
-            MACSEC_VALIDATE_DISABLED => Self::Disabled,
-            MACSEC_VALIDATE_CHECK => Self::Check,
-            MACSEC_VALIDATE_STRICT => Self::Strict,
+            0 => Self::Disabled,
+            1 => Self::Check,
+            2 => Self::Strict,
             _ => Self::Other(number),
         }
     }
@@ -105,19 +99,13 @@ impl From<MacSecValidate> for u8 {
 
     fn from(value: MacSecValidate) -> Self {
         match value {
-            MacSecValidate::Disabled => MACSEC_VALIDATE_DISABLED,
-            MacSecValidate::Check => MACSEC_VALIDATE_CHECK,
-            MacSecValidate::Strict => MACSEC_VALIDATE_STRICT,
+            MacSecValidate::Disabled => 0,
+            MacSecValidate::Check => 1,
+            MacSecValidate::Strict => 2,
             MacSecValidate::Other(number) => number,
         }
     }
 }
-
-const MACSEC_OFFLOAD_OFF: u8 = 0;
-
-const MACSEC_OFFLOAD_PHY: u8 = 1;
-
-const MACSEC_OFFLOAD_MAC: u8 = 2;
 
 /// Which part of the hardware does the work, `MACSEC_OFFLOAD_*` of `linux/if_link.h`. On the wire 1
 /// byte.
@@ -141,9 +129,9 @@ impl From<u8> for MacSecOffload {
         ensures keeps_the_number { mac_sec_offload_number result ≡ number }
     {
         match number {
-            MACSEC_OFFLOAD_OFF => Self::Off,
-            MACSEC_OFFLOAD_PHY => Self::Phy,
-            MACSEC_OFFLOAD_MAC => Self::Mac,
+            0 => Self::Off,
+            1 => Self::Phy,
+            2 => Self::Mac,
             _ => Self::Other(number),
         }
     }
@@ -154,9 +142,9 @@ impl From<MacSecOffload> for u8 {
 
     fn from(value: MacSecOffload) -> Self {
         match value {
-            MacSecOffload::Off => MACSEC_OFFLOAD_OFF,
-            MacSecOffload::Phy => MACSEC_OFFLOAD_PHY,
-            MacSecOffload::Mac => MACSEC_OFFLOAD_MAC,
+            MacSecOffload::Off => 0,
+            MacSecOffload::Phy => 1,
+            MacSecOffload::Mac => 2,
             MacSecOffload::Other(number) => number,
         }
     }

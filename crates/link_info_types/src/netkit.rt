@@ -9,10 +9,6 @@ use netlink_packet_core::DecodeError;
 use std::fmt;
 use std::str::FromStr;
 
-const NETKIT_L2: u32 = 0;
-
-const NETKIT_L3: u32 = 1;
-
 /// At which layer a NETKIT pair works, `NETKIT_L2` and `NETKIT_L3` of `linux/if_link.h`. On the
 /// wire 4 bytes in native order.
 #[derive(Debug, PartialEq, Eq, Clone, Copy)]
@@ -33,8 +29,8 @@ impl From<u32> for NetkitMode {
         ensures keeps_the_number { netkit_mode_number result ≡ number }
     {
         match number {
-            NETKIT_L2 => Self::L2,
-            NETKIT_L3 => Self::L3,
+            0 => Self::L2,
+            1 => Self::L3,
             _ => Self::Other(number),
         }
     }
@@ -45,8 +41,8 @@ impl From<NetkitMode> for u32 {
 
     fn from(value: NetkitMode) -> Self {
         match value {
-            NetkitMode::L2 => NETKIT_L2,
-            NetkitMode::L3 => NETKIT_L3,
+            NetkitMode::L2 => 0,
+            NetkitMode::L3 => 1,
             NetkitMode::Other(number) => number,
         }
     }
@@ -82,12 +78,6 @@ impl FromStr for NetkitMode {
     }
 }
 
-const NETKIT_PASS: u32 = 0;
-
-const NETKIT_DROP: u32 = 2;
-
-const NETKIT_REDIRECT: u32 = 7;
-
 /// What becomes of packets where no program decides, `NETKIT_PASS`, `NETKIT_DROP` and
 /// `NETKIT_REDIRECT` of `linux/if_link.h`. On the wire 4 bytes in native order.
 #[derive(Debug, PartialEq, Eq, Clone, Copy)]
@@ -115,9 +105,9 @@ impl From<u32> for NetkitPolicy {
         ensures keeps_the_number { netkit_policy_number result ≡ number }
     {
         match number {
-            NETKIT_PASS => Self::Pass,
-            NETKIT_DROP => Self::Drop,
-            NETKIT_REDIRECT => Self::Redirect,
+            0 => Self::Pass,
+            2 => Self::Drop,
+            7 => Self::Redirect,
             _ => Self::Other(number),
         }
     }
@@ -128,9 +118,9 @@ impl From<NetkitPolicy> for u32 {
 
     fn from(value: NetkitPolicy) -> Self {
         match value {
-            NetkitPolicy::Pass => NETKIT_PASS,
-            NetkitPolicy::Drop => NETKIT_DROP,
-            NetkitPolicy::Redirect => NETKIT_REDIRECT,
+            NetkitPolicy::Pass => 0,
+            NetkitPolicy::Drop => 2,
+            NetkitPolicy::Redirect => 7,
             NetkitPolicy::Other(number) => number,
         }
     }
@@ -168,10 +158,6 @@ impl FromStr for NetkitPolicy {
     }
 }
 
-const NETKIT_SCRUB_NONE: u32 = 0;
-
-const NETKIT_SCRUB_DEFAULT: u32 = 1;
-
 /// Whether the marks of a packet are cleared on its way to the peer, `NETKIT_SCRUB_*` of
 /// `linux/if_link.h`. On the wire 4 bytes in native order. Each number but 0 is `Default`, which is
 /// written as 1.
@@ -190,7 +176,7 @@ impl From<u32> for NetkitScrub {
         ensures named { result ≡ netkit_scrub_of number }
     {
         match number {
-            NETKIT_SCRUB_NONE => Self::None,
+            0 => Self::None,
             _ => Self::Default,
         }
     }
@@ -201,8 +187,8 @@ impl From<NetkitScrub> for u32 {
 
     fn from(value: NetkitScrub) -> Self {
         match value {
-            NetkitScrub::None => NETKIT_SCRUB_NONE,
-            NetkitScrub::Default => NETKIT_SCRUB_DEFAULT,
+            NetkitScrub::None => 0,
+            NetkitScrub::Default => 1,
         }
     }
 }

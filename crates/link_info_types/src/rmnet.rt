@@ -5,18 +5,6 @@ ghost use Rattle.link_info_types.specs.RmNetTypes.{rm_net_flags_bits, rm_net_fla
 
 use bitflags::{Flag, Flags};
 
-const RMNET_FLAGS_INGRESS_DEAGGREGATION: u32 = 0x01;
-
-const RMNET_FLAGS_INGRESS_MAP_COMMANDS: u32 = 0x02;
-
-const RMNET_FLAGS_INGRESS_MAP_CKSUMV4: u32 = 0x04;
-
-const RMNET_FLAGS_EGRESS_MAP_CKSUMV4: u32 = 0x08;
-
-const RMNET_FLAGS_INGRESS_MAP_CKSUMV5: u32 = 0x10;
-
-const RMNET_FLAGS_EGRESS_MAP_CKSUMV5: u32 = 0x20;
-
 /// What an RMNET device does with the packets of its modem, `RMNET_FLAGS_*` of `linux/if_link.h`.
 /// On the wire 4 bytes in native order; all bits are kept.
 #[derive(Debug, Clone, Copy, PartialEq, Eq)]
@@ -24,17 +12,17 @@ pub struct RmNetFlags(u32);
 
 impl RmNetFlags {
     /// Received packets that were joined are taken apart: `RMNET_FLAGS_INGRESS_DEAGGREGATION`.
-    pub const IngressDeaggregation: Self = Self(RMNET_FLAGS_INGRESS_DEAGGREGATION);
+    pub const IngressDeaggregation: Self = Self(0x01);
     /// Received commands are obeyed: `RMNET_FLAGS_INGRESS_MAP_COMMANDS`.
-    pub const IngressCommands: Self = Self(RMNET_FLAGS_INGRESS_MAP_COMMANDS);
+    pub const IngressCommands: Self = Self(0x02);
     /// Received packets have a checksum, version 4: `RMNET_FLAGS_INGRESS_MAP_CKSUMV4`.
-    pub const IngressMapCksumV4: Self = Self(RMNET_FLAGS_INGRESS_MAP_CKSUMV4);
+    pub const IngressMapCksumV4: Self = Self(0x04);
     /// Sent packets have a checksum, version 4: `RMNET_FLAGS_EGRESS_MAP_CKSUMV4`.
-    pub const EgressMapCksumV4: Self = Self(RMNET_FLAGS_EGRESS_MAP_CKSUMV4);
+    pub const EgressMapCksumV4: Self = Self(0x08);
     /// Received packets have a checksum, version 5: `RMNET_FLAGS_INGRESS_MAP_CKSUMV5`.
-    pub const IngressMapCksumV5: Self = Self(RMNET_FLAGS_INGRESS_MAP_CKSUMV5);
+    pub const IngressMapCksumV5: Self = Self(0x10);
     /// Sent packets have a checksum, version 5: `RMNET_FLAGS_EGRESS_MAP_CKSUMV5`.
-    pub const EgressMapCksumV5: Self = Self(RMNET_FLAGS_EGRESS_MAP_CKSUMV5);
+    pub const EgressMapCksumV5: Self = Self(0x20);
 
     const FLAGS: [Flag<RmNetFlags>; 6] = [
         Flag {

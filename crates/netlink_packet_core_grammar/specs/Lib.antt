@@ -7,3 +7,4 @@ pub mod Truths
 pub mod Frames
 pub mod Fits
 pub mod Laws
+pub mod Named

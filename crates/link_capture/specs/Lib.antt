@@ -4,3 +4,6 @@ pub mod Parts
 pub mod Bodies
 pub mod CanonicalBodies
 pub mod Commands
+pub use Rattle.link_capture_grammar.specs.Captures
+pub use Rattle.link_capture_grammar.specs.Faults
+pub use Rattle.link_capture_grammar.specs.Laws

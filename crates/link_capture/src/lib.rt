@@ -3,11 +3,12 @@
 
 mod attributes;
 mod bodies;
-pub mod command;
+mod command;
 mod frames;
 mod link_body;
-pub mod normalize;
+mod normalize;
 
-pub use command::{Command, read_words, status_norm};
+pub use command::{Command, DEFAULT_LIMIT, read_words, status_norm};
 pub use link_capture_grammar::fault::{CaptureFault, FaultKind};
 pub use link_capture_grammar::laws;
+pub use normalize::normalize_bytes;

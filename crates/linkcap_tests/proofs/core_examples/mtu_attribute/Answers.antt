@@ -2,7 +2,7 @@
 use Rattle.std.proofs.Common.{refl, ◌∙◌, arith}
 use Rattle.netlink_packet_core.specs.Numbers.{le4}
 use Rattle.netlink_packet_core.specs.Attributes.{attribute_text}
-use Rattle.linkcap_rows.proofs.core_calls.mtu_attribute.Goals as goal
+use Rattle.linkcap_tests.proofs.core_examples.mtu_attribute.Goals as goal
 
 pub emit-requires-clause-fits : goal.emit-requires-clause-fits
 unfolding le4

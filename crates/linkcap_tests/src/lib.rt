@@ -4,8 +4,8 @@
 #[cfg(test)]
 mod captures;
 #[cfg(test)]
-mod core_calls;
+mod core_examples;
 #[cfg(test)]
-mod vectors;
+mod fault_texts;
 #[cfg(test)]
-mod words;
+mod program_words;

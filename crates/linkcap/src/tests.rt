@@ -1,0 +1,218 @@
+//! What no clause says: that a run succeeds where no device fails, and tells a failure where one does.
+
+use super::{norm, run};
+use link_capture::{CaptureFault, FaultKind};
+use std::alloc::Global;
+use std::io::{self, ErrorKind, Read, Write};
+use std::test::Fail;
+
+/// A request for the link `lo` whose name has a flag bit and a last padding byte that isn't zero, and a DONE message
+/// without a body.
+const CAPTURE: [u8; 64] = [
+    48, 0, 0, 0, 18, 0, 1, 3, 52, 14, 249, 90, 0, 0, 0, 0, 0, 0, 0, 0, 0, 0, 0, 0, 0, 0, 0, 0, 0,
+    0, 0, 0, 8, 0, 29, 0, 9, 0, 0, 0, 7, 0, 3, 128, 108, 111, 0, 255, 16, 0, 0, 0, 3, 0, 2, 0, 1,
+    0, 0, 0, 0, 0, 0, 0,
+];
+
+/// Its normal text: a clean name, and a code of 0.
+const TEXT: [u8; 68] = [
+    48, 0, 0, 0, 18, 0, 1, 3, 52, 14, 249, 90, 0, 0, 0, 0, 0, 0, 0, 0, 0, 0, 0, 0, 0, 0, 0, 0, 0,
+    0, 0, 0, 8, 0, 29, 0, 9, 0, 0, 0, 7, 0, 3, 0, 108, 111, 0, 0, 20, 0, 0, 0, 3, 0, 2, 0, 1, 0, 0,
+    0, 0, 0, 0, 0, 0, 0, 0, 0,
+];
+
+/// Gives one byte at a time, and then ends or fails.
+#[derive(Drop)]
+struct SlowReader {
+    rest: &'static [u8],
+    fails: bool,
+}
+
+impl Read for SlowReader {
+    fn read(&mut self, buf: &mut [u8]) -> io::Result<usize> {
+        if self.rest.is_empty() && self.fails {
+            return Err(io::Error::from(ErrorKind::BrokenPipe));
+        }
+        if self.rest.is_empty() || buf.is_empty() {
+            return Ok(0);
+        }
+        buf[0] = self.rest[0];
+        self.rest = &self.rest[1..];
+        Ok(1)
+    }
+}
+
+/// Takes at most three bytes at a time while there is room, and then takes none or fails.
+#[derive(Drop)]
+struct SmallWriter {
+    taken: Vec<u8>,
+    room: usize,
+    fails: bool,
+}
+
+impl Write for SmallWriter {
+    fn write(&mut self, buf: &[u8]) -> io::Result<usize> {
+        let count = buf.len().min(self.room).min(3);
+        if self.room == 0 && self.fails {
+            return Err(io::Error::from(ErrorKind::BrokenPipe));
+        }
+        if self.taken.extend_from_slice(&buf[..count]).is_err() {
+            return Err(io::Error::from(ErrorKind::OutOfMemory));
+        }
+        self.room -= count;
+        Ok(count)
+    }
+
+    fn flush(&mut self) -> io::Result<()> {
+        Ok(())
+    }
+}
+
+/// A run over such devices: how many bytes of the capture the reader has, how many the writer has room for, and what
+/// is wanted.
+struct Case {
+    name: &'static str,
+    given: usize,
+    read_fails: bool,
+    room: usize,
+    write_fails: bool,
+    outcome: Result<(), CaptureFault>,
+    written: usize,
+}
+
+const CASES: [Case; 6] = [
+    Case {
+        name: "pieces are read and written",
+        given: 64,
+        read_fails: false,
+        room: 100,
+        write_fails: true,
+        outcome: Ok(()),
+        written: 68,
+    },
+    Case {
+        name: "a failed read is told at the bytes read",
+        given: 50,
+        read_fails: true,
+        room: 100,
+        write_fails: false,
+        outcome: Err(CaptureFault {
+            kind: FaultKind::Read,
+            offset: 50,
+        }),
+        written: 0,
+    },
+    Case {
+        name: "a failed write is told at the bytes taken",
+        given: 64,
+        read_fails: false,
+        room: 20,
+        write_fails: true,
+        outcome: Err(CaptureFault {
+            kind: FaultKind::Write,
+            offset: 20,
+        }),
+        written: 20,
+    },
+    Case {
+        name: "a write that takes nothing has failed",
+        given: 64,
+        read_fails: false,
+        room: 67,
+        write_fails: false,
+        outcome: Err(CaptureFault {
+            kind: FaultKind::Write,
+            offset: 67,
+        }),
+        written: 67,
+    },
+    Case {
+        name: "texts before a fault are written",
+        given: 63,
+        read_fails: false,
+        room: 100,
+        write_fails: false,
+        outcome: Err(CaptureFault {
+            kind: FaultKind::Cut,
+            offset: 48,
+        }),
+        written: 48,
+    },
+    Case {
+        name: "a failed write is told in place of another fault",
+        given: 63,
+        read_fails: false,
+        room: 47,
+        write_fails: false,
+        outcome: Err(CaptureFault {
+            kind: FaultKind::Write,
+            offset: 47,
+        }),
+        written: 47,
+    },
+];
+
+#[test]
+fn devices_are_followed(rt: HostRuntime) {
+    for case in &CASES {
+        let mut source = SlowReader {
+            rest: &CAPTURE[..case.given.min(64)],
+            fails: case.read_fails,
+        };
+        let mut sink = SmallWriter {
+            taken: Vec::new(rt.alloc()),
+            room: case.room,
+            fails: case.write_fails,
+        };
+        let outcome = norm(rt.alloc(), &mut source, &mut sink, 1000);
+        assert_eq!(rt; outcome, case.outcome, "{}", case.name);
+        assert_eq!(rt;
+            sink.taken.as_slice(),
+            &TEXT[..case.written.min(68)],
+            "{}",
+            case.name
+        );
+    }
+}
+
+/// Words behind the program's name, what their run over the capture comes to, and how many bytes of its text it writes.
+const WORDS: [(&[&str], Option<Result<(), CaptureFault>>, usize); 4] = [
+    (&["norm"], Some(Ok(())), 68),
+    (&["norm", "48"], Some(Ok(())), 68),
+    (
+        &["norm", "47"],
+        Some(Err(CaptureFault {
+            kind: FaultKind::OverLimit,
+            offset: 0,
+        })),
+        0,
+    ),
+    (&["norm", "15"], None, 0),
+];
+
+/// The program's arguments with these words.
+fn arguments(alloc: Global, words: &[&str]) -> Result<Vec<String>, Fail> {
+    let mut args = Vec::new(alloc);
+    args.push("linkcap".to_string(alloc)?)?;
+    for word in words {
+        args.push(word.to_string(alloc)?)?;
+    }
+    Ok(args)
+}
+
+#[test]
+fn words_are_followed(rt: HostRuntime) -> Result<(), Fail> {
+    for (words, wanted, written) in WORDS {
+        let args = arguments(rt.alloc(), words)?;
+        let mut sink = Vec::new(rt.alloc());
+        let outcome = run(
+            rt.alloc(),
+            args.as_slice(),
+            &mut CAPTURE.as_slice(),
+            &mut sink,
+        );
+        assert_eq!(rt; outcome, wanted, "{words:?}");
+        assert_eq!(rt; sink.as_slice(), &TEXT[..written.min(68)], "{words:?}");
+    }
+    Ok(())
+}

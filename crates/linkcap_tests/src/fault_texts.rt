@@ -1,0 +1,65 @@
+//! How faults are displayed.
+
+use link_capture::{CaptureFault, FaultKind};
+use std::test::Fail;
+
+/// Each kind with its words, and a fault of that kind with its display.
+const TEXTS: [(FaultKind, &str, u64, &str); 12] = [
+    (FaultKind::Cut, "cut frame", 0, "cut frame at 0"),
+    (
+        FaultKind::ShortLength,
+        "length under 16",
+        4,
+        "length under 16 at 4",
+    ),
+    (
+        FaultKind::OverLimit,
+        "frame over the limit",
+        8,
+        "frame over the limit at 8",
+    ),
+    (FaultKind::Refused, "refused body", 16, "refused body at 16"),
+    (
+        FaultKind::EmptyPorts,
+        "ports with foreign entries alone",
+        20,
+        "ports with foreign entries alone at 20",
+    ),
+    (
+        FaultKind::Unfit,
+        "attribute over 65535",
+        48,
+        "attribute over 65535 at 48",
+    ),
+    (
+        FaultKind::TextOverLimit,
+        "normal text over the limit",
+        1000,
+        "normal text over the limit at 1000",
+    ),
+    (FaultKind::Memory, "no memory", 0, "no memory at 0"),
+    (FaultKind::Read, "read failed", 30, "read failed at 30"),
+    (FaultKind::Write, "write failed", 20, "write failed at 20"),
+    (
+        FaultKind::TooLong,
+        "capture too long",
+        18446744073709551615,
+        "capture too long at 18446744073709551615",
+    ),
+    (
+        FaultKind::Failed,
+        "failed before",
+        96,
+        "failed before at 96",
+    ),
+];
+
+#[test]
+fn faults_are_displayed(rt: HostRuntime) -> Result<(), Fail> {
+    for (kind, words, offset, text) in TEXTS {
+        let fault = CaptureFault { kind, offset };
+        assert_eq!(rt; format!(in rt.alloc(); "{kind}")?.as_str(), words);
+        assert_eq!(rt; format!(in rt.alloc(); "{fault}")?.as_str(), text);
+    }
+    Ok(())
+}

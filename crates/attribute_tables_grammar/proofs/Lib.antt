@@ -13,3 +13,4 @@ pub mod Texts
 pub mod Walks
 pub mod TableWalk
 pub mod TableText
+mod Facts

@@ -4,7 +4,8 @@ use Rattle.std.specs.Str.{is_utf8, chars}
 use lib.Utf8.{encode}
 use Rattle.netlink_packet_core_grammar.specs.Attributes.{attribute_text, list_text, first_attribute, attributes_within}
 use Rattle.attribute_tables_grammar.specs.Lists.{all_accepted, some_empty_ports, rewritten, all_fit, attributes_inside, all_same}
-use Rattle.link_message_grammar.specs.Body.{is_listed, body_rule, link_body}
+use Rattle.attribute_tables_grammar.specs.Peers.{peer_rule}
+use Rattle.link_message_grammar.specs.Body.{is_listed, body_rule, link_body, link_peer}
 
 -- all that has to compute
 everything : ℕ
@@ -298,3 +299,16 @@ two_attributes-text = refl
 two_attributes-same : link_body.same two_attributes (0 ∷ 0 ∷ 0 ∷ 0 ∷ 0 ∷ 0 ∷ 0 ∷ 0 ∷ 0 ∷ 0 ∷ 0 ∷ 0 ∷ 0 ∷ 0 ∷ 0 ∷ 0 ∷ 5 ∷ 0 ∷ 1 ∷ 0 ∷ 97 ∷ 0 ∷ 0 ∷ 0 ∷ 5 ∷ 0 ∷ 2 ∷ 0 ∷ 98 ∷ 0 ∷ 0 ∷ 0 ∷ []) ≡ true
 unfolding everything
 two_attributes-same = refl
+
+-- a peer that is a link body is rewritten as one, and a body that is too short is none
+peer_with_a_name-accepted : (peer_rule link_peer).accepted (0 ∷ 0 ∷ 0 ∷ 0 ∷ 0 ∷ 0 ∷ 0 ∷ 0 ∷ 0 ∷ 0 ∷ 0 ∷ 0 ∷ 0 ∷ 0 ∷ 0 ∷ 0 ∷ 6 ∷ 0 ∷ 3 ∷ 0 ∷ 108 ∷ 111 ∷ []) ≡ true
+unfolding everything
+peer_with_a_name-accepted = refl
+
+peer_with_a_name-text : (peer_rule link_peer).canonical (0 ∷ 0 ∷ 0 ∷ 0 ∷ 0 ∷ 0 ∷ 0 ∷ 0 ∷ 0 ∷ 0 ∷ 0 ∷ 0 ∷ 0 ∷ 0 ∷ 0 ∷ 0 ∷ 6 ∷ 0 ∷ 3 ∷ 0 ∷ 108 ∷ 111 ∷ []) ≡ (0 ∷ 0 ∷ 0 ∷ 0 ∷ 0 ∷ 0 ∷ 0 ∷ 0 ∷ 0 ∷ 0 ∷ 0 ∷ 0 ∷ 0 ∷ 0 ∷ 0 ∷ 0 ∷ 7 ∷ 0 ∷ 3 ∷ 0 ∷ 108 ∷ 111 ∷ 0 ∷ 0 ∷ [])
+unfolding everything
+peer_with_a_name-text = refl
+
+peer_of_fifteen_bytes-refused : (peer_rule link_peer).accepted (0 ∷ 0 ∷ 0 ∷ 0 ∷ 0 ∷ 0 ∷ 0 ∷ 0 ∷ 0 ∷ 0 ∷ 0 ∷ 0 ∷ 0 ∷ 0 ∷ 0 ∷ []) ≡ false
+unfolding everything
+peer_of_fifteen_bytes-refused = refl

@@ -1,8 +1,8 @@
 -- The tables of link info (if_link.h, IFLA_INFO_*): the data of each kind of link, and of each port kind.
 use Rattle.std.specs.Prelude.{ℕ, List, [], ◌∷◌, codes}
-use Rattle.attribute_tables_grammar.specs.Shapes.{at_most}
+use Rattle.attribute_tables_grammar.specs.Shapes.{at_most, truth_of_four}
 use Rattle.attribute_tables_grammar.specs.Lists.{any}
-use Rattle.attribute_tables_grammar.specs.Tables.{Payload, Payload.plain, Payload.list, Table, Table.end, Names, Names.others, Names.name}
+use Rattle.attribute_tables_grammar.specs.Tables.{Payload, Payload.plain, Payload.peer, Payload.list, Table, Table.end, Names, Names.others, Names.name}
 use Rattle.attribute_tables_grammar.specs.Rows.{◌↪◌, ◌⸴◌, octets, address, truth, flag, string}
 
 -- ---- families: a kind and what its payload holds
@@ -41,6 +41,16 @@ ipvlan = 1 ↪ octets 2 ⸴ 2 ↪ octets 2 ⸴ end
 -- a list of raw attributes, for whose kinds there is no row
 abbrev pub untyped : Table
 untyped = end
+
+-- IFLA_NETKIT_*: peer, whether this end is the primary one, policy and the peer's, mode, scrubbing and the peer's, room before and behind packets
+abbrev pub netkit : Table
+netkit =
+    1 ↪ peer ⸴ 2 ↪ truth ⸴ 3 ↪ octets 4 ⸴ 4 ↪ octets 4 ⸴ 5 ↪ octets 4 ⸴ 6 ↪ plain truth_of_four ⸴ 7 ↪ plain truth_of_four ⸴ 8 ↪ octets 2 ⸴
+    9 ↪ octets 2 ⸴ end
+
+-- VETH_INFO_* and VXCAN_INFO_*: the peer
+abbrev pub pair : Table
+pair = 1 ↪ peer ⸴ end
 
 -- IFLA_RMNET_*: multiplexer, flags with their mask
 abbrev pub rmnet : Table

@@ -1,7 +1,7 @@
 -- How a link info list is answered.
 use Rattle.std.specs.Prelude.{ℕ, List, codes, cond}
 use Rattle.hex.specs.Hex.{encode_lower}
-use Rattle.link_info.specs.LinkInfo.{info_rule}
+use Rattle.link_info.specs.InfoGrammar.{info_rule}
 
 -- its canonical text in hex, where it is legal and fits
 abbrev pub answer : List ℕ → List ℕ

@@ -1,0 +1,2 @@
+pub mod Netkit
+pub mod Veth

@@ -1,0 +1,9 @@
+// Link info of links that come in pairs: the attributes of their data.
+#![tactic(auto)]
+
+mod netkit;
+mod peer;
+mod veth;
+
+pub use netkit::InfoNetkit;
+pub use veth::{InfoVeth, InfoVxcan, PairData};

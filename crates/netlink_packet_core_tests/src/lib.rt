@@ -1,4 +1,4 @@
-// Worked cases of the core, as tests. The wanted values come from outside this project's code.
+// The core as its callers use it, as tests. The wanted values come from outside this project's code.
 #![tactic(auto)]
 
 #[cfg(test)]
@@ -10,11 +10,9 @@ mod messages;
 #[cfg(test)]
 mod nla;
 #[cfg(test)]
-mod nla_buffer;
-#[cfg(test)]
-mod nla_list;
-#[cfg(test)]
 mod numbers;
+#[cfg(test)]
+mod refusals;
 #[cfg(test)]
 mod traits;
 #[cfg(test)]

@@ -5,7 +5,7 @@ use Rattle.netlink_packet_core_grammar.specs.Frames.{frame_body}
 use Rattle.netlink_packet_core_messages.specs.TypedBodies.{TypedBody}
 use Rattle.netlink_packet_core_messages.specs.Messages.{finalized}
 use Rattle.netlink_packet_core_messages.proofs.Sizes.{length-message_text}
-use Rattle.netlink_packet_core_rows.proofs.messages.canonical_frame.Goals as goal
+use Rattle.netlink_packet_core_tests.proofs.messages.canonical_frame.Goals as goal
 
 filled : (s items new : List ℕ) (n size len : ℕ) → new ≡ s ++ drop n items → length s ≡ n → size ≡ as_usize n → size ≤ 4294967295 → length items ≡ size → len ≡ size → take len (new ++ drop (length new) items) ≡ s
 filled s items new n size len e a b c d f =

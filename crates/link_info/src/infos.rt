@@ -4,7 +4,7 @@
 
 ghost use Rattle.std.specs.Prelude.{◌≡◌, ◌<◌, false, true, length, map, Some, IsTrue, IfOk, IfErr, OnOk};
 ghost use Rattle.netlink_packet_core.specs.Attributes.{proper_kind};
-ghost use Rattle.netlink_packet_core.specs.AttributeViews.{attribute_of, raw_kind_of, payload_of, IsAttribute};
+ghost use Rattle.netlink_packet_core.specs.AttributeViews.{viewed_attribute, viewed_kind, viewed_payload, IsAttribute};
 ghost use Rattle.netlink_packet_core.specs.Errors.{is_memory};
 ghost use Rattle.netlink_packet_core.specs.Lists.{text_by, all_fit_by};
 ghost use Rattle.netlink_packet_core.specs.NlaBuffers.{storage};
@@ -112,9 +112,9 @@ fn next_in_force<'a>(
 ) -> Result<InForce<'a>, DecodeError>
     requires { IsAttribute (storage buf.now).now }
     ensures next { IfOk result (λ f. in_force f.kind f.port_kind
-        ≡ info_next (in_force force.entry.kind force.entry.port_kind) (proper_kind (raw_kind_of (storage buf.now).now)) (payload_of (storage buf.now).now)) }
+        ≡ info_next (in_force force.entry.kind force.entry.port_kind) (proper_kind (viewed_kind (storage buf.now).now)) (viewed_payload (storage buf.now).now)) }
     ensures err { IfErr result (λ e.
-        (link_info_row (in_force force.entry.kind force.entry.port_kind) (proper_kind (raw_kind_of (storage buf.now).now))).rule.accepted (payload_of (storage buf.now).now)
+        (link_info_row (in_force force.entry.kind force.entry.port_kind) (proper_kind (viewed_kind (storage buf.now).now))).rule.accepted (viewed_payload (storage buf.now).now)
         ≡ false) }
 {
     match buf.kind() {
@@ -169,18 +169,18 @@ impl LinkInfo {
     ) -> Result<LinkInfo, DecodeError>
         requires { IsAttribute (storage buf.now).now }
         ensures ok { OnOk result
-            (IsTrue ((link_info_row (in_force force.entry.kind force.entry.port_kind) (proper_kind (raw_kind_of (storage buf.now).now))).rule.accepted (payload_of (storage buf.now).now))) }
+            (IsTrue ((link_info_row (in_force force.entry.kind force.entry.port_kind) (proper_kind (viewed_kind (storage buf.now).now))).rule.accepted (viewed_payload (storage buf.now).now))) }
         ensures value { IfOk result
             (λ v. link_info_entry v
-            ≡ rewrite (link_info_row (in_force force.entry.kind force.entry.port_kind) (proper_kind (raw_kind_of (storage buf.now).now))) (attribute_of (storage buf.now).now)) }
+            ≡ rewrite (link_info_row (in_force force.entry.kind force.entry.port_kind) (proper_kind (viewed_kind (storage buf.now).now))) (viewed_attribute (storage buf.now).now)) }
         ensures inside { IfOk result
             (λ v. link_info_fits v
-            ≡ (link_info_row (in_force force.entry.kind force.entry.port_kind) (proper_kind (raw_kind_of (storage buf.now).now))).rule.fits (payload_of (storage buf.now).now)) }
+            ≡ (link_info_row (in_force force.entry.kind force.entry.port_kind) (proper_kind (viewed_kind (storage buf.now).now))).rule.fits (viewed_payload (storage buf.now).now)) }
         ensures names_row { IfOk result
             (λ v. link_info_names_row (in_force force.entry.kind force.entry.port_kind) v) }
         ensures err { IfErr result
             (λ e. is_memory e ≡ false
-            → (link_info_row (in_force force.entry.kind force.entry.port_kind) (proper_kind (raw_kind_of (storage buf.now).now))).rule.accepted (payload_of (storage buf.now).now)
+            → (link_info_row (in_force force.entry.kind force.entry.port_kind) (proper_kind (viewed_kind (storage buf.now).now))).rule.accepted (viewed_payload (storage buf.now).now)
             ≡ false) }
     {
         let payload = buf.value();

@@ -3,7 +3,7 @@
 
 ghost use Rattle.std.specs.Prelude.{◌≡◌, ◌&&◌, ◌==◌, ◌++◌, ◌∷◌, [], true, Some, IfOk, IfErr};
 ghost use Rattle.netlink_packet_core.specs.Attributes.{proper_kind};
-ghost use Rattle.netlink_packet_core.specs.AttributeViews.{IsAttribute, raw_kind_of, payload_of};
+ghost use Rattle.netlink_packet_core.specs.AttributeViews.{IsAttribute, viewed_kind, viewed_payload};
 ghost use Rattle.netlink_packet_core.specs.Errors.{is_memory};
 ghost use Rattle.netlink_packet_core.specs.NlaBuffers.{storage};
 ghost use Rattle.netlink_packet_core.specs.Texts.{is_text, without_nul};
@@ -116,11 +116,11 @@ impl Nla for InfoPortKind {
 impl<'a> Parseable<NlaBuffer<&'a [u8]>> for InfoPortKind {
     ghost can_parse = { λ b. IsAttribute (storage b).now };
 
-    ghost accepts = { λ b. (proper_kind (raw_kind_of (storage b).now) == 4) && is_text (payload_of (storage b).now) };
+    ghost accepts = { λ b. (proper_kind (viewed_kind (storage b).now) == 4) && is_text (viewed_payload (storage b).now) };
 
-    ghost may_want_memory = { λ b. is_unlisted port_kind_names (without_nul (payload_of (storage b).now)) };
+    ghost may_want_memory = { λ b. is_unlisted port_kind_names (without_nul (viewed_payload (storage b).now)) };
 
-    ghost gives = { λ b k. IsPortNamedBy (without_nul (payload_of (storage b).now)) k };
+    ghost gives = { λ b k. IsPortNamedBy (without_nul (viewed_payload (storage b).now)) k };
 
     fn parse(alloc: Global, buf: &NlaBuffer<&'a [u8]>) -> Result<Self, DecodeError> {
         if buf.kind() != IFLA_INFO_PORT_KIND {

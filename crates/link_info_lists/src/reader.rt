@@ -3,7 +3,7 @@
 ghost use Rattle.std.specs.Prelude.{◌≡◌, ◌<◌, ℕ, List, Bool, true, false, length, map, Some, IsTrue, IfOk, IfErr, OnOk};
 ghost use Rattle.std.specs.List.{All};
 ghost use Rattle.netlink_packet_core_grammar.specs.Attributes.{proper_kind};
-ghost use Rattle.netlink_packet_core_grammar.specs.AttributeViews.{attribute_of, raw_kind_of, payload_of, IsAttribute};
+ghost use Rattle.netlink_packet_core_grammar.specs.AttributeViews.{viewed_attribute, viewed_kind, viewed_payload, IsAttribute};
 ghost use Rattle.netlink_packet_core.specs.Errors.{is_memory};
 ghost use Rattle.netlink_packet_core.specs.NlaBuffers.{storage};
 ghost use Rattle.netlink_packet_core.specs.Lists.{text_by, all_fit_by};
@@ -32,20 +32,20 @@ pub trait Reader {
     fn read(&self, alloc: Global, buf: &NlaBuffer<&[u8]>) -> Result<Self::Value, DecodeError>
         requires { IsAttribute (storage buf.now).now }
         ensures ok { OnOk result
-            (IsTrue ((row_at (row_of self.now) (attribute_of (storage buf.now).now)).rule.accepted (payload_of (storage buf.now).now))) }
+            (IsTrue ((row_at (row_of self.now) (viewed_attribute (storage buf.now).now)).rule.accepted (viewed_payload (storage buf.now).now))) }
         ensures value { IfOk result
             (λ v. Self.Value.entry v
-            ≡ rewrite (row_at (row_of self.now) (attribute_of (storage buf.now).now)) (attribute_of (storage buf.now).now)) }
+            ≡ rewrite (row_at (row_of self.now) (viewed_attribute (storage buf.now).now)) (viewed_attribute (storage buf.now).now)) }
         ensures inside { IfOk result
             (λ v. Self.Value.inside_fits v
-            ≡ (row_at (row_of self.now) (attribute_of (storage buf.now).now)).rule.fits (payload_of (storage buf.now).now)) }
+            ≡ (row_at (row_of self.now) (viewed_attribute (storage buf.now).now)).rule.fits (viewed_payload (storage buf.now).now)) }
         ensures names_row { IfOk result (λ v. names_row self.now v) }
         ensures err { IfErr result
             (λ e. is_memory e ≡ false
-            → (row_at (row_of self.now) (attribute_of (storage buf.now).now)).rule.accepted (payload_of (storage buf.now).now)
+            → (row_at (row_of self.now) (viewed_attribute (storage buf.now).now)).rule.accepted (viewed_payload (storage buf.now).now)
             ≡ false) }
         ensures memory { IfErr result
-            (λ e. is_memory e ≡ true → may_want_memory self.now (proper_kind (raw_kind_of (storage buf.now).now)) ≡ true) };
+            (λ e. is_memory e ≡ true → may_want_memory self.now (proper_kind (viewed_kind (storage buf.now).now)) ≡ true) };
 }
 
 /// Reads a list of attributes of one table. It succeeds exactly where the list is accepted, memory

@@ -3,7 +3,7 @@ use Rattle.std.proofs.Common.{◌≡◌, ℕ, zero, suc, ◌+◌, ◌*◌, ◌<�
 use Rattle.std.specs.Prelude.{option_map}
 use Rattle.std.proofs.lemmas.Bool.{cases_lt}
 use Rattle.netlink_packet_core_grammar.specs.Attributes.{Attribute, attribute_text, list_text, first_attribute, attributes_of, IsAttributeList}
-use Rattle.netlink_packet_core_grammar.specs.AttributeViews.{length_of, attribute_of, IsAttribute, after_first}
+use Rattle.netlink_packet_core_grammar.specs.AttributeViews.{viewed_length, viewed_attribute, IsAttribute, after_first}
 use Rattle.netlink_packet_core_grammar.proofs.Attributes.{sized, first_attribute_text, attributes_cut, cut_attributes, got, got_is}
 use Rattle.netlink_packet_core_grammar.proofs.FirstAttribute.{attributes_step}
 use Rattle.netlink_packet_core_grammar.specs.Laws.{FirstIsViewed}
@@ -87,9 +87,9 @@ whole : FirstIsViewed → (bytes : List ℕ) (x : Attribute × List ℕ) → fir
 whole law bytes x h =
     elim (cases_lt (length bytes) 4) as (λ _. IsAttribute bytes) [
       | inl a ↦ absurd (is_none law bytes x h (λ i. let k = i.has_header in omega arith))
-      | inr a ↦ elim (cases_lt (length_of bytes) 4) as (λ _. IsAttribute bytes) [
+      | inr a ↦ elim (cases_lt (viewed_length bytes) 4) as (λ _. IsAttribute bytes) [
         | inl b ↦ absurd (is_none law bytes x h (λ i. let k = i.covers_header in omega arith))
-        | inr b ↦ elim (cases_lt (length bytes) (length_of bytes)) as (λ _. IsAttribute bytes) [
+        | inr b ↦ elim (cases_lt (length bytes) (viewed_length bytes)) as (λ _. IsAttribute bytes) [
           | inl c ↦ absurd (is_none law bytes x h (λ i. let k = i.within in omega arith))
           | inr c ↦ record { has_header = a; covers_header = b; within = c }
         ]
@@ -101,7 +101,7 @@ texts_are_read_back law e bytes =
     let text = attribute_text e ++ bytes in
     let h = first_attribute_text e bytes in
     let is = whole law text (e, bytes) h in
-    let same : (attribute_of text, after_first text) ≡ (e, bytes) = got_is (attribute_of text, after_first text) (e, bytes) (sym (law.whole text is) ∙ h) in
+    let same : (viewed_attribute text, after_first text) ≡ (e, bytes) = got_is (viewed_attribute text, after_first text) (e, bytes) (sym (law.whole text is) ∙ h) in
     (is, ap (λ (x : Attribute × List ℕ). x.0) same)
 
 -- ---- how many items

@@ -1,7 +1,7 @@
 -- The laws of the definitions, as the functions of `laws` state them.
 use Rattle.std.specs.Prelude.{◌≡◌, ℕ, ◌%◌, ◌↔◌, List, ◌++◌, length, Some, None, option_map}
 use Rattle.netlink_packet_core_grammar.specs.Attributes.{Attribute, first_attribute, list_text, list_size, IsAttributeList, attributes_of}
-use Rattle.netlink_packet_core_grammar.specs.AttributeViews.{attribute_of, IsAttribute, after_first}
+use Rattle.netlink_packet_core_grammar.specs.AttributeViews.{viewed_attribute, IsAttribute, after_first}
 
 -- bytes are cut into attributes in one way only
 abbrev pub OneCut : Type 0
@@ -21,5 +21,5 @@ TextIsCut = (es : List Attribute) → (attributes_of (list_text es) ≡ Some es)
 
 -- the first attribute of some bytes is the one that a view of them sees; bytes that begin with no whole one have none
 pub record FirstIsViewed : Type 0 where
-  pub whole : (bytes : List ℕ) → IsAttribute bytes → first_attribute bytes ≡ Some (attribute_of bytes, after_first bytes)
+  pub whole : (bytes : List ℕ) → IsAttribute bytes → first_attribute bytes ≡ Some (viewed_attribute bytes, after_first bytes)
   pub none : (bytes : List ℕ) → (IsAttribute bytes → ⊥) → first_attribute bytes ≡ None

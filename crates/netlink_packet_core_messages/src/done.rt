@@ -1,7 +1,7 @@
 ghost use Rattle.std.specs.Prelude.{◌≡◌, ◌≤◌, ◌++◌, true, false, ⊤, length, drop, Some, is_some, IfOk, IfErr};
 ghost use Rattle.netlink_packet_core_numbers.specs.Errors.{is_memory};
 ghost use Rattle.netlink_packet_core_buffers.specs.DoneBuffers.{storage};
-ghost use Rattle.netlink_packet_core_messages.specs.ControlMessages.{done_text, done_of, read_done};
+ghost use Rattle.netlink_packet_core_messages.specs.ControlMessages.{done_message_text, done_of, read_done};
 ghost use Rattle.std.specs.Int.{w32};
 ghost use Rattle.std.specs.Int.RustNames.{FitsSigned};
 
@@ -39,7 +39,7 @@ impl<'a> Parseable<DoneBuffer<&'a [u8]>> for DoneMessage {
 }
 
 impl Emitable for DoneMessage {
-    ghost text = { done_text };
+    ghost text = { done_message_text };
 
     ghost can_emit = { λ _. ⊤ };
 

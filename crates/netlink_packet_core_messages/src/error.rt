@@ -2,7 +2,7 @@ ghost use Rattle.std.specs.Prelude.{◌≡◌, ◌≤◌, ◌++◌, true, false,
 ghost use Rattle.netlink_packet_core_numbers.specs.Errors.{is_memory};
 ghost use Rattle.netlink_packet_core_buffers.specs.Codes.{raw_code, IsCode};
 ghost use Rattle.netlink_packet_core_buffers.specs.ErrorBuffers.{storage};
-ghost use Rattle.netlink_packet_core_messages.specs.ControlMessages.{error_text, error_of, read_error};
+ghost use Rattle.netlink_packet_core_messages.specs.ControlMessages.{error_message_text, error_of, read_error};
 
 use super::byte_vec::ByteVec;
 use super::code::emit_code;
@@ -38,7 +38,7 @@ impl<'a> Parseable<ErrorBuffer<&'a [u8]>> for ErrorMessage {
 }
 
 impl Emitable for ErrorMessage {
-    ghost text = { error_text };
+    ghost text = { error_message_text };
 
     ghost can_emit = { λ _. ⊤ };
 

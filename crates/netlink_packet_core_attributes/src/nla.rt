@@ -103,7 +103,8 @@ pub trait Nla {
         requires fits { (attribute_fits (entry self.now) && inside_fits self.now) ≡ true }
         requires room { nla_align (attribute_length (entry self.now)) ≤ length buffer.old }
         ensures { buffer.new
-            ≡ attribute_text (entry self.now) ++ drop (nla_align (attribute_length (entry self.now))) buffer.old }
+            ≡ attribute_text (entry self.now)
+            ++ drop (nla_align (attribute_length (entry self.now))) buffer.old }
     {
         let size = self.value_len();
         let (front, _) = buffer.split_at_mut(NLA_HEADER_SIZE + nla_align(size));

@@ -172,7 +172,8 @@ impl<T: ByteViewMut> NlaBuffer<T> {
     /// Writes the header's length, which counts the header.
     pub fn set_length(&mut self, value: u16)
         requires { 4 ≤ length (T.ByteView.bytes (storage self.old)) }
-        ensures bytes { T.ByteView.bytes (storage self.new) ≡ put_at 0 (le2 value) (T.ByteView.bytes (storage self.old)) }
+        ensures bytes { T.ByteView.bytes (storage self.new)
+            ≡ put_at 0 (le2 value) (T.ByteView.bytes (storage self.old)) }
         ensures same { T.same_storage (storage self.old) (storage self.new) }
     {
         write_u16(&mut self.buffer, 0, value);
@@ -181,7 +182,8 @@ impl<T: ByteViewMut> NlaBuffer<T> {
     /// Writes the low 14 bits of `kind`, and clears both flags.
     pub fn set_kind(&mut self, kind: u16)
         requires { 4 ≤ length (T.ByteView.bytes (storage self.old)) }
-        ensures bytes { T.ByteView.bytes (storage self.new) ≡ put_at 2 (le2 (proper_kind kind)) (T.ByteView.bytes (storage self.old)) }
+        ensures bytes { T.ByteView.bytes (storage self.new)
+            ≡ put_at 2 (le2 (proper_kind kind)) (T.ByteView.bytes (storage self.old)) }
         ensures same { T.same_storage (storage self.old) (storage self.new) }
     {
         write_u16(&mut self.buffer, 2, kind & NLA_TYPE_MASK);
@@ -191,7 +193,8 @@ impl<T: ByteViewMut> NlaBuffer<T> {
     pub fn set_nested_flag(&mut self)
         requires { 4 ≤ length (T.ByteView.bytes (storage self.old)) }
         ensures bytes { T.ByteView.bytes (storage self.new)
-            ≡ put_at 2 (le2 (with_nested_flag (viewed_kind (T.ByteView.bytes (storage self.old))))) (T.ByteView.bytes (storage self.old)) }
+            ≡ put_at 2 (le2 (with_nested_flag (viewed_kind (T.ByteView.bytes (storage self.old)))))
+            (T.ByteView.bytes (storage self.old)) }
         ensures same { T.same_storage (storage self.old) (storage self.new) }
     {
         let kind = self.kind() | NLA_F_NESTED;
@@ -202,7 +205,8 @@ impl<T: ByteViewMut> NlaBuffer<T> {
     pub fn set_network_byte_order_flag(&mut self)
         requires { 4 ≤ length (T.ByteView.bytes (storage self.old)) }
         ensures bytes { T.ByteView.bytes (storage self.new)
-            ≡ put_at 2 (le2 (with_byte_order_flag (viewed_kind (T.ByteView.bytes (storage self.old))))) (T.ByteView.bytes (storage self.old)) }
+            ≡ put_at 2 (le2 (with_byte_order_flag (viewed_kind (T.ByteView.bytes (storage self.old)))))
+            (T.ByteView.bytes (storage self.old)) }
         ensures same { T.same_storage (storage self.old) (storage self.new) }
     {
         let kind = self.kind() | NLA_F_NET_BYTEORDER;
@@ -216,7 +220,8 @@ impl<T: ByteLend> NlaBuffer<T> {
     /// The payload, to be written.
     pub fn value_mut(&mut self) -> &mut [u8]
         requires { IsAttribute (T.ByteView.bytes (storage self.old)) }
-        ensures* writes_back { sem 𝓛 (Lends (the_row T.row) (Array u8 0) self.entry result (with_value T.with_part self.old)) }
+        ensures* writes_back { sem 𝓛 (Lends (the_row T.row) (Array u8 0) self.entry result
+            (with_value T.with_part self.old)) }
         ensures value { result.now ≡ viewed_payload (T.ByteView.bytes (storage self.old)) }
     {
         let end = self.length() as usize;

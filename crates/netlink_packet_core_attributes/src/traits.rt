@@ -69,5 +69,6 @@ pub trait ParseableParametrized<T, P>: Sized {
         ensures ok { OnOk result (IsTrue (accepts buf.now params)) }
         ensures value { IfOk result (λ v. gives buf.now params v) }
         ensures err { IfErr result (λ e. is_memory e ≡ false → accepts buf.now params ≡ false) }
-        ensures memory { IfErr result (λ e. is_memory e ≡ true → may_want_memory buf.now params ≡ true) };
+        ensures memory { IfErr result (λ e. is_memory e ≡ true
+            → may_want_memory buf.now params ≡ true) };
 }

@@ -254,7 +254,8 @@ pub trait ErrorContext: Sized {
     /// The error with the context that `text` gives. It is called only where there is an error.
     fn with_context<C: ContextText, F: FnOnce() -> C>(self, text: F) -> Self
         requires { fails self ≡ true → F.pre text }
-        ensures failed { fails self ≡ true → (c : C) × F.post text c × (result ≡ in_context self (C.text c)) }
+        ensures failed { fails self ≡ true
+            → (c : C) × F.post text c × (result ≡ in_context self (C.text c)) }
         ensures kept { fails self ≡ false → result ≡ self };
 }
 

@@ -93,7 +93,8 @@ fn is_refused(alloc: Global, bytes: &[u8]) -> bool {
 
 /// The frame in front of some bytes, as it is written again.
 fn canonical_frame(alloc: Global, frame: &[u8]) -> Result<Vec<u8>, FrameError<AllocError>>
-    ensures { IfOk result (λ out. out.items ≡ unpadded_text frame.now (written_body (frame_body frame.now) (frame_type frame.now) (frame_body frame.now))) }
+    ensures { IfOk result (λ out. out.items ≡ unpadded_text frame.now
+        (written_body (frame_body frame.now) (frame_type frame.now) (frame_body frame.now))) }
 {
     let mut message: NetlinkMessage<KeptMessage> = NetlinkMessage::deserialize(alloc, frame)?;
     laws::read_frames_keep_their_header(&message, frame);

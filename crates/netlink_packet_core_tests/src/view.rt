@@ -1,16 +1,27 @@
-use netlink_packet_core_attributes::view::{read_u16, read_u32, write_u16, write_u32};
+ghost use Rattle.std.specs.Prelude.{◌≡◌, ◌+◌, ◌≤◌, length};
+ghost use Rattle.netlink_packet_core.specs.Bytes.{put_at};
+
+use netlink_packet_core::{ByteLend, ByteView, ByteViewMut};
 use std::test::Fail;
 
+/// Writes two bytes at any storage that is written in place, and tells how many bytes it has.
+fn write_two<T: ByteViewMut>(storage: &mut T, at: usize, bytes: &[u8; 2]) -> usize
+    requires { at + 2 ≤ length (T.ByteView.bytes storage.old) }
+    ensures { T.ByteView.bytes storage.new ≡ put_at at bytes.now (T.ByteView.bytes storage.old) }
+{
+    storage.write_at(at, bytes);
+    storage.as_bytes().len()
+}
+
 #[test]
-fn numbers_are_written_at_each_storage(rt: HostRuntime) -> Result<(), Fail> {
+fn bytes_are_written_at_each_storage(rt: HostRuntime) -> Result<(), Fail> {
     let mut array = [1u8, 2, 3, 4];
-    write_u16(&mut array.as_mut_slice(), 1, 0x0908);
+    assert_eq!(rt; write_two(&mut array.as_mut_slice(), 1, &[8, 9]), 4);
     assert_eq!(rt; array, [1, 8, 9, 4]);
-    let mut vector = [0u8, 0x34, 0x12, 0, 0, 0].to_vec(rt.alloc())?;
-    assert_eq!(rt; read_u16(&vector, 1), 0x1234);
-    assert_eq!(rt; read_u32(&vector, 1), 0x1234);
-    write_u16(&mut vector, 0, 0x0102);
-    write_u32(&mut &mut vector, 2, 0x03040506);
-    assert_eq!(rt; vector.as_slice(), [2u8, 1, 6, 5, 4, 3].as_slice());
+    let mut vector = [1u8, 2, 3, 4].to_vec(rt.alloc())?;
+    assert_eq!(rt; write_two(&mut vector, 2, &[8, 9]), 4);
+    vector.part_mut(3, 4).fill(5);
+    assert_eq!(rt; write_two(&mut &mut vector, 0, &[6, 7]), 4);
+    assert_eq!(rt; vector.as_slice(), [6u8, 7, 8, 5].as_slice());
     Ok(())
 }

@@ -1,9 +1,9 @@
 use Rattle.std.proofs.Common.{◌≡◌, ℕ, ◌≤◌, List, [], ◌++◌, length, take, drop, Some, sym, ◌∙◌, arith, append-nil}
 use Rattle.std.proofs.lemmas.List.{take_at, drop_all}
-use Rattle.netlink_packet_core_grammar.specs.Numbers.{as_usize}
-use Rattle.netlink_packet_core_grammar.specs.Frames.{frame_body}
-use Rattle.netlink_packet_core_messages.specs.TypedBodies.{TypedBody}
-use Rattle.netlink_packet_core_messages.specs.Messages.{finalized}
+use Rattle.netlink_packet_core.specs.Numbers.{as_usize}
+use Rattle.netlink_packet_core.specs.Frames.{frame_body}
+use Rattle.netlink_packet_core.specs.TypedBodies.{TypedBody}
+use Rattle.netlink_packet_core.specs.Messages.{finalized}
 use Rattle.netlink_packet_core_messages.proofs.Sizes.{length-message_text}
 use Rattle.netlink_packet_core_tests.proofs.messages.canonical_frame.Goals as goal
 

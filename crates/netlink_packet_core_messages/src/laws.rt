@@ -66,12 +66,14 @@ pub fn messages_read_back<I: NetlinkProtocol>(message: &NetlinkMessage<I>, rest:
     message.payload.code_fits();
 }
 
-/// The bytes of a finalized message are a whole frame, whatever follows them.
+/// The bytes of a finalized message are a whole frame, whatever follows them, and as many as its
+/// header and its body have.
 pub fn messages_are_frames<I: NetlinkProtocol>(message: &NetlinkMessage<I>, rest: &[u8])
     requires { IsFinalized I.entry message.now }
     ensures whole { IsFrame (message_text I.entry message.now ++ rest.now) }
     ensures length { frame_length (message_text I.entry message.now ++ rest.now)
         ≡ length (message_text I.entry message.now) }
+    ensures size { length (message_text I.entry message.now) ≡ message_size I.entry message.now }
 {
     message.header.numbers_fit();
 }

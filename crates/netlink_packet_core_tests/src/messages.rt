@@ -103,6 +103,7 @@ fn canonical_frame(alloc: Global, frame: &[u8]) -> Result<Vec<u8>, FrameError<Al
         return Err(FrameError::from(DecodeError::buffer_too_small(u32::MAX as usize, size)));
     }
     message.finalize();
+    laws::messages_are_frames(&message, frame);
     let mut out = match Vec::from_elem(alloc, 0u8, size) {
         Ok(out) => out,
         Err(error) => return Err(FrameError::from(DecodeError::from(error))),

@@ -3,8 +3,6 @@ use Rattle.std.proofs.lemmas.List.{take_at, drop_all}
 use Rattle.netlink_packet_core.specs.Numbers.{as_usize}
 use Rattle.netlink_packet_core.specs.Frames.{frame_body}
 use Rattle.netlink_packet_core.specs.TypedBodies.{TypedBody}
-use Rattle.netlink_packet_core.specs.Messages.{finalized}
-use Rattle.netlink_packet_core_messages.proofs.Sizes.{length-message_text}
 use Rattle.netlink_packet_core_tests.proofs.messages.canonical_frame.Goals as goal
 
 filled : (s items new : List ℕ) (n size len : ℕ) → new ≡ s ++ drop n items → length s ≡ n → size ≡ as_usize n → size ≤ 4294967295 → length items ≡ size → len ≡ size → take len (new ++ drop (length new) items) ≡ s
@@ -20,8 +18,7 @@ same x y e = cc
 
 pub returns : goal.returns
 returns c =
-    let m = c.in_ok-message.message in
-    let size = length-message_text (λ k. (k.message_type, k.bytes)) (finalized (λ k. (k.message_type, k.bytes)) m) in
+    let size = rw c.finalize.ensures at c.messages_are_frames.ensures.size in
     let e = c.serialize.ensures in
     let i = c.as_mut_slice.ensures.value in
     let j = c.in-Ok.ensures.len in

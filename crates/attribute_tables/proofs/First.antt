@@ -2,7 +2,7 @@
 use Rattle.std.proofs.Common.{◌≡◌, ℕ, Bool, true, false, List, [], ◌∷◌, length, Some, refl, sym, ap, ◌∙◌}
 use Rattle.std.specs.Prelude.{◌&&◌}
 use Rattle.netlink_packet_core_grammar.specs.Attributes.{Attribute, list_text, proper_kind}
-use Rattle.netlink_packet_core_grammar.specs.AttributeViews.{IsAttribute, attribute_of, after_first}
+use Rattle.netlink_packet_core_grammar.specs.AttributeViews.{IsAttribute, viewed_attribute, after_first}
 use Rattle.netlink_packet_core_grammar.specs.Fits.{attribute_fits}
 use Rattle.netlink_packet_core_grammar.proofs.FirstAttribute.{first_attribute_is, first_attribute_none}
 use Rattle.netlink_packet_core.specs.Families.{Gives, accepts}
@@ -32,8 +32,8 @@ pub first_of : (t : Table) (b : List ℕ) (e : Attribute) → holds_no_lists t �
 first_of t b e plain h a is =
     let f = table_row bytes_peer t in
     let w : Written = record { entry = e; inside_fits = true } in
-    let wrote : w ≡ record { entry = e; inside_fits = (f (proper_kind (attribute_of b).kind)).rule.fits (attribute_of b).payload } = λ i. record { entry = e; inside_fits = sym (family-fits t plain (proper_kind (attribute_of b).kind) (attribute_of b).payload) i } in
-    let r = first_read (without_context f) b (attribute_of b) (after_first b) w (first_attribute_is b h) a (wrote ∙ ap (λ x. record { entry = x; inside_fits = (f (proper_kind (attribute_of b).kind)).rule.fits (attribute_of b).payload }) is) in
+    let wrote : w ≡ record { entry = e; inside_fits = (f (proper_kind (viewed_attribute b).kind)).rule.fits (viewed_attribute b).payload } = λ i. record { entry = e; inside_fits = sym (family-fits t plain (proper_kind (viewed_attribute b).kind) (viewed_attribute b).payload) i } in
+    let r = first_read (without_context f) b (viewed_attribute b) (after_first b) w (first_attribute_is b h) a (wrote ∙ ap (λ x. record { entry = x; inside_fits = (f (proper_kind (viewed_attribute b).kind)).rule.fits (viewed_attribute b).payload }) is) in
     let t' = tells_rows first_alone f b (w ∷ []) r in
     let rule_is = list-rows bytes_peer first_alone t in
     record {
@@ -45,7 +45,7 @@ first_of t b e plain h a is =
 pub first_not : (t : Table) (b : List ℕ) → IsAttribute b → accepts t b ≡ false → (list_of bytes_peer first_alone t).accepted b ≡ false
 first_not t b h a =
     let f = table_row bytes_peer t in
-    ap (λ r. r.accepted b) (list-rows bytes_peer first_alone t) ∙ denies_rows first_alone f b (first_refused (without_context f) b (attribute_of b) (after_first b) (first_attribute_is b h) a)
+    ap (λ r. r.accepted b) (list-rows bytes_peer first_alone t) ∙ denies_rows first_alone f b (first_refused (without_context f) b (viewed_attribute b) (after_first b) (first_attribute_is b h) a)
 
 pub first_none : (t : Table) (b : List ℕ) → (IsAttribute b → ⊥) → (list_of bytes_peer first_alone t).accepted b ≡ false
 first_none t b h =
@@ -53,7 +53,7 @@ first_none t b h =
     ap (λ r. r.accepted b) (list-rows bytes_peer first_alone t) ∙ denies_rows first_alone f b (first_missing (without_context f) b (first_attribute_none b h))
 
 by_cases : (t : Table) (b : List ℕ) (a : Bool) → holds_no_lists t ≡ true → IsAttribute b → accepts t b ≡ a → (list_of bytes_peer first_alone t).accepted b ≡ a
-by_cases t b true plain h is = (first_of t b (rewrite (row_at (table_row bytes_peer t) (attribute_of b)) (attribute_of b)) plain h is refl).accepted
+by_cases t b true plain h is = (first_of t b (rewrite (row_at (table_row bytes_peer t) (viewed_attribute b)) (viewed_attribute b)) plain h is refl).accepted
 by_cases t b false plain h is = first_not t b h is
 
 -- what is accepted is the first attribute

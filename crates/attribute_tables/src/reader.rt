@@ -2,7 +2,7 @@
 
 ghost use Rattle.std.specs.Prelude.{◌≡◌, ◌<◌, ℕ, List, Bool, true, false, length, map, Some, IsTrue, IfOk, IfErr, OnOk};
 ghost use Rattle.std.specs.List.{All};
-ghost use Rattle.netlink_packet_core_grammar.specs.AttributeViews.{attribute_of, payload_of, IsAttribute};
+ghost use Rattle.netlink_packet_core_grammar.specs.AttributeViews.{viewed_attribute, viewed_payload, IsAttribute};
 ghost use Rattle.netlink_packet_core.specs.Errors.{is_memory};
 ghost use Rattle.netlink_packet_core.specs.NlaBuffers.{storage};
 ghost use Rattle.netlink_packet_core.specs.Lists.{text_by, all_fit_by};
@@ -31,17 +31,17 @@ pub trait Reader {
     fn read(&self, alloc: Global, buf: &NlaBuffer<&[u8]>) -> Result<Self::Value, DecodeError>
         requires { IsAttribute (storage buf.now).now }
         ensures ok { OnOk result
-            (IsTrue ((row_at (row_of self.now) (attribute_of (storage buf.now).now)).rule.accepted (payload_of (storage buf.now).now))) }
+            (IsTrue ((row_at (row_of self.now) (viewed_attribute (storage buf.now).now)).rule.accepted (viewed_payload (storage buf.now).now))) }
         ensures value { IfOk result
             (λ v. Self.Value.entry v
-            ≡ rewrite (row_at (row_of self.now) (attribute_of (storage buf.now).now)) (attribute_of (storage buf.now).now)) }
+            ≡ rewrite (row_at (row_of self.now) (viewed_attribute (storage buf.now).now)) (viewed_attribute (storage buf.now).now)) }
         ensures inside { IfOk result
             (λ v. Self.Value.inside_fits v
-            ≡ (row_at (row_of self.now) (attribute_of (storage buf.now).now)).rule.fits (payload_of (storage buf.now).now)) }
+            ≡ (row_at (row_of self.now) (viewed_attribute (storage buf.now).now)).rule.fits (viewed_payload (storage buf.now).now)) }
         ensures names_row { IfOk result (λ v. names_row self.now v) }
         ensures err { IfErr result
             (λ e. is_memory e ≡ false
-            → (row_at (row_of self.now) (attribute_of (storage buf.now).now)).rule.accepted (payload_of (storage buf.now).now)
+            → (row_at (row_of self.now) (viewed_attribute (storage buf.now).now)).rule.accepted (viewed_payload (storage buf.now).now)
             ≡ false) }
         ensures memory { IfErr result
             (λ e. is_memory e ≡ true → may_want_memory self.now (storage buf.now).now ≡ true) };

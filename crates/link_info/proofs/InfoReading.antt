@@ -2,7 +2,7 @@
 use Rattle.std.proofs.Common.{◌≡◌, ℕ, ◌<◌, true, false, List, [], ◌∷◌, ◌++◌, length, map, Some, refl, sym, ap, subst, ◌∙◌}
 use Rattle.std.proofs.lemmas.List.{map-append}
 use Rattle.netlink_packet_core_grammar.specs.Attributes.{proper_kind, list_text}
-use Rattle.netlink_packet_core_grammar.specs.AttributeViews.{IsAttribute, attribute_of, raw_kind_of, payload_of, after_first}
+use Rattle.netlink_packet_core_grammar.specs.AttributeViews.{IsAttribute, viewed_attribute, viewed_kind, viewed_payload, after_first}
 use Rattle.netlink_packet_core_grammar.proofs.FirstAttribute.{first_attribute_is, first_attribute_none}
 use Rattle.netlink_packet_core.specs.Lists.{text_by, all_fit_by}
 use Rattle.attribute_tables_grammar.specs.Lists.{Context, nothing, any, LawfulGrammar, row_of, rewrite}
@@ -34,25 +34,25 @@ pub state_start : (bytes : List ℕ) → State bytes [] nothing bytes
 state_start bytes = record { so_far = start any info_grammar bytes; named = named_none info_grammar link_info_entry link_info_names_row }
 
 pub state_more : (bytes : List ℕ) (vs : List LinkInfo) (c : Context) (rest : List ℕ) (v : LinkInfo) → IsAttribute rest →
-    (link_info_row c (proper_kind (raw_kind_of rest))).rule.accepted (payload_of rest) ≡ true →
-    link_info_entry v ≡ rewrite (link_info_row c (proper_kind (raw_kind_of rest))) (attribute_of rest) →
-    link_info_fits v ≡ (link_info_row c (proper_kind (raw_kind_of rest))).rule.fits (payload_of rest) →
-    link_info_names_row c v → State bytes vs c rest → State bytes (vs ++ v ∷ []) (info_next c (proper_kind (raw_kind_of rest)) (payload_of rest)) (after_first rest)
+    (link_info_row c (proper_kind (viewed_kind rest))).rule.accepted (viewed_payload rest) ≡ true →
+    link_info_entry v ≡ rewrite (link_info_row c (proper_kind (viewed_kind rest))) (viewed_attribute rest) →
+    link_info_fits v ≡ (link_info_row c (proper_kind (viewed_kind rest))).rule.fits (viewed_payload rest) →
+    link_info_names_row c v → State bytes vs c rest → State bytes (vs ++ v ∷ []) (info_next c (proper_kind (viewed_kind rest)) (viewed_payload rest)) (after_first rest)
 unfolding info_grammar_under data_rule_under port_data_rule_under
 state_more bytes vs c rest v h a entry inside n s =
-    let e = attribute_of rest in
+    let e = viewed_attribute rest in
     let w = written_as link_info_entry link_info_fits in
     let is : w v ≡ written_by (row_of info_grammar c e) e = λ i. record { entry = entry i; inside_fits = inside i } in
     record {
-      so_far = subst (λ ws. SoFar any info_grammar bytes ws (info_next c (proper_kind (raw_kind_of rest)) (payload_of rest)) (after_first rest)) (sym (map-append w vs (v ∷ [])))
+      so_far = subst (λ ws. SoFar any info_grammar bytes ws (info_next c (proper_kind (viewed_kind rest)) (viewed_payload rest)) (after_first rest)) (sym (map-append w vs (v ∷ [])))
           (more any info_grammar bytes (written vs) c rest e (after_first rest) (w v) (first_attribute_is rest h) refl a is s.so_far);
       named = named_next info_grammar info_lawful link_info_entry link_info_names_row vs c e v a entry n s.named;
     }
 
 pub state_refused : (bytes : List ℕ) (vs : List LinkInfo) (c : Context) (rest : List ℕ) → IsAttribute rest →
-    (link_info_row c (proper_kind (raw_kind_of rest))).rule.accepted (payload_of rest) ≡ false → State bytes vs c rest → info_rule.accepted bytes ≡ false
+    (link_info_row c (proper_kind (viewed_kind rest))).rule.accepted (viewed_payload rest) ≡ false → State bytes vs c rest → info_rule.accepted bytes ≡ false
 unfolding info_grammar_under data_rule_under port_data_rule_under info_rule_under
-state_refused bytes vs c rest h a s = denies any info_grammar bytes (as_any _ _ ∙ refused any info_grammar bytes (written vs) c rest (attribute_of rest) (after_first rest) (first_attribute_is rest h) refl a s.so_far)
+state_refused bytes vs c rest h a s = denies any info_grammar bytes (as_any _ _ ∙ refused any info_grammar bytes (written vs) c rest (viewed_attribute rest) (after_first rest) (first_attribute_is rest h) refl a s.so_far)
 
 pub state_stopped : (bytes : List ℕ) (vs : List LinkInfo) (c : Context) (rest : List ℕ) → (IsAttribute rest → ⊥) → 0 < length rest → State bytes vs c rest → info_rule.accepted bytes ≡ false
 unfolding info_grammar_under info_rule_under

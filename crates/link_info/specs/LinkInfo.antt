@@ -2,7 +2,7 @@
 use Rattle.std.specs.Prelude.{◌≡◌, ℕ, Bool, true, false, ⊤, List, Option, Some, None, option_map}
 use Rattle.std.specs.Borrow.{Bor}
 use Rattle.netlink_packet_core.specs.Attributes.{Attribute, proper_kind}
-use Rattle.netlink_packet_core.specs.AttributeViews.{attribute_of, raw_kind_of, payload_of}
+use Rattle.netlink_packet_core.specs.AttributeViews.{viewed_attribute, viewed_kind, viewed_payload}
 use Rattle.attribute_tables_grammar.specs.Lists.{Context, Row, rewrite}
 use Rattle.attribute_tables_grammar.specs.Tables.{info_next}
 use Rattle.link_info_grammar.specs.LinkInfo.{link_info_row}
@@ -42,21 +42,21 @@ context_of kind port_kind = record { kind = option_map (λ b. b.now) kind; port_
 -- ---- the attribute that the bytes begin with, where these kinds are in force
 
 abbrev pub row_in : Context → List ℕ → Row
-row_in c b = link_info_row c (proper_kind (raw_kind_of b))
+row_in c b = link_info_row c (proper_kind (viewed_kind b))
 
 abbrev pub is_accepted_in : Context → List ℕ → Bool
-is_accepted_in c b = (row_in c b).rule.accepted (payload_of b)
+is_accepted_in c b = (row_in c b).rule.accepted (viewed_payload b)
 
 abbrev pub fits_in : Context → List ℕ → Bool
-fits_in c b = (row_in c b).rule.fits (payload_of b)
+fits_in c b = (row_in c b).rule.fits (viewed_payload b)
 
 -- what it is written as
 abbrev pub written_in : Context → List ℕ → Attribute
-written_in c b = rewrite (row_in c b) (attribute_of b)
+written_in c b = rewrite (row_in c b) (viewed_attribute b)
 
 -- what is in force after it
 abbrev pub context_after_first : Context → List ℕ → Context
-context_after_first c b = info_next c (proper_kind (raw_kind_of b)) (payload_of b)
+context_after_first c b = info_next c (proper_kind (viewed_kind b)) (viewed_payload b)
 
 -- ---- the variants that rows name
 

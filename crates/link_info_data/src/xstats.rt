@@ -2,7 +2,7 @@
 //! (`rtnl_link_ops.fill_xstats`).
 
 ghost use Rattle.std.specs.Prelude.{◌≡◌, ⊤, true};
-ghost use Rattle.netlink_packet_core.specs.AttributeViews.{IsAttribute, payload_of};
+ghost use Rattle.netlink_packet_core.specs.AttributeViews.{IsAttribute, viewed_payload};
 ghost use Rattle.netlink_packet_core.specs.NlaBuffers.{storage};
 ghost use Rattle.link_info_data.specs.Xstats.{xstats_bytes};
 
@@ -41,7 +41,7 @@ impl<'a, 'b> ParseableParametrized<NlaBuffer<&'a [u8]>, &'b InfoKind> for LinkXs
 
     ghost may_want_memory = { λ _ _. true };
 
-    ghost gives = { λ b _ x. xstats_bytes x ≡ payload_of (storage b).now };
+    ghost gives = { λ b _ x. xstats_bytes x ≡ viewed_payload (storage b).now };
 
     fn parse_with_param(
         alloc: Global,

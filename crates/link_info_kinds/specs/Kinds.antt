@@ -1,7 +1,7 @@
 -- The kind of a link, by its name.
 use Rattle.std.specs.Prelude.{◌≡◌, ◌==◌, ◌&&◌, ℕ, Bool, true, List, [], ◌∷◌, ◌++◌, codes, string_bytes, Option, Some, None}
 use Rattle.netlink_packet_core.specs.Attributes.{Attribute, proper_kind}
-use Rattle.netlink_packet_core.specs.AttributeViews.{raw_kind_of, payload_of}
+use Rattle.netlink_packet_core.specs.AttributeViews.{viewed_kind, viewed_payload}
 use Rattle.netlink_packet_core.specs.Texts.{is_text, without_nul}
 use Rattle.link_info_grammar.specs.KindNames.{kind_names, is_unlisted}
 use Rattle.link_info_kinds.specs.declared.info_kind.InfoKind.{InfoKind}
@@ -84,9 +84,9 @@ info_kind_entry k = record { kind = 1; payload = info_kind_text k ++ 0 ∷ [] }
 
 -- the attribute that some bytes begin with is accepted
 abbrev pub info_kind_accepted : List ℕ → Bool
-info_kind_accepted b = (proper_kind (raw_kind_of b) == 1) && is_text (payload_of b)
+info_kind_accepted b = (proper_kind (viewed_kind b) == 1) && is_text (viewed_payload b)
 
 -- it is accepted, and its name is kept, being none of those listed
 abbrev pub info_kind_takes_memory : List ℕ → Bool
 info_kind_takes_memory b =
-    info_kind_accepted b && is_unlisted kind_names (without_nul (payload_of b))
+    info_kind_accepted b && is_unlisted kind_names (without_nul (viewed_payload b))

@@ -2,7 +2,7 @@
 //! is a port of.
 
 ghost use Rattle.std.specs.Prelude.{◌≡◌, ◌++◌, ◌∷◌, [], true, Some, IfOk, IfErr};
-ghost use Rattle.netlink_packet_core.specs.AttributeViews.{IsAttribute, payload_of};
+ghost use Rattle.netlink_packet_core.specs.AttributeViews.{IsAttribute, viewed_payload};
 ghost use Rattle.netlink_packet_core.specs.Errors.{is_memory};
 ghost use Rattle.netlink_packet_core.specs.Named.{named_by};
 ghost use Rattle.netlink_packet_core.specs.NlaBuffers.{storage};
@@ -120,7 +120,7 @@ impl<'a> Parseable<NlaBuffer<&'a [u8]>> for InfoPortKind {
     // Want of memory hides no refusal.
     ghost may_want_memory = { λ b. info_port_kind_takes_memory (storage b).now };
 
-    ghost gives = { λ b k. IsPortNamedBy (without_nul (payload_of (storage b).now)) k };
+    ghost gives = { λ b k. IsPortNamedBy (without_nul (viewed_payload (storage b).now)) k };
 
     fn parse(alloc: Global, buf: &NlaBuffer<&'a [u8]>) -> Result<Self, DecodeError> {
         if buf.kind() != IFLA_INFO_PORT_KIND {

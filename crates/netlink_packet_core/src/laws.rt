@@ -7,8 +7,8 @@ pub use netlink_packet_core_attributes::laws::{
     walks_are_short, walks_are_the_relation,
 };
 pub use netlink_packet_core_grammar::laws::{
-    attributes_are_cut_in_one_way, attributes_are_the_relation, lists_are_joined,
-    texts_are_cut_again,
+    attributes_are_cut_in_one_way, attributes_are_the_relation, first_attributes_are_viewed,
+    lists_are_joined, texts_are_cut_again,
 };
 pub use netlink_packet_core_messages::laws::{
     bytes_past_a_frame_change_nothing, canonical_frames_are_stable, cut_frames_are_refused,

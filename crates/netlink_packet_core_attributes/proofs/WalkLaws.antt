@@ -3,9 +3,10 @@ use Rattle.std.proofs.Common.{◌≡◌, ℕ, zero, suc, ◌+◌, ◌*◌, ◌<�
 use Rattle.std.specs.Prelude.{option_map}
 use Rattle.std.proofs.lemmas.Bool.{cases_lt}
 use Rattle.netlink_packet_core_grammar.specs.Attributes.{Attribute, attribute_text, list_text, first_attribute, attributes_of, IsAttributeList}
-use Rattle.netlink_packet_core_grammar.specs.AttributeViews.{length_of, attribute_of, IsAttribute, after_first}
+use Rattle.netlink_packet_core_grammar.specs.AttributeViews.{viewed_length, viewed_attribute, IsAttribute, after_first}
 use Rattle.netlink_packet_core_grammar.proofs.Attributes.{sized, first_attribute_text, attributes_cut, cut_attributes, got, got_is}
-use Rattle.netlink_packet_core_grammar.proofs.FirstAttribute.{first_attribute_is, first_attribute_none, attributes_step}
+use Rattle.netlink_packet_core_grammar.proofs.FirstAttribute.{attributes_step}
+use Rattle.netlink_packet_core_grammar.specs.Laws.{FirstIsViewed}
 use Rattle.netlink_packet_core_attributes.specs.Walks.{IsWalk, attribute_walk}
 use Rattle.netlink_packet_core_attributes.specs.Laws.{WalkIsTheRelation, ListsAreWalked, OthersEndInAFault, TextsAreWalked, TextsAreReadBack, WalksAreShort}
 use Rattle.netlink_packet_core_attributes.proofs.Walks.{shorter, walk-empty, walk-step, walk-stop}
@@ -79,28 +80,28 @@ texts_are_walked (e ∷ es) bytes =
     ∙ walk-step (attribute_text e ++ (list_text es ++ bytes)) e (list_text es ++ bytes) (first_attribute_text e (list_text es ++ bytes))
     ∙ ap (λ items. Some e ∷ items) (texts_are_walked es bytes)
 
-is_none : (bytes : List ℕ) (x : Attribute × List ℕ) → first_attribute bytes ≡ Some x → (IsAttribute bytes → ⊥) → ⊥
-is_none bytes x h n = let e : got x ≡ None = sym h ∙ first_attribute_none bytes n in cc
+is_none : FirstIsViewed → (bytes : List ℕ) (x : Attribute × List ℕ) → first_attribute bytes ≡ Some x → (IsAttribute bytes → ⊥) → ⊥
+is_none law bytes x h n = let e : got x ≡ None = sym h ∙ law.none bytes n in cc
 
-whole : (bytes : List ℕ) (x : Attribute × List ℕ) → first_attribute bytes ≡ Some x → IsAttribute bytes
-whole bytes x h =
+whole : FirstIsViewed → (bytes : List ℕ) (x : Attribute × List ℕ) → first_attribute bytes ≡ Some x → IsAttribute bytes
+whole law bytes x h =
     elim (cases_lt (length bytes) 4) as (λ _. IsAttribute bytes) [
-      | inl a ↦ absurd (is_none bytes x h (λ i. let k = i.has_header in omega arith))
-      | inr a ↦ elim (cases_lt (length_of bytes) 4) as (λ _. IsAttribute bytes) [
-        | inl b ↦ absurd (is_none bytes x h (λ i. let k = i.covers_header in omega arith))
-        | inr b ↦ elim (cases_lt (length bytes) (length_of bytes)) as (λ _. IsAttribute bytes) [
-          | inl c ↦ absurd (is_none bytes x h (λ i. let k = i.within in omega arith))
+      | inl a ↦ absurd (is_none law bytes x h (λ i. let k = i.has_header in omega arith))
+      | inr a ↦ elim (cases_lt (viewed_length bytes) 4) as (λ _. IsAttribute bytes) [
+        | inl b ↦ absurd (is_none law bytes x h (λ i. let k = i.covers_header in omega arith))
+        | inr b ↦ elim (cases_lt (length bytes) (viewed_length bytes)) as (λ _. IsAttribute bytes) [
+          | inl c ↦ absurd (is_none law bytes x h (λ i. let k = i.within in omega arith))
           | inr c ↦ record { has_header = a; covers_header = b; within = c }
         ]
       ]
     ]
 
-pub texts_are_read_back : TextsAreReadBack
-texts_are_read_back e bytes =
+pub texts_are_read_back : FirstIsViewed → TextsAreReadBack
+texts_are_read_back law e bytes =
     let text = attribute_text e ++ bytes in
     let h = first_attribute_text e bytes in
-    let is = whole text (e, bytes) h in
-    let same : (attribute_of text, after_first text) ≡ (e, bytes) = got_is (attribute_of text, after_first text) (e, bytes) (sym (first_attribute_is text is) ∙ h) in
+    let is = whole law text (e, bytes) h in
+    let same : (viewed_attribute text, after_first text) ≡ (e, bytes) = got_is (viewed_attribute text, after_first text) (e, bytes) (sym (law.whole text is) ∙ h) in
     (is, ap (λ (x : Attribute × List ℕ). x.0) same)
 
 -- ---- how many items

@@ -1,7 +1,7 @@
 -- A walk, a step at a time.
 use Rattle.std.proofs.Common.{◌≡◌, ℕ, zero, suc, ◌<◌, ◌≤◌, List, [], ◌∷◌, length, Option, Some, None, refl, ap, ◌∙◌, arith}
 use Rattle.netlink_packet_core_grammar.specs.Attributes.{Attribute, first_attribute}
-use Rattle.netlink_packet_core_grammar.specs.AttributeViews.{attribute_of, IsAttribute, after_first}
+use Rattle.netlink_packet_core_grammar.specs.AttributeViews.{viewed_attribute, IsAttribute, after_first}
 use Rattle.netlink_packet_core_grammar.proofs.Attributes.{sized, no_first_attribute}
 use Rattle.netlink_packet_core_grammar.proofs.FirstAttribute.{first_attribute_is, first_attribute_none}
 use Rattle.netlink_packet_core_attributes.specs.Walks.{walk_on, walk_within, attribute_walk}
@@ -56,8 +56,8 @@ pub walk-at_end : (bytes : List ℕ) → length bytes ≡ 0 → attribute_walk b
 walk-at_end [] e = walk-empty
 walk-at_end (b ∷ bytes) e = absurd (omega arith)
 
-pub walk-attribute : (bytes : List ℕ) → IsAttribute bytes → attribute_walk bytes ≡ Some (attribute_of bytes) ∷ attribute_walk (after_first bytes)
-walk-attribute bytes h = walk-step bytes (attribute_of bytes) (after_first bytes) (first_attribute_is bytes h)
+pub walk-attribute : (bytes : List ℕ) → IsAttribute bytes → attribute_walk bytes ≡ Some (viewed_attribute bytes) ∷ attribute_walk (after_first bytes)
+walk-attribute bytes h = walk-step bytes (viewed_attribute bytes) (after_first bytes) (first_attribute_is bytes h)
 
 pub walk-fault : (bytes : List ℕ) → 0 < length bytes → (IsAttribute bytes → ⊥) → attribute_walk bytes ≡ None ∷ []
 walk-fault bytes l h = walk-stop bytes l (first_attribute_none bytes h)

@@ -1,7 +1,7 @@
 -- Attributes of one family, by its table.
 use Rattle.std.specs.Prelude.{◌≡◌, ◌&&◌, ℕ, Bool, List}
 use Rattle.netlink_packet_core_grammar.specs.Attributes.{Attribute, proper_kind}
-use Rattle.netlink_packet_core_grammar.specs.AttributeViews.{attribute_of, raw_kind_of, payload_of}
+use Rattle.netlink_packet_core_grammar.specs.AttributeViews.{viewed_attribute, viewed_kind, viewed_payload}
 use Rattle.attribute_tables_grammar.specs.Lists.{Row, rewrite, row_at}
 use Rattle.attribute_tables_grammar.specs.LookUps.{table_row, row_holds_bytes}
 use Rattle.attribute_tables_grammar.specs.Peers.{bytes_peer}
@@ -17,12 +17,12 @@ family_row t k = table_row bytes_peer t k
 
 -- the attribute that the bytes begin with is accepted by its row
 abbrev pub accepts : Table → List ℕ → Bool
-accepts t b = (row_at (family_row t) (attribute_of b)).rule.accepted (payload_of b)
+accepts t b = (row_at (family_row t) (viewed_attribute b)).rule.accepted (viewed_payload b)
 
 -- its row holds bytes or text, and accepts it
 abbrev pub may_want_memory : Table → List ℕ → Bool
-may_want_memory t b = row_holds_bytes t (proper_kind (raw_kind_of b)) && accepts t b
+may_want_memory t b = row_holds_bytes t (proper_kind (viewed_kind b)) && accepts t b
 
 -- it is written as this one: with its row's kind, and its canonical payload
 abbrev pub Gives : Table → List ℕ → Attribute → Type 0
-Gives t b e = e ≡ rewrite (row_at (family_row t) (attribute_of b)) (attribute_of b)
+Gives t b e = e ≡ rewrite (row_at (family_row t) (viewed_attribute b)) (viewed_attribute b)

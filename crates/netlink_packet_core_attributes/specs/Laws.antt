@@ -1,7 +1,7 @@
 -- The laws of walks and of written attributes, as the functions of `laws` state them.
 use Rattle.std.specs.Prelude.{◌≡◌, ◌↔◌, ◌≤◌, ◌+◌, ◌*◌, ℕ, List, [], ◌∷◌, ◌++◌, length, map, Option, Some, None}
 use Rattle.netlink_packet_core_grammar.specs.Attributes.{Attribute, attribute_text, list_text, attributes_of}
-use Rattle.netlink_packet_core_grammar.specs.AttributeViews.{attribute_of, IsAttribute}
+use Rattle.netlink_packet_core_grammar.specs.AttributeViews.{viewed_attribute, IsAttribute}
 use Rattle.netlink_packet_core_attributes.specs.Walks.{IsWalk, attribute_walk}
 
 -- what the function computes is the relation
@@ -22,7 +22,7 @@ TextsAreWalked = (es : List Attribute) (bytes : List ℕ) → attribute_walk (li
 
 -- a written attribute is read as it was
 abbrev pub TextsAreReadBack : Type 0
-TextsAreReadBack = (e : Attribute) (bytes : List ℕ) → IsAttribute (attribute_text e ++ bytes) × (attribute_of (attribute_text e ++ bytes) ≡ e)
+TextsAreReadBack = (e : Attribute) (bytes : List ℕ) → IsAttribute (attribute_text e ++ bytes) × (viewed_attribute (attribute_text e ++ bytes) ≡ e)
 
 -- a walk has one item for every 4 bytes at most, the last 4 counted whole
 abbrev pub WalksAreShort : Type 0

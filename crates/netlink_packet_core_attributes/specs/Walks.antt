@@ -3,7 +3,7 @@ use Rattle.std.specs.Prelude.{◌≡◌, ℕ, zero, suc, ◌<◌, false, List, [
 use Rattle.std.specs.Borrow.{Bor}
 use Rattle.std.specs.Iterator.{YieldsFirstBy}
 use Rattle.netlink_packet_core_grammar.specs.Attributes.{Attribute, first_attribute}
-use Rattle.netlink_packet_core_grammar.specs.AttributeViews.{attribute_of, IsAttribute}
+use Rattle.netlink_packet_core_grammar.specs.AttributeViews.{viewed_attribute, IsAttribute}
 use Rattle.netlink_packet_core_numbers.specs.declared.error.DecodeError.{DecodeError}
 use Rattle.netlink_packet_core_numbers.specs.Errors.{is_memory}
 use Rattle.netlink_packet_core_attributes.specs.declared.nla_buffer.NlaBuffer.{NlaBuffer}
@@ -31,7 +31,7 @@ attribute_walk bytes = walk_within (length bytes) bytes
 
 -- what an item of the iterator says
 abbrev pub item_of : Result (NlaBuffer (Bor (List ℕ))) DecodeError → Option Attribute
-item_of (Ok view) = Some (attribute_of (storage view).now)
+item_of (Ok view) = Some (viewed_attribute (storage view).now)
 item_of (Err e) = None
 
 -- a call of `next` with these bytes left gave the first item of their walk: a view of them, which begin with a whole attribute, or a fault that is no want of memory

@@ -2,7 +2,7 @@
 
 ghost use Rattle.std.specs.Prelude.{◌≡◌, true, IsTrue, IfOk, IfErr, IfSome, IfNone, OnOk};
 ghost use Rattle.netlink_packet_core_grammar.specs.Attributes.{Attribute, proper_kind};
-ghost use Rattle.netlink_packet_core_grammar.specs.AttributeViews.{raw_kind_of, IsAttribute};
+ghost use Rattle.netlink_packet_core_grammar.specs.AttributeViews.{viewed_kind, IsAttribute};
 ghost use Rattle.netlink_packet_core_grammar.specs.Numbers.{as_usize};
 ghost use Rattle.netlink_packet_core_numbers.specs.Errors.{is_memory};
 ghost use Rattle.netlink_packet_core_attributes.specs.NlaBuffers.{storage};
@@ -90,7 +90,7 @@ pub fn read_attribute<F: Family>(alloc: Global, buf: &NlaBuffer<&[u8]>) -> Resul
     ensures names_row { IfOk result (λ v. F.names_row v) }
     ensures err { IfErr result (λ e. accepts F.rows (storage buf.now).now ≡ is_memory e) }
     ensures memory { IfErr result
-        (λ e. is_memory e ≡ true → row_holds_bytes F.rows (proper_kind (raw_kind_of (storage buf.now).now)) ≡ true) }
+        (λ e. is_memory e ≡ true → row_holds_bytes F.rows (proper_kind (viewed_kind (storage buf.now).now)) ≡ true) }
 {
     match F::read_row(alloc, buf.kind(), buf.value()) {
         Ok(Some(value)) => Ok(value),

@@ -1,6 +1,8 @@
-//! Facts of the definitions. No function here makes a call.
+//! Facts of the definitions. A function here calls nothing but laws of the crates below.
 
 ghost use Rattle.netlink_packet_core_attributes.specs.Laws.{WalkIsTheRelation, ListsAreWalked, OthersEndInAFault, TextsAreWalked, TextsAreReadBack, WalksAreShort};
+
+use netlink_packet_core_grammar::laws::first_attributes_are_viewed;
 
 /// The walk that the function computes is the one of the relation.
 pub fn walks_are_the_relation()
@@ -25,7 +27,9 @@ pub fn texts_are_walked()
 /// A written attribute is read with the kind and the payload that it had.
 pub fn texts_are_read_back()
     ensures { TextsAreReadBack }
-{}
+{
+    first_attributes_are_viewed();
+}
 
 /// A walk has one item for every 4 bytes at most, the last 4 counted whole.
 pub fn walks_are_short()

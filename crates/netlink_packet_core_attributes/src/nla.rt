@@ -4,7 +4,7 @@ ghost use Rattle.std.specs.Cmp.Lexicographic.{pointwise};
 ghost use Rattle.std.specs.Cmp.Rules.{comparing};
 ghost use Rattle.std.proofs.Common.{rules};
 ghost use Rattle.netlink_packet_core_grammar.specs.Attributes.{nla_align, Attribute, attribute_length, attribute_text};
-ghost use Rattle.netlink_packet_core_grammar.specs.AttributeViews.{attribute_of, IsAttribute};
+ghost use Rattle.netlink_packet_core_grammar.specs.AttributeViews.{viewed_attribute, IsAttribute};
 ghost use Rattle.netlink_packet_core_grammar.specs.Fits.{attribute_fits};
 ghost use Rattle.netlink_packet_core_grammar.specs.Numbers.{as_usize};
 ghost use Rattle.netlink_packet_core_attributes.specs.Kinds.{has_nested_flag, has_byte_order_flag};
@@ -103,7 +103,8 @@ pub trait Nla {
         requires fits { (attribute_fits (entry self.now) && inside_fits self.now) ≡ true }
         requires room { nla_align (attribute_length (entry self.now)) ≤ length buffer.old }
         ensures { buffer.new
-            ≡ attribute_text (entry self.now) ++ drop (nla_align (attribute_length (entry self.now))) buffer.old }
+            ≡ attribute_text (entry self.now)
+            ++ drop (nla_align (attribute_length (entry self.now))) buffer.old }
     {
         let size = self.value_len();
         let (front, _) = buffer.split_at_mut(NLA_HEADER_SIZE + nla_align(size));
@@ -189,7 +190,7 @@ impl<'a> Parseable<NlaBuffer<&'a [u8]>> for DefaultNla {
 
     ghost may_want_memory = { λ _. true };
 
-    ghost gives = { λ b v. v ≡ attribute_of (storage b).now };
+    ghost gives = { λ b v. v ≡ viewed_attribute (storage b).now };
 
     fn parse(alloc: Global, buf: &NlaBuffer<&'a [u8]>) -> Result<Self, DecodeError> {
         let value = Vec::from_slice(alloc, buf.value())?;

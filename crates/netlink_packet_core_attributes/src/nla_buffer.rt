@@ -1,7 +1,7 @@
 ghost use Rattle.std.specs.Prelude.{◌≡◌, ◌↔◌, ◌-◌, ◌≤◌, length, false, IfOk, IfErr, IsOk};
 ghost use Rattle.std.specs.Borrow.{Lends, Array, sem, u8};
 ghost use Rattle.netlink_packet_core_grammar.specs.Attributes.{proper_kind};
-ghost use Rattle.netlink_packet_core_grammar.specs.AttributeViews.{length_of, raw_kind_of, payload_of, IsAttribute};
+ghost use Rattle.netlink_packet_core_grammar.specs.AttributeViews.{viewed_length, viewed_kind, viewed_payload, IsAttribute};
 ghost use Rattle.netlink_packet_core_grammar.specs.Bytes.{put_at};
 ghost use Rattle.netlink_packet_core_grammar.specs.Numbers.{le2};
 ghost use Rattle.netlink_packet_core_numbers.specs.Errors.{is_memory};
@@ -90,7 +90,7 @@ impl<T: ByteView> NlaBuffer<T> {
     /// The length that the header tells, which counts the header.
     pub fn length(&self) -> u16
         requires { 4 ≤ length (T.bytes (storage self.now)) }
-        ensures { result ≡ length_of (T.bytes (storage self.now)) }
+        ensures { result ≡ viewed_length (T.bytes (storage self.now)) }
     {
         read_u16(self.buffer.as_bytes(), 0)
     }
@@ -98,7 +98,7 @@ impl<T: ByteView> NlaBuffer<T> {
     /// The bytes of the payload.
     pub fn value_length(&self) -> usize
         requires { IsAttribute (T.bytes (storage self.now)) }
-        ensures { result ≡ length_of (T.bytes (storage self.now)) - 4 }
+        ensures { result ≡ viewed_length (T.bytes (storage self.now)) - 4 }
     {
         self.length() as usize - NLA_HEADER_SIZE
     }
@@ -106,7 +106,7 @@ impl<T: ByteView> NlaBuffer<T> {
     /// All 16 bits of the kind.
     pub fn raw_kind(&self) -> u16
         requires { 4 ≤ length (T.bytes (storage self.now)) }
-        ensures { result ≡ raw_kind_of (T.bytes (storage self.now)) }
+        ensures { result ≡ viewed_kind (T.bytes (storage self.now)) }
     {
         read_u16(self.buffer.as_bytes(), 2)
     }
@@ -114,7 +114,7 @@ impl<T: ByteView> NlaBuffer<T> {
     /// The 14 bits of the kind that are no flags.
     pub fn kind(&self) -> u16
         requires { 4 ≤ length (T.bytes (storage self.now)) }
-        ensures { result ≡ proper_kind (raw_kind_of (T.bytes (storage self.now))) }
+        ensures { result ≡ proper_kind (viewed_kind (T.bytes (storage self.now))) }
     {
         self.raw_kind() & NLA_TYPE_MASK
     }
@@ -122,7 +122,7 @@ impl<T: ByteView> NlaBuffer<T> {
     /// Whether the payload is told to be a list of attributes.
     pub fn nested_flag(&self) -> bool
         requires { 4 ≤ length (T.bytes (storage self.now)) }
-        ensures { result ≡ has_nested_flag (raw_kind_of (T.bytes (storage self.now))) }
+        ensures { result ≡ has_nested_flag (viewed_kind (T.bytes (storage self.now))) }
     {
         self.raw_kind() & NLA_F_NESTED != 0
     }
@@ -131,7 +131,7 @@ impl<T: ByteView> NlaBuffer<T> {
     #[tactic(auto, using(crate::proofs::Flags::byte_order_flag))]
     pub fn network_byte_order_flag(&self) -> bool
         requires { 4 ≤ length (T.bytes (storage self.now)) }
-        ensures { result ≡ has_byte_order_flag (raw_kind_of (T.bytes (storage self.now))) }
+        ensures { result ≡ has_byte_order_flag (viewed_kind (T.bytes (storage self.now))) }
     {
         self.raw_kind() & NLA_F_NET_BYTEORDER != 0
     }
@@ -141,7 +141,7 @@ impl<'a> NlaBuffer<&'a [u8]> {
     /// The payload, for as long as the storage lives.
     pub fn value(&self) -> &'a [u8]
         requires { IsAttribute (storage self.now).now }
-        ensures { result.now ≡ payload_of (storage self.now).now }
+        ensures { result.now ≡ viewed_payload (storage self.now).now }
     {
         let buffer = self.buffer;
         &buffer[NLA_HEADER_SIZE..self.length() as usize]
@@ -152,7 +152,7 @@ impl<'a> NlaBuffer<&'a mut [u8]> {
     /// The payload.
     pub fn value(&self) -> &[u8]
         requires { IsAttribute (storage self.now).now }
-        ensures { result.now ≡ payload_of (storage self.now).now }
+        ensures { result.now ≡ viewed_payload (storage self.now).now }
     {
         &self.buffer[NLA_HEADER_SIZE..self.length() as usize]
     }
@@ -162,7 +162,7 @@ impl NlaBuffer<Vec<u8>> {
     /// The payload.
     pub fn value(&self) -> &[u8]
         requires { IsAttribute (storage self.now).items }
-        ensures { result.now ≡ payload_of (storage self.now).items }
+        ensures { result.now ≡ viewed_payload (storage self.now).items }
     {
         &self.buffer.as_slice()[NLA_HEADER_SIZE..self.length() as usize]
     }
@@ -172,7 +172,8 @@ impl<T: ByteViewMut> NlaBuffer<T> {
     /// Writes the header's length, which counts the header.
     pub fn set_length(&mut self, value: u16)
         requires { 4 ≤ length (T.ByteView.bytes (storage self.old)) }
-        ensures bytes { T.ByteView.bytes (storage self.new) ≡ put_at 0 (le2 value) (T.ByteView.bytes (storage self.old)) }
+        ensures bytes { T.ByteView.bytes (storage self.new)
+            ≡ put_at 0 (le2 value) (T.ByteView.bytes (storage self.old)) }
         ensures same { T.same_storage (storage self.old) (storage self.new) }
     {
         write_u16(&mut self.buffer, 0, value);
@@ -181,7 +182,8 @@ impl<T: ByteViewMut> NlaBuffer<T> {
     /// Writes the low 14 bits of `kind`, and clears both flags.
     pub fn set_kind(&mut self, kind: u16)
         requires { 4 ≤ length (T.ByteView.bytes (storage self.old)) }
-        ensures bytes { T.ByteView.bytes (storage self.new) ≡ put_at 2 (le2 (proper_kind kind)) (T.ByteView.bytes (storage self.old)) }
+        ensures bytes { T.ByteView.bytes (storage self.new)
+            ≡ put_at 2 (le2 (proper_kind kind)) (T.ByteView.bytes (storage self.old)) }
         ensures same { T.same_storage (storage self.old) (storage self.new) }
     {
         write_u16(&mut self.buffer, 2, kind & NLA_TYPE_MASK);
@@ -191,7 +193,8 @@ impl<T: ByteViewMut> NlaBuffer<T> {
     pub fn set_nested_flag(&mut self)
         requires { 4 ≤ length (T.ByteView.bytes (storage self.old)) }
         ensures bytes { T.ByteView.bytes (storage self.new)
-            ≡ put_at 2 (le2 (with_nested_flag (raw_kind_of (T.ByteView.bytes (storage self.old))))) (T.ByteView.bytes (storage self.old)) }
+            ≡ put_at 2 (le2 (with_nested_flag (viewed_kind (T.ByteView.bytes (storage self.old)))))
+            (T.ByteView.bytes (storage self.old)) }
         ensures same { T.same_storage (storage self.old) (storage self.new) }
     {
         let kind = self.kind() | NLA_F_NESTED;
@@ -202,7 +205,8 @@ impl<T: ByteViewMut> NlaBuffer<T> {
     pub fn set_network_byte_order_flag(&mut self)
         requires { 4 ≤ length (T.ByteView.bytes (storage self.old)) }
         ensures bytes { T.ByteView.bytes (storage self.new)
-            ≡ put_at 2 (le2 (with_byte_order_flag (raw_kind_of (T.ByteView.bytes (storage self.old))))) (T.ByteView.bytes (storage self.old)) }
+            ≡ put_at 2 (le2 (with_byte_order_flag (viewed_kind (T.ByteView.bytes (storage self.old)))))
+            (T.ByteView.bytes (storage self.old)) }
         ensures same { T.same_storage (storage self.old) (storage self.new) }
     {
         let kind = self.kind() | NLA_F_NET_BYTEORDER;
@@ -216,8 +220,9 @@ impl<T: ByteLend> NlaBuffer<T> {
     /// The payload, to be written.
     pub fn value_mut(&mut self) -> &mut [u8]
         requires { IsAttribute (T.ByteView.bytes (storage self.old)) }
-        ensures* writes_back { sem 𝓛 (Lends (the_row T.row) (Array u8 0) self.entry result (with_value T.with_part self.old)) }
-        ensures value { result.now ≡ payload_of (T.ByteView.bytes (storage self.old)) }
+        ensures* writes_back { sem 𝓛 (Lends (the_row T.row) (Array u8 0) self.entry result
+            (with_value T.with_part self.old)) }
+        ensures value { result.now ≡ viewed_payload (T.ByteView.bytes (storage self.old)) }
     {
         let end = self.length() as usize;
         self.buffer.part_mut(NLA_HEADER_SIZE, end)

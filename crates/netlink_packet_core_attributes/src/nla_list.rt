@@ -97,7 +97,8 @@ pub fn fits_all<N: Nla>(items: &[N]) -> bool
 pub fn emit_all<N: Nla>(items: &[N], buffer: &mut [u8])
     requires fits { all_fit_by N.entry N.inside_fits items.now ≡ true }
     requires room { size_by N.entry items.now ≤ length buffer.old }
-    ensures { buffer.new ≡ text_by N.entry items.now ++ drop (size_by N.entry items.now) buffer.old }
+    ensures { buffer.new
+        ≡ text_by N.entry items.now ++ drop (size_by N.entry items.now) buffer.old }
 {
     let mut at = 0usize;
     for item in items {

@@ -32,7 +32,8 @@ pub trait Parseable<T>: Sized {
     /// Whether the buffer is accepted, memory aside.
     ghost accepts: { T → Bool };
 
-    /// Whether reading the buffer may take memory.
+    /// Whether reading the buffer may take memory. It is false of a buffer that is refused, unless
+    /// the value is a list: there memory may be wanting before the refused attribute is met.
     ghost may_want_memory: { T → Bool };
 
     /// The value is what the buffer is read as.
@@ -55,7 +56,8 @@ pub trait ParseableParametrized<T, P>: Sized {
     /// Whether the buffer is accepted under the parameter, memory aside.
     ghost accepts: { T → P → Bool };
 
-    /// Whether reading the buffer may take memory.
+    /// Whether reading the buffer may take memory. It is false of a buffer that is refused, unless
+    /// the value is a list: there memory may be wanting before the refused attribute is met.
     ghost may_want_memory: { T → P → Bool };
 
     /// The value is what the buffer is read as under the parameter.
@@ -67,5 +69,6 @@ pub trait ParseableParametrized<T, P>: Sized {
         ensures ok { OnOk result (IsTrue (accepts buf.now params)) }
         ensures value { IfOk result (λ v. gives buf.now params v) }
         ensures err { IfErr result (λ e. is_memory e ≡ false → accepts buf.now params ≡ false) }
-        ensures memory { IfErr result (λ e. is_memory e ≡ true → may_want_memory buf.now params ≡ true) };
+        ensures memory { IfErr result (λ e. is_memory e ≡ true
+            → may_want_memory buf.now params ≡ true) };
 }

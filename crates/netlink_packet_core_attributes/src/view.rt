@@ -36,10 +36,12 @@ pub trait ByteLend: ByteViewMut {
     fn part_mut(&mut self, start: usize, end: usize) -> &mut [u8]
         requires order { start ≤ end }
         requires bounds { end ≤ length (Self.bytes self.old) }
-        ensures* writes_back { sem 𝓛 (Lends Self.row (Array u8 0) self.entry result (with_part self.old start)) }
+        ensures* writes_back { sem 𝓛 (Lends Self.row (Array u8 0) self.entry result
+            (with_part self.old start)) }
         ensures value { result.now ≡ part start end (Self.bytes self.old) };
 
-    ghost part_written: { (s : Self) (i : ℕ) (w : List ℕ) → i + length w ≤ length (Self.bytes s) → Self.bytes (with_part s i w) ≡ put_at i w (Self.bytes s) };
+    ghost part_written: { (s : Self) (i : ℕ) (w : List ℕ) → i + length w ≤ length (Self.bytes s)
+        → Self.bytes (with_part s i w) ≡ put_at i w (Self.bytes s) };
 }
 
 impl ByteView for &[u8] {

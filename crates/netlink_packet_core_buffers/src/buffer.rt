@@ -153,7 +153,8 @@ impl<T: ByteViewMut> NetlinkBuffer<T> {
     /// Sets the length of the frame in bytes, which counts the header.
     pub fn set_length(&mut self, value: u32)
         requires { 4 ≤ length (T.ByteView.bytes (storage self.old)) }
-        ensures bytes { T.ByteView.bytes (storage self.new) ≡ put_at 0 (le4 value) (T.ByteView.bytes (storage self.old)) }
+        ensures bytes { T.ByteView.bytes (storage self.new)
+            ≡ put_at 0 (le4 value) (T.ByteView.bytes (storage self.old)) }
         ensures same { T.same_storage (storage self.old) (storage self.new) }
     {
         write_u32(&mut self.buffer, 0, value);
@@ -162,7 +163,8 @@ impl<T: ByteViewMut> NetlinkBuffer<T> {
     /// Sets the type of the message.
     pub fn set_message_type(&mut self, value: u16)
         requires { 6 ≤ length (T.ByteView.bytes (storage self.old)) }
-        ensures bytes { T.ByteView.bytes (storage self.new) ≡ put_at 4 (le2 value) (T.ByteView.bytes (storage self.old)) }
+        ensures bytes { T.ByteView.bytes (storage self.new)
+            ≡ put_at 4 (le2 value) (T.ByteView.bytes (storage self.old)) }
         ensures same { T.same_storage (storage self.old) (storage self.new) }
     {
         write_u16(&mut self.buffer, 4, value);
@@ -171,7 +173,8 @@ impl<T: ByteViewMut> NetlinkBuffer<T> {
     /// Sets the flags.
     pub fn set_flags(&mut self, value: u16)
         requires { 8 ≤ length (T.ByteView.bytes (storage self.old)) }
-        ensures bytes { T.ByteView.bytes (storage self.new) ≡ put_at 6 (le2 value) (T.ByteView.bytes (storage self.old)) }
+        ensures bytes { T.ByteView.bytes (storage self.new)
+            ≡ put_at 6 (le2 value) (T.ByteView.bytes (storage self.old)) }
         ensures same { T.same_storage (storage self.old) (storage self.new) }
     {
         write_u16(&mut self.buffer, 6, value);
@@ -180,7 +183,8 @@ impl<T: ByteViewMut> NetlinkBuffer<T> {
     /// Sets the sequence number.
     pub fn set_sequence_number(&mut self, value: u32)
         requires { 12 ≤ length (T.ByteView.bytes (storage self.old)) }
-        ensures bytes { T.ByteView.bytes (storage self.new) ≡ put_at 8 (le4 value) (T.ByteView.bytes (storage self.old)) }
+        ensures bytes { T.ByteView.bytes (storage self.new)
+            ≡ put_at 8 (le4 value) (T.ByteView.bytes (storage self.old)) }
         ensures same { T.same_storage (storage self.old) (storage self.new) }
     {
         write_u32(&mut self.buffer, 8, value);
@@ -189,7 +193,8 @@ impl<T: ByteViewMut> NetlinkBuffer<T> {
     /// Sets the port of the sender.
     pub fn set_port_number(&mut self, value: u32)
         requires { 16 ≤ length (T.ByteView.bytes (storage self.old)) }
-        ensures bytes { T.ByteView.bytes (storage self.new) ≡ put_at 12 (le4 value) (T.ByteView.bytes (storage self.old)) }
+        ensures bytes { T.ByteView.bytes (storage self.new)
+            ≡ put_at 12 (le4 value) (T.ByteView.bytes (storage self.old)) }
         ensures same { T.same_storage (storage self.old) (storage self.new) }
     {
         write_u32(&mut self.buffer, 12, value);
@@ -202,7 +207,8 @@ impl<T: ByteLend> NetlinkBuffer<T> {
     /// The body, to be written. Over a `&mut [u8]` write through `inner_mut` instead.
     pub fn payload_mut(&mut self) -> &mut [u8]
         requires { IsFrame (T.ByteView.bytes (storage self.old)) }
-        ensures* writes_back { sem 𝓛 (Lends (the_row T.row) (Array u8 0) self.entry result (λ w. view_of (T.with_part (storage self.old) 16 w))) }
+        ensures* writes_back { sem 𝓛 (Lends (the_row T.row) (Array u8 0) self.entry result
+            (λ w. view_of (T.with_part (storage self.old) 16 w))) }
         ensures value { result.now ≡ frame_body (T.ByteView.bytes (storage self.old)) }
     {
         let end = self.length() as usize;

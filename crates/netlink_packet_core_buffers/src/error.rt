@@ -145,7 +145,8 @@ impl<T: ByteViewMut> ErrorBuffer<T> {
     /// Sets the code.
     pub fn set_code(&mut self, value: i32)
         requires { 4 ≤ length (T.ByteView.bytes (storage self.old)) }
-        ensures bytes { T.ByteView.bytes (storage self.new) ≡ put_at 0 (code_text value) (T.ByteView.bytes (storage self.old)) }
+        ensures bytes { T.ByteView.bytes (storage self.new)
+            ≡ put_at 0 (code_text value) (T.ByteView.bytes (storage self.old)) }
         ensures same { T.same_storage (storage self.old) (storage self.new) }
     {
         write_code(&mut self.buffer, value);
@@ -159,7 +160,8 @@ impl<T: ByteLend> ErrorBuffer<T> {
     /// instead.
     pub fn payload_mut(&mut self) -> &mut [u8]
         requires { 4 ≤ length (T.ByteView.bytes (storage self.old)) }
-        ensures* writes_back { sem 𝓛 (Lends (the_row T.row) (Array u8 0) self.entry result (λ w. view_of (T.with_part (storage self.old) 4 w))) }
+        ensures* writes_back { sem 𝓛 (Lends (the_row T.row) (Array u8 0) self.entry result
+            (λ w. view_of (T.with_part (storage self.old) 4 w))) }
         ensures value { result.now ≡ drop 4 (T.ByteView.bytes (storage self.old)) }
     {
         let end = self.buffer.as_bytes().len();

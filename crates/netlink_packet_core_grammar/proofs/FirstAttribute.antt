@@ -5,15 +5,15 @@ use Rattle.std.proofs.lemmas.Bool.{and_left, and_right, lt-leb, cases_lt}
 use Rattle.std.proofs.lemmas.List.{drop-drop}
 use Rattle.netlink_packet_core_grammar.specs.Attributes.{nla_align, Attribute, cut_attribute, first_attribute, attributes_of, IsAttributeList}
 use Rattle.netlink_packet_core_grammar.specs.Numbers.{u16_at}
-use Rattle.netlink_packet_core_grammar.specs.AttributeViews.{length_of, raw_kind_of, attribute_of, IsAttribute, after_first}
+use Rattle.netlink_packet_core_grammar.specs.AttributeViews.{viewed_length, viewed_kind, viewed_attribute, IsAttribute, after_first}
 use Rattle.netlink_packet_core_grammar.proofs.Attributes.{IsCut, cut_from, attributes_cut, cut_attributes, no_first_attribute, got, got_is}
 
 -- the two numbers of a header, as sums
-length_sum : (bytes : List ℕ) → length_of bytes ≡ slice_index bytes 0 + 256 * slice_index bytes 1
+length_sum : (bytes : List ℕ) → viewed_length bytes ≡ slice_index bytes 0 + 256 * slice_index bytes 1
 unfolding u16_at
 length_sum bytes = omega arith
 
-kind_sum : (bytes : List ℕ) → raw_kind_of bytes ≡ slice_index bytes 2 + 256 * slice_index bytes 3
+kind_sum : (bytes : List ℕ) → viewed_kind bytes ≡ slice_index bytes 2 + 256 * slice_index bytes 3
 unfolding u16_at
 kind_sum bytes = omega arith
 
@@ -68,13 +68,13 @@ first_attribute_at (a ∷ b ∷ []) rest h s t r = absurd (omega arith)
 first_attribute_at (a ∷ b ∷ c ∷ []) rest h s t r = absurd (omega arith)
 
 -- bytes that begin with a whole attribute begin with this one
-pub first_attribute_is : (bytes : List ℕ) → IsAttribute bytes → first_attribute bytes ≡ Some (attribute_of bytes, after_first bytes)
+pub first_attribute_is : (bytes : List ℕ) → IsAttribute bytes → first_attribute bytes ≡ Some (viewed_attribute bytes, after_first bytes)
 first_attribute_is bytes a =
     let l = length_sum bytes in
     let k = kind_sum bytes in
     first_attribute_at bytes (after_first bytes) a.has_header (omega (arith, a.covers_header, l)) (omega (arith, a.within, l)) (ap (λ n. drop (nla_align n) bytes) l)
     ∙ ap (λ n. Some (record { kind = n; payload = take (length_at bytes - 4) (drop 4 bytes) }, after_first bytes)) (sym k)
-    ∙ ap (λ n. Some (record { kind = raw_kind_of bytes; payload = take (n - 4) (drop 4 bytes) }, after_first bytes)) (sym l)
+    ∙ ap (λ n. Some (record { kind = viewed_kind bytes; payload = take (n - 4) (drop 4 bytes) }, after_first bytes)) (sym l)
 
 -- other bytes begin with no attribute
 pub first_attribute_none : (bytes : List ℕ) → (IsAttribute bytes → ⊥) → first_attribute bytes ≡ None

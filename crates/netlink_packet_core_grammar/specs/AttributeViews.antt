@@ -4,25 +4,25 @@ use Rattle.netlink_packet_core_grammar.specs.Attributes.{nla_align, Attribute}
 use Rattle.netlink_packet_core_grammar.specs.Numbers.{u16_at}
 
 -- the length, which counts these 4 bytes of header
-abbrev pub length_of : List ℕ → ℕ
-length_of b = u16_at 0 b
+abbrev pub viewed_length : List ℕ → ℕ
+viewed_length b = u16_at 0 b
 
 -- the kind with its flag bits
-abbrev pub raw_kind_of : List ℕ → ℕ
-raw_kind_of b = u16_at 2 b
+abbrev pub viewed_kind : List ℕ → ℕ
+viewed_kind b = u16_at 2 b
 
-abbrev pub payload_of : List ℕ → List ℕ
-payload_of b = take (length_of b - 4) (drop 4 b)
+abbrev pub viewed_payload : List ℕ → List ℕ
+viewed_payload b = take (viewed_length b - 4) (drop 4 b)
 
-abbrev pub attribute_of : List ℕ → Attribute
-attribute_of b = record { kind = raw_kind_of b; payload = payload_of b }
+abbrev pub viewed_attribute : List ℕ → Attribute
+viewed_attribute b = record { kind = viewed_kind b; payload = viewed_payload b }
 
 -- some bytes begin with a whole attribute
 pub record IsAttribute (b : List ℕ) : Type 0 where
   pub has_header : 4 ≤ length b
-  pub covers_header : 4 ≤ length_of b
-  pub within : length_of b ≤ length b
+  pub covers_header : 4 ≤ viewed_length b
+  pub within : viewed_length b ≤ length b
 
 -- what follows the attribute and its padding
 abbrev pub after_first : List ℕ → List ℕ
-after_first b = drop (nla_align (length_of b)) b
+after_first b = drop (nla_align (viewed_length b)) b

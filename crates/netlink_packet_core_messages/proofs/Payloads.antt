@@ -13,7 +13,7 @@ use Rattle.netlink_packet_core_grammar.proofs.Sizes.{length-le4-append}
 use Rattle.netlink_packet_core_messages.specs.declared.payload.NetlinkPayload.{NetlinkPayload}
 use Rattle.netlink_packet_core_messages.specs.declared.payload.NetlinkPayload.TheVariants.{Done, Error, Noop, Overrun, InnerMessage}
 use Rattle.netlink_packet_core_buffers.specs.Codes.{code_of, code_text, nonzero_code, raw_code, IsCode}
-use Rattle.netlink_packet_core_messages.specs.ControlMessages.{done_text, error_text}
+use Rattle.netlink_packet_core_messages.specs.ControlMessages.{done_message_text, error_message_text}
 use Rattle.netlink_packet_core_messages.specs.TypedBodies.{TypedBody, IsInner}
 use Rattle.netlink_packet_core_messages.specs.Payloads.{payload_value, payload_entry, read_payload, OfInner, HasCode}
 
@@ -46,12 +46,12 @@ not_control t h = grind (arith, nat_tests)
 pub payload_reads : {A V : Type 0} (e : A → TypedBody) (fits : A → Type 0) (reads : ℕ → List ℕ → Option V) (value : A → V) → ((x : A) → fits x → reads (e x).0 (e x).1 ≡ Some (value x)) → ((x : A) → IsInner (e x).0) → (p : NetlinkPayload A) → HasCode p → OfInner fits p → read_payload reads (payload_entry e p).0 (payload_entry e p).1 ≡ Some (payload_value value p)
 payload_reads e fits reads value back inner (Done m) c f =
     let l = length-le4-append (cast_unsigned w32 m.code) m.extended_ack in
-    let z : nat_eq (length (done_text m)) 0 ≡ false = grind (arith, nat_tests) in
-    let s : nat_lt (length (done_text m)) 4 ≡ false = grind (arith, nat_tests) in
+    let z : nat_eq (length (done_message_text m)) 0 ≡ false = grind (arith, nat_tests) in
+    let s : nat_lt (length (done_message_text m)) 4 ≡ false = grind (arith, nat_tests) in
     rw (z, s, code_at m.code m.extended_ack c, drop-le4 (cast_unsigned w32 m.code) m.extended_ack) refl
 payload_reads e fits reads value back inner (Error m) c f =
     let l = length-le4-append (cast_unsigned w32 (raw_code m.code)) m.header in
-    let s : nat_lt (length (error_text m)) 4 ≡ false = grind (arith, nat_tests) in
+    let s : nat_lt (length (error_message_text m)) 4 ≡ false = grind (arith, nat_tests) in
     rw (s, code_at (raw_code m.code) m.header (raw_fits m.code c), drop-le4 (cast_unsigned w32 (raw_code m.code)) m.header, nonzero-raw m.code c) refl
 payload_reads e fits reads value back inner Noop c f = refl
 payload_reads e fits reads value back inner (Overrun b) c f = refl

@@ -17,7 +17,7 @@ use Rattle.netlink_packet_core_messages.specs.declared.payload.NetlinkPayload.{N
 use Rattle.netlink_packet_core_messages.specs.declared.payload.NetlinkPayload.TheVariants.{Done, Error, Noop, Overrun, InnerMessage}
 use Rattle.netlink_packet_core_messages.specs.declared.done.DoneMessage.{DoneMessage}
 use Rattle.netlink_packet_core_messages.specs.declared.error.ErrorMessage.{ErrorMessage}
-use Rattle.netlink_packet_core_messages.specs.ControlMessages.{done_text, error_text, done_of, error_of, empty_done, read_done, read_error}
+use Rattle.netlink_packet_core_messages.specs.ControlMessages.{done_message_text, error_message_text, done_of, error_of, empty_done, read_done, read_error}
 use Rattle.netlink_packet_core_messages.specs.Headers.{header_of, header_text}
 use Rattle.netlink_packet_core_messages.specs.TypedBodies.{TypedBody}
 use Rattle.netlink_packet_core_messages.specs.Payloads.{payload_entry, payload_value, read_payload, written_body}
@@ -50,13 +50,13 @@ code_fits b h =
 code_kept : (b : List ℕ) → 4 ≤ length b → AllBytes b → code_text (code_of b) ++ drop 4 b ≡ b
 code_kept b l h = rw (of_z-to_z w32 (u32_at 0 b) (code_fits b h)) (four_bytes_kept b l h)
 
-pub done_kept : (b : List ℕ) → 4 ≤ length b → AllBytes b → done_text (done_of b) ≡ b
+pub done_kept : (b : List ℕ) → 4 ≤ length b → AllBytes b → done_message_text (done_of b) ≡ b
 done_kept b l h = code_kept b l h
 
-pub error_kept : (b : List ℕ) → 4 ≤ length b → AllBytes b → error_text (error_of b) ≡ b
+pub error_kept : (b : List ℕ) → 4 ≤ length b → AllBytes b → error_message_text (error_of b) ≡ b
 error_kept b l h = rw (raw-nonzero (code_of b)) (code_kept b l h)
 
-empty_done_text : done_text empty_done ≡ 0 ∷ 0 ∷ 0 ∷ 0 ∷ []
+empty_done_text : done_message_text empty_done ≡ 0 ∷ 0 ∷ 0 ∷ 0 ∷ []
 unfolding le4
 empty_done_text = refl
 

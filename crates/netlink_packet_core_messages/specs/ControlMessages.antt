@@ -5,11 +5,11 @@ use Rattle.netlink_packet_core_messages.specs.declared.done.DoneMessage.{DoneMes
 use Rattle.netlink_packet_core_messages.specs.declared.error.ErrorMessage.{ErrorMessage}
 
 -- the bytes that they are written as
-abbrev pub done_text : DoneMessage → List ℕ
-done_text m = code_text m.code ++ m.extended_ack
+abbrev pub done_message_text : DoneMessage → List ℕ
+done_message_text m = code_text m.code ++ m.extended_ack
 
-abbrev pub error_text : ErrorMessage → List ℕ
-error_text m = code_text (raw_code m.code) ++ m.header
+abbrev pub error_message_text : ErrorMessage → List ℕ
+error_message_text m = code_text (raw_code m.code) ++ m.header
 
 -- what bodies of at least 4 bytes are read as
 abbrev pub done_of : List ℕ → DoneMessage

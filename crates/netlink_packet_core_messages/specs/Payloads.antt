@@ -5,7 +5,7 @@ use Rattle.std.specs.Int.RustNames.{FitsSigned}
 use Rattle.netlink_packet_core_buffers.specs.Codes.{IsCode}
 use Rattle.netlink_packet_core_messages.specs.declared.payload.NetlinkPayload.{NetlinkPayload}
 use Rattle.netlink_packet_core_messages.specs.declared.payload.NetlinkPayload.TheVariants.{Done, Error, Noop, Overrun, InnerMessage}
-use Rattle.netlink_packet_core_messages.specs.ControlMessages.{done_text, error_text, read_done, read_error}
+use Rattle.netlink_packet_core_messages.specs.ControlMessages.{done_message_text, error_message_text, read_done, read_error}
 use Rattle.netlink_packet_core_messages.specs.TypedBodies.{TypedBody}
 
 -- a payload whose inner message is seen as a value
@@ -18,8 +18,8 @@ payload_value value (InnerMessage x) = InnerMessage (value x)
 
 -- the type and the body that a payload is written as
 abbrev pub payload_entry : {A : Type 0} → (A → TypedBody) → NetlinkPayload A → TypedBody
-payload_entry entry (Done m) = (3, done_text m)
-payload_entry entry (Error m) = (2, error_text m)
+payload_entry entry (Done m) = (3, done_message_text m)
+payload_entry entry (Error m) = (2, error_message_text m)
 payload_entry entry Noop = (1, [])
 payload_entry entry (Overrun b) = (4, b)
 payload_entry entry (InnerMessage x) = entry x

@@ -1,7 +1,7 @@
-ghost use Rattle.std.specs.Prelude.{◌≡◌, ◌≤◌, ◌++◌, true, false, ⊤, length, drop, Some, None, IfOk, IfErr};
+ghost use Rattle.std.specs.Prelude.{◌≡◌, ◌≤◌, ◌++◌, true, false, ⊤, length, drop, Some, is_some, IfOk, IfErr};
 ghost use Rattle.netlink_packet_core_numbers.specs.Errors.{is_memory};
 ghost use Rattle.netlink_packet_core_buffers.specs.DoneBuffers.{storage};
-ghost use Rattle.netlink_packet_core_messages.specs.ControlMessages.{done_text, done_of, read_done};
+ghost use Rattle.netlink_packet_core_messages.specs.ControlMessages.{done_message_text, done_of, read_done};
 ghost use Rattle.std.specs.Int.{w32};
 ghost use Rattle.std.specs.Int.RustNames.{FitsSigned};
 
@@ -39,7 +39,7 @@ impl<'a> Parseable<DoneBuffer<&'a [u8]>> for DoneMessage {
 }
 
 impl Emitable for DoneMessage {
-    ghost text = { done_text };
+    ghost text = { done_message_text };
 
     ghost can_emit = { λ _. ⊤ };
 
@@ -59,7 +59,7 @@ impl DoneMessage {
     /// one of 1 to 3 bytes is refused.
     pub fn parse_body(alloc: Global, body: &[u8]) -> Result<Self, DecodeError>
         ensures ok { IfOk result (λ m. read_done body.now ≡ Some m) }
-        ensures err { IfErr result (λ e. is_memory e ≡ false → read_done body.now ≡ None) }
+        ensures err { IfErr result (λ e. is_some (read_done body.now) ≡ is_memory e) }
         ensures memory { IfErr result (λ e. is_memory e ≡ true → 4 ≤ length body.now) }
     {
         if body.is_empty() {

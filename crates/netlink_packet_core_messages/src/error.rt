@@ -1,8 +1,8 @@
-ghost use Rattle.std.specs.Prelude.{◌≡◌, ◌≤◌, ◌++◌, true, false, ⊤, length, drop, Some, None, IfOk, IfErr, nat_abs};
+ghost use Rattle.std.specs.Prelude.{◌≡◌, ◌≤◌, ◌++◌, true, false, ⊤, length, drop, Some, is_some, IfOk, IfErr, nat_abs};
 ghost use Rattle.netlink_packet_core_numbers.specs.Errors.{is_memory};
 ghost use Rattle.netlink_packet_core_buffers.specs.Codes.{raw_code, IsCode};
 ghost use Rattle.netlink_packet_core_buffers.specs.ErrorBuffers.{storage};
-ghost use Rattle.netlink_packet_core_messages.specs.ControlMessages.{error_text, error_of, read_error};
+ghost use Rattle.netlink_packet_core_messages.specs.ControlMessages.{error_message_text, error_of, read_error};
 
 use super::byte_vec::ByteVec;
 use super::code::emit_code;
@@ -38,7 +38,7 @@ impl<'a> Parseable<ErrorBuffer<&'a [u8]>> for ErrorMessage {
 }
 
 impl Emitable for ErrorMessage {
-    ghost text = { error_text };
+    ghost text = { error_message_text };
 
     ghost can_emit = { λ _. ⊤ };
 
@@ -74,8 +74,7 @@ impl ErrorMessage {
     /// Reads the body of an ERROR message as it stands in a frame: fewer than 4 bytes are refused.
     pub fn parse_body(alloc: Global, body: &[u8]) -> Result<Self, DecodeError>
         ensures ok { IfOk result (λ m. read_error body.now ≡ Some m) }
-        ensures err { IfErr result (λ e. is_memory e ≡ false → read_error body.now ≡ None) }
-        ensures memory { IfErr result (λ e. is_memory e ≡ true → 4 ≤ length body.now) }
+        ensures err { IfErr result (λ e. is_some (read_error body.now) ≡ is_memory e) }
     {
         let buf = ErrorBuffer::new_checked(body)?;
         ErrorMessage::parse(alloc, &buf)

@@ -34,7 +34,8 @@ pub fn frames_are_tested(bytes: &[u8])
 /// Bytes past the length of a frame change nothing that is read from it.
 pub fn bytes_past_a_frame_change_nothing<I: NetlinkDeserializable>(frame: &[u8], rest: &[u8])
     requires { IsFrame frame.now }
-    ensures { read_message I.reads (take (frame_length frame.now) frame.now ++ rest.now) ≡ read_message I.reads frame.now }
+    ensures { read_message I.reads (take (frame_length frame.now) frame.now ++ rest.now)
+        ≡ read_message I.reads frame.now }
 {}
 
 /// Bytes that end inside a frame begin with no message.
@@ -58,17 +59,21 @@ pub fn finalized_twice_is_once<I: NetlinkSerializable>(message: &NetlinkMessage<
 pub fn messages_read_back<I: NetlinkProtocol>(message: &NetlinkMessage<I>, rest: &[u8])
     requires finalized { IsFinalized I.entry message.now }
     requires fits { OfInner I.fits message.now.payload }
-    ensures { read_message I.reads (message_text I.entry message.now ++ rest.now) ≡ Some (message_value I.value message.now) }
+    ensures { read_message I.reads (message_text I.entry message.now ++ rest.now)
+        ≡ Some (message_value I.value message.now) }
 {
     message.header.numbers_fit();
     message.payload.code_fits();
 }
 
-/// The bytes of a finalized message are a whole frame, whatever follows them.
+/// The bytes of a finalized message are a whole frame, whatever follows them, and as many as its
+/// header and its body have.
 pub fn messages_are_frames<I: NetlinkProtocol>(message: &NetlinkMessage<I>, rest: &[u8])
     requires { IsFinalized I.entry message.now }
     ensures whole { IsFrame (message_text I.entry message.now ++ rest.now) }
-    ensures length { frame_length (message_text I.entry message.now ++ rest.now) ≡ length (message_text I.entry message.now) }
+    ensures length { frame_length (message_text I.entry message.now ++ rest.now)
+        ≡ length (message_text I.entry message.now) }
+    ensures size { length (message_text I.entry message.now) ≡ message_size I.entry message.now }
 {
     message.header.numbers_fit();
 }
@@ -82,8 +87,10 @@ pub fn canonical_frames_are_stable<I: NetlinkProtocol>(
 )
     requires finalized { IsFinalized I.entry message.now }
     requires fits { OfInner I.fits message.now.payload }
-    requires read { read_message I.reads (message_text I.entry message.now ++ rest.now) ≡ Some (message_value I.value other.now) }
-    ensures { message_text I.entry (finalized I.entry other.now) ≡ message_text I.entry message.now }
+    requires read { read_message I.reads (message_text I.entry message.now ++ rest.now)
+        ≡ Some (message_value I.value other.now) }
+    ensures { message_text I.entry (finalized I.entry other.now)
+        ≡ message_text I.entry message.now }
 {
     messages_read_back(message, rest);
 }
@@ -119,11 +126,16 @@ pub fn texts_have_one_message<I: NetlinkProtocol>(
 pub fn read_frames_keep_their_header<I: NetlinkProtocol>(message: &NetlinkMessage<I>, frame: &[u8])
     requires { read_message I.reads frame.now ≡ Some (message_value I.value message.now) }
     ensures { (own : List ℕ)
-        → ((x : I) → I.reads (frame_type frame.now) (frame_body frame.now) ≡ Some (I.value x) → I.entry x ≡ (frame_type frame.now, own))
-        → message_text I.entry (finalized I.entry message.now) ≡ unpadded_text frame.now (written_body own (frame_type frame.now) (frame_body frame.now)) }
+        → ((x : I) → I.reads (frame_type frame.now) (frame_body frame.now) ≡ Some (I.value x)
+        → I.entry x ≡ (frame_type frame.now, own))
+        → message_text I.entry (finalized I.entry message.now)
+        ≡ unpadded_text frame.now
+        (written_body own (frame_type frame.now) (frame_body frame.now)) }
 {}
 
 /// The text of a frame is its text without padding, and zeros up to a multiple of 4.
 pub fn padding_ends_a_frame(frame: &[u8], body: &[u8])
-    ensures { frame_text frame.now body.now ≡ unpadded_text frame.now body.now ++ zeros (nla_align (16 + length body.now) - (16 + length body.now)) }
+    ensures { frame_text frame.now body.now
+        ≡ unpadded_text frame.now body.now
+        ++ zeros (nla_align (16 + length body.now) - (16 + length body.now)) }
 {}

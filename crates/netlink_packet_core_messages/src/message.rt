@@ -45,7 +45,9 @@ impl<I> NetlinkMessage<I> {
 impl<I> From<I> for NetlinkMessage<I> {
     ghost use Rattle.netlink_packet_core_messages.specs.declared.payload.NetlinkPayload.TheVariants.{InnerMessage};
 
-    ghost from_gives = { λ i m. (m.header ≡ record { length = 0; message_type = 0; flags = 0; sequence_number = 0; port_number = 0 }) × (m.payload ≡ InnerMessage i) };
+    ghost from_gives = { λ i m. (m.header
+        ≡ record { length = 0; message_type = 0; flags = 0; sequence_number = 0; port_number = 0 })
+        × (m.payload ≡ InnerMessage i) };
 
     fn from(inner: I) -> Self {
         NetlinkMessage {
@@ -60,9 +62,13 @@ impl<I: NetlinkDeserializable> NetlinkMessage<I> {
     #[tactic(auto, using(crate::proofs::Frames::frames), unfolding(crate::specs::Headers::header_of))]
     pub fn parse(alloc: Global, buf: &NetlinkBuffer<&[u8]>) -> Result<Self, FrameError<I::Error>>
         requires { IsFrame (storage buf.now).now }
-        ensures ok { IfOk result (λ m. read_message I.reads (storage buf.now).now ≡ Some (message_value I.value m)) }
-        ensures err { IfErr result (λ e. wants_memory I.is_memory e ≡ false → read_message I.reads (storage buf.now).now ≡ None) }
-        ensures memory { IfErr result (λ e. wants_memory I.is_memory e ≡ true → payload_may_want_memory I.may_want_memory (frame_type (storage buf.now).now) (frame_body (storage buf.now).now) ≡ true) }
+        ensures ok { IfOk result (λ m. read_message I.reads (storage buf.now).now
+            ≡ Some (message_value I.value m)) }
+        ensures err { IfErr result (λ e. wants_memory I.is_memory e ≡ false
+            → read_message I.reads (storage buf.now).now ≡ None) }
+        ensures memory { IfErr result (λ e. wants_memory I.is_memory e ≡ true
+            → payload_may_want_memory I.may_want_memory (frame_type (storage buf.now).now)
+            (frame_body (storage buf.now).now) ≡ true) }
     {
         let header = NetlinkHeader::parse(alloc, buf)?;
         let payload = NetlinkPayload::read(alloc, &header, buf.payload())?;
@@ -72,9 +78,13 @@ impl<I: NetlinkDeserializable> NetlinkMessage<I> {
     /// Reads the frame that some bytes begin with; those behind it are not looked at.
     #[tactic(auto, using(crate::proofs::Frames::frames))]
     pub fn deserialize(alloc: Global, buffer: &[u8]) -> Result<Self, FrameError<I::Error>>
-        ensures ok { IfOk result (λ m. read_message I.reads buffer.now ≡ Some (message_value I.value m)) }
-        ensures err { IfErr result (λ e. wants_memory I.is_memory e ≡ false → read_message I.reads buffer.now ≡ None) }
-        ensures memory { IfErr result (λ e. wants_memory I.is_memory e ≡ true → IsFrame buffer.now × (payload_may_want_memory I.may_want_memory (frame_type buffer.now) (frame_body buffer.now) ≡ true)) }
+        ensures ok { IfOk result (λ m. read_message I.reads buffer.now
+            ≡ Some (message_value I.value m)) }
+        ensures err { IfErr result (λ e. wants_memory I.is_memory e ≡ false
+            → read_message I.reads buffer.now ≡ None) }
+        ensures memory { IfErr result (λ e. wants_memory I.is_memory e ≡ true → IsFrame buffer.now
+            × (payload_may_want_memory I.may_want_memory (frame_type buffer.now)
+            (frame_body buffer.now) ≡ true)) }
     {
         let buf = NetlinkBuffer::new_checked(buffer)?;
         NetlinkMessage::parse(alloc, &buf)
@@ -105,7 +115,8 @@ impl<I: NetlinkSerializable> NetlinkMessage<I> {
         requires finalized { IsFinalized I.entry self.now }
         requires fits { OfInner I.fits self.now.payload }
         requires room { self.now.header.length ≤ length buffer.old }
-        ensures { buffer.new ≡ message_text I.entry self.now ++ drop self.now.header.length buffer.old }
+        ensures { buffer.new
+            ≡ message_text I.entry self.now ++ drop self.now.header.length buffer.old }
     {
         let size = self.header.length as usize;
         let (head, rest) = buffer.split_at_mut(NETLINK_HEADER_LEN);

@@ -46,9 +46,12 @@ impl<I: NetlinkDeserializable> NetlinkPayload<I> {
         header: &NetlinkHeader,
         body: &[u8],
     ) -> Result<Self, FrameError<I::Error>>
-        ensures ok { IfOk result (λ p. read_payload I.reads header.now.message_type body.now ≡ Some (payload_value I.value p)) }
-        ensures err { IfErr result (λ e. wants_memory I.is_memory e ≡ false → read_payload I.reads header.now.message_type body.now ≡ None) }
-        ensures memory { IfErr result (λ e. wants_memory I.is_memory e ≡ true → payload_may_want_memory I.may_want_memory header.now.message_type body.now ≡ true) }
+        ensures ok { IfOk result (λ p. read_payload I.reads header.now.message_type body.now
+            ≡ Some (payload_value I.value p)) }
+        ensures err { IfErr result (λ e. wants_memory I.is_memory e ≡ false
+            → read_payload I.reads header.now.message_type body.now ≡ None) }
+        ensures memory { IfErr result (λ e. wants_memory I.is_memory e ≡ true
+            → payload_may_want_memory I.may_want_memory header.now.message_type body.now ≡ true) }
     {
         match header.message_type {
             NLMSG_NOOP => Ok(NetlinkPayload::Noop),

@@ -54,15 +54,19 @@ pub trait NetlinkDeserializable: Sized {
         payload: &[u8],
     ) -> Result<Self, Self::Error>
         requires { IsInner header.now.message_type }
-        ensures ok { IfOk result (λ m. reads header.now.message_type payload.now ≡ Some (value m)) }
-        ensures err { IfErr result (λ e. is_memory e ≡ false → reads header.now.message_type payload.now ≡ None) }
-        ensures memory { IfErr result (λ e. is_memory e ≡ true → may_want_memory header.now.message_type payload.now ≡ true) };
+        ensures ok { IfOk result (λ m. reads header.now.message_type payload.now
+            ≡ Some (value m)) }
+        ensures err { IfErr result (λ e. is_memory e ≡ false
+            → reads header.now.message_type payload.now ≡ None) }
+        ensures memory { IfErr result (λ e. is_memory e ≡ true
+            → may_want_memory header.now.message_type payload.now ≡ true) };
 }
 
 /// A protocol: what is written of a message is read as the message.
 pub trait NetlinkProtocol: NetlinkSerializable + NetlinkDeserializable {
     /// The bytes of a message are read as its value, under each header of its type.
-    ghost round_trip: { (x : Self) → Self.fits x → Self.reads (Self.entry x).0 (Self.entry x).1 ≡ Some (Self.value x) };
+    ghost round_trip: { (x : Self) → Self.fits x
+        → Self.reads (Self.entry x).0 (Self.entry x).1 ≡ Some (Self.value x) };
 
     /// No message has a type from 1 to 4.
     ghost inner: { (x : Self) → IsInner (Self.entry x).0 };

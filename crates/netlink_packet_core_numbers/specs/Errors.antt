@@ -84,7 +84,7 @@ prefix_text None = []
 prefix_text (Some t) = t.now ++ codes " caused by "
 
 -- the contexts, newest first, and then the cause
-abbrev pub error_text : DecodeError → List ℕ
-error_text e =
+abbrev pub display_text : DecodeError → List ℕ
+display_text e =
     prefix_text (get_or e.contexts 3 None) ++ (prefix_text (get_or e.contexts 2 None)
     ++ (prefix_text (get_or e.contexts 1 None) ++ (prefix_text (get_or e.contexts 0 None) ++ cause_text e.cause)))

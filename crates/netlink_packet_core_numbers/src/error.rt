@@ -1,6 +1,6 @@
 ghost use Rattle.std.specs.Prelude.{◌≡◌, ℕ, Bool, true, false, List, Some, None, replicate, is_err};
 ghost use Rattle.std.specs.Borrow.{Bor};
-ghost use Rattle.netlink_packet_core_numbers.specs.Errors.{is_memory, in_context, in_context_if, cause_text, prefix_text, error_text};
+ghost use Rattle.netlink_packet_core_numbers.specs.Errors.{is_memory, in_context, in_context_if, cause_text, prefix_text, display_text};
 ghost use Rattle.netlink_packet_core_numbers.specs.Errors.{out_of_memory, invalid_buffer, invalid_mac_address, invalid_ip_address, invalid_number, nla_buffer_too_small, nla_length_mismatch, nla_invalid_length, buffer_too_small, of_text};
 
 use std::alloc::{AllocError, AllocFailed};
@@ -212,7 +212,7 @@ impl fmt::Display for Prefix {
 }
 
 impl fmt::Display for DecodeError {
-    ghost output = { λ e. Some (error_text e) };
+    ghost output = { λ e. Some (display_text e) };
 
     fn fmt<W: fmt::Write>(&self, f: &mut fmt::Formatter<W>) -> fmt::Result {
         let [first, second, third, fourth] = self.contexts;
@@ -254,7 +254,8 @@ pub trait ErrorContext: Sized {
     /// The error with the context that `text` gives. It is called only where there is an error.
     fn with_context<C: ContextText, F: FnOnce() -> C>(self, text: F) -> Self
         requires { fails self ≡ true → F.pre text }
-        ensures failed { fails self ≡ true → (c : C) × F.post text c × (result ≡ in_context self (C.text c)) }
+        ensures failed { fails self ≡ true
+            → (c : C) × F.post text c × (result ≡ in_context self (C.text c)) }
         ensures kept { fails self ≡ false → result ≡ self };
 }
 

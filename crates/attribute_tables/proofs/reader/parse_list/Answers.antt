@@ -7,7 +7,7 @@ use Rattle.attribute_tables_grammar.specs.Lists.{nothing, any, row_of, without_c
 use Rattle.attribute_tables_grammar.specs.LookUps.{rows_rule}
 use Rattle.attribute_tables_grammar.specs.Readings.{written_by}
 use Rattle.attribute_tables_grammar.proofs.Readings.{SoFar, more, refused, stopped, done, as_any, tells_rows, denies_rows}
-use Rattle.netlink_packet_core_grammar.specs.AttributeViews.{IsAttribute, length_of, attribute_of, after_first}
+use Rattle.netlink_packet_core_grammar.specs.AttributeViews.{IsAttribute, viewed_length, viewed_attribute, after_first}
 use Rattle.netlink_packet_core.specs.Errors.{is_memory}
 use Rattle.attribute_tables.specs.Written.{written_as}
 use Rattle.netlink_packet_core_grammar.proofs.FirstAttribute.{first_attribute_is, first_attribute_none}
@@ -29,8 +29,8 @@ returns-in_err-read-clause-err g c =
     let h : IsAttribute b = c.in_ok-buf.ensures.whole.0 refl in
     let k : is_memory c.in_err-read.field-0.0 ≡ false → (rows_rule any (g.R.Reader.row_of c.args.reader.now)).accepted c.args.bytes.now ≡ false =
     λ m.
-    let was : (row_of rows nothing (attribute_of b)).rule.accepted (attribute_of b).payload ≡ false = rw c.in_ok-buf.ensures.ok at c.in_err-read.ensures.err m in
-    denies_rows any (g.R.Reader.row_of c.args.reader.now) c.args.bytes.now (as_any _ _ ∙ refused any rows _ _ nothing b (attribute_of b) (after_first b) (first_attribute_is b h) refl was c.loop-rest.invariant.so_far) in
+    let was : (row_of rows nothing (viewed_attribute b)).rule.accepted (viewed_attribute b).payload ≡ false = rw c.in_ok-buf.ensures.ok at c.in_err-read.ensures.err m in
+    denies_rows any (g.R.Reader.row_of c.args.reader.now) c.args.bytes.now (as_any _ _ ∙ refused any rows _ _ nothing b (viewed_attribute b) (after_first b) (first_attribute_is b h) refl was c.loop-rest.invariant.so_far) in
     search rules
 
 pub loop-rest-preserved : goal.loop-rest-preserved
@@ -41,17 +41,17 @@ loop-rest-preserved g c =
     let ws = map w c.loop-rest.list.items in
     let v = c.in_ok-read.field-0 in
     let h : IsAttribute b = c.in_ok-buf.ensures.whole.0 refl in
-    let was : (row_of rows nothing (attribute_of b)).rule.accepted (attribute_of b).payload ≡ true = rw c.in_ok-buf.ensures.ok at c.in_ok-read.ensures.ok in
-    let entry : g.R.Value.Nla.entry v ≡ (written_by (row_of rows nothing (attribute_of b)) (attribute_of b)).entry = rw c.in_ok-buf.ensures.ok at c.in_ok-read.ensures.value in
-    let inside : g.R.Value.Nla.inside_fits v ≡ (written_by (row_of rows nothing (attribute_of b)) (attribute_of b)).inside_fits = rw c.in_ok-buf.ensures.ok at c.in_ok-read.ensures.inside in
-    let is : w v ≡ written_by (row_of rows nothing (attribute_of b)) (attribute_of b) = λ i. record { entry = entry i; inside_fits = inside i } in
-    let so_far = more any rows c.args.bytes.now ws nothing b (attribute_of b) (after_first b) (w v) (first_attribute_is b h) refl was is c.loop-rest.invariant.so_far in
+    let was : (row_of rows nothing (viewed_attribute b)).rule.accepted (viewed_attribute b).payload ≡ true = rw c.in_ok-buf.ensures.ok at c.in_ok-read.ensures.ok in
+    let entry : g.R.Value.Nla.entry v ≡ (written_by (row_of rows nothing (viewed_attribute b)) (viewed_attribute b)).entry = rw c.in_ok-buf.ensures.ok at c.in_ok-read.ensures.value in
+    let inside : g.R.Value.Nla.inside_fits v ≡ (written_by (row_of rows nothing (viewed_attribute b)) (viewed_attribute b)).inside_fits = rw c.in_ok-buf.ensures.ok at c.in_ok-read.ensures.inside in
+    let is : w v ≡ written_by (row_of rows nothing (viewed_attribute b)) (viewed_attribute b) = λ i. record { entry = entry i; inside_fits = inside i } in
+    let so_far = more any rows c.args.bytes.now ws nothing b (viewed_attribute b) (after_first b) (w v) (first_attribute_is b h) refl was is c.loop-rest.invariant.so_far in
     let items : map w c.push.new.self.items ≡ ws ++ w v ∷ [] = ap (map w) c.in_ok-push.ensures.items ∙ map-append w c.loop-rest.list.items (v ∷ []) in
     let rest : length c.skip_first-rest.result.now ≡ length (after_first b) = ap length c.skip_first-rest.ensures in
     record {
       so_far = subst (λ us. SoFar any rows c.args.bytes.now us nothing c.skip_first-rest.result.now) (sym items) (subst (λ r. SoFar any rows c.args.bytes.now (ws ++ w v ∷ []) nothing r) (sym c.skip_first-rest.ensures) so_far);
       names_row = grind (arith, elements);
-      within = omega (arith, rest, length-drop (nla_align (length_of b)) b, c.loop-rest.invariant.within);
+      within = omega (arith, rest, length-drop (nla_align (viewed_length b)) b, c.loop-rest.invariant.within);
     }
 
 pub returns-clause-read : goal.returns-clause-read

@@ -18,3 +18,6 @@ returns-clause-length g c =
     let t = (payload_entry g.I.NetlinkSerializable.entry m.payload).1 in
     let l = length-message_text g.I.NetlinkSerializable.entry m in
     rw (append_assoc (header_text m.header) t c.args.rest.now) (length_at m.header (t ++ c.args.rest.now) c.numbers_fit.ensures ∙ c.requires.tells_length ∙ sym l)
+
+pub returns-clause-size : goal.returns-clause-size
+returns-clause-size g c = length-message_text g.I.NetlinkSerializable.entry c.args.message.now

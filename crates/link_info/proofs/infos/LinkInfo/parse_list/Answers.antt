@@ -1,7 +1,7 @@
 use Rattle.std.proofs.Common.{◌≡◌, ◌++◌, [], ◌∷◌, ◌<◌, length, true, false, sym, refl, ap, subst, arith, length-drop, rules}
 use Rattle.std.proofs.lemmas.Bool.Decides.{nat_tests}
 use Rattle.netlink_packet_core_grammar.specs.Attributes.{nla_align, proper_kind}
-use Rattle.netlink_packet_core_grammar.specs.AttributeViews.{IsAttribute, length_of, attribute_of, raw_kind_of, payload_of, after_first}
+use Rattle.netlink_packet_core_grammar.specs.AttributeViews.{IsAttribute, viewed_length, viewed_attribute, viewed_kind, viewed_payload, after_first}
 use Rattle.netlink_packet_core.specs.Errors.{is_memory}
 use Rattle.attribute_tables_grammar.specs.Lists.{nothing, rewrite}
 use Rattle.attribute_tables_grammar.specs.Tables.{info_next}
@@ -30,7 +30,7 @@ returns-in_err-read-clause-err c =
     let h : IsAttribute b = c.in_ok-buf.ensures.whole.0 refl in
     let k : is_memory c.in_err-read.field-0.0 ≡ false → info_rule.accepted c.args.bytes.now ≡ false =
     λ m.
-    let was : (link_info_row f (proper_kind (raw_kind_of b))).rule.accepted (payload_of b) ≡ false = rw c.in_ok-buf.ensures.ok at c.in_err-read.ensures.err m in
+    let was : (link_info_row f (proper_kind (viewed_kind b))).rule.accepted (viewed_payload b) ≡ false = rw c.in_ok-buf.ensures.ok at c.in_err-read.ensures.err m in
     state_refused _ _ f b h was c.loop-force.invariant.state in
     search rules
 
@@ -39,7 +39,7 @@ returns-in_err-force-clause-err c =
     let b = c.loop-force.rest.now in
     let f = context_of c.loop-force.force.kind c.loop-force.force.port_kind in
     let h : IsAttribute b = c.in_ok-buf.ensures.whole.0 refl in
-    let was : (link_info_row f (proper_kind (raw_kind_of b))).rule.accepted (payload_of b) ≡ false = rw c.in_ok-buf.ensures.ok at c.in_err-force.ensures.err in
+    let was : (link_info_row f (proper_kind (viewed_kind b))).rule.accepted (viewed_payload b) ≡ false = rw c.in_ok-buf.ensures.ok at c.in_err-force.ensures.err in
     let k = state_refused _ _ f b h was c.loop-force.invariant.state in
     search rules
 
@@ -49,17 +49,17 @@ loop-force-preserved c =
     let f = context_of c.loop-force.force.kind c.loop-force.force.port_kind in
     let v = c.in_ok-read.field-0 in
     let h : IsAttribute b = c.in_ok-buf.ensures.whole.0 refl in
-    let was : (link_info_row f (proper_kind (raw_kind_of b))).rule.accepted (payload_of b) ≡ true = rw c.in_ok-buf.ensures.ok at c.in_ok-read.ensures.ok in
-    let entry : link_info_entry v ≡ rewrite (link_info_row f (proper_kind (raw_kind_of b))) (attribute_of b) = rw c.in_ok-buf.ensures.ok at c.in_ok-read.ensures.value in
-    let inside : link_info_fits v ≡ (link_info_row f (proper_kind (raw_kind_of b))).rule.fits (payload_of b) = rw c.in_ok-buf.ensures.ok at c.in_ok-read.ensures.inside in
-    let next : context_of c.in_ok-force.force.kind c.in_ok-force.force.port_kind ≡ info_next f (proper_kind (raw_kind_of b)) (payload_of b) = rw c.in_ok-buf.ensures.ok at c.in_ok-force.ensures.next in
+    let was : (link_info_row f (proper_kind (viewed_kind b))).rule.accepted (viewed_payload b) ≡ true = rw c.in_ok-buf.ensures.ok at c.in_ok-read.ensures.ok in
+    let entry : link_info_entry v ≡ rewrite (link_info_row f (proper_kind (viewed_kind b))) (viewed_attribute b) = rw c.in_ok-buf.ensures.ok at c.in_ok-read.ensures.value in
+    let inside : link_info_fits v ≡ (link_info_row f (proper_kind (viewed_kind b))).rule.fits (viewed_payload b) = rw c.in_ok-buf.ensures.ok at c.in_ok-read.ensures.inside in
+    let next : context_of c.in_ok-force.force.kind c.in_ok-force.force.port_kind ≡ info_next f (proper_kind (viewed_kind b)) (viewed_payload b) = rw c.in_ok-buf.ensures.ok at c.in_ok-force.ensures.next in
     let rest : length c.skip_first-rest.result.now ≡ length (after_first b) = ap length c.skip_first-rest.ensures in
     let s = state_more c.args.bytes.now c.loop-force.list.items f b v h was entry inside c.in_ok-read.ensures.names_row c.loop-force.invariant.state in
     record {
       state = subst (λ vs. State c.args.bytes.now vs (context_of c.in_ok-force.force.kind c.in_ok-force.force.port_kind) c.skip_first-rest.result.now) (sym c.in_ok-push.ensures.items)
           (subst (λ d. State c.args.bytes.now (c.loop-force.list.items ++ v ∷ []) d c.skip_first-rest.result.now) (sym next)
-          (subst (λ r. State c.args.bytes.now (c.loop-force.list.items ++ v ∷ []) (info_next f (proper_kind (raw_kind_of b)) (payload_of b)) r) (sym c.skip_first-rest.ensures) s));
-      within = omega (arith, rest, length-drop (nla_align (length_of b)) b, c.loop-force.invariant.within);
+          (subst (λ r. State c.args.bytes.now (c.loop-force.list.items ++ v ∷ []) (info_next f (proper_kind (viewed_kind b)) (viewed_payload b)) r) (sym c.skip_first-rest.ensures) s));
+      within = omega (arith, rest, length-drop (nla_align (viewed_length b)) b, c.loop-force.invariant.within);
     }
 
 ended : (c : goal.After-loop-force) → Done c.args.bytes.now c.loop-force.list.items

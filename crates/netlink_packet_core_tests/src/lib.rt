@@ -1,0 +1,19 @@
+// The core as its callers use it, as tests. The wanted values come from outside this project's code.
+#![tactic(auto)]
+
+#[cfg(test)]
+mod buffers;
+#[cfg(test)]
+mod ethernet;
+#[cfg(test)]
+mod messages;
+#[cfg(test)]
+mod nla;
+#[cfg(test)]
+mod numbers;
+#[cfg(test)]
+mod refusals;
+#[cfg(test)]
+mod traits;
+#[cfg(test)]
+mod view;

@@ -1,0 +1,114 @@
+use netlink_packet_core::{
+    DefaultNla, Nla, NlaBuffer, NlasIterator, Parseable, emit_all, fits_all, len_all, nla_align,
+    skip_first,
+};
+use std::test::Fail;
+
+/// The payload of the first attribute of a kind, as a caller finds it.
+fn find(bytes: &[u8], kind: u16) -> Option<&[u8]> {
+    for item in NlasIterator::new(bytes) {
+        let Ok(nla) = item else {
+            return None;
+        };
+        if nla.kind() == kind {
+            return Some(nla.value());
+        }
+    }
+    None
+}
+
+#[test]
+fn lengths_are_aligned(rt: HostRuntime) {
+    assert_eq!(rt; nla_align(13), 16);
+    assert_eq!(rt; nla_align(16), 16);
+    assert_eq!(rt; nla_align(0), 0);
+    assert_eq!(rt; nla_align(1), 4);
+    assert_eq!(rt; nla_align(usize::MAX - 4), usize::MAX - 3);
+}
+
+#[test]
+fn flags_are_read_and_written(rt: HostRuntime) -> Result<(), Fail> {
+    let mut bytes = [4u8, 0, 0x46, 0xc0];
+    let mut view = NlaBuffer::new(bytes.as_mut_slice());
+    assert_eq!(rt; view.raw_kind(), 0xc046);
+    assert_eq!(rt; view.kind(), 70);
+    assert!(rt; view.nested_flag() && view.network_byte_order_flag());
+    view.set_nested_flag();
+    assert_eq!(rt; &bytes[2..], [0x46u8, 0x80].as_slice());
+    let mut view = NlaBuffer::new([4u8, 0, 0x46, 0xc0].to_vec(rt.alloc())?);
+    view.set_network_byte_order_flag();
+    assert_eq!(rt;
+        view.into_inner().as_slice(),
+        [4u8, 0, 0x46, 0x40].as_slice()
+    );
+    Ok(())
+}
+
+#[test]
+fn payloads_are_written_in_place(rt: HostRuntime) -> Result<(), Fail> {
+    let mut bytes = [5u8, 0, 2, 0, 1].to_vec(rt.alloc())?;
+    let mut view = NlaBuffer::new(&mut bytes);
+    let Ok(()) = view.check_buffer_length() else {
+        return Err(Fail::from("refused"));
+    };
+    view.value_mut().fill(8);
+    assert_eq!(rt; bytes.as_slice(), [5u8, 0, 2, 0, 8].as_slice());
+    Ok(())
+}
+
+#[test]
+fn a_list_is_walked_to_its_end(rt: HostRuntime) -> Result<(), Fail> {
+    let bytes: &[u8] = &[4, 0, 1, 0, 5, 0, 2, 0, 0xaa];
+    let mut walk = NlasIterator::new(bytes);
+    let Some(Ok(first)) = walk.next() else {
+        return Err(Fail::from("no first attribute"));
+    };
+    assert_eq!(rt; (first.raw_kind(), first.value().len()), (1, 0));
+    assert_eq!(rt; skip_first(first.into_inner()), &bytes[4..]);
+    let Some(Ok(second)) = walk.next() else {
+        return Err(Fail::from("no second attribute"));
+    };
+    assert_eq!(rt; second.raw_kind(), 2);
+    assert_eq!(rt; second.value(), [0xaau8].as_slice());
+    assert!(rt; walk.next().is_none());
+    assert!(rt; find(bytes, 2) == Some([0xaau8].as_slice()));
+    Ok(())
+}
+
+#[test]
+fn a_fault_ends_the_walk(rt: HostRuntime) -> Result<(), Fail> {
+    let bytes: &[u8] = &[4, 0, 1, 0, 3, 0, 2, 0];
+    let mut walk = NlasIterator::new(bytes);
+    let Some(Ok(first)) = walk.next() else {
+        return Err(Fail::from("no first attribute"));
+    };
+    assert_eq!(rt; first.raw_kind(), 1);
+    assert!(rt; matches!(walk.next(), Some(Err(_))));
+    assert!(rt; walk.next().is_none());
+    assert!(rt; walk.next().is_none());
+    Ok(())
+}
+
+#[test]
+fn attributes_are_kept_and_written(rt: HostRuntime) -> Result<(), Fail> {
+    let bytes: &[u8] = &[5, 0, 0x46, 0xc0, 1, 0xff, 0xff, 0xff];
+    let Ok(view) = NlaBuffer::new_checked(bytes) else {
+        return Err(Fail::from("refused"));
+    };
+    let Ok(kept) = DefaultNla::parse(rt.alloc(), &view) else {
+        return Err(Fail::from("refused"));
+    };
+    assert!(rt; kept.is_nested() && kept.is_network_byteorder());
+    assert!(rt; kept.clone()? == kept);
+    let none = DefaultNla::new(1, Vec::new(rt.alloc()));
+    let items = vec![in rt.alloc(); none, kept]?;
+    assert_eq!(rt; len_all(&items), 12);
+    let mut buffer = [9u8; 13];
+    if !fits_all(&items) {
+        return Err(Fail::from("does not fit"));
+    }
+    emit_all(&items, &mut buffer);
+    let expected = [4u8, 0, 1, 0, 5, 0, 0x46, 0xc0, 1, 0, 0, 0, 9];
+    assert_eq!(rt; buffer.as_slice(), expected.as_slice());
+    Ok(())
+}

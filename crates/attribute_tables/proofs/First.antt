@@ -1,7 +1,7 @@
 -- A payload that begins with one attribute of a family, and holds any bytes after it.
-use Rattle.std.proofs.Common.{◌≡◌, ℕ, Bool, true, false, List, [], ◌∷◌, length, Some, refl, sym, ap, ◌∙◌}
+use Rattle.std.proofs.Common.{◌≡◌, ℕ, Bool, true, false, List, [], ◌∷◌, length, Some, refl, sym, ap, ◌∙◌, append-nil}
 use Rattle.std.specs.Prelude.{◌&&◌}
-use Rattle.netlink_packet_core_grammar.specs.Attributes.{Attribute, list_text, proper_kind}
+use Rattle.netlink_packet_core_grammar.specs.Attributes.{Attribute, attribute_text, list_text, proper_kind}
 use Rattle.netlink_packet_core_grammar.specs.AttributeViews.{IsAttribute, viewed_attribute, after_first}
 use Rattle.netlink_packet_core_grammar.specs.Fits.{attribute_fits}
 use Rattle.netlink_packet_core_grammar.proofs.FirstAttribute.{first_attribute_is, first_attribute_none}
@@ -17,7 +17,7 @@ use Rattle.attribute_tables.proofs.Families.{family-fits}
 
 pub record First (t : Table) (b : List ℕ) (e : Attribute) : Type 0 where
   pub accepted : (list_of bytes_peer first_alone t).accepted b ≡ true
-  pub canonical : list_text (e ∷ []) ≡ (list_of bytes_peer first_alone t).canonical b
+  pub canonical : attribute_text e ≡ (list_of bytes_peer first_alone t).canonical b
   pub fits : attribute_fits e ≡ (list_of bytes_peer first_alone t).fits b
 
 one_fits : (e : Attribute) → all_written_fit (record { entry = e; inside_fits = true } ∷ []) ≡ attribute_fits e
@@ -27,6 +27,10 @@ one_fits e = and_all (attribute_fits e)
     and_all : (b : Bool) → ((b && true) && true) ≡ b
     and_all true = refl
     and_all false = refl
+
+one_text : (e : Attribute) → list_text (e ∷ []) ≡ attribute_text e
+unfolding list_text
+one_text e = append-nil (attribute_text e)
 
 pub first_of : (t : Table) (b : List ℕ) (e : Attribute) → holds_no_lists t ≡ true → IsAttribute b → accepts t b ≡ true → Gives t b e → First t b e
 first_of t b e plain h a is =
@@ -38,7 +42,7 @@ first_of t b e plain h a is =
     let rule_is = list-rows bytes_peer first_alone t in
     record {
       accepted = ap (λ r. r.accepted b) rule_is ∙ t'.accepted;
-      canonical = sym (ap (λ r. r.canonical b) rule_is ∙ t'.canonical);
+      canonical = sym (ap (λ r. r.canonical b) rule_is ∙ t'.canonical ∙ one_text e);
       fits = sym (ap (λ r. r.fits b) rule_is ∙ t'.fits ∙ one_fits e);
     }
 

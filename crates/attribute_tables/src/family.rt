@@ -1,8 +1,8 @@
 //! The reader of a family, and lists of its attributes.
 
-ghost use Rattle.std.specs.Prelude.{◌≡◌, ◌<◌, ◌∷◌, [], true, false, length, map, Some, IsTrue, IfOk, IfErr, OnOk};
+ghost use Rattle.std.specs.Prelude.{◌≡◌, ◌<◌, true, false, length, map, Some, IsTrue, IfOk, IfErr, OnOk};
 ghost use Rattle.std.specs.List.{All};
-ghost use Rattle.netlink_packet_core_grammar.specs.Attributes.{list_text};
+ghost use Rattle.netlink_packet_core_grammar.specs.Attributes.{attribute_text};
 ghost use Rattle.netlink_packet_core_grammar.specs.Fits.{attribute_fits};
 ghost use Rattle.netlink_packet_core.specs.Errors.{is_memory};
 ghost use Rattle.netlink_packet_core.specs.Families.{family_row, may_want_memory};
@@ -69,7 +69,7 @@ pub fn parse_family<F: Family + Drop>(alloc: Global, bytes: &[u8]) -> Result<Vec
 pub fn parse_first<F: Family + Drop>(alloc: Global, bytes: &[u8]) -> Result<F, DecodeError>
     ensures ok { OnOk result (IsTrue ((list_of bytes_peer first_alone F.rows).accepted bytes.now)) }
     ensures text { IfOk result
-        (λ v. list_text (F.field_entry v ∷ []) ≡ (list_of bytes_peer first_alone F.rows).canonical bytes.now) }
+        (λ v. attribute_text (F.field_entry v) ≡ (list_of bytes_peer first_alone F.rows).canonical bytes.now) }
     ensures fits { IfOk result
         (λ v. attribute_fits (F.field_entry v) ≡ (list_of bytes_peer first_alone F.rows).fits bytes.now) }
     ensures names_row { IfOk result (λ v. F.names_row v) }

@@ -4,7 +4,8 @@ use Rattle.netlink_packet_core_grammar.specs.Attributes.{Attribute, attributes_o
 use Rattle.attribute_tables_grammar.specs.Rules.{Rule, Lawful, Renews}
 use Rattle.attribute_tables_grammar.specs.Lists.{Grammar, Context, nothing, rewritten, ListForm, read_as, kept, list_rule, all_accepted, all_same, context_after, LawfulGrammar}
 use Rattle.attribute_tables_grammar.specs.Peers.{Peer, LawfulPeer, bytes_peer}
-use Rattle.attribute_tables_grammar.specs.Tables.{Payload, rule, payload_bounded}
+use Rattle.attribute_tables_grammar.specs.Tables.{Payload, Payload.list, Table, rule, grammar, payload_bounded, rows_bounded}
+use Rattle.attribute_tables_grammar.specs.LookUps.{rows_rule, table_row}
 
 -- a canonical text is cut into the written kinds and canonical payloads of what was kept
 abbrev pub CanonicalIsCut : Type 0
@@ -39,3 +40,11 @@ OldTextsAreRenewed = (p : Peer) → (s : Payload) → payload_bounded s ≡ true
 -- lists that are the same leave the same in force, so that both stand in one context
 abbrev pub OneContext : Type 0
 OneContext = (g : Grammar) → LawfulGrammar g → (c : Context) (es fs : List Attribute) → all_accepted g c es ≡ true → all_accepted g c fs ≡ true → all_same g c c es fs ≡ true → context_after g c es ≡ context_after g c fs
+
+-- the rows of a table without large rows are lawful, over every lawful rule of peers
+abbrev pub TableGrammarsAreLawful : Type 0
+TableGrammarsAreLawful = (p : Peer) → LawfulPeer p → (t : Table) → rows_bounded t ≡ true → LawfulGrammar (grammar p t)
+
+-- a list of a table's rows has the rule of the rows that a look-up of each kind finds, for any form
+abbrev pub RowsAreLookedUp : Type 0
+RowsAreLookedUp = (p : Peer) (form : ListForm) (t : Table) → rule p (list form t) ≡ rows_rule form (table_row p t)

@@ -2,6 +2,7 @@
 
 ghost use Rattle.attribute_tables_grammar.specs.Laws.{CanonicalIsCut, TablesAreLawful, BytesAreLawful, TextsTellMeanings};
 ghost use Rattle.attribute_tables_grammar.specs.Laws.{TextsKeepMeanings, OldTextsAreRenewed, OneContext};
+ghost use Rattle.attribute_tables_grammar.specs.Laws.{TableGrammarsAreLawful, RowsAreLookedUp};
 
 /// A canonical text is cut into the kept attributes, each in its canonical form.
 pub fn canonical_texts_are_cut_again()
@@ -36,4 +37,14 @@ pub fn old_texts_are_renewed()
 /// Lists that are the same leave the same in force.
 pub fn same_lists_leave_one_context()
     ensures { OneContext }
+{}
+
+/// The rows of a table without large rows are lawful.
+pub fn table_grammars_are_lawful()
+    ensures { TableGrammarsAreLawful }
+{}
+
+/// A list of a table's rows has the rule of the rows that a look-up of each kind finds.
+pub fn rows_are_looked_up()
+    ensures { RowsAreLookedUp }
 {}

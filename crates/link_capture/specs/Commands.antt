@@ -6,7 +6,7 @@ use Rattle.link_capture.specs.declared.command.Command.{Command}
 use Rattle.link_capture.specs.declared.command.Command.TheVariants.{Norm}
 
 -- one digit or more, and nothing else, which write a number from 16 to 4294967295
-pub record IsLimit (word : List ℕ) : Type 0 where
+pub record IsLimitWord (word : List ℕ) : Type 0 where
   pub numeral : IsNumeral 10 word
   pub low : 16 ≤ digits_value 10 word
   pub high : digits_value 10 word < 2 ^ 32
@@ -15,7 +15,7 @@ pub record IsLimit (word : List ℕ) : Type 0 where
 abbrev pub IsCommand : List (List ℕ) → Command → Type 0
 IsCommand [] (Norm limit) = ⊥
 IsCommand (w ∷ []) (Norm limit) = (w ≡ codes "norm") × (limit ≡ 1048576)
-IsCommand (w ∷ l ∷ []) (Norm limit) = (w ≡ codes "norm") × IsLimit l × (limit ≡ digits_value 10 l)
+IsCommand (w ∷ l ∷ []) (Norm limit) = (w ≡ codes "norm") × IsLimitWord l × (limit ≡ digits_value 10 l)
 IsCommand (w ∷ l ∷ x ∷ more) (Norm limit) = ⊥
 
 abbrev pub status_of : Result ⊤ CaptureFault → ℕ

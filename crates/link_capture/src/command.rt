@@ -2,7 +2,7 @@
 
 ghost use Rattle.std.specs.Prelude.{◌≡◌, ◌≢◌, ◌≤◌, ⊤, map, IfSome, IfNone, string_bytes};
 ghost use Rattle.std.specs.Str.Parse.{digits_value};
-ghost use Rattle.link_capture.specs.Commands.{IsLimit, IsCommand, HasLimit, status_of};
+ghost use Rattle.link_capture.specs.Commands.{IsLimitWord, IsCommand, HasLimit, status_of};
 
 use link_capture_grammar::fault::CaptureFault;
 
@@ -18,8 +18,8 @@ pub enum Command {
 
 /// Reads a limit: digits that write a number from 16 to 4294967295.
 fn read_limit(word: &str) -> Option<u32>
-    ensures some { IfSome result (λ n. IsLimit word.now × (n ≡ digits_value 10 word.now)) }
-    ensures none { IfNone result (IsLimit word.now → ⊥) }
+    ensures some { IfSome result (λ n. IsLimitWord word.now × (n ≡ digits_value 10 word.now)) }
+    ensures none { IfNone result (IsLimitWord word.now → ⊥) }
 {
     let bytes = word.as_bytes();
     if !bytes.is_empty() && bytes[0] == b'+' {

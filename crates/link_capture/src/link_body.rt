@@ -29,7 +29,7 @@ pub(crate) struct TextMeasure {
 }
 
 /// The measure of a payload of so many bytes that holds no attributes.
-fn viewed_payload(text_len: u128) -> TextMeasure
+fn payload_measure(text_len: u128) -> TextMeasure
     ensures length { result.text_len ≡ text_len }
     ensures none { result.attributes ≡ 0 }
     ensures fits { result.fits ≡ true }
@@ -47,7 +47,7 @@ fn check_text(payload: &[u8]) -> Option<TextMeasure>
 {
     let text = without_nul(payload);
     match str::from_utf8(text) {
-        Ok(_) => Some(viewed_payload(text.len() as u128 + 1)),
+        Ok(_) => Some(payload_measure(text.len() as u128 + 1)),
         Err(_) => None,
     }
 }
@@ -61,7 +61,7 @@ fn check_payload(attribute: RawAttribute<'_>) -> Option<TextMeasure>
     if attribute.proper_kind() == IFLA_IFNAME {
         check_text(attribute.payload)
     } else {
-        Some(viewed_payload(attribute.payload.len() as u128))
+        Some(payload_measure(attribute.payload.len() as u128))
     }
 }
 
@@ -85,7 +85,7 @@ fn check_attributes(bytes: &[u8]) -> Option<TextMeasure>
     ensures small { IfSome result (λ m. m.text_len ≤ 77 * length bytes.now) }
 {
     let mut rest = bytes;
-    let mut total = viewed_payload(0);
+    let mut total = payload_measure(0);
     while !rest.is_empty() {
         let Some((attribute, after)) = first_attribute(rest) else {
             return None;

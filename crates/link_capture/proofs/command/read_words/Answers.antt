@@ -2,7 +2,7 @@ use Rattle.std.proofs.Common.{codes, subst, sym, ap, ◌∙◌}
 use Rattle.std.specs.Prelude.{string_bytes}
 use Rattle.std.specs.Str.Parse.{digits_value}
 use Rattle.std.proofs.lemmas.Slice.Eq.{bytes_eq-Decides}
-use Rattle.link_capture.specs.Commands.{IsLimit}
+use Rattle.link_capture.specs.Commands.{IsLimitWord}
 use Rattle.link_capture.proofs.Commands.{one_word, two_words}
 use Rattle.link_capture.proofs.command.read_words.Goals as goal
 
@@ -18,5 +18,5 @@ returns-in_ok-read_limit-in-len2-clause-some c =
     two_words string_bytes c.args.words.now c.norm-item-then-words-lt3.result c.limit-item.result c.in_ok-read_limit-in-len2.field-0
     c.in-len2.len_at_least c.in-len2.len_below c.norm-item-then-words-lt3.is c.limit-item.is
     (sym c.as_str-then-words-lt3.ensures.value ∙ (bytes_eq-Decides c.as_str-then-words-lt3.result.now (codes "norm")).0 (sym c.if-eq-2.ensures))
-    (subst IsLimit text limit.0)
+    (subst IsLimitWord text limit.0)
     (limit.1 ∙ ap (λ t. digits_value 10 t) text)

@@ -6,8 +6,8 @@ use Rattle.link_capture.proofs.link_body.check_attributes.Goals as goal
 
 pub loop-rest-init : goal.loop-rest-init
 loop-rest-init c =
-    let e = c.viewed_payload-total.ensures in record {
-      met = subst (λ m. Met c.args.bytes.now m c.args.bytes.now) (sym (measure_is (view c.viewed_payload-total.result) 0 e.length e.none e.fits refl)) (start c.args.bytes.now);
+    let e = c.payload_measure-total.ensures in record {
+      met = subst (λ m. Met c.args.bytes.now m c.args.bytes.now) (sym (measure_is (view c.payload_measure-total.result) 0 e.length e.none e.fits refl)) (start c.args.bytes.now);
       small = omega arith;
       few = omega arith;
     }

@@ -5,7 +5,7 @@ use Rattle.link_capture.proofs.link_body.check_text.Goals as goal
 
 pub returns-in-Ok : goal.returns-in-Ok
 returns-in-Ok c =
-    let e = c.viewed_payload.ensures in
+    let e = c.payload_measure.ensures in
     ap Some (measure_is _ _ e.length e.none e.fits refl) ∙ text_some c.args.payload.now c.without_nul-text.result.now c.without_nul-text.ensures c.in-Ok.ensures.cases.1
 
 pub returns-in-Err : goal.returns-in-Err

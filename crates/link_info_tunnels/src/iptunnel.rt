@@ -1,14 +1,13 @@
 //! Data of the kinds `ipip`, `ip6tnl` and `sit` (if_tunnel.h, IFLA_IPTUN_*). Numbers are
 //! little-endian unless told.
 
-ghost use Rattle.std.specs.Prelude.{◌≡◌, true, false, IsTrue, IfOk, IfErr, IfSome, IfNone, OnOk};
+ghost use Rattle.std.specs.Prelude.{◌≡◌, false, IsTrue, IfOk, IfErr, IfSome, IfNone, OnOk};
 ghost use Rattle.netlink_packet_core.specs.Attributes.{proper_kind};
 ghost use Rattle.netlink_packet_core.specs.AttributeViews.{IsAttribute, raw_kind_of};
 ghost use Rattle.netlink_packet_core.specs.Errors.{is_memory};
-ghost use Rattle.netlink_packet_core.specs.Families.{Gives, accepts, attribute, family_row, may_want_memory};
+ghost use Rattle.netlink_packet_core.specs.Families.{Gives, accepts, family_row, may_want_memory};
 ghost use Rattle.netlink_packet_core.specs.NlaBuffers.{storage};
-ghost use Rattle.attribute_tables_grammar.specs.Lists.{rewrite};
-ghost use Rattle.attribute_tables_grammar.specs.LookUps.{has_no_row, row_holds_bytes};
+ghost use Rattle.attribute_tables_grammar.specs.LookUps.{has_no_row};
 ghost use Rattle.link_info_tunnels.specs.IpTunnel.{ip_tunnel_entry, ip_tunnel_names_row, ip_tunnel_of};
 
 use attribute_tables::{Reader, typed};
@@ -163,18 +162,19 @@ impl FieldNla for InfoIpTunnel {
 impl InfoIpTunnel {
     // Reads one attribute under a kind of links; `None` where its kind has no row.
     #[tactic(auto, unfolding(crate::specs::IpTunnel::ip_tunnel_of))]
-    fn read_row(buf: &NlaBuffer<&[u8]>, link_kind: &InfoKind) -> Result<Option<Self>, DecodeError>
+    fn read_row(buf: &NlaBuffer<&[u8]>, link: &InfoKind) -> Result<Option<Self>, DecodeError>
         requires { IsAttribute (storage buf.now).now }
-        ensures ok { OnOk result (IsTrue (accepts (ip_tunnel_of link_kind.now) (storage buf.now).now)) }
+        ensures ok { OnOk result (IsTrue (accepts (ip_tunnel_of link.now) (storage buf.now).now)) }
         ensures none { IfOk result
             (λ o. IfNone o
-            (has_no_row (ip_tunnel_of link_kind.now) (proper_kind (raw_kind_of (storage buf.now).now)))) }
+            (has_no_row (ip_tunnel_of link.now)
+            (proper_kind (raw_kind_of (storage buf.now).now)))) }
         ensures value { IfOk result
             (λ o. IfSome o
-            (λ v. Gives (ip_tunnel_of link_kind.now) (storage buf.now).now (ip_tunnel_entry v))) }
-        ensures names_row { IfOk result (λ o. IfSome o (λ v. ip_tunnel_names_row link_kind.now v)) }
+            (λ v. Gives (ip_tunnel_of link.now) (storage buf.now).now (ip_tunnel_entry v))) }
+        ensures names_row { IfOk result (λ o. IfSome o (λ v. ip_tunnel_names_row link.now v)) }
         ensures err { IfErr result
-            (λ e. accepts (ip_tunnel_of link_kind.now) (storage buf.now).now ≡ false) }
+            (λ e. accepts (ip_tunnel_of link.now) (storage buf.now).now ≡ false) }
         ensures memory { IfErr result (λ e. is_memory e ≡ false) }
     {
         let payload = buf.value();
@@ -186,7 +186,7 @@ impl InfoIpTunnel {
             IFLA_IPTUN_TOS => typed!(Tos, parse_u8(payload)),
             IFLA_IPTUN_ENCAP_LIMIT => typed!(EncapLimit, parse_u8(payload)),
             IFLA_IPTUN_FLOWINFO => typed!(FlowInfo, parse_u32_be(payload)),
-            IFLA_IPTUN_FLAGS => match link_kind {
+            IFLA_IPTUN_FLAGS => match link {
                 InfoKind::IpIp => typed!(Ipv4Flags, parse_u16_be(payload)),
                 InfoKind::SitTun => typed!(Ipv6SitFlags, parse_u16_be(payload)),
                 InfoKind::Ip6Tnl => {
@@ -217,29 +217,6 @@ impl InfoIpTunnel {
             _ => Ok(None),
         }
     }
-
-    // Reads one attribute under a kind of links.
-    fn read(
-        alloc: Global,
-        buf: &NlaBuffer<&[u8]>,
-        link_kind: &InfoKind,
-    ) -> Result<Self, DecodeError>
-        requires { IsAttribute (storage buf.now).now }
-        ensures ok { OnOk result (IsTrue (accepts (ip_tunnel_of link_kind.now) (storage buf.now).now)) }
-        ensures value { IfOk result
-            (λ v. Gives (ip_tunnel_of link_kind.now) (storage buf.now).now (ip_tunnel_entry v)) }
-        ensures names_row { IfOk result (λ v. ip_tunnel_names_row link_kind.now v) }
-        ensures err { IfErr result (λ e. accepts (ip_tunnel_of link_kind.now) (storage buf.now).now ≡ is_memory e) }
-        ensures memory { IfErr result
-            (λ e. is_memory e ≡ true
-            → row_holds_bytes (ip_tunnel_of link_kind.now) (proper_kind (raw_kind_of (storage buf.now).now)) ≡ true) }
-    {
-        match Self::read_row(buf, link_kind) {
-            Ok(Some(value)) => Ok(value),
-            Ok(None) => Ok(Self::Other(DefaultNla::parse(alloc, buf)?)),
-            Err(error) => Err(error),
-        }
-    }
 }
 
 impl<'a, 'b> ParseableParametrized<NlaBuffer<&'a [u8]>, &'b InfoKind> for InfoIpTunnel {
@@ -249,18 +226,26 @@ impl<'a, 'b> ParseableParametrized<NlaBuffer<&'a [u8]>, &'b InfoKind> for InfoIp
 
     ghost may_want_memory = { λ b k. may_want_memory (ip_tunnel_of k.now) (storage b).now };
 
-    ghost gives = { λ b k v. Gives (ip_tunnel_of k.now) (storage b).now (ip_tunnel_entry v) × ip_tunnel_names_row k.now v };
+    ghost gives = { λ b k v. Gives (ip_tunnel_of k.now) (storage b).now (ip_tunnel_entry v)
+        × ip_tunnel_names_row k.now v };
 
     fn parse_with_param(
         alloc: Global,
         buf: &NlaBuffer<&'a [u8]>,
         params: &'b InfoKind,
     ) -> Result<Self, DecodeError> {
-        Self::read(alloc, buf, params)
+        match Self::read_row(buf, params) {
+            Ok(Some(value)) => Ok(value),
+            Ok(None) => Ok(Self::Other(DefaultNla::parse(alloc, buf)?)),
+            Err(error) => Err(error),
+        }
     }
 }
 
 /// Reads the attributes of the data of a tunnel over IP, under the kind of the link.
+///
+/// The kind counts by its variant. `IFLA_IPTUN_FLAGS` is refused under every kind but `ipip`, `sit`
+/// and `ip6tnl`.
 pub struct InfoIpTunnelReader<'k> {
     /// The kind of the link.
     pub kind: &'k InfoKind,
@@ -277,6 +262,6 @@ impl<'k> Reader for InfoIpTunnelReader<'k> {
 
     #[tactic(auto, using(attribute_tables::proofs::Families::families, crate::proofs::IpTunnels::ip_tunnels))]
     fn read(&self, alloc: Global, buf: &NlaBuffer<&[u8]>) -> Result<InfoIpTunnel, DecodeError> {
-        InfoIpTunnel::read(alloc, buf, self.kind)
+        InfoIpTunnel::parse_with_param(alloc, buf, self.kind)
     }
 }

@@ -1,6 +1,6 @@
 -- The tables of link info (if_link.h, IFLA_INFO_*): the data of each kind of link, and of each port kind.
 use Rattle.std.specs.Prelude.{ℕ, List, [], ◌∷◌, codes}
-use Rattle.attribute_tables_grammar.specs.Shapes.{at_most, truth_of_four}
+use Rattle.attribute_tables_grammar.specs.Shapes.{Shape, at_most, one_byte, truth_of_four}
 use Rattle.attribute_tables_grammar.specs.Lists.{any}
 use Rattle.attribute_tables_grammar.specs.Tables.{Payload, Payload.plain, Payload.peer, Payload.list, Table, Table.end, Names, Names.others, Names.name}
 use Rattle.attribute_tables_grammar.specs.Rows.{◌↪◌, ◌⸴◌, octets, address, truth, flag, string}
@@ -26,6 +26,26 @@ geneve =
     1 ↪ octets 4 ⸴ 2 ↪ octets 4 ⸴ 3 ↪ octets 1 ⸴ 4 ↪ octets 1 ⸴ 5 ↪ octets 2 ⸴ 6 ↪ flag ⸴ 7 ↪ octets 16 ⸴ 8 ↪ truth ⸴ 9 ↪ truth ⸴
     10 ↪ truth ⸴ 11 ↪ octets 4 ⸴ 12 ↪ truth ⸴ 13 ↪ octets 1 ⸴ 14 ↪ flag ⸴ 17 ↪ octets 4 ⸴ 18 ↪ octets 16 ⸴ end
 
+-- IFLA_GRE_*: link, flags in and out, keys in and out, local and remote address of so many bytes, hop limit, type of service
+abbrev pub gre_ends : ℕ → Table → Table
+gre_ends size more =
+    1 ↪ octets 4 ⸴ 2 ↪ octets 2 ⸴ 3 ↪ octets 2 ⸴ 4 ↪ octets 4 ⸴ 5 ↪ octets 4 ⸴ 6 ↪ octets size ⸴ 7 ↪ octets size ⸴ 8 ↪ octets 1 ⸴ 9 ↪ octets 1 ⸴ more
+
+-- IFLA_GRE_*: encapsulation with its flags, source and destination port, settings by packet, firewall mark, index, version, direction and
+-- hardware number of ERSPAN
+abbrev pub gre_wrapping : Table
+gre_wrapping =
+    14 ↪ octets 2 ⸴ 15 ↪ octets 2 ⸴ 16 ↪ octets 2 ⸴ 17 ↪ octets 2 ⸴ 18 ↪ flag ⸴ 20 ↪ octets 4 ⸴ 21 ↪ octets 4 ⸴ 22 ↪ octets 1 ⸴ 23 ↪ octets 1 ⸴
+    24 ↪ octets 2 ⸴ end
+
+-- over IPv4, with path MTU discovery, which the byte 1 alone turns on
+abbrev pub gre : Table
+gre = gre_ends 4 (10 ↪ plain one_byte ⸴ gre_wrapping)
+
+-- over IPv6, with encapsulation limit and flow label
+abbrev pub gre6 : Table
+gre6 = gre_ends 16 (11 ↪ octets 1 ⸴ 12 ↪ octets 4 ⸴ gre_wrapping)
+
 -- IFLA_GTP_*: sockets of version 0 and 1, places of the table, role, sockets made by the kernel, restart counter, local addresses
 abbrev pub gtp : Table
 gtp = 1 ↪ octets 4 ⸴ 2 ↪ octets 4 ⸴ 3 ↪ octets 4 ⸴ 4 ↪ octets 4 ⸴ 5 ↪ truth ⸴ 6 ↪ octets 1 ⸴ 7 ↪ octets 4 ⸴ 8 ↪ octets 16 ⸴ end
@@ -33,6 +53,15 @@ gtp = 1 ↪ octets 4 ⸴ 2 ↪ octets 4 ⸴ 3 ↪ octets 4 ⸴ 4 ↪ octets 4 �
 -- IFLA_IPOIB_*: partition key, mode, user multicast
 abbrev pub ipoib : Table
 ipoib = 1 ↪ octets 2 ⸴ 2 ↪ octets 2 ⸴ 3 ↪ octets 2 ⸴ end
+
+-- IFLA_IPTUN_*, where the kind of the link tells what the flags hold: link, local and remote address, hop limit, type of service, encapsulation
+-- limit, flow information, flags, protocol, path MTU discovery, 6rd prefix and relay prefix with their lengths, encapsulation with its flags,
+-- source and destination port, settings by packet, firewall mark
+abbrev pub ip_tunnel : Shape → Table
+ip_tunnel flags =
+    1 ↪ octets 4 ⸴ 2 ↪ address ⸴ 3 ↪ address ⸴ 4 ↪ octets 1 ⸴ 5 ↪ octets 1 ⸴ 6 ↪ octets 1 ⸴ 7 ↪ octets 4 ⸴ 8 ↪ plain flags ⸴ 9 ↪ octets 1 ⸴
+    10 ↪ truth ⸴ 11 ↪ octets 16 ⸴ 12 ↪ octets 4 ⸴ 13 ↪ octets 2 ⸴ 14 ↪ octets 2 ⸴ 15 ↪ octets 2 ⸴ 16 ↪ octets 2 ⸴ 17 ↪ octets 2 ⸴
+    18 ↪ octets 2 ⸴ 19 ↪ flag ⸴ 20 ↪ octets 4 ⸴ end
 
 -- IFLA_IPVLAN_*, of ipvlan and ipvtap: mode, flags
 abbrev pub ipvlan : Table

@@ -2,9 +2,16 @@
 #![tactic(auto)]
 
 mod bareudp;
+mod gre;
+mod gre6;
+mod gre_common;
+mod iptunnel;
 mod vti;
 mod xfrm;
 
 pub use bareudp::InfoBareUdp;
+pub use gre::InfoGre;
+pub use gre6::InfoGre6;
+pub use iptunnel::{InfoIpTunnel, InfoIpTunnelReader};
 pub use vti::InfoVti;
 pub use xfrm::InfoXfrm;

@@ -1,0 +1,65 @@
+-- The data of ipip, ip6tnl and sit: the kind and the payload of each value, and what each kind of links tells of its flags.
+use Rattle.std.specs.Prelude.{◌≡◌, ◌∷◌, []}
+use Rattle.std.specs.Net.Addr.{ipv4_octets, ipv6_octets}
+use Rattle.netlink_packet_core.specs.Addresses.{ip_octets}
+use Rattle.netlink_packet_core.specs.Attributes.{Attribute, proper_kind}
+use Rattle.netlink_packet_core.specs.Families.{attribute}
+use Rattle.netlink_packet_core.specs.Numbers.{be2, be4, le2, le4}
+use Rattle.netlink_packet_core.specs.Truths.{truth_byte}
+use Rattle.attribute_tables_grammar.specs.LookUps.{has_no_row}
+use Rattle.attribute_tables_grammar.specs.Shapes.{Shape, exact, never}
+use Rattle.attribute_tables_grammar.specs.Tables.{Table}
+use Rattle.link_info_grammar.specs.Families.{ip_tunnel}
+use Rattle.link_info_kinds.specs.declared.info_kind.InfoKind.{InfoKind}
+use Rattle.link_info_kinds.specs.declared.info_kind.InfoKind.TheVariants as Kind
+use Rattle.link_info_tunnel_types.specs.IpProtocols.{ip_protocol_number, ip_protocol_of}
+use Rattle.link_info_tunnel_types.specs.IpTunnelTypes.{ip6_tunnel_flags_bits, tunnel_encap_flags_bits, tunnel_encap_type_number, tunnel_encap_type_of}
+use Rattle.link_info_tunnels.specs.declared.iptunnel.InfoIpTunnel.{InfoIpTunnel}
+use Rattle.link_info_tunnels.specs.declared.iptunnel.InfoIpTunnel.TheVariants.{Link, Local, Remote, Ttl, Tos, EncapLimit, FlowInfo, Ipv4Flags, Ipv6SitFlags, Ipv6Flags, Protocol, PMtuDisc, Ipv6RdPrefix, Ipv6RdRelayPrefix, Ipv6RdPrefixLen, Ipv6RdRelayPrefixLen, EncapType, EncapFlags, EncapSPort, EncapDPort, CollectMetadata, FwMark, Other}
+
+-- what the flags hold under a kind of links; no other kind has any
+abbrev pub tunnel_flags : InfoKind → Shape
+tunnel_flags Kind.IpIp = exact 2
+tunnel_flags Kind.SitTun = exact 2
+tunnel_flags Kind.Ip6Tnl = exact 4
+tunnel_flags _ = never
+
+-- the table under a kind of links
+unfoldable pub ip_tunnel_of : InfoKind → Table
+ip_tunnel_of k = ip_tunnel (tunnel_flags k)
+
+abbrev pub ip_tunnel_entry : InfoIpTunnel → Attribute
+ip_tunnel_entry (Link n) = attribute 1 (le4 n)
+ip_tunnel_entry (Local a) = attribute 2 (ip_octets a)
+ip_tunnel_entry (Remote a) = attribute 3 (ip_octets a)
+ip_tunnel_entry (Ttl n) = attribute 4 (n ∷ [])
+ip_tunnel_entry (Tos n) = attribute 5 (n ∷ [])
+ip_tunnel_entry (EncapLimit n) = attribute 6 (n ∷ [])
+ip_tunnel_entry (FlowInfo n) = attribute 7 (be4 n)
+ip_tunnel_entry (Ipv4Flags n) = attribute 8 (be2 n)
+ip_tunnel_entry (Ipv6SitFlags n) = attribute 8 (be2 n)
+ip_tunnel_entry (Ipv6Flags f) = attribute 8 (le4 (ip6_tunnel_flags_bits f))
+ip_tunnel_entry (Protocol p) = attribute 9 (ip_protocol_number p ∷ [])
+ip_tunnel_entry (PMtuDisc b) = attribute 10 (truth_byte b)
+ip_tunnel_entry (Ipv6RdPrefix a) = attribute 11 (ipv6_octets a)
+ip_tunnel_entry (Ipv6RdRelayPrefix a) = attribute 12 (ipv4_octets a)
+ip_tunnel_entry (Ipv6RdPrefixLen n) = attribute 13 (le2 n)
+ip_tunnel_entry (Ipv6RdRelayPrefixLen n) = attribute 14 (le2 n)
+ip_tunnel_entry (EncapType t) = attribute 15 (le2 (tunnel_encap_type_number t))
+ip_tunnel_entry (EncapFlags f) = attribute 16 (le2 (tunnel_encap_flags_bits f))
+ip_tunnel_entry (EncapSPort n) = attribute 17 (be2 n)
+ip_tunnel_entry (EncapDPort n) = attribute 18 (be2 n)
+ip_tunnel_entry CollectMetadata = attribute 19 []
+ip_tunnel_entry (FwMark n) = attribute 20 (le4 n)
+ip_tunnel_entry (Other a) = a
+
+-- flags are those of the kind, a number that names a protocol or an encapsulation is read as that one, and no kind that has a row as another
+-- attribute
+abbrev pub ip_tunnel_names_row : InfoKind → InfoIpTunnel → Type 0
+ip_tunnel_names_row k (Ipv4Flags n) = k ≡ Kind.IpIp
+ip_tunnel_names_row k (Ipv6SitFlags n) = k ≡ Kind.SitTun
+ip_tunnel_names_row k (Ipv6Flags f) = k ≡ Kind.Ip6Tnl
+ip_tunnel_names_row k (Protocol p) = p ≡ ip_protocol_of (ip_protocol_number p)
+ip_tunnel_names_row k (EncapType t) = t ≡ tunnel_encap_type_of (tunnel_encap_type_number t)
+ip_tunnel_names_row k (Other a) = has_no_row (ip_tunnel_of k) (proper_kind a.kind)
+ip_tunnel_names_row k _ = Unit {0}

@@ -1,0 +1,154 @@
+//! Data of the kinds `ip6gre`, `ip6gretap` and `ip6erspan` (if_tunnel.h, IFLA_GRE_*). Numbers
+//! are little-endian unless told.
+
+ghost use Rattle.std.specs.Prelude.{refl};
+ghost use Rattle.link_info_grammar.specs.Families.{gre6};
+ghost use Rattle.link_info_tunnels.specs.Gre6.{gre6_entry, gre6_names_row};
+
+use super::gre_common::{
+    IFLA_GRE_COLLECT_METADATA, IFLA_GRE_ENCAP_DPORT, IFLA_GRE_ENCAP_FLAGS, IFLA_GRE_ENCAP_LIMIT,
+    IFLA_GRE_ENCAP_SPORT, IFLA_GRE_ENCAP_TYPE, IFLA_GRE_ERSPAN_DIR, IFLA_GRE_ERSPAN_HWID,
+    IFLA_GRE_ERSPAN_INDEX, IFLA_GRE_ERSPAN_VER, IFLA_GRE_FLOWINFO, IFLA_GRE_FWMARK,
+    IFLA_GRE_IFLAGS, IFLA_GRE_IKEY, IFLA_GRE_LINK, IFLA_GRE_LOCAL, IFLA_GRE_OFLAGS, IFLA_GRE_OKEY,
+    IFLA_GRE_REMOTE, IFLA_GRE_TOS, IFLA_GRE_TTL,
+};
+use attribute_tables::typed;
+use link_info_tunnel_types::{ErSpanDir, Flags, GreEncapFlags, GreEncapType, GreIOFlags};
+use netlink_packet_core::{
+    DecodeError, DefaultNla, Family, Field, FieldNla, Nla, parse_ipv6_addr, parse_u8, parse_u16,
+    parse_u16_be, parse_u32, parse_u32_be,
+};
+use std::alloc::Global;
+use std::net::Ipv6Addr;
+
+/// An attribute of the data of `ip6gre`, `ip6gretap` and `ip6erspan`: generic routing
+/// encapsulation over IPv6, also of mirrored frames.
+#[derive(Debug, PartialEq, Eq, Drop)]
+pub enum InfoGre6 {
+    /// `IFLA_GRE_LINK`: the index of the link below; 4 bytes.
+    Link(u32),
+    /// `IFLA_GRE_IFLAGS`: what the headers of packets that come in hold; 2 bytes, big-endian, of
+    /// which every bit is kept.
+    IFlags(GreIOFlags),
+    /// `IFLA_GRE_OFLAGS`: what the headers of packets that go out hold; 2 bytes, big-endian, of
+    /// which every bit is kept.
+    OFlags(GreIOFlags),
+    /// `IFLA_GRE_IKEY`: the key of packets that come in; 4 bytes, big-endian.
+    IKey(u32),
+    /// `IFLA_GRE_OKEY`: the key of packets that go out; 4 bytes, big-endian.
+    OKey(u32),
+    /// `IFLA_GRE_LOCAL`: the address of this end of the tunnel; 16 bytes.
+    Local(Ipv6Addr),
+    /// `IFLA_GRE_REMOTE`: the address of the other end of the tunnel; 16 bytes.
+    Remote(Ipv6Addr),
+    /// `IFLA_GRE_TTL`: the hop limit of outer packets; 1 byte.
+    Ttl(u8),
+    /// `IFLA_GRE_ENCAP_LIMIT`: how many more tunnels may be entered; 1 byte.
+    EncapLimit(u8),
+    /// `IFLA_GRE_FLOWINFO`: the flow label of outer packets; 4 bytes, big-endian.
+    FlowLabel(u32),
+    /// `IFLA_GRE_ENCAP_TYPE`: what packets are wrapped in; 2 bytes.
+    EncapType(GreEncapType),
+    /// `IFLA_GRE_ENCAP_FLAGS`: what the outer UDP header holds; 2 bytes, of which every bit is
+    /// kept.
+    EncapFlags(GreEncapFlags),
+    /// `IFLA_GRE_ENCAP_SPORT`: the UDP port that packets come from; 2 bytes, big-endian.
+    SourcePort(u16),
+    /// `IFLA_GRE_ENCAP_DPORT`: the UDP port that packets go to; 2 bytes, big-endian.
+    DestinationPort(u16),
+    /// `IFLA_GRE_COLLECT_METADATA`: each packet's own settings count. Any payload is read, and none
+    /// is written.
+    CollectMetadata,
+    /// `IFLA_GRE_FWMARK`: the firewall's mark; 4 bytes.
+    FwMask(u32),
+    /// `IFLA_GRE_TOS`: the traffic class of outer packets; 1 byte.
+    Tos(u8),
+    /// `IFLA_GRE_ERSPAN_INDEX`: the number of the mirrored port, in version 1 of ERSPAN; 4 bytes.
+    ErSpanIndex(u32),
+    /// `IFLA_GRE_ERSPAN_VER`: the version of ERSPAN; 1 byte.
+    ErSpanVer(u8),
+    /// `IFLA_GRE_ERSPAN_DIR`: which frames are mirrored, in version 2 of ERSPAN; 1 byte.
+    ErSpanDir(ErSpanDir),
+    /// `IFLA_GRE_ERSPAN_HWID`: the number of the mirroring engine, in version 2 of ERSPAN; 2
+    /// bytes.
+    ErSpanHwId(u16),
+    /// Any other kind, kept as it is.
+    Other(DefaultNla),
+}
+
+impl FieldNla for InfoGre6 {
+    ghost field_entry = { gre6_entry };
+
+    fn field(&self) -> (u16, Field<'_>) {
+        match self {
+            Self::Link(number) => (IFLA_GRE_LINK, Field::U32(*number)),
+            Self::IFlags(flags) => (IFLA_GRE_IFLAGS, Field::U16Be(flags.bits())),
+            Self::OFlags(flags) => (IFLA_GRE_OFLAGS, Field::U16Be(flags.bits())),
+            Self::IKey(key) => (IFLA_GRE_IKEY, Field::U32Be(*key)),
+            Self::OKey(key) => (IFLA_GRE_OKEY, Field::U32Be(*key)),
+            Self::Local(address) => (IFLA_GRE_LOCAL, Field::Ipv6(*address)),
+            Self::Remote(address) => (IFLA_GRE_REMOTE, Field::Ipv6(*address)),
+            Self::Ttl(number) => (IFLA_GRE_TTL, Field::U8(*number)),
+            Self::Tos(number) => (IFLA_GRE_TOS, Field::U8(*number)),
+            Self::EncapLimit(number) => (IFLA_GRE_ENCAP_LIMIT, Field::U8(*number)),
+            Self::FlowLabel(label) => (IFLA_GRE_FLOWINFO, Field::U32Be(*label)),
+            Self::EncapType(encapsulation) => (
+                IFLA_GRE_ENCAP_TYPE,
+                Field::U16(u16::from(encapsulation)),
+            ),
+            Self::EncapFlags(flags) => (IFLA_GRE_ENCAP_FLAGS, Field::U16(flags.bits())),
+            Self::SourcePort(port) => (IFLA_GRE_ENCAP_SPORT, Field::U16Be(*port)),
+            Self::DestinationPort(port) => (IFLA_GRE_ENCAP_DPORT, Field::U16Be(*port)),
+            Self::CollectMetadata => (IFLA_GRE_COLLECT_METADATA, Field::Empty),
+            Self::FwMask(mark) => (IFLA_GRE_FWMARK, Field::U32(*mark)),
+            Self::ErSpanIndex(number) => (IFLA_GRE_ERSPAN_INDEX, Field::U32(*number)),
+            Self::ErSpanVer(number) => (IFLA_GRE_ERSPAN_VER, Field::U8(*number)),
+            Self::ErSpanDir(direction) => (IFLA_GRE_ERSPAN_DIR, Field::U8(u8::from(direction))),
+            Self::ErSpanHwId(number) => (IFLA_GRE_ERSPAN_HWID, Field::U16(*number)),
+            Self::Other(nla) => (nla.kind(), Field::Bytes(nla.value())),
+        }
+    }
+}
+
+impl Family for InfoGre6 {
+    ghost rows = { gre6 };
+
+    ghost names_row = { gre6_names_row };
+
+    fn read_row(_alloc: Global, kind: u16, payload: &[u8]) -> Result<Option<Self>, DecodeError> {
+        match kind {
+            IFLA_GRE_LINK => typed!(Link, parse_u32(payload)),
+            IFLA_GRE_IFLAGS => typed!(IFlags, parse_u16_be(payload), GreIOFlags::from_bits_retain),
+            IFLA_GRE_OFLAGS => typed!(OFlags, parse_u16_be(payload), GreIOFlags::from_bits_retain),
+            IFLA_GRE_IKEY => typed!(IKey, parse_u32_be(payload)),
+            IFLA_GRE_OKEY => typed!(OKey, parse_u32_be(payload)),
+            IFLA_GRE_LOCAL => typed!(Local, parse_ipv6_addr(payload)),
+            IFLA_GRE_REMOTE => typed!(Remote, parse_ipv6_addr(payload)),
+            IFLA_GRE_TTL => typed!(Ttl, parse_u8(payload)),
+            IFLA_GRE_TOS => typed!(Tos, parse_u8(payload)),
+            IFLA_GRE_ENCAP_LIMIT => typed!(EncapLimit, parse_u8(payload)),
+            IFLA_GRE_FLOWINFO => typed!(FlowLabel, parse_u32_be(payload)),
+            IFLA_GRE_ENCAP_TYPE => typed!(EncapType, parse_u16(payload), GreEncapType),
+            IFLA_GRE_ENCAP_FLAGS => typed!(
+                EncapFlags,
+                parse_u16(payload),
+                GreEncapFlags::from_bits_retain
+            ),
+            IFLA_GRE_ENCAP_SPORT => typed!(SourcePort, parse_u16_be(payload)),
+            IFLA_GRE_ENCAP_DPORT => typed!(DestinationPort, parse_u16_be(payload)),
+            IFLA_GRE_COLLECT_METADATA => Ok(Some(Self::CollectMetadata)),
+            IFLA_GRE_FWMARK => typed!(FwMask, parse_u32(payload)),
+            IFLA_GRE_ERSPAN_INDEX => typed!(ErSpanIndex, parse_u32(payload)),
+            IFLA_GRE_ERSPAN_VER => typed!(ErSpanVer, parse_u8(payload)),
+            IFLA_GRE_ERSPAN_DIR => typed!(ErSpanDir, parse_u8(payload), ErSpanDir),
+            IFLA_GRE_ERSPAN_HWID => typed!(ErSpanHwId, parse_u16(payload)),
+            _ => Ok(None),
+        }
+    }
+
+    fn other(nla: DefaultNla) -> Self {
+        Self::Other(nla)
+    }
+
+    ghost plain = { refl };
+}

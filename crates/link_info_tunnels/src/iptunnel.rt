@@ -1,0 +1,267 @@
+//! Data of the kinds `ipip`, `ip6tnl` and `sit` (if_tunnel.h, IFLA_IPTUN_*). Numbers are
+//! little-endian unless told.
+
+ghost use Rattle.std.specs.Prelude.{◌≡◌, false, IsTrue, IfOk, IfErr, IfSome, IfNone, OnOk};
+ghost use Rattle.netlink_packet_core.specs.Attributes.{proper_kind};
+ghost use Rattle.netlink_packet_core.specs.AttributeViews.{IsAttribute, raw_kind_of};
+ghost use Rattle.netlink_packet_core.specs.Errors.{is_memory};
+ghost use Rattle.netlink_packet_core.specs.Families.{Gives, accepts, family_row, may_want_memory};
+ghost use Rattle.netlink_packet_core.specs.NlaBuffers.{storage};
+ghost use Rattle.attribute_tables_grammar.specs.LookUps.{has_no_row};
+ghost use Rattle.link_info_tunnels.specs.IpTunnel.{ip_tunnel_entry, ip_tunnel_names_row, ip_tunnel_of};
+
+use attribute_tables::{Reader, typed};
+use link_info_kinds::InfoKind;
+use link_info_tunnel_types::{
+    Flags, Ip6TunnelFlags, IpProtocol, TunnelEncapFlags, TunnelEncapType,
+};
+use netlink_packet_core::{
+    DecodeError, DefaultNla, Field, FieldNla, Nla, NlaBuffer, Parseable, ParseableParametrized,
+    parse_bool, parse_ip, parse_ipv4_addr, parse_ipv6_addr, parse_u8, parse_u16, parse_u16_be,
+    parse_u32, parse_u32_be,
+};
+use std::alloc::Global;
+use std::net::{IpAddr, Ipv4Addr, Ipv6Addr};
+
+const IFLA_IPTUN_LINK: u16 = 1;
+
+const IFLA_IPTUN_LOCAL: u16 = 2;
+
+const IFLA_IPTUN_REMOTE: u16 = 3;
+
+const IFLA_IPTUN_TTL: u16 = 4;
+
+const IFLA_IPTUN_TOS: u16 = 5;
+
+const IFLA_IPTUN_ENCAP_LIMIT: u16 = 6;
+
+const IFLA_IPTUN_FLOWINFO: u16 = 7;
+
+const IFLA_IPTUN_FLAGS: u16 = 8;
+
+const IFLA_IPTUN_PROTO: u16 = 9;
+
+const IFLA_IPTUN_PMTUDISC: u16 = 10;
+
+const IFLA_IPTUN_6RD_PREFIX: u16 = 11;
+
+const IFLA_IPTUN_6RD_RELAY_PREFIX: u16 = 12;
+
+const IFLA_IPTUN_6RD_PREFIXLEN: u16 = 13;
+
+const IFLA_IPTUN_6RD_RELAY_PREFIXLEN: u16 = 14;
+
+const IFLA_IPTUN_ENCAP_TYPE: u16 = 15;
+
+const IFLA_IPTUN_ENCAP_FLAGS: u16 = 16;
+
+const IFLA_IPTUN_ENCAP_SPORT: u16 = 17;
+
+const IFLA_IPTUN_ENCAP_DPORT: u16 = 18;
+
+const IFLA_IPTUN_COLLECT_METADATA: u16 = 19;
+
+const IFLA_IPTUN_FWMARK: u16 = 20;
+
+/// An attribute of the data of `ipip`, `ip6tnl` and `sit`: tunnels over IPv4 and IPv6.
+#[derive(Debug, PartialEq, Eq, Drop)]
+pub enum InfoIpTunnel {
+    /// `IFLA_IPTUN_LINK`: the index of the link below; 4 bytes.
+    Link(u32),
+    /// `IFLA_IPTUN_LOCAL`: the address of this end of the tunnel; 4 or 16 bytes.
+    Local(IpAddr),
+    /// `IFLA_IPTUN_REMOTE`: the address of the other end of the tunnel; 4 or 16 bytes.
+    Remote(IpAddr),
+    /// `IFLA_IPTUN_TTL`: the hop limit of outer packets; 1 byte.
+    Ttl(u8),
+    /// `IFLA_IPTUN_TOS`: the type of service of outer packets; 1 byte.
+    Tos(u8),
+    /// `IFLA_IPTUN_ENCAP_LIMIT`: how many more tunnels may be entered; 1 byte.
+    EncapLimit(u8),
+    /// `IFLA_IPTUN_FLOWINFO`: the traffic class and the flow label of outer packets; 4 bytes, big-
+    /// endian.
+    FlowInfo(u32),
+    /// `IFLA_IPTUN_FLAGS`: the flags of a tunnel of the kind `sit`; 2 bytes, big-endian.
+    Ipv6SitFlags(u16),
+    /// `IFLA_IPTUN_FLAGS`: the flags of a tunnel of the kind `ipip`; 2 bytes, big-endian.
+    Ipv4Flags(u16),
+    /// `IFLA_IPTUN_FLAGS`: the flags of a tunnel of the kind `ip6tnl`; 4 bytes, of which every bit
+    /// is kept.
+    Ipv6Flags(Ip6TunnelFlags),
+    /// `IFLA_IPTUN_PROTO`: the protocol that is carried; 1 byte.
+    Protocol(IpProtocol),
+    /// `IFLA_IPTUN_PMTUDISC`: the MTU of the path is found out; 1 byte, zero or not.
+    PMtuDisc(bool),
+    /// `IFLA_IPTUN_6RD_PREFIX`: the IPv6 prefix of a 6rd domain (RFC 5969); 16 bytes.
+    Ipv6RdPrefix(Ipv6Addr),
+    /// `IFLA_IPTUN_6RD_RELAY_PREFIX`: the IPv4 prefix of a 6rd domain; 4 bytes.
+    Ipv6RdRelayPrefix(Ipv4Addr),
+    /// `IFLA_IPTUN_6RD_PREFIXLEN`: how many bits the IPv6 prefix has; 2 bytes.
+    Ipv6RdPrefixLen(u16),
+    /// `IFLA_IPTUN_6RD_RELAY_PREFIXLEN`: how many bits the IPv4 prefix has; 2 bytes.
+    Ipv6RdRelayPrefixLen(u16),
+    /// `IFLA_IPTUN_ENCAP_TYPE`: what packets are wrapped in; 2 bytes.
+    EncapType(TunnelEncapType),
+    /// `IFLA_IPTUN_ENCAP_FLAGS`: what the outer UDP header holds; 2 bytes, of which every bit is
+    /// kept.
+    EncapFlags(TunnelEncapFlags),
+    /// `IFLA_IPTUN_ENCAP_SPORT`: the UDP port that packets come from; 2 bytes, big-endian.
+    EncapSPort(u16),
+    /// `IFLA_IPTUN_ENCAP_DPORT`: the UDP port that packets go to; 2 bytes, big-endian.
+    EncapDPort(u16),
+    /// `IFLA_IPTUN_COLLECT_METADATA`: each packet's own settings count. Any payload is read, and
+    /// none is written.
+    CollectMetadata,
+    /// `IFLA_IPTUN_FWMARK`: the firewall's mark; 4 bytes.
+    FwMark(u32),
+    /// Any other kind, kept as it is.
+    Other(DefaultNla),
+}
+
+impl FieldNla for InfoIpTunnel {
+    ghost field_entry = { ip_tunnel_entry };
+
+    fn field(&self) -> (u16, Field<'_>) {
+        match self {
+            Self::Link(index) => (IFLA_IPTUN_LINK, Field::U32(*index)),
+            Self::Local(address) => (IFLA_IPTUN_LOCAL, Field::Ip(*address)),
+            Self::Remote(address) => (IFLA_IPTUN_REMOTE, Field::Ip(*address)),
+            Self::Ttl(number) => (IFLA_IPTUN_TTL, Field::U8(*number)),
+            Self::Tos(number) => (IFLA_IPTUN_TOS, Field::U8(*number)),
+            Self::EncapLimit(number) => (IFLA_IPTUN_ENCAP_LIMIT, Field::U8(*number)),
+            Self::FlowInfo(number) => (IFLA_IPTUN_FLOWINFO, Field::U32Be(*number)),
+            Self::Ipv4Flags(flags) => (IFLA_IPTUN_FLAGS, Field::U16Be(*flags)),
+            Self::Ipv6SitFlags(flags) => (IFLA_IPTUN_FLAGS, Field::U16Be(*flags)),
+            Self::Ipv6Flags(flags) => (IFLA_IPTUN_FLAGS, Field::U32(flags.bits())),
+            Self::Protocol(protocol) => (IFLA_IPTUN_PROTO, Field::U8(u8::from(*protocol))),
+            Self::PMtuDisc(truth) => (IFLA_IPTUN_PMTUDISC, Field::Bool(*truth)),
+            Self::Ipv6RdPrefix(address) => (IFLA_IPTUN_6RD_PREFIX, Field::Ipv6(*address)),
+            Self::Ipv6RdRelayPrefix(address) => (
+                IFLA_IPTUN_6RD_RELAY_PREFIX,
+                Field::Ipv4(*address),
+            ),
+            Self::Ipv6RdPrefixLen(number) => (IFLA_IPTUN_6RD_PREFIXLEN, Field::U16(*number)),
+            Self::Ipv6RdRelayPrefixLen(number) => (
+                IFLA_IPTUN_6RD_RELAY_PREFIXLEN,
+                Field::U16(*number),
+            ),
+            Self::EncapType(encapsulation) => (
+                IFLA_IPTUN_ENCAP_TYPE,
+                Field::U16(u16::from(*encapsulation)),
+            ),
+            Self::EncapFlags(flags) => (IFLA_IPTUN_ENCAP_FLAGS, Field::U16(flags.bits())),
+            Self::EncapSPort(port) => (IFLA_IPTUN_ENCAP_SPORT, Field::U16Be(*port)),
+            Self::EncapDPort(port) => (IFLA_IPTUN_ENCAP_DPORT, Field::U16Be(*port)),
+            Self::CollectMetadata => (IFLA_IPTUN_COLLECT_METADATA, Field::Empty),
+            Self::FwMark(mark) => (IFLA_IPTUN_FWMARK, Field::U32(*mark)),
+            Self::Other(nla) => (nla.kind(), Field::Bytes(nla.value())),
+        }
+    }
+}
+
+impl InfoIpTunnel {
+    // Reads one attribute under a kind of links; `None` where its kind has no row.
+    #[tactic(auto, unfolding(crate::specs::IpTunnel::ip_tunnel_of))]
+    fn read_row(buf: &NlaBuffer<&[u8]>, link: &InfoKind) -> Result<Option<Self>, DecodeError>
+        requires { IsAttribute (storage buf.now).now }
+        ensures ok { OnOk result (IsTrue (accepts (ip_tunnel_of link.now) (storage buf.now).now)) }
+        ensures none { IfOk result
+            (λ o. IfNone o
+            (has_no_row (ip_tunnel_of link.now)
+            (proper_kind (raw_kind_of (storage buf.now).now)))) }
+        ensures value { IfOk result
+            (λ o. IfSome o
+            (λ v. Gives (ip_tunnel_of link.now) (storage buf.now).now (ip_tunnel_entry v))) }
+        ensures names_row { IfOk result (λ o. IfSome o (λ v. ip_tunnel_names_row link.now v)) }
+        ensures err { IfErr result
+            (λ e. accepts (ip_tunnel_of link.now) (storage buf.now).now ≡ false) }
+        ensures memory { IfErr result (λ e. is_memory e ≡ false) }
+    {
+        let payload = buf.value();
+        match buf.kind() {
+            IFLA_IPTUN_LINK => typed!(Link, parse_u32(payload)),
+            IFLA_IPTUN_LOCAL => typed!(Local, parse_ip(payload)),
+            IFLA_IPTUN_REMOTE => typed!(Remote, parse_ip(payload)),
+            IFLA_IPTUN_TTL => typed!(Ttl, parse_u8(payload)),
+            IFLA_IPTUN_TOS => typed!(Tos, parse_u8(payload)),
+            IFLA_IPTUN_ENCAP_LIMIT => typed!(EncapLimit, parse_u8(payload)),
+            IFLA_IPTUN_FLOWINFO => typed!(FlowInfo, parse_u32_be(payload)),
+            IFLA_IPTUN_FLAGS => match link {
+                InfoKind::IpIp => typed!(Ipv4Flags, parse_u16_be(payload)),
+                InfoKind::SitTun => typed!(Ipv6SitFlags, parse_u16_be(payload)),
+                InfoKind::Ip6Tnl => {
+                    typed!(
+                        Ipv6Flags,
+                        parse_u32(payload),
+                        Ip6TunnelFlags::from_bits_retain
+                    )
+                }
+                _ => Err(DecodeError::from("flags of a tunnel under a kind that has none")),
+            },
+            IFLA_IPTUN_PROTO => typed!(Protocol, parse_u8(payload), IpProtocol),
+            IFLA_IPTUN_PMTUDISC => typed!(PMtuDisc, parse_bool(payload)),
+            IFLA_IPTUN_6RD_PREFIX => typed!(Ipv6RdPrefix, parse_ipv6_addr(payload)),
+            IFLA_IPTUN_6RD_RELAY_PREFIX => typed!(Ipv6RdRelayPrefix, parse_ipv4_addr(payload)),
+            IFLA_IPTUN_6RD_PREFIXLEN => typed!(Ipv6RdPrefixLen, parse_u16(payload)),
+            IFLA_IPTUN_6RD_RELAY_PREFIXLEN => typed!(Ipv6RdRelayPrefixLen, parse_u16(payload)),
+            IFLA_IPTUN_ENCAP_TYPE => typed!(EncapType, parse_u16(payload), TunnelEncapType),
+            IFLA_IPTUN_ENCAP_FLAGS => typed!(
+                EncapFlags,
+                parse_u16(payload),
+                TunnelEncapFlags::from_bits_retain
+            ),
+            IFLA_IPTUN_ENCAP_SPORT => typed!(EncapSPort, parse_u16_be(payload)),
+            IFLA_IPTUN_ENCAP_DPORT => typed!(EncapDPort, parse_u16_be(payload)),
+            IFLA_IPTUN_COLLECT_METADATA => Ok(Some(Self::CollectMetadata)),
+            IFLA_IPTUN_FWMARK => typed!(FwMark, parse_u32(payload)),
+            _ => Ok(None),
+        }
+    }
+}
+
+impl<'a, 'b> ParseableParametrized<NlaBuffer<&'a [u8]>, &'b InfoKind> for InfoIpTunnel {
+    ghost can_parse = { λ b _. IsAttribute (storage b).now };
+
+    ghost accepts = { λ b k. accepts (ip_tunnel_of k.now) (storage b).now };
+
+    ghost may_want_memory = { λ b k. may_want_memory (ip_tunnel_of k.now) (storage b).now };
+
+    ghost gives = { λ b k v. Gives (ip_tunnel_of k.now) (storage b).now (ip_tunnel_entry v)
+        × ip_tunnel_names_row k.now v };
+
+    fn parse_with_param(
+        alloc: Global,
+        buf: &NlaBuffer<&'a [u8]>,
+        params: &'b InfoKind,
+    ) -> Result<Self, DecodeError> {
+        match Self::read_row(buf, params) {
+            Ok(Some(value)) => Ok(value),
+            Ok(None) => Ok(Self::Other(DefaultNla::parse(alloc, buf)?)),
+            Err(error) => Err(error),
+        }
+    }
+}
+
+/// Reads the attributes of the data of a tunnel over IP, under the kind of the link.
+///
+/// The kind counts by its variant. `IFLA_IPTUN_FLAGS` is refused under every kind but `ipip`, `sit`
+/// and `ip6tnl`.
+pub struct InfoIpTunnelReader<'k> {
+    /// The kind of the link.
+    pub kind: &'k InfoKind,
+}
+
+impl<'k> Reader for InfoIpTunnelReader<'k> {
+    type Value = InfoIpTunnel;
+
+    ghost row_of = { λ r. family_row (ip_tunnel_of r.kind.now) };
+
+    ghost names_row = { λ r. ip_tunnel_names_row r.kind.now };
+
+    ghost may_want_memory = { λ r. may_want_memory (ip_tunnel_of r.kind.now) };
+
+    #[tactic(auto, using(attribute_tables::proofs::Families::families, crate::proofs::IpTunnels::ip_tunnels))]
+    fn read(&self, alloc: Global, buf: &NlaBuffer<&[u8]>) -> Result<InfoIpTunnel, DecodeError> {
+        InfoIpTunnel::parse_with_param(alloc, buf, self.kind)
+    }
+}

@@ -1,5 +1,5 @@
 -- The data of macvlan and of macvtap: the kind and the payload of each value.
-use Rattle.std.specs.Prelude.{◌≡◌, ◌++◌, ◌&&◌, ℕ, Bool, true, List, []}
+use Rattle.std.specs.Prelude.{◌≡◌, ◌++◌, ◌&&◌, ◌==◌, nat_lt, cond, ℕ, Bool, true, List, [], length}
 use Rattle.std.specs.List.{All}
 use Rattle.std.specs.Int.{w32, cast_unsigned}
 use Rattle.netlink_packet_core.specs.Attributes.{Attribute, proper_kind, attribute_text}
@@ -7,8 +7,11 @@ use Rattle.netlink_packet_core.specs.Fits.{attribute_fits}
 use Rattle.netlink_packet_core.specs.Numbers.{le2, le4}
 use Rattle.link_info_types.specs.MacVlanTypes.{mac_vlan_mode_number, mac_vlan_mode_of, mac_vlan_flags_bits, mac_vlan_mac_address_mode_number, mac_vlan_mac_address_mode_of}
 use Rattle.link_info_grammar.specs.Families.{macvlan, macvlan_address}
+use Rattle.attribute_tables_grammar.specs.Lists.{row_at}
 use Rattle.attribute_tables_grammar.specs.LookUps.{has_no_row}
-use Rattle.netlink_packet_core.specs.Families.{attribute}
+use Rattle.attribute_tables_grammar.specs.Tables.{Table}
+use Rattle.netlink_packet_core.specs.AttributeViews.{attribute_of, raw_kind_of, payload_of}
+use Rattle.netlink_packet_core.specs.Families.{Gives, attribute, family_row, may_want_memory}
 use Rattle.link_info_stacked.specs.declared.mac_vlan.InfoMacVlan.{InfoMacVlan, Row_of-InfoMacVlan, end_of-InfoMacVlan, more_of-InfoMacVlan, items-the_row-InfoMacVlan, Mode, Flags, MacAddrMode, MacAddr, MacAddrData', MacAddrCount, BcQueueLen, BcQueueLenUsed, BcCutoff, Other}
 
 -- the kind and the payload of a value, and the text of a list of values
@@ -39,18 +42,27 @@ abbrev mutual
   mac_vlan_all_fit end_of-InfoMacVlan = true
   mac_vlan_all_fit (more_of-InfoMacVlan v row) = (attribute_fits (mac_vlan_entry v) && mac_vlan_fits v) && mac_vlan_all_fit row
 
--- inside the list of source addresses: a number that has a name is read as what it names, and no kind that has a row there as another attribute
-abbrev pub mac_vlan_address_names_row : InfoMacVlan → Type 0
-mac_vlan_address_names_row (Mode m) = m ≡ mac_vlan_mode_of (mac_vlan_mode_number m)
-mac_vlan_address_names_row (MacAddrMode m) = m ≡ mac_vlan_mac_address_mode_of (mac_vlan_mac_address_mode_number m)
-mac_vlan_address_names_row (MacAddrData' shape row) = ⊥
-mac_vlan_address_names_row (Other a) = has_no_row macvlan_address (proper_kind a.kind)
-mac_vlan_address_names_row _ = Unit {0}
+-- by the rows of a table: a number that has a name is read as what it names, and no kind that has a row as another attribute
+abbrev pub mac_vlan_named_by : Table → (List InfoMacVlan → Type 0) → InfoMacVlan → Type 0
+mac_vlan_named_by t inside (Mode m) = m ≡ mac_vlan_mode_of (mac_vlan_mode_number m)
+mac_vlan_named_by t inside (MacAddrMode m) = m ≡ mac_vlan_mac_address_mode_of (mac_vlan_mac_address_mode_number m)
+mac_vlan_named_by t inside (MacAddrData' shape row) = inside (items-the_row-InfoMacVlan _ row)
+mac_vlan_named_by t inside (Other a) = has_no_row t (proper_kind a.kind)
+mac_vlan_named_by t inside _ = Unit {0}
 
--- outside it the same, and its values are named inside it
+-- in the list of source addresses, where no value is a list
+abbrev pub mac_vlan_address_names_row : InfoMacVlan → Type 0
+mac_vlan_address_names_row = mac_vlan_named_by macvlan_address (λ _. ⊥)
+
 abbrev pub mac_vlan_names_row : InfoMacVlan → Type 0
-mac_vlan_names_row (Mode m) = m ≡ mac_vlan_mode_of (mac_vlan_mode_number m)
-mac_vlan_names_row (MacAddrMode m) = m ≡ mac_vlan_mac_address_mode_of (mac_vlan_mac_address_mode_number m)
-mac_vlan_names_row (MacAddrData' shape row) = All mac_vlan_address_names_row (items-the_row-InfoMacVlan _ row)
-mac_vlan_names_row (Other a) = has_no_row macvlan (proper_kind a.kind)
-mac_vlan_names_row _ = Unit {0}
+mac_vlan_names_row = mac_vlan_named_by macvlan (All mac_vlan_address_names_row)
+
+-- reading an attribute may want memory: the list where it isn't empty, another one where its row holds bytes and accepts it
+abbrev pub mac_vlan_may_want_memory : List ℕ → Bool
+mac_vlan_may_want_memory b = cond (proper_kind (raw_kind_of b) == 5) (nat_lt 0 (length (payload_of b))) (may_want_memory macvlan b)
+
+-- it is the value of the attribute that the bytes begin with
+pub record MacVlanGives (b : List ℕ) (v : InfoMacVlan) : Type 0 where
+  pub entry : Gives macvlan b (mac_vlan_entry v)
+  pub fits : mac_vlan_fits v ≡ (row_at (family_row macvlan) (attribute_of b)).rule.fits (payload_of b)
+  pub names_row : mac_vlan_names_row v

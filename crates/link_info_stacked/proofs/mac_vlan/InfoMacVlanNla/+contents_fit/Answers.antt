@@ -1,9 +1,8 @@
-use Rattle.std.proofs.Common.{◌≡◌, true, false, sym, ◌∙◌, ap, arith, rules}
+use Rattle.std.proofs.Common.{◌≡◌, false, sym, ◌∙◌, ap, arith}
 use Rattle.std.specs.Prelude.{◌&&◌}
 use Rattle.std.proofs.lemmas.Grind.{common_steps}
 use Rattle.std.proofs.lemmas.List.Folds.{list_all_at}
 use Rattle.netlink_packet_core_grammar.specs.Fits.{attribute_fits}
-use Rattle.netlink_packet_core_attributes.specs.Lists.{all_fit_by}
 use Rattle.link_info_stacked.specs.MacVlan.{mac_vlan_entry, mac_vlan_fits}
 use Rattle.link_info_stacked.proofs.Rows.{addresses}
 use Rattle.link_info_stacked.proofs.mac_vlan.InfoMacVlanNla.+contents_fit.Goals as goal

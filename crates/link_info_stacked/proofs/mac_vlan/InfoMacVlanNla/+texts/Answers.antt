@@ -1,10 +1,10 @@
-use Rattle.std.proofs.Common.{◌≡◌, true, refl, sym, ◌∙◌, ◌++◌, ◌+◌, ◌<◌, ◌≤◌, length, take, drop, arith, ap, [], append-nil, length-append, length-drop, rules}
+use Rattle.std.proofs.Common.{◌≡◌, refl, sym, ◌∙◌, ◌++◌, ◌+◌, ◌<◌, ◌≤◌, length, take, drop, arith, ap, [], append-nil, length-append, length-drop, rules}
 use Rattle.std.proofs.lemmas.Slice.{between_to_end}
 use Rattle.std.proofs.lemmas.List.{take_all, drop_all}
 use Rattle.std.proofs.lemmas.Bool.{and_parts, leb-true}
 use Rattle.netlink_packet_core_grammar.specs.Attributes.{nla_align, attribute_length, attribute_text, list_text}
 use Rattle.netlink_packet_core_grammar.proofs.Sizes.{length-attribute_text}
-use Rattle.netlink_packet_core_attributes.specs.Lists.{text_by, size_by, all_fit_by}
+use Rattle.netlink_packet_core_attributes.specs.Lists.{text_by, size_by}
 use Rattle.netlink_packet_core_attributes.proofs.Emits.{fits-at, room-at, emitted, text_by-more, size_by-more}
 use Rattle.attribute_tables.proofs.Lists.{length-text_by}
 use Rattle.link_info_stacked.specs.MacVlan.{mac_vlan_entry, mac_vlan_fits}

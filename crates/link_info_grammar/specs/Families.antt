@@ -71,6 +71,28 @@ ipvlan = 1 ↪ octets 2 ⸴ 2 ↪ octets 2 ⸴ end
 abbrev pub untyped : Table
 untyped = end
 
+-- IFLA_MACSEC_*: secure channel, port, size of the check value, cipher suite, window, encoding association, six truths of frames, validation,
+-- offload
+abbrev pub macsec : Table
+macsec =
+    1 ↪ octets 8 ⸴ 2 ↪ octets 2 ⸴ 3 ↪ octets 1 ⸴ 4 ↪ octets 8 ⸴ 5 ↪ octets 4 ⸴ 6 ↪ octets 1 ⸴ 7 ↪ octets 1 ⸴ 8 ↪ octets 1 ⸴ 9 ↪ octets 1 ⸴
+    10 ↪ octets 1 ⸴ 11 ↪ octets 1 ⸴ 12 ↪ octets 1 ⸴ 13 ↪ octets 1 ⸴ 15 ↪ octets 1 ⸴ end
+
+-- IFLA_MACVLAN_*, of macvlan and macvtap: mode, flags, change of the source addresses, a source address
+abbrev pub macvlan_before_addresses : Table → Table
+macvlan_before_addresses t = 1 ↪ octets 4 ⸴ 2 ↪ octets 2 ⸴ 3 ↪ octets 4 ⸴ 4 ↪ octets 6 ⸴ t
+
+-- number of source addresses, length of the broadcast queue as wanted and as used, threshold of broadcasts
+abbrev pub macvlan_after_addresses : Table
+macvlan_after_addresses = 6 ↪ octets 4 ⸴ 7 ↪ octets 4 ⸴ 8 ↪ octets 4 ⸴ 9 ↪ octets 4 ⸴ end
+
+-- inside the list of source addresses, which holds no such list again
+abbrev pub macvlan_address : Table
+macvlan_address = macvlan_before_addresses macvlan_after_addresses
+
+abbrev pub macvlan : Table
+macvlan = macvlan_before_addresses (5 ↪ list any macvlan_address ⸴ macvlan_after_addresses)
+
 -- IFLA_NETKIT_*: peer, whether this end is the primary one, policy and the peer's, mode, scrubbing and the peer's, room before and behind packets
 abbrev pub netkit : Table
 netkit =

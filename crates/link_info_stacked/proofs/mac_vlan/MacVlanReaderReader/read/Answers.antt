@@ -1,0 +1,20 @@
+use Rattle.std.proofs.Common.{◌≡◌, sym, ap, ◌∙◌}
+use Rattle.netlink_packet_core.specs.AttributeViews.{viewed_attribute, viewed_kind, viewed_payload}
+use Rattle.netlink_packet_core.specs.Attributes.{proper_kind}
+use Rattle.netlink_packet_core.specs.Families.{attribute, family_row}
+use Rattle.netlink_packet_core.specs.NlaBuffers.{storage}
+use Rattle.link_info_grammar.specs.Families.{macvlan}
+use Rattle.link_info_stacked.proofs.Rows.{entry-addresses, fits-addresses, list-written}
+use Rattle.link_info_stacked.proofs.mac_vlan.MacVlanReaderReader.read.Goals as goal
+
+pub returns-clause-value : goal.returns-clause-value
+returns-clause-value c =
+    let b = (storage c.args.buf.now).now in
+    let h : proper_kind (viewed_kind b) ≡ 5 = cc in
+    entry-addresses c.in_ok-list.list ∙ ap (attribute 5) (rw c.value.ensures at c.in_ok-list.ensures.text) ∙ sym (list-written (viewed_attribute b) h)
+
+pub returns-clause-inside : goal.returns-clause-inside
+returns-clause-inside c =
+    let b = (storage c.args.buf.now).now in
+    let h : proper_kind (viewed_kind b) ≡ 5 = cc in
+    fits-addresses c.in_ok-list.list ∙ (rw c.value.ensures at c.in_ok-list.ensures.fits) ∙ sym (ap (λ k. (family_row macvlan k).rule.fits (viewed_payload b)) h)

@@ -1,0 +1,2 @@
+pub mod MacVlan
+pub mod Macsec

@@ -4,7 +4,7 @@ use Rattle.std.specs.Prelude.{◌&&◌}
 use Rattle.std.proofs.lemmas.List.Sums.{sum_by-cons}
 use Rattle.netlink_packet_core_grammar.specs.Attributes.{Attribute, nla_align, attribute_length, list_size}
 use Rattle.netlink_packet_core_grammar.specs.Fits.{attribute_fits}
-use Rattle.netlink_packet_core_grammar.proofs.Sizes.{length-list_text}
+use Rattle.netlink_packet_core_grammar.proofs.Sizes.{length-list_text, length-attribute_text}
 use Rattle.netlink_packet_core.specs.Lists.{text_by, size_by, all_fit_by}
 use Rattle.attribute_tables_grammar.specs.Readings.{Written, all_written_fit}
 use Rattle.attribute_tables.specs.Written.{written_as}
@@ -26,4 +26,4 @@ size_by-list entry (v ∷ vs) = ap (λ n. nla_align (attribute_length (entry v))
 pub length-text_by : {V : Type 0} (entry : V → Attribute) (vs : List V) → length (text_by entry vs) ≡ size_by entry vs
 length-text_by entry vs = length-list_text (map entry vs) ∙ size_by-list entry vs
 
-pub ruleset lists = (length-text_by)
+pub ruleset lists = (length-text_by, length-attribute_text)

@@ -75,6 +75,7 @@ pub fn parse_first<F: Family + Drop>(alloc: Global, bytes: &[u8]) -> Result<F, D
     ensures names_row { IfOk result (λ v. F.names_row v) }
     ensures err { IfErr result
         (λ e. (list_of bytes_peer first_alone F.rows).accepted bytes.now ≡ is_memory e) }
+    ensures not_empty { IfErr result (λ e. is_memory e ≡ true → 0 < length bytes.now) }
 {
     let buf = NlaBuffer::new_checked(bytes)?;
     let value = read_attribute(alloc, &buf)?;

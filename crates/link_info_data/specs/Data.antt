@@ -2,7 +2,8 @@
 use Rattle.std.specs.Prelude.{◌≡◌, ℕ, Bool, true, ⊤, List, Option, Some, None, ◌||◌, nat_lt, length}
 use Rattle.std.specs.Option.{is_none}
 use Rattle.std.specs.List.{All}
-use Rattle.netlink_packet_core.specs.Attributes.{Attribute}
+use Rattle.netlink_packet_core.specs.Attributes.{Attribute, attribute_text}
+use Rattle.netlink_packet_core.specs.Fits.{attribute_fits}
 use Rattle.netlink_packet_core.specs.Lists.{text_by, all_fit_by}
 use Rattle.attribute_tables_grammar.specs.LookUps.{payload_at, rule_or_raw}
 use Rattle.attribute_tables_grammar.specs.Peers.{Peer, bytes_peer}
@@ -20,7 +21,14 @@ use Rattle.link_info_overlays.specs.Geneve.{geneve_entry, geneve_names_row}
 use Rattle.link_info_overlays.specs.Gtp.{gtp_entry, gtp_names_row}
 use Rattle.link_info_overlays.specs.Vxlan.{vxlan_entry, vxlan_names_row}
 use Rattle.link_info_raw.specs.RawData.{raw_entry}
+use Rattle.link_info_pairs.specs.Netkit.{netkit_entry, netkit_names_row}
+use Rattle.link_info_pairs.specs.Veth.{pair_entry, pair_names_row}
+use Rattle.link_info_stacked.specs.MacVlan.{mac_vlan_entry, mac_vlan_fits, mac_vlan_names_row}
+use Rattle.link_info_stacked.specs.Macsec.{macsec_entry, macsec_names_row}
 use Rattle.link_info_tunnels.specs.Bareudp.{bareudp_entry, bareudp_names_row}
+use Rattle.link_info_tunnels.specs.Gre.{gre_entry, gre_names_row}
+use Rattle.link_info_tunnels.specs.Gre6.{gre6_entry, gre6_names_row}
+use Rattle.link_info_tunnels.specs.IpTunnel.{ip_tunnel_entry, ip_tunnel_names_row}
 use Rattle.link_info_tunnels.specs.Vti.{vti_entry, vti_names_row}
 use Rattle.link_info_tunnels.specs.Xfrm.{xfrm_entry, xfrm_names_row}
 use Rattle.link_info_kinds.specs.Kinds.{info_kind_text}
@@ -54,23 +62,36 @@ info_data_payload (Data.Bridge vs) = text_by raw_entry vs.items
 info_data_payload (Data.Can vs) = text_by raw_entry vs.items
 info_data_payload (Data.Tun vs) = text_by raw_entry vs.items
 info_data_payload (Data.Vlan vs) = text_by raw_entry vs.items
+info_data_payload (Data.Veth v) = attribute_text (pair_entry v)
 info_data_payload (Data.Vxlan vs) = text_by vxlan_entry vs.items
 info_data_payload (Data.Bond vs) = text_by raw_entry vs.items
 info_data_payload (Data.IpVlan vs) = text_by ipvlan_entry vs.items
 info_data_payload (Data.IpVtap vs) = text_by ipvlan_entry vs.items
+info_data_payload (Data.MacVlan vs) = text_by mac_vlan_entry vs.items
+info_data_payload (Data.MacVtap vs) = text_by mac_vlan_entry vs.items
+info_data_payload (Data.GreTap vs) = text_by gre_entry vs.items
+info_data_payload (Data.GreTap6 vs) = text_by gre6_entry vs.items
+info_data_payload (Data.GreTun vs) = text_by gre_entry vs.items
+info_data_payload (Data.GreTun6 vs) = text_by gre6_entry vs.items
 info_data_payload (Data.Vti vs) = text_by vti_entry vs.items
 info_data_payload (Data.Vrf vs) = text_by vrf_entry vs.items
 info_data_payload (Data.Gtp vs) = text_by gtp_entry vs.items
 info_data_payload (Data.Ipoib vs) = text_by ipoib_entry vs.items
 info_data_payload (Data.Xfrm vs) = text_by xfrm_entry vs.items
+info_data_payload (Data.MacSec vs) = text_by macsec_entry vs.items
 info_data_payload (Data.Hsr vs) = text_by raw_entry vs.items
 info_data_payload (Data.Geneve vs) = text_by geneve_entry vs.items
+info_data_payload (Data.IpTunnel vs) = text_by ip_tunnel_entry vs.items
+info_data_payload (Data.Netkit vs) = text_by netkit_entry vs.items
+info_data_payload (Data.Vxcan v) = attribute_text (pair_entry v)
 info_data_payload (Data.Amt vs) = text_by amt_entry vs.items
 info_data_payload (Data.BatAdv vs) = text_by batadv_entry vs.items
 info_data_payload (Data.BareUdp vs) = text_by bareudp_entry vs.items
 info_data_payload (Data.Dsa vs) = text_by raw_entry vs.items
 info_data_payload (Data.Wwan vs) = text_by wwan_entry vs.items
 info_data_payload (Data.RmNet vs) = text_by rmnet_entry vs.items
+info_data_payload (Data.ErSpan vs) = text_by gre_entry vs.items
+info_data_payload (Data.Ip6ErSpan vs) = text_by gre6_entry vs.items
 info_data_payload (Data.Wireguard vs) = text_by raw_entry vs.items
 info_data_payload (Data.Other b) = b.items
 
@@ -80,23 +101,36 @@ info_data_fits (Data.Bridge vs) = all_fit_by raw_entry (λ _. true) vs.items
 info_data_fits (Data.Can vs) = all_fit_by raw_entry (λ _. true) vs.items
 info_data_fits (Data.Tun vs) = all_fit_by raw_entry (λ _. true) vs.items
 info_data_fits (Data.Vlan vs) = all_fit_by raw_entry (λ _. true) vs.items
+info_data_fits (Data.Veth v) = attribute_fits (pair_entry v)
 info_data_fits (Data.Vxlan vs) = all_fit_by vxlan_entry (λ _. true) vs.items
 info_data_fits (Data.Bond vs) = all_fit_by raw_entry (λ _. true) vs.items
 info_data_fits (Data.IpVlan vs) = all_fit_by ipvlan_entry (λ _. true) vs.items
 info_data_fits (Data.IpVtap vs) = all_fit_by ipvlan_entry (λ _. true) vs.items
+info_data_fits (Data.MacVlan vs) = all_fit_by mac_vlan_entry mac_vlan_fits vs.items
+info_data_fits (Data.MacVtap vs) = all_fit_by mac_vlan_entry mac_vlan_fits vs.items
+info_data_fits (Data.GreTap vs) = all_fit_by gre_entry (λ _. true) vs.items
+info_data_fits (Data.GreTap6 vs) = all_fit_by gre6_entry (λ _. true) vs.items
+info_data_fits (Data.GreTun vs) = all_fit_by gre_entry (λ _. true) vs.items
+info_data_fits (Data.GreTun6 vs) = all_fit_by gre6_entry (λ _. true) vs.items
 info_data_fits (Data.Vti vs) = all_fit_by vti_entry (λ _. true) vs.items
 info_data_fits (Data.Vrf vs) = all_fit_by vrf_entry (λ _. true) vs.items
 info_data_fits (Data.Gtp vs) = all_fit_by gtp_entry (λ _. true) vs.items
 info_data_fits (Data.Ipoib vs) = all_fit_by ipoib_entry (λ _. true) vs.items
 info_data_fits (Data.Xfrm vs) = all_fit_by xfrm_entry (λ _. true) vs.items
+info_data_fits (Data.MacSec vs) = all_fit_by macsec_entry (λ _. true) vs.items
 info_data_fits (Data.Hsr vs) = all_fit_by raw_entry (λ _. true) vs.items
 info_data_fits (Data.Geneve vs) = all_fit_by geneve_entry (λ _. true) vs.items
+info_data_fits (Data.IpTunnel vs) = all_fit_by ip_tunnel_entry (λ _. true) vs.items
+info_data_fits (Data.Netkit vs) = all_fit_by netkit_entry (λ _. true) vs.items
+info_data_fits (Data.Vxcan v) = attribute_fits (pair_entry v)
 info_data_fits (Data.Amt vs) = all_fit_by amt_entry (λ _. true) vs.items
 info_data_fits (Data.BatAdv vs) = all_fit_by batadv_entry (λ _. true) vs.items
 info_data_fits (Data.BareUdp vs) = all_fit_by bareudp_entry (λ _. true) vs.items
 info_data_fits (Data.Dsa vs) = all_fit_by raw_entry (λ _. true) vs.items
 info_data_fits (Data.Wwan vs) = all_fit_by wwan_entry (λ _. true) vs.items
 info_data_fits (Data.RmNet vs) = all_fit_by rmnet_entry (λ _. true) vs.items
+info_data_fits (Data.ErSpan vs) = all_fit_by gre_entry (λ _. true) vs.items
+info_data_fits (Data.Ip6ErSpan vs) = all_fit_by gre6_entry (λ _. true) vs.items
 info_data_fits (Data.Wireguard vs) = all_fit_by raw_entry (λ _. true) vs.items
 info_data_fits (Data.Other b) = true
 
@@ -109,24 +143,39 @@ info_data_names_row Kind.Bridge (Data.Bridge vs) = ⊤
 info_data_names_row Kind.Can (Data.Can vs) = ⊤
 info_data_names_row Kind.Tun (Data.Tun vs) = ⊤
 info_data_names_row Kind.Vlan (Data.Vlan vs) = ⊤
+info_data_names_row Kind.Veth (Data.Veth v) = pair_names_row v
 info_data_names_row Kind.Vxlan (Data.Vxlan vs) = All vxlan_names_row vs.items
 info_data_names_row Kind.Bond (Data.Bond vs) = ⊤
 info_data_names_row Kind.IpVlan (Data.IpVlan vs) = All ipvlan_names_row vs.items
 info_data_names_row Kind.IpVtap (Data.IpVtap vs) = All ipvlan_names_row vs.items
+info_data_names_row Kind.MacVlan (Data.MacVlan vs) = All mac_vlan_names_row vs.items
+info_data_names_row Kind.MacVtap (Data.MacVtap vs) = All mac_vlan_names_row vs.items
+info_data_names_row Kind.GreTap (Data.GreTap vs) = All gre_names_row vs.items
+info_data_names_row Kind.GreTap6 (Data.GreTap6 vs) = All gre6_names_row vs.items
+info_data_names_row Kind.GreTun (Data.GreTun vs) = All gre_names_row vs.items
+info_data_names_row Kind.GreTun6 (Data.GreTun6 vs) = All gre6_names_row vs.items
 info_data_names_row Kind.Vti (Data.Vti vs) = All vti_names_row vs.items
 info_data_names_row Kind.Vti6 (Data.Vti vs) = All vti_names_row vs.items
 info_data_names_row Kind.Vrf (Data.Vrf vs) = All vrf_names_row vs.items
 info_data_names_row Kind.Gtp (Data.Gtp vs) = All gtp_names_row vs.items
 info_data_names_row Kind.Ipoib (Data.Ipoib vs) = All ipoib_names_row vs.items
 info_data_names_row Kind.Xfrm (Data.Xfrm vs) = All xfrm_names_row vs.items
+info_data_names_row Kind.MacSec (Data.MacSec vs) = All macsec_names_row vs.items
 info_data_names_row Kind.Hsr (Data.Hsr vs) = ⊤
 info_data_names_row Kind.Geneve (Data.Geneve vs) = All geneve_names_row vs.items
+info_data_names_row Kind.IpIp (Data.IpTunnel vs) = All (ip_tunnel_names_row Kind.IpIp) vs.items
+info_data_names_row Kind.Ip6Tnl (Data.IpTunnel vs) = All (ip_tunnel_names_row Kind.Ip6Tnl) vs.items
+info_data_names_row Kind.SitTun (Data.IpTunnel vs) = All (ip_tunnel_names_row Kind.SitTun) vs.items
+info_data_names_row Kind.Netkit (Data.Netkit vs) = All netkit_names_row vs.items
+info_data_names_row Kind.Vxcan (Data.Vxcan v) = pair_names_row v
 info_data_names_row Kind.Amt (Data.Amt vs) = All amt_names_row vs.items
 info_data_names_row Kind.BatAdv (Data.BatAdv vs) = All batadv_names_row vs.items
 info_data_names_row Kind.BareUdp (Data.BareUdp vs) = All bareudp_names_row vs.items
 info_data_names_row Kind.Dsa (Data.Dsa vs) = ⊤
 info_data_names_row Kind.Wwan (Data.Wwan vs) = All wwan_names_row vs.items
 info_data_names_row Kind.RmNet (Data.RmNet vs) = All rmnet_names_row vs.items
+info_data_names_row Kind.ErSpan (Data.ErSpan vs) = All gre_names_row vs.items
+info_data_names_row Kind.Ip6ErSpan (Data.Ip6ErSpan vs) = All gre6_names_row vs.items
 info_data_names_row Kind.Wireguard (Data.Wireguard vs) = ⊤
 info_data_names_row k (Data.Other b) = keeps_bytes k ≡ true
 info_data_names_row _ _ = ⊥

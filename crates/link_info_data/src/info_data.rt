@@ -4,16 +4,20 @@ ghost use Rattle.std.specs.Prelude.{◌≡◌, false, true, IsTrue, IfOk, IfErr,
 ghost use Rattle.netlink_packet_core.specs.Errors.{is_memory};
 ghost use Rattle.link_info_data.specs.Data.{info_data_entry, info_data_fits, info_data_payload, info_data_names_row, data_rule_of, data_may_want_memory};
 
-use attribute_tables::parse_family;
+use attribute_tables::{parse_family, parse_first};
 use link_info_devices::{
     InfoBatAdv, InfoIpVlan, InfoIpVtap, InfoIpoib, InfoRmNet, InfoVrf, InfoWwan,
 };
 use link_info_kinds::InfoKind;
 use link_info_overlays::{InfoAmt, InfoGeneve, InfoGtp, InfoVxlan};
+use link_info_pairs::{InfoNetkit, InfoVeth, InfoVxcan};
 use link_info_raw::{
     InfoBond, InfoBridge, InfoCan, InfoDsa, InfoHsr, InfoTun, InfoVlan, InfoWireguard,
 };
-use link_info_tunnels::{InfoBareUdp, InfoVti, InfoXfrm};
+use link_info_stacked::{InfoMacSec, InfoMacVlan, InfoMacVtap, parse_mac_vlan};
+use link_info_tunnels::{
+    InfoBareUdp, InfoGre, InfoGre6, InfoIpTunnel, InfoVti, InfoXfrm, parse_ip_tunnel,
+};
 use netlink_packet_core::{DecodeError, Nla, emit_all, fits_all, len_all};
 use std::alloc::Global;
 
@@ -30,6 +34,8 @@ pub enum InfoData {
     Tun(Vec<InfoTun>),
     /// Attributes of `vlan`.
     Vlan(Vec<InfoVlan>),
+    /// The attribute that the data of `veth` begin with.
+    Veth(InfoVeth),
     /// Attributes of `vxlan`.
     Vxlan(Vec<InfoVxlan>),
     /// Attributes of `bond`.
@@ -38,6 +44,18 @@ pub enum InfoData {
     IpVlan(Vec<InfoIpVlan>),
     /// Attributes of `ipvtap`.
     IpVtap(Vec<InfoIpVtap>),
+    /// Attributes of `macvlan`.
+    MacVlan(Vec<InfoMacVlan>),
+    /// Attributes of `macvtap`.
+    MacVtap(Vec<InfoMacVtap>),
+    /// Attributes of `gretap`.
+    GreTap(Vec<InfoGre>),
+    /// Attributes of `ip6gretap`.
+    GreTap6(Vec<InfoGre6>),
+    /// Attributes of `gre`.
+    GreTun(Vec<InfoGre>),
+    /// Attributes of `ip6gre`.
+    GreTun6(Vec<InfoGre6>),
     /// Attributes of `vti` and `vti6`.
     Vti(Vec<InfoVti>),
     /// Attributes of `vrf`.
@@ -48,10 +66,18 @@ pub enum InfoData {
     Ipoib(Vec<InfoIpoib>),
     /// Attributes of `xfrm`.
     Xfrm(Vec<InfoXfrm>),
+    /// Attributes of `macsec`.
+    MacSec(Vec<InfoMacSec>),
     /// Attributes of `hsr`.
     Hsr(Vec<InfoHsr>),
     /// Attributes of `geneve`.
     Geneve(Vec<InfoGeneve>),
+    /// Attributes of `ipip`, `ip6tnl` and `sit`.
+    IpTunnel(Vec<InfoIpTunnel>),
+    /// Attributes of `netkit`.
+    Netkit(Vec<InfoNetkit>),
+    /// The attribute that the data of `vxcan` begin with.
+    Vxcan(InfoVxcan),
     /// Attributes of `amt`.
     Amt(Vec<InfoAmt>),
     /// Attributes of `batadv`.
@@ -64,6 +90,10 @@ pub enum InfoData {
     Wwan(Vec<InfoWwan>),
     /// Attributes of `rmnet`.
     RmNet(Vec<InfoRmNet>),
+    /// Attributes of `erspan`.
+    ErSpan(Vec<InfoGre>),
+    /// Attributes of `ip6erspan`.
+    Ip6ErSpan(Vec<InfoGre6>),
     /// Attributes of `wireguard`.
     Wireguard(Vec<InfoWireguard>),
     /// The bytes of every other kind.
@@ -75,6 +105,7 @@ impl InfoData {
     ///
     /// The kind counts by its variant: `InfoKind::Other` of a listed name has the row of a name
     /// that isn't listed, which keeps the bytes.
+    #[tactic(auto, unfolding(link_info_tunnels::specs::IpTunnel::ip_tunnel_of))]
     pub fn parse_with_param(
         alloc: Global,
         payload: &[u8],
@@ -93,78 +124,92 @@ impl InfoData {
             InfoKind::Can => Ok(Self::Can(parse_family(alloc, payload)?)),
             InfoKind::Tun => Ok(Self::Tun(parse_family(alloc, payload)?)),
             InfoKind::Vlan => Ok(Self::Vlan(parse_family(alloc, payload)?)),
+            InfoKind::Veth => Ok(Self::Veth(parse_first(alloc, payload)?)),
             InfoKind::Vxlan => Ok(Self::Vxlan(parse_family(alloc, payload)?)),
             InfoKind::Bond => Ok(Self::Bond(parse_family(alloc, payload)?)),
             InfoKind::IpVlan => Ok(Self::IpVlan(parse_family(alloc, payload)?)),
             InfoKind::IpVtap => Ok(Self::IpVtap(parse_family(alloc, payload)?)),
+            InfoKind::MacVlan => Ok(Self::MacVlan(parse_mac_vlan(alloc, payload)?)),
+            InfoKind::MacVtap => Ok(Self::MacVtap(parse_mac_vlan(alloc, payload)?)),
+            InfoKind::GreTap => Ok(Self::GreTap(parse_family(alloc, payload)?)),
+            InfoKind::GreTap6 => Ok(Self::GreTap6(parse_family(alloc, payload)?)),
+            InfoKind::GreTun => Ok(Self::GreTun(parse_family(alloc, payload)?)),
+            InfoKind::GreTun6 => Ok(Self::GreTun6(parse_family(alloc, payload)?)),
             InfoKind::Vti | InfoKind::Vti6 => Ok(Self::Vti(parse_family(alloc, payload)?)),
             InfoKind::Vrf => Ok(Self::Vrf(parse_family(alloc, payload)?)),
             InfoKind::Gtp => Ok(Self::Gtp(parse_family(alloc, payload)?)),
             InfoKind::Ipoib => Ok(Self::Ipoib(parse_family(alloc, payload)?)),
             InfoKind::Xfrm => Ok(Self::Xfrm(parse_family(alloc, payload)?)),
+            InfoKind::MacSec => Ok(Self::MacSec(parse_family(alloc, payload)?)),
             InfoKind::Hsr => Ok(Self::Hsr(parse_family(alloc, payload)?)),
             InfoKind::Geneve => Ok(Self::Geneve(parse_family(alloc, payload)?)),
+            InfoKind::IpIp => Ok(Self::IpTunnel(parse_ip_tunnel(alloc, payload, kind)?)),
+            InfoKind::Ip6Tnl => Ok(Self::IpTunnel(parse_ip_tunnel(alloc, payload, kind)?)),
+            InfoKind::SitTun => Ok(Self::IpTunnel(parse_ip_tunnel(alloc, payload, kind)?)),
+            InfoKind::Netkit => Ok(Self::Netkit(parse_family(alloc, payload)?)),
+            InfoKind::Vxcan => Ok(Self::Vxcan(parse_first(alloc, payload)?)),
             InfoKind::Amt => Ok(Self::Amt(parse_family(alloc, payload)?)),
             InfoKind::BatAdv => Ok(Self::BatAdv(parse_family(alloc, payload)?)),
             InfoKind::BareUdp => Ok(Self::BareUdp(parse_family(alloc, payload)?)),
             InfoKind::Dsa => Ok(Self::Dsa(parse_family(alloc, payload)?)),
             InfoKind::Wwan => Ok(Self::Wwan(parse_family(alloc, payload)?)),
             InfoKind::RmNet => Ok(Self::RmNet(parse_family(alloc, payload)?)),
+            InfoKind::ErSpan => Ok(Self::ErSpan(parse_family(alloc, payload)?)),
+            InfoKind::Ip6ErSpan => Ok(Self::Ip6ErSpan(parse_family(alloc, payload)?)),
             InfoKind::Wireguard => Ok(Self::Wireguard(parse_family(alloc, payload)?)),
             InfoKind::Dummy
             | InfoKind::Ifb
             | InfoKind::Nlmon
-            | InfoKind::Veth
-            | InfoKind::MacVlan
-            | InfoKind::MacVtap
-            | InfoKind::GreTap
-            | InfoKind::GreTap6
-            | InfoKind::IpIp
-            | InfoKind::Ip6Tnl
-            | InfoKind::SitTun
-            | InfoKind::GreTun
-            | InfoKind::GreTun6
-            | InfoKind::MacSec
-            | InfoKind::Netkit
             | InfoKind::Vcan
-            | InfoKind::Vxcan
             | InfoKind::Netdevsim
             | InfoKind::VirtWifi
             | InfoKind::Team
-            | InfoKind::ErSpan
-            | InfoKind::Ip6ErSpan
             | InfoKind::Pfcp
             | InfoKind::Other(_) => Ok(Self::Other(Vec::from_slice(alloc, payload)?)),
         }
     }
 }
 
-/// What each list of attributes answers, or the bytes of a kind that has no table.
-macro_rules! of_lists {
-    ($data:expr, $list:ident => $answer:expr, $bytes:pat => $of_bytes:expr) => {
+/// What each list of attributes answers, the one attribute of a kind that has no list, or the
+/// bytes of a kind that has no table.
+macro_rules! of_variants {
+    ($data:expr, $list:ident => $of_list:expr, $one:ident => $of_one:expr, $bytes:pat => $of_bytes:expr) => {
         match $data {
-            Self::Bridge($list) => $answer,
-            Self::Can($list) => $answer,
-            Self::Tun($list) => $answer,
-            Self::Vlan($list) => $answer,
-            Self::Vxlan($list) => $answer,
-            Self::Bond($list) => $answer,
-            Self::IpVlan($list) => $answer,
-            Self::IpVtap($list) => $answer,
-            Self::Vti($list) => $answer,
-            Self::Vrf($list) => $answer,
-            Self::Gtp($list) => $answer,
-            Self::Ipoib($list) => $answer,
-            Self::Xfrm($list) => $answer,
-            Self::Hsr($list) => $answer,
-            Self::Geneve($list) => $answer,
-            Self::Amt($list) => $answer,
-            Self::BatAdv($list) => $answer,
-            Self::BareUdp($list) => $answer,
-            Self::Dsa($list) => $answer,
-            Self::Wwan($list) => $answer,
-            Self::RmNet($list) => $answer,
-            Self::Wireguard($list) => $answer,
+            Self::Bridge($list) => $of_list,
+            Self::Can($list) => $of_list,
+            Self::Tun($list) => $of_list,
+            Self::Vlan($list) => $of_list,
+            Self::Vxlan($list) => $of_list,
+            Self::Bond($list) => $of_list,
+            Self::IpVlan($list) => $of_list,
+            Self::IpVtap($list) => $of_list,
+            Self::MacVlan($list) => $of_list,
+            Self::MacVtap($list) => $of_list,
+            Self::GreTap($list) => $of_list,
+            Self::GreTap6($list) => $of_list,
+            Self::GreTun($list) => $of_list,
+            Self::GreTun6($list) => $of_list,
+            Self::Vti($list) => $of_list,
+            Self::Vrf($list) => $of_list,
+            Self::Gtp($list) => $of_list,
+            Self::Ipoib($list) => $of_list,
+            Self::Xfrm($list) => $of_list,
+            Self::MacSec($list) => $of_list,
+            Self::Hsr($list) => $of_list,
+            Self::Geneve($list) => $of_list,
+            Self::IpTunnel($list) => $of_list,
+            Self::Netkit($list) => $of_list,
+            Self::Amt($list) => $of_list,
+            Self::BatAdv($list) => $of_list,
+            Self::BareUdp($list) => $of_list,
+            Self::Dsa($list) => $of_list,
+            Self::Wwan($list) => $of_list,
+            Self::RmNet($list) => $of_list,
+            Self::ErSpan($list) => $of_list,
+            Self::Ip6ErSpan($list) => $of_list,
+            Self::Wireguard($list) => $of_list,
+            Self::Veth($one) => $of_one,
+            Self::Vxcan($one) => $of_one,
             Self::Other($bytes) => $of_bytes,
         }
     };
@@ -177,7 +222,7 @@ impl Nla for InfoData {
 
     #[tactic(auto, using(attribute_tables::proofs::Lists::lists))]
     fn value_len(&self) -> usize {
-        of_lists!(self, list => len_all(list), bytes => bytes.len())
+        of_variants!(self, list => len_all(list), one => one.buffer_len(), bytes => bytes.len())
     }
 
     fn kind(&self) -> u16 {
@@ -186,10 +231,15 @@ impl Nla for InfoData {
 
     #[tactic(auto, using(attribute_tables::proofs::Lists::lists))]
     fn emit_value(&self, buffer: &mut [u8]) {
-        of_lists!(self, list => emit_all(list, buffer), bytes => buffer.copy_from_slice(bytes))
+        of_variants!(
+            self,
+            list => emit_all(list, buffer),
+            one => one.emit(buffer),
+            bytes => buffer.copy_from_slice(bytes)
+        )
     }
 
     fn contents_fit(&self) -> bool {
-        of_lists!(self, list => fits_all(list), _ => true)
+        of_variants!(self, list => fits_all(list), one => one.fits(), _ => true)
     }
 }

@@ -1,7 +1,7 @@
 -- The tables of link info (if_link.h, IFLA_INFO_*): the data of each kind of link, and of each port kind.
 use Rattle.std.specs.Prelude.{ℕ, List, [], ◌∷◌, codes}
-use Rattle.attribute_tables_grammar.specs.Shapes.{Shape, at_most, one_byte, truth_of_four}
-use Rattle.attribute_tables_grammar.specs.Lists.{any}
+use Rattle.attribute_tables_grammar.specs.Shapes.{Shape, exact, at_most, one_byte, truth_of_four}
+use Rattle.attribute_tables_grammar.specs.Lists.{any, first_alone}
 use Rattle.attribute_tables_grammar.specs.Tables.{Payload, Payload.plain, Payload.peer, Payload.list, Table, Table.end, Names, Names.others, Names.name}
 use Rattle.attribute_tables_grammar.specs.Rows.{◌↪◌, ◌⸴◌, octets, address, truth, flag, string}
 
@@ -140,7 +140,7 @@ abbrev pub each_of : Payload → List (List ℕ) → Names → Names
 each_of s [] ns = ns
 each_of s (n ∷ names) ns = name n s (each_of s names ns)
 
--- The kinds that are built so far. The data of every other kind are raw bytes.
+-- The kinds that have a table. The data of every other kind are raw bytes.
 abbrev pub kinds : Names
 kinds =
     each_of (list any untyped) (codes "bridge" ∷ codes "tun" ∷ codes "vlan" ∷ codes "bond" ∷ codes "wireguard" ∷ codes "hsr" ∷ codes "can" ∷ codes "dsa" ∷ [])
@@ -157,7 +157,15 @@ kinds =
     (name (codes "geneve") (list any geneve)
     (name (codes "gtp") (list any gtp)
     (name (codes "vxlan") (list any vxlan)
-    others)))))))))))))
+    (each_of (list any gre) (codes "gre" ∷ codes "gretap" ∷ codes "erspan" ∷ [])
+    (each_of (list any gre6) (codes "ip6gre" ∷ codes "ip6gretap" ∷ codes "ip6erspan" ∷ [])
+    (each_of (list any (ip_tunnel (exact 2))) (codes "ipip" ∷ codes "sit" ∷ [])
+    (name (codes "ip6tnl") (list any (ip_tunnel (exact 4)))
+    (name (codes "macsec") (list any macsec)
+    (each_of (list any macvlan) (codes "macvlan" ∷ codes "macvtap" ∷ [])
+    (name (codes "netkit") (list any netkit)
+    (each_of (list first_alone pair) (codes "veth" ∷ codes "vxcan" ∷ [])
+    others)))))))))))))))))))))
 
 abbrev pub port_kinds : Names
 port_kinds = each_of (list any untyped) (codes "bond" ∷ codes "bridge" ∷ codes "team" ∷ []) (name (codes "vrf") (list any vrf) others)

@@ -1,16 +1,20 @@
 //! Data of the kinds `ipip`, `ip6tnl` and `sit` (if_tunnel.h, IFLA_IPTUN_*). Numbers are
 //! little-endian unless told.
 
-ghost use Rattle.std.specs.Prelude.{◌≡◌, false, IsTrue, IfOk, IfErr, IfSome, IfNone, OnOk};
+ghost use Rattle.std.specs.Prelude.{◌≡◌, ◌<◌, true, false, length, IsTrue, IfOk, IfErr, IfSome, IfNone, OnOk};
+ghost use Rattle.std.specs.List.{All};
 ghost use Rattle.netlink_packet_core.specs.Attributes.{proper_kind};
 ghost use Rattle.netlink_packet_core.specs.AttributeViews.{IsAttribute, viewed_kind};
 ghost use Rattle.netlink_packet_core.specs.Errors.{is_memory};
 ghost use Rattle.netlink_packet_core.specs.Families.{Gives, accepts, family_row, may_want_memory};
+ghost use Rattle.netlink_packet_core.specs.Lists.{text_by, all_fit_by};
 ghost use Rattle.netlink_packet_core.specs.NlaBuffers.{storage};
-ghost use Rattle.attribute_tables_grammar.specs.LookUps.{has_no_row};
+ghost use Rattle.attribute_tables_grammar.specs.Lists.{any};
+ghost use Rattle.attribute_tables_grammar.specs.LookUps.{has_no_row, list_of};
+ghost use Rattle.attribute_tables_grammar.specs.Peers.{bytes_peer};
 ghost use Rattle.link_info_tunnels.specs.IpTunnel.{ip_tunnel_entry, ip_tunnel_names_row, ip_tunnel_of};
 
-use attribute_tables::{Reader, typed};
+use attribute_tables::{Reader, parse_list, typed};
 use link_info_kinds::InfoKind;
 use link_info_tunnel_types::{
     Flags, Ip6TunnelFlags, IpProtocol, TunnelEncapFlags, TunnelEncapType,
@@ -246,6 +250,7 @@ impl<'a, 'b> ParseableParametrized<NlaBuffer<&'a [u8]>, &'b InfoKind> for InfoIp
 ///
 /// The kind counts by its variant. `IFLA_IPTUN_FLAGS` is refused under every kind but `ipip`, `sit`
 /// and `ip6tnl`.
+#[derive(Drop)]
 pub struct InfoIpTunnelReader<'k> {
     /// The kind of the link.
     pub kind: &'k InfoKind,
@@ -264,4 +269,28 @@ impl<'k> Reader for InfoIpTunnelReader<'k> {
     fn read(&self, alloc: Global, buf: &NlaBuffer<&[u8]>) -> Result<InfoIpTunnel, DecodeError> {
         InfoIpTunnel::parse_with_param(alloc, buf, self.kind)
     }
+}
+
+/// Reads the data of a tunnel over IP, under the kind of the link. It succeeds exactly where the
+/// list is accepted, memory aside; a list of no bytes is never refused.
+#[tactic(auto, using(attribute_tables::proofs::Families::family_lists))]
+pub fn parse_ip_tunnel(
+    alloc: Global,
+    bytes: &[u8],
+    kind: &InfoKind,
+) -> Result<Vec<InfoIpTunnel>, DecodeError>
+    ensures ok { OnOk result (IsTrue ((list_of bytes_peer any (ip_tunnel_of kind.now)).accepted bytes.now)) }
+    ensures text { IfOk result
+        (λ v. text_by ip_tunnel_entry v.items
+        ≡ (list_of bytes_peer any (ip_tunnel_of kind.now)).canonical bytes.now) }
+    ensures fits { IfOk result
+        (λ v. all_fit_by ip_tunnel_entry (λ _. true) v.items
+        ≡ (list_of bytes_peer any (ip_tunnel_of kind.now)).fits bytes.now) }
+    ensures names_row { IfOk result (λ v. All (ip_tunnel_names_row kind.now) v.items) }
+    ensures err { IfErr result
+        (λ e. is_memory e ≡ false
+        → (list_of bytes_peer any (ip_tunnel_of kind.now)).accepted bytes.now ≡ false) }
+    ensures not_empty { IfErr result (λ _. 0 < length bytes.now) }
+{
+    parse_list(alloc, &InfoIpTunnelReader { kind }, bytes)
 }

@@ -1,18 +1,19 @@
 //! Data of the kinds `ipip`, `ip6tnl` and `sit` (if_tunnel.h, IFLA_IPTUN_*). Numbers are
 //! little-endian unless told.
 
-ghost use Rattle.std.specs.Prelude.{◌≡◌, ◌<◌, true, false, length, IsTrue, IfOk, IfErr, IfSome, IfNone, OnOk};
+ghost use Rattle.std.specs.Prelude.{◌≡◌, ◌<◌, true, false, length, map, Some, IsTrue, IfOk, IfErr, IfSome, IfNone, OnOk};
 ghost use Rattle.std.specs.List.{All};
 ghost use Rattle.netlink_packet_core.specs.Attributes.{proper_kind};
-ghost use Rattle.netlink_packet_core.specs.AttributeViews.{IsAttribute, viewed_kind};
+ghost use Rattle.netlink_packet_core.specs.AttributeViews.{IsAttribute, raw_kind_of};
 ghost use Rattle.netlink_packet_core.specs.Errors.{is_memory};
 ghost use Rattle.netlink_packet_core.specs.Families.{Gives, accepts, family_row, may_want_memory};
 ghost use Rattle.netlink_packet_core.specs.Lists.{text_by, all_fit_by};
 ghost use Rattle.netlink_packet_core.specs.NlaBuffers.{storage};
-ghost use Rattle.attribute_tables_grammar.specs.Lists.{any};
-ghost use Rattle.attribute_tables_grammar.specs.LookUps.{has_no_row, list_of};
-ghost use Rattle.attribute_tables_grammar.specs.Peers.{bytes_peer};
-ghost use Rattle.link_info_tunnels.specs.IpTunnel.{ip_tunnel_entry, ip_tunnel_names_row, ip_tunnel_of};
+ghost use Rattle.attribute_tables.specs.Written.{written_as};
+ghost use Rattle.attribute_tables_grammar.specs.Lists.{any, without_context};
+ghost use Rattle.attribute_tables_grammar.specs.LookUps.{has_no_row};
+ghost use Rattle.attribute_tables_grammar.specs.Readings.{reading_as};
+ghost use Rattle.link_info_tunnels.specs.IpTunnel.{ip_tunnel_entry, ip_tunnel_names_row, ip_tunnel_of, ip_tunnel_rule};
 
 use attribute_tables::{Reader, parse_list, typed};
 use link_info_kinds::InfoKind;
@@ -172,7 +173,7 @@ impl InfoIpTunnel {
         ensures none { IfOk result
             (λ o. IfNone o
             (has_no_row (ip_tunnel_of link.now)
-            (proper_kind (viewed_kind (storage buf.now).now)))) }
+            (proper_kind (raw_kind_of (storage buf.now).now)))) }
         ensures value { IfOk result
             (λ o. IfSome o
             (λ v. Gives (ip_tunnel_of link.now) (storage buf.now).now (ip_tunnel_entry v))) }
@@ -271,25 +272,26 @@ impl<'k> Reader for InfoIpTunnelReader<'k> {
     }
 }
 
-/// Reads the data of a tunnel over IP, under the kind of the link. It succeeds exactly where the
-/// list is accepted, memory aside; a list of no bytes is never refused.
-#[tactic(auto, using(attribute_tables::proofs::Families::family_lists))]
+/// Reads the data of a tunnel over IP, a list of attributes, under the kind of the link. It
+/// succeeds exactly where the list is accepted, memory aside; a list of no bytes is never refused.
+#[tactic(auto, using(attribute_tables::proofs::Families::family_lists), unfolding(crate::specs::IpTunnel::ip_tunnel_of))]
 pub fn parse_ip_tunnel(
     alloc: Global,
     bytes: &[u8],
     kind: &InfoKind,
 ) -> Result<Vec<InfoIpTunnel>, DecodeError>
-    ensures ok { OnOk result (IsTrue ((list_of bytes_peer any (ip_tunnel_of kind.now)).accepted bytes.now)) }
+    ensures ok { OnOk result (IsTrue ((ip_tunnel_rule kind.now).accepted bytes.now)) }
+    ensures read { IfOk result
+        (λ v. reading_as any (without_context (family_row (ip_tunnel_of kind.now))) bytes.now
+        ≡ Some (map (written_as ip_tunnel_entry (λ _. true)) v.items)) }
     ensures text { IfOk result
-        (λ v. text_by ip_tunnel_entry v.items
-        ≡ (list_of bytes_peer any (ip_tunnel_of kind.now)).canonical bytes.now) }
+        (λ v. text_by ip_tunnel_entry v.items ≡ (ip_tunnel_rule kind.now).canonical bytes.now) }
     ensures fits { IfOk result
         (λ v. all_fit_by ip_tunnel_entry (λ _. true) v.items
-        ≡ (list_of bytes_peer any (ip_tunnel_of kind.now)).fits bytes.now) }
+        ≡ (ip_tunnel_rule kind.now).fits bytes.now) }
     ensures names_row { IfOk result (λ v. All (ip_tunnel_names_row kind.now) v.items) }
     ensures err { IfErr result
-        (λ e. is_memory e ≡ false
-        → (list_of bytes_peer any (ip_tunnel_of kind.now)).accepted bytes.now ≡ false) }
+        (λ e. is_memory e ≡ false → (ip_tunnel_rule kind.now).accepted bytes.now ≡ false) }
     ensures not_empty { IfErr result (λ _. 0 < length bytes.now) }
 {
     parse_list(alloc, &InfoIpTunnelReader { kind }, bytes)

@@ -246,6 +246,7 @@ impl<'a, 'b> ParseableParametrized<NlaBuffer<&'a [u8]>, &'b InfoKind> for InfoIp
 ///
 /// The kind counts by its variant. `IFLA_IPTUN_FLAGS` is refused under every kind but `ipip`, `sit`
 /// and `ip6tnl`.
+#[derive(Drop)]
 pub struct InfoIpTunnelReader<'k> {
     /// The kind of the link.
     pub kind: &'k InfoKind,

@@ -6,7 +6,10 @@ use Rattle.netlink_packet_core.specs.Attributes.{Attribute, proper_kind}
 use Rattle.netlink_packet_core.specs.Families.{attribute}
 use Rattle.netlink_packet_core.specs.Numbers.{be2, be4, le2, le4}
 use Rattle.netlink_packet_core.specs.Truths.{truth_byte}
-use Rattle.attribute_tables_grammar.specs.LookUps.{has_no_row}
+use Rattle.attribute_tables_grammar.specs.Lists.{any}
+use Rattle.attribute_tables_grammar.specs.LookUps.{has_no_row, list_of}
+use Rattle.attribute_tables_grammar.specs.Peers.{bytes_peer}
+use Rattle.attribute_tables_grammar.specs.Rules.{Rule}
 use Rattle.attribute_tables_grammar.specs.Shapes.{Shape, exact, never}
 use Rattle.attribute_tables_grammar.specs.Tables.{Table}
 use Rattle.link_info_grammar.specs.Families.{ip_tunnel}
@@ -27,6 +30,10 @@ tunnel_flags _ = never
 -- the table under a kind of links
 unfoldable pub ip_tunnel_of : InfoKind → Table
 ip_tunnel_of k = ip_tunnel (tunnel_flags k)
+
+-- the rule of a list of them
+abbrev pub ip_tunnel_rule : InfoKind → Rule
+ip_tunnel_rule k = list_of bytes_peer any (ip_tunnel (tunnel_flags k))
 
 abbrev pub ip_tunnel_entry : InfoIpTunnel → Attribute
 ip_tunnel_entry (Link n) = attribute 1 (le4 n)

@@ -1,16 +1,21 @@
 //! Data of the kinds `ipip`, `ip6tnl` and `sit` (if_tunnel.h, IFLA_IPTUN_*). Numbers are
 //! little-endian unless told.
 
-ghost use Rattle.std.specs.Prelude.{◌≡◌, false, IsTrue, IfOk, IfErr, IfSome, IfNone, OnOk};
+ghost use Rattle.std.specs.Prelude.{◌≡◌, ◌<◌, true, false, length, map, Some, IsTrue, IfOk, IfErr, IfSome, IfNone, OnOk};
+ghost use Rattle.std.specs.List.{All};
 ghost use Rattle.netlink_packet_core.specs.Attributes.{proper_kind};
 ghost use Rattle.netlink_packet_core.specs.AttributeViews.{IsAttribute, raw_kind_of};
 ghost use Rattle.netlink_packet_core.specs.Errors.{is_memory};
 ghost use Rattle.netlink_packet_core.specs.Families.{Gives, accepts, family_row, may_want_memory};
+ghost use Rattle.netlink_packet_core.specs.Lists.{text_by, all_fit_by};
 ghost use Rattle.netlink_packet_core.specs.NlaBuffers.{storage};
+ghost use Rattle.attribute_tables.specs.Written.{written_as};
+ghost use Rattle.attribute_tables_grammar.specs.Lists.{any, without_context};
 ghost use Rattle.attribute_tables_grammar.specs.LookUps.{has_no_row};
-ghost use Rattle.link_info_tunnels.specs.IpTunnel.{ip_tunnel_entry, ip_tunnel_names_row, ip_tunnel_of};
+ghost use Rattle.attribute_tables_grammar.specs.Readings.{reading_as};
+ghost use Rattle.link_info_tunnels.specs.IpTunnel.{ip_tunnel_entry, ip_tunnel_names_row, ip_tunnel_of, ip_tunnel_rule};
 
-use attribute_tables::{Reader, typed};
+use attribute_tables::{Reader, parse_list, typed};
 use link_info_kinds::InfoKind;
 use link_info_tunnel_types::{
     Flags, Ip6TunnelFlags, IpProtocol, TunnelEncapFlags, TunnelEncapType,
@@ -265,4 +270,29 @@ impl<'k> Reader for InfoIpTunnelReader<'k> {
     fn read(&self, alloc: Global, buf: &NlaBuffer<&[u8]>) -> Result<InfoIpTunnel, DecodeError> {
         InfoIpTunnel::parse_with_param(alloc, buf, self.kind)
     }
+}
+
+/// Reads the data of a tunnel over IP, a list of attributes, under the kind of the link. It
+/// succeeds exactly where the list is accepted, memory aside; a list of no bytes is never refused.
+#[tactic(auto, using(attribute_tables::proofs::Families::family_lists), unfolding(crate::specs::IpTunnel::ip_tunnel_of))]
+pub fn parse_ip_tunnel(
+    alloc: Global,
+    bytes: &[u8],
+    kind: &InfoKind,
+) -> Result<Vec<InfoIpTunnel>, DecodeError>
+    ensures ok { OnOk result (IsTrue ((ip_tunnel_rule kind.now).accepted bytes.now)) }
+    ensures read { IfOk result
+        (λ v. reading_as any (without_context (family_row (ip_tunnel_of kind.now))) bytes.now
+        ≡ Some (map (written_as ip_tunnel_entry (λ _. true)) v.items)) }
+    ensures text { IfOk result
+        (λ v. text_by ip_tunnel_entry v.items ≡ (ip_tunnel_rule kind.now).canonical bytes.now) }
+    ensures fits { IfOk result
+        (λ v. all_fit_by ip_tunnel_entry (λ _. true) v.items
+        ≡ (ip_tunnel_rule kind.now).fits bytes.now) }
+    ensures names_row { IfOk result (λ v. All (ip_tunnel_names_row kind.now) v.items) }
+    ensures err { IfErr result
+        (λ e. is_memory e ≡ false → (ip_tunnel_rule kind.now).accepted bytes.now ≡ false) }
+    ensures not_empty { IfErr result (λ _. 0 < length bytes.now) }
+{
+    parse_list(alloc, &InfoIpTunnelReader { kind }, bytes)
 }

@@ -12,6 +12,6 @@ mod xfrm;
 pub use bareudp::InfoBareUdp;
 pub use gre::InfoGre;
 pub use gre6::InfoGre6;
-pub use iptunnel::{InfoIpTunnel, InfoIpTunnelReader};
+pub use iptunnel::{InfoIpTunnel, InfoIpTunnelReader, parse_ip_tunnel};
 pub use vti::InfoVti;
 pub use xfrm::InfoXfrm;

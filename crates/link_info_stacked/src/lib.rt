@@ -4,5 +4,5 @@
 mod mac_vlan;
 mod macsec;
 
-pub use mac_vlan::{InfoMacVlan, InfoMacVtap};
+pub use mac_vlan::{InfoMacVlan, InfoMacVtap, MacVlanReader, parse_mac_vlan};
 pub use macsec::InfoMacSec;

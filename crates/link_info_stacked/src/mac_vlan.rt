@@ -42,7 +42,7 @@ const IFLA_MACVLAN_BC_QUEUE_LEN_USED: u16 = 8;
 
 const IFLA_MACVLAN_BC_CUTOFF: u16 = 9;
 
-/// An attribute of the data of `macvlan` or of `macvtap`, by the number of the kind.
+/// An attribute of the data of `macvlan` or of `macvtap`.
 #[derive(Debug, PartialEq, Eq, Drop)]
 pub enum InfoMacVlan {
     /// `IFLA_MACVLAN_MODE`: how the links of one parent reach one another; 4 bytes.

@@ -1,14 +1,13 @@
 //! Data of the kinds `macvlan` and `macvtap` (if_link.h, IFLA_MACVLAN_*). Numbers are little-endian.
 
-ghost use Rattle.std.specs.Prelude.{◌≡◌, ◌≢◌, ◌+◌, ◌<◌, nat_le, length, map, true, false, Some, IsTrue, IfOk, IfErr, IfSome, IfNone, OnOk};
+ghost use Rattle.std.specs.Prelude.{◌≡◌, ◌≢◌, ◌<◌, length, map, true, false, Some, IsTrue, IfOk, IfErr, IfSome, IfNone, OnOk};
 ghost use Rattle.std.specs.List.{All};
-ghost use Rattle.netlink_packet_core.specs.Attributes.{nla_align, proper_kind};
+ghost use Rattle.netlink_packet_core.specs.Attributes.{proper_kind};
 ghost use Rattle.netlink_packet_core.specs.AttributeViews.{viewed_kind, IsAttribute};
 ghost use Rattle.netlink_packet_core.specs.Errors.{is_memory};
 ghost use Rattle.netlink_packet_core.specs.Families.{Gives, accepts, attribute, family_row, may_want_memory};
 ghost use Rattle.netlink_packet_core.specs.Lists.{text_by, all_fit_by};
 ghost use Rattle.netlink_packet_core.specs.NlaBuffers.{storage};
-ghost use Rattle.netlink_packet_core.specs.Numbers.{as_usize};
 ghost use Rattle.attribute_tables_grammar.specs.Lists.{any, rewrite, without_context};
 ghost use Rattle.attribute_tables_grammar.specs.LookUps.{has_no_row, list_of, row_holds_bytes};
 ghost use Rattle.attribute_tables_grammar.specs.Peers.{bytes_peer};
@@ -20,8 +19,8 @@ ghost use Rattle.link_info_stacked.specs.MacVlan.{mac_vlan_entry, mac_vlan_fits,
 use attribute_tables::{Reader, parse_list, typed};
 use link_info_types::{Flags, MacVlanFlags, MacVlanMacAddressMode, MacVlanMode};
 use netlink_packet_core::{
-    DecodeError, DefaultNla, NLA_HEADER_SIZE, Nla, NlaBuffer, Parseable, fill_u16, fill_u32,
-    nla_align, parse_i32, parse_mac, parse_u16, parse_u32,
+    DecodeError, DefaultNla, NLA_HEADER_SIZE, Nla, NlaBuffer, Parseable, attribute_len,
+    emit_header, fill_u16, fill_u32, length_fits, parse_i32, parse_mac, parse_u16, parse_u32,
 };
 use std::alloc::Global;
 
@@ -43,7 +42,7 @@ const IFLA_MACVLAN_BC_QUEUE_LEN_USED: u16 = 8;
 
 const IFLA_MACVLAN_BC_CUTOFF: u16 = 9;
 
-/// An attribute of the data of `macvlan` or of `macvtap`, by the number of the kind.
+/// An attribute of the data of `macvlan` or of `macvtap`.
 #[derive(Debug, PartialEq, Eq, Drop)]
 pub enum InfoMacVlan {
     /// `IFLA_MACVLAN_MODE`: how the links of one parent reach one another; 4 bytes.
@@ -138,18 +137,12 @@ impl Nla for InfoMacVlan {
         }
     }
 
+    // As the trait has it, whose own is for values that hold none of their type.
     #[cycle(texts)]
-    #[tactic(auto, using(netlink_packet_core_attributes::proofs::Headers::headers), unfolding(netlink_packet_core_grammar::specs::Attributes::attribute_text))]
     fn emit(&self, buffer: &mut [u8]) {
         let size = self.value_len();
-        let (front, _) = buffer.split_at_mut(NLA_HEADER_SIZE + nla_align(size));
-        let (header, rest) = front.split_at_mut(NLA_HEADER_SIZE);
-        let (length, kind) = header.split_at_mut(2);
-        length.copy_from_slice(&((NLA_HEADER_SIZE + size) as u16).to_le_bytes());
-        kind.copy_from_slice(&self.kind().to_le_bytes());
-        let (value, padding) = rest.split_at_mut(size);
-        self.emit_value(value);
-        padding.fill(0);
+        emit_header(buffer, self.kind(), size);
+        self.emit_value(&mut buffer[NLA_HEADER_SIZE..NLA_HEADER_SIZE + size]);
     }
 
     #[tactic(auto, using(crate::proofs::Rows::rows_of_values))]
@@ -166,24 +159,6 @@ impl Nla for InfoMacVlan {
             _ => true,
         }
     }
-}
-
-/// The bytes of an attribute with a payload of so many: header, payload and padding; `usize::MAX`
-/// stands for more.
-fn attribute_len(value_len: usize) -> usize
-    ensures { result ≡ as_usize (nla_align (4 + value_len)) }
-{
-    if value_len > usize::MAX - 7 {
-        return usize::MAX;
-    }
-    NLA_HEADER_SIZE + nla_align(value_len)
-}
-
-/// Whether a payload of so many bytes fits the 2 bytes of the header's length.
-fn length_fits(value_len: usize) -> bool
-    ensures { result ≡ nat_le (4 + value_len) 65535 }
-{
-    value_len <= u16::MAX as usize - NLA_HEADER_SIZE
 }
 
 impl InfoMacVlan {
@@ -292,11 +267,13 @@ impl Reader for MacVlanReader {
 
     #[tactic(auto, using(crate::proofs::Rows::rows_of_values, crate::proofs::Rows::address_rows))]
     fn read(&self, alloc: Global, buf: &NlaBuffer<&[u8]>) -> Result<InfoMacVlan, DecodeError> {
-        if buf.kind() != IFLA_MACVLAN_MACADDR_DATA {
-            return InfoMacVlan::read_address(alloc, buf);
+        match buf.kind() {
+            IFLA_MACVLAN_MACADDR_DATA => {
+                let list = parse_addresses(alloc, buf.value())?;
+                Ok(InfoMacVlan::MacAddrData(list))
+            }
+            _ => InfoMacVlan::read_address(alloc, buf),
         }
-        let list = parse_addresses(alloc, buf.value())?;
-        Ok(InfoMacVlan::MacAddrData(list))
     }
 }
 

@@ -4,7 +4,7 @@
 ghost use Rattle.std.specs.Prelude.{◌≡◌, ◌<◌, true, false, length, map, Some, IsTrue, IfOk, IfErr, IfSome, IfNone, OnOk};
 ghost use Rattle.std.specs.List.{All};
 ghost use Rattle.netlink_packet_core.specs.Attributes.{proper_kind};
-ghost use Rattle.netlink_packet_core.specs.AttributeViews.{IsAttribute, raw_kind_of};
+ghost use Rattle.netlink_packet_core.specs.AttributeViews.{IsAttribute, viewed_kind};
 ghost use Rattle.netlink_packet_core.specs.Errors.{is_memory};
 ghost use Rattle.netlink_packet_core.specs.Families.{Gives, accepts, family_row, may_want_memory};
 ghost use Rattle.netlink_packet_core.specs.Lists.{text_by, all_fit_by};
@@ -173,7 +173,7 @@ impl InfoIpTunnel {
         ensures none { IfOk result
             (λ o. IfNone o
             (has_no_row (ip_tunnel_of link.now)
-            (proper_kind (raw_kind_of (storage buf.now).now)))) }
+            (proper_kind (viewed_kind (storage buf.now).now)))) }
         ensures value { IfOk result
             (λ o. IfSome o
             (λ v. Gives (ip_tunnel_of link.now) (storage buf.now).now (ip_tunnel_entry v))) }

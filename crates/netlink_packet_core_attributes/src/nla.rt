@@ -1,4 +1,4 @@
-ghost use Rattle.std.specs.Prelude.{◌≡◌, ◌==◌, ◌&&◌, ◌+◌, ◌≤◌, ◌++◌, Bool, true, length, drop};
+ghost use Rattle.std.specs.Prelude.{◌≡◌, ◌==◌, ◌&&◌, ◌+◌, ◌≤◌, ◌++◌, nat_le, Bool, true, length, drop};
 ghost use Rattle.std.specs.Ordering.{on, eq_of_both};
 ghost use Rattle.std.specs.Cmp.Lexicographic.{pointwise};
 ghost use Rattle.std.specs.Cmp.Rules.{comparing};
@@ -7,6 +7,7 @@ ghost use Rattle.netlink_packet_core_grammar.specs.Attributes.{nla_align, Attrib
 ghost use Rattle.netlink_packet_core_grammar.specs.AttributeViews.{viewed_attribute, IsAttribute};
 ghost use Rattle.netlink_packet_core_grammar.specs.Fits.{attribute_fits};
 ghost use Rattle.netlink_packet_core_grammar.specs.Numbers.{as_usize};
+ghost use Rattle.netlink_packet_core_attributes.specs.AttributeHeaders.{with_header};
 ghost use Rattle.netlink_packet_core_attributes.specs.Kinds.{has_nested_flag, has_byte_order_flag};
 ghost use Rattle.netlink_packet_core_attributes.specs.NlaBuffers.{storage};
 
@@ -33,6 +34,42 @@ pub fn nla_align(n: usize) -> usize
     ensures { result ≡ nla_align n }
 {
     (n + NLA_ALIGNTO - 1) / NLA_ALIGNTO * NLA_ALIGNTO
+}
+
+/// The bytes of an attribute with a payload of so many: header, payload and padding; `usize::MAX`
+/// stands for more.
+pub fn attribute_len(value_len: usize) -> usize
+    ensures { result ≡ as_usize (nla_align (4 + value_len)) }
+{
+    // Beyond the greatest multiple of 4 that leaves room for a header.
+    if value_len > usize::MAX - 7 {
+        return usize::MAX;
+    }
+    NLA_HEADER_SIZE + nla_align(value_len)
+}
+
+/// Whether a payload of so many bytes fits the 2 bytes of the header's length.
+pub fn length_fits(value_len: usize) -> bool
+    ensures { result ≡ nat_le (4 + value_len) 65535 }
+{
+    value_len <= u16::MAX as usize - NLA_HEADER_SIZE
+}
+
+/// Writes the header and the padding of an attribute around the place of its payload, and leaves
+/// that place and the rest of the buffer alone.
+#[tactic(auto, using(crate::proofs::Headers::headers))]
+pub fn emit_header(buffer: &mut [u8], kind: u16, value_len: usize)
+    requires fits { 4 + value_len ≤ 65535 }
+    requires room { nla_align (4 + value_len) ≤ length buffer.old }
+    ensures { buffer.new ≡ with_header kind value_len buffer.old }
+{
+    let (front, _) = buffer.split_at_mut(attribute_len(value_len));
+    let (header, rest) = front.split_at_mut(NLA_HEADER_SIZE);
+    let (length, kind_bytes) = header.split_at_mut(2);
+    length.copy_from_slice(&((NLA_HEADER_SIZE + value_len) as u16).to_le_bytes());
+    kind_bytes.copy_from_slice(&kind.to_le_bytes());
+    let (_, padding) = rest.split_at_mut(value_len);
+    padding.fill(0);
 }
 
 /// A value that is written as an attribute: a header of 4 bytes, the payload, and zeros up to a
@@ -81,24 +118,18 @@ pub trait Nla {
     fn fits(&self) -> bool
         ensures { result ≡ (attribute_fits (entry self.now) && inside_fits self.now) }
     {
-        self.value_len() <= u16::MAX as usize - NLA_HEADER_SIZE && self.contents_fit()
+        length_fits(self.value_len()) && self.contents_fit()
     }
 
     /// The bytes of header, payload and padding; `usize::MAX` stands for more.
     fn buffer_len(&self) -> usize
         ensures { result ≡ as_usize (nla_align (attribute_length (entry self.now))) }
     {
-        let length = self.value_len();
-        // Beyond the greatest multiple of 4 that leaves room for a header.
-        if length > usize::MAX - 7 {
-            return usize::MAX;
-        }
-        NLA_HEADER_SIZE + nla_align(length)
+        attribute_len(self.value_len())
     }
 
     /// Writes header, payload and padding into the front of a buffer, and leaves the rest of the
     /// buffer alone.
-    #[tactic(auto, using(crate::proofs::Headers::headers), unfolding(netlink_packet_core_grammar::specs::Attributes::attribute_text))]
     fn emit(&self, buffer: &mut [u8])
         requires fits { (attribute_fits (entry self.now) && inside_fits self.now) ≡ true }
         requires room { nla_align (attribute_length (entry self.now)) ≤ length buffer.old }
@@ -107,14 +138,8 @@ pub trait Nla {
             ++ drop (nla_align (attribute_length (entry self.now))) buffer.old }
     {
         let size = self.value_len();
-        let (front, _) = buffer.split_at_mut(NLA_HEADER_SIZE + nla_align(size));
-        let (header, rest) = front.split_at_mut(NLA_HEADER_SIZE);
-        let (length, kind) = header.split_at_mut(2);
-        length.copy_from_slice(&((NLA_HEADER_SIZE + size) as u16).to_le_bytes());
-        kind.copy_from_slice(&self.kind().to_le_bytes());
-        let (value, padding) = rest.split_at_mut(size);
-        self.emit_value(value);
-        padding.fill(0);
+        emit_header(buffer, self.kind(), size);
+        self.emit_value(&mut buffer[NLA_HEADER_SIZE..NLA_HEADER_SIZE + size]);
     }
 }
 

@@ -5,6 +5,7 @@ use Rattle.std.proofs.lemmas.Bool.{and_parts, leb-true}
 use Rattle.netlink_packet_core_grammar.specs.Attributes.{nla_align, attribute_length, attribute_text, list_text}
 use Rattle.netlink_packet_core_grammar.proofs.Sizes.{length-attribute_text}
 use Rattle.netlink_packet_core_attributes.specs.Lists.{text_by, size_by}
+use Rattle.netlink_packet_core_attributes.proofs.Headers.{header_and_payload}
 use Rattle.netlink_packet_core_attributes.proofs.Emits.{fits-at, room-at, emitted, text_by-more, size_by-more}
 use Rattle.attribute_tables.proofs.Lists.{length-text_by}
 use Rattle.link_info_stacked.specs.MacVlan.{mac_vlan_entry, mac_vlan_fits}
@@ -72,3 +73,9 @@ emit_value-returns-after-loop-inner t c =
     let d : drop c.loop-inner.at c.args.buffer.now ≡ [] = drop_all c.loop-inner.at c.args.buffer.now (omega arith) in
     let k : c.loop-inner.buffer ≡ text_by mac_vlan_entry xs ++ [] = rw (h, d) at c.loop-inner.invariant.text in
     k ∙ append-nil (text_by mac_vlan_entry xs) ∙ sym a.payload
+
+pub emit-returns : goal.emit-returns
+emit-returns t c =
+    let e = mac_vlan_entry c.args.self.now in
+    let fits = leb-true (attribute_length e) 65535 (and_parts _ _ c.requires.fits).0 in
+    header_and_payload e c.kind.result c.value_len-size.result c.args.buffer.now c.emit_header.new.buffer c.emit_value.new.buffer fits c.requires.room c.kind.ensures c.value_len-size.ensures c.emit_header.ensures c.emit_value.ensures

@@ -7,14 +7,14 @@ use Rattle.link_info_grammar.specs.Families.{macvlan}
 use Rattle.link_info_stacked.proofs.Rows.{entry-addresses, fits-addresses, list-written}
 use Rattle.link_info_stacked.proofs.mac_vlan.MacVlanReaderReader.read.Goals as goal
 
-pub returns-clause-value : goal.returns-clause-value
-returns-clause-value c =
+pub returns-in_ok-list-in-5-clause-value : goal.returns-in_ok-list-in-5-clause-value
+returns-in_ok-list-in-5-clause-value c =
     let b = (storage c.args.buf.now).now in
     let h : proper_kind (viewed_kind b) ≡ 5 = cc in
-    entry-addresses c.in_ok-list.list ∙ ap (attribute 5) (rw c.value.ensures at c.in_ok-list.ensures.text) ∙ sym (list-written (viewed_attribute b) h)
+    entry-addresses c.in_ok-list-in-5.list ∙ ap (attribute 5) (rw c.value.ensures at c.in_ok-list-in-5.ensures.text) ∙ sym (list-written (viewed_attribute b) h)
 
-pub returns-clause-inside : goal.returns-clause-inside
-returns-clause-inside c =
+pub returns-in_ok-list-in-5-clause-inside : goal.returns-in_ok-list-in-5-clause-inside
+returns-in_ok-list-in-5-clause-inside c =
     let b = (storage c.args.buf.now).now in
     let h : proper_kind (viewed_kind b) ≡ 5 = cc in
-    fits-addresses c.in_ok-list.list ∙ (rw c.value.ensures at c.in_ok-list.ensures.fits) ∙ sym (ap (λ k. (family_row macvlan k).rule.fits (viewed_payload b)) h)
+    fits-addresses c.in_ok-list-in-5.list ∙ (rw c.value.ensures at c.in_ok-list-in-5.ensures.fits) ∙ sym (ap (λ k. (family_row macvlan k).rule.fits (viewed_payload b)) h)

@@ -27,7 +27,14 @@ pub use Rattle.link_info_tunnel_types.specs.GtpTypes
 pub use Rattle.link_info_tunnel_types.specs.IpProtocols
 pub use Rattle.link_info_tunnel_types.specs.IpTunnelTypes
 pub use Rattle.link_info_tunnel_types.specs.VxlanTypes
+pub use Rattle.link_info_pairs.specs.Netkit
+pub use Rattle.link_info_pairs.specs.Veth
+pub use Rattle.link_info_stacked.specs.MacVlan
+pub use Rattle.link_info_stacked.specs.Macsec
 pub use Rattle.link_info_tunnels.specs.Bareudp
+pub use Rattle.link_info_tunnels.specs.Gre
+pub use Rattle.link_info_tunnels.specs.Gre6
+pub use Rattle.link_info_tunnels.specs.IpTunnel
 pub use Rattle.link_info_tunnels.specs.Vti
 pub use Rattle.link_info_tunnels.specs.Xfrm
 pub use Rattle.link_info_devices.specs.Batadv

@@ -7,28 +7,28 @@
 mod infos;
 pub mod laws;
 
+pub use attribute_tables::{FamilyReader, Reader, parse_family, parse_first, parse_list};
 pub use infos::LinkInfo;
 pub use link_info_data::{InfoData, InfoPortData, InfoVrfPort, LinkXstats};
 pub use link_info_devices::{
-    InfoBatAdv, InfoIpVlan, InfoIpVtap, IpVlanData,
-    InfoIpoib, InfoRmNet, InfoRmNetFlags, InfoVrf,
-    InfoWwan,
+    InfoBatAdv, InfoIpVlan, InfoIpVtap, InfoIpoib, InfoRmNet, InfoRmNetFlags, InfoVrf, InfoWwan,
+    IpVlanData,
 };
 pub use link_info_kinds::{InfoKind, InfoPortKind};
-pub use attribute_tables::{FamilyReader, Reader, parse_family, parse_list};
-pub use link_info_overlays::{
-    InfoAmt, InfoGeneve, InfoGtp, InfoVxlan,
-    };
+pub use link_info_overlays::{InfoAmt, InfoGeneve, InfoGtp, InfoVxlan};
+pub use link_info_pairs::{InfoNetkit, InfoVeth, InfoVxcan, PairData};
 pub use link_info_raw::{
     InfoBond, InfoBondPort, InfoBridge, InfoBridgePort, InfoCan, InfoDsa, InfoHsr, InfoTeamPort,
     InfoTun, InfoVlan, InfoWireguard, RawData,
 };
+pub use link_info_stacked::{InfoMacSec, InfoMacVlan, InfoMacVtap, MacVlanReader, parse_mac_vlan};
 pub use link_info_tunnel_types::{
     AmtMode, ErSpanDir, GeneveDf, GreEncapFlags, GreEncapType, GreIOFlags, GtpRole, Ip6TunnelFlags,
     IpProtocol, TunnelEncapFlags, TunnelEncapType, VxlanDf,
 };
 pub use link_info_tunnels::{
-    InfoBareUdp, InfoVti, InfoXfrm,
+    InfoBareUdp, InfoGre, InfoGre6, InfoIpTunnel, InfoIpTunnelReader, InfoVti, InfoXfrm,
+    parse_ip_tunnel,
 };
 pub use link_info_types::{
     Flags, IpVlanFlags, IpVlanMode, IpVtapFlags, IpVtapMode, IpoibMode, MacSecCipherId,

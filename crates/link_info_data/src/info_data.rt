@@ -105,7 +105,6 @@ impl InfoData {
     ///
     /// The kind counts by its variant: `InfoKind::Other` of a listed name has the row of a name
     /// that isn't listed, which keeps the bytes.
-    #[tactic(auto, unfolding(link_info_tunnels::specs::IpTunnel::ip_tunnel_of))]
     pub fn parse_with_param(
         alloc: Global,
         payload: &[u8],
@@ -143,9 +142,9 @@ impl InfoData {
             InfoKind::MacSec => Ok(Self::MacSec(parse_family(alloc, payload)?)),
             InfoKind::Hsr => Ok(Self::Hsr(parse_family(alloc, payload)?)),
             InfoKind::Geneve => Ok(Self::Geneve(parse_family(alloc, payload)?)),
-            InfoKind::IpIp => Ok(Self::IpTunnel(parse_ip_tunnel(alloc, payload, kind)?)),
-            InfoKind::Ip6Tnl => Ok(Self::IpTunnel(parse_ip_tunnel(alloc, payload, kind)?)),
-            InfoKind::SitTun => Ok(Self::IpTunnel(parse_ip_tunnel(alloc, payload, kind)?)),
+            InfoKind::IpIp | InfoKind::Ip6Tnl | InfoKind::SitTun => Ok(Self::IpTunnel(
+                parse_ip_tunnel(alloc, payload, kind)?,
+            )),
             InfoKind::Netkit => Ok(Self::Netkit(parse_family(alloc, payload)?)),
             InfoKind::Vxcan => Ok(Self::Vxcan(parse_first(alloc, payload)?)),
             InfoKind::Amt => Ok(Self::Amt(parse_family(alloc, payload)?)),

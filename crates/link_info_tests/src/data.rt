@@ -77,33 +77,27 @@ fn data_hold_the_attributes_of_their_kind(rt: HostRuntime) -> Result<(), Fail> {
     Ok(())
 }
 
+/// The kind that a name names would refuse these bytes.
 #[test]
 fn a_listed_name_in_other_keeps_bytes(rt: HostRuntime) -> Result<(), Fail> {
-    let bytes: &[u8] = &[1, 2, 3];
     let kind = InfoKind::Other("vti".to_string(rt.alloc())?);
-    assert_eq!(rt;
-        InfoData::parse_with_param(rt.alloc(), bytes, &kind)?,
-        InfoData::Other(bytes.to_vec(rt.alloc())?)
-    );
+    let data = InfoData::parse_with_param(rt.alloc(), &[1, 2, 3], &kind)?;
+    assert!(rt; is_written_as(&data, &[7, 0, 2, 0, 1, 2, 3, 0]));
     let kind = InfoPortKind::Other("vrf".to_string(rt.alloc())?);
-    assert_eq!(rt;
-        InfoPortData::parse_with_param(rt.alloc(), bytes, &kind)?,
-        InfoPortData::Other(bytes.to_vec(rt.alloc())?)
-    );
+    let data = InfoPortData::parse_with_param(rt.alloc(), &[1, 2, 3], &kind)?;
+    assert!(rt; is_written_as(&data, &[7, 0, 5, 0, 1, 2, 3, 0]));
     Ok(())
 }
 
 #[test]
 fn statistics_are_bytes(rt: HostRuntime) -> Result<(), Fail> {
-    let bytes: &[u8] = &[6, 0, 3, 0, 1, 2];
-    let Ok(buf) = NlaBuffer::new_checked(bytes) else {
+    let Ok(buf) = NlaBuffer::new_checked([6u8, 0, 3, 0, 1, 2].as_slice()) else {
         return Err(Fail::from("cut"));
     };
     let statistics = LinkXstats::parse_with_param(rt.alloc(), &buf, &InfoKind::Can)?;
     assert_eq!(rt; statistics, LinkXstats::Other([1u8, 2].to_vec(rt.alloc())?));
     let mut buffer = [0xffu8; 3];
     statistics.emit(&mut buffer);
-    assert_eq!(rt; buffer.as_slice(), [1u8, 2, 0xff].as_slice());
-    assert_eq!(rt; statistics.buffer_len(), 2);
+    assert_eq!(rt; buffer, [1u8, 2, 0xff]);
     Ok(())
 }

@@ -1,18 +1,20 @@
 use crate::attributes::is_written_as;
 use link_info::{InfoKind, InfoPortKind};
 use netlink_packet_core::{NlaBuffer, Parseable};
+use std::alloc::Global;
 use std::test::Fail;
+
+/// Whether a name names a kind that is displayed as the name.
+fn is_named(alloc: Global, name: &str, kind: &InfoKind) -> Result<bool, Fail> {
+    let named = InfoKind::from_name(alloc, name)?;
+    Ok(named == *kind && format!(in alloc; "{kind}")?.as_str() == name)
+}
 
 #[test]
 fn kinds_have_names(rt: HostRuntime) -> Result<(), Fail> {
-    for (kind, name) in [
-        (InfoKind::GreTap6, "ip6gretap"),
-        (InfoKind::SitTun, "sit"),
-        (InfoKind::Other("foo".to_string(rt.alloc())?), "foo"),
-    ] {
-        assert_eq!(rt; format!(in rt.alloc(); "{kind}")?.as_str(), name);
-        assert_eq!(rt; InfoKind::from_name(rt.alloc(), name)?, kind);
-    }
+    assert!(rt; is_named(rt.alloc(), "ip6gretap", &InfoKind::GreTap6)?);
+    let unlisted = InfoKind::Other("foo".to_string(rt.alloc())?);
+    assert!(rt; is_named(rt.alloc(), "foo", &unlisted)?);
     let port_kind = InfoPortKind::from_name(rt.alloc(), "vrf")?;
     assert_eq!(rt; port_kind, InfoPortKind::Vrf);
     assert_eq!(rt; format!(in rt.alloc(); "{port_kind}")?.as_str(), "vrf");

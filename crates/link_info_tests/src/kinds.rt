@@ -1,17 +1,20 @@
+use crate::attributes::is_written_as;
 use link_info::{InfoKind, InfoPortKind};
-use netlink_packet_core::{Nla, NlaBuffer, Parseable};
+use netlink_packet_core::{NlaBuffer, Parseable};
+use std::alloc::Global;
 use std::test::Fail;
+
+/// Whether a name names a kind that is displayed as the name.
+fn is_named(alloc: Global, name: &str, kind: &InfoKind) -> Result<bool, Fail> {
+    let named = InfoKind::from_name(alloc, name)?;
+    Ok(named == *kind && format!(in alloc; "{kind}")?.as_str() == name)
+}
 
 #[test]
 fn kinds_have_names(rt: HostRuntime) -> Result<(), Fail> {
-    for (kind, name) in [
-        (InfoKind::GreTap6, "ip6gretap"),
-        (InfoKind::SitTun, "sit"),
-        (InfoKind::Other("vti\0".to_string(rt.alloc())?), "vti\0"),
-    ] {
-        assert_eq!(rt; format!(in rt.alloc(); "{kind}")?.as_str(), name);
-        assert_eq!(rt; InfoKind::from_name(rt.alloc(), name)?, kind);
-    }
+    assert!(rt; is_named(rt.alloc(), "ip6gretap", &InfoKind::GreTap6)?);
+    let unlisted = InfoKind::Other("foo".to_string(rt.alloc())?);
+    assert!(rt; is_named(rt.alloc(), "foo", &unlisted)?);
     let port_kind = InfoPortKind::from_name(rt.alloc(), "vrf")?;
     assert_eq!(rt; port_kind, InfoPortKind::Vrf);
     assert_eq!(rt; format!(in rt.alloc(); "{port_kind}")?.as_str(), "vrf");
@@ -20,32 +23,26 @@ fn kinds_have_names(rt: HostRuntime) -> Result<(), Fail> {
 
 #[test]
 fn kinds_are_attributes(rt: HostRuntime) -> Result<(), Fail> {
-    let bytes: &[u8] = &[9, 0, 1, 0, b'v', b't', b'i', 0, 0, 0, 0, 0];
+    let bytes: &[u8] = b"\x09\0\x01\0vti\0\0\0\0\0";
     let Ok(buf) = NlaBuffer::new_checked(bytes) else {
         return Err(Fail::from("cut"));
     };
     assert!(rt; InfoPortKind::parse(rt.alloc(), &buf).is_err());
     let kind = InfoKind::parse(rt.alloc(), &buf)?;
     assert_eq!(rt; kind, InfoKind::Other("vti\0".to_string(rt.alloc())?));
-    let mut buffer = [0xffu8; 12];
-    assert!(rt; kind.fits() && kind.buffer_len() == buffer.len());
-    kind.emit(&mut buffer);
-    assert_eq!(rt; &buffer[..], bytes);
+    assert!(rt; is_written_as(&kind, bytes));
     Ok(())
 }
 
 #[test]
 fn port_kinds_are_attributes(rt: HostRuntime) -> Result<(), Fail> {
-    let bytes: &[u8] = &[6, 0, 4, 0, b'f', b'o'];
+    let bytes: &[u8] = b"\x06\0\x04\0fo";
     let Ok(buf) = NlaBuffer::new_checked(bytes) else {
         return Err(Fail::from("cut"));
     };
     assert!(rt; InfoKind::parse(rt.alloc(), &buf).is_err());
     let kind = InfoPortKind::parse(rt.alloc(), &buf)?;
-    let mut buffer = [0xffu8; 8];
-    assert!(rt; kind.fits() && kind.buffer_len() == buffer.len());
-    kind.emit(&mut buffer);
-    let with_nul: &[u8] = &[7, 0, 4, 0, b'f', b'o', 0, 0];
-    assert_eq!(rt; &buffer[..], with_nul);
+    assert_eq!(rt; kind, InfoPortKind::Other("fo".to_string(rt.alloc())?));
+    assert!(rt; is_written_as(&kind, b"\x07\0\x04\0fo\0\0"));
     Ok(())
 }

@@ -2,7 +2,7 @@
 #![tactic(auto)]
 
 #[cfg(test)]
-mod captured;
+mod attributes;
 #[cfg(test)]
 mod data;
 #[cfg(test)]
@@ -18,10 +18,8 @@ mod number_types;
 #[cfg(test)]
 mod overlays;
 #[cfg(test)]
-mod raw_data;
+mod pairs;
 #[cfg(test)]
 mod tunnel_types;
 #[cfg(test)]
 mod tunnels;
-#[cfg(test)]
-mod written;

@@ -1,0 +1,56 @@
+//! What the tests of families ask of each of them, through its traits.
+
+use netlink_packet_core::{DefaultNla, Family, Nla, NlaBuffer, Parseable};
+use std::alloc::Global;
+use std::test::Fail;
+
+// An attribute of kind 70, with both flags of a kind. No family names it.
+const UNNAMED: &[u8] = &[5, 0, 0x46, 0xc0, 1, 0, 0, 0];
+
+/// Whether a value is written as these bytes, 64 at most.
+pub fn is_written_as<T: Nla>(value: &T, bytes: &[u8]) -> bool {
+    let mut buffer = [0xffu8; 64];
+    let size = value.buffer_len();
+    if !value.fits() || size > buffer.len() {
+        return false;
+    }
+    value.emit(&mut buffer);
+    &buffer[..size] == bytes
+}
+
+/// Whether an attribute is read as this value.
+pub fn is_read_as<F>(alloc: Global, bytes: &[u8], value: &F) -> Result<bool, Fail>
+where
+    F: Family + PartialEq + Drop,
+{
+    let Ok(buf) = NlaBuffer::new_checked(bytes) else {
+        return Err(Fail::from("cut"));
+    };
+    Ok(F::parse(alloc, &buf)? == *value)
+}
+
+/// Whether an attribute is refused, and not for want of memory.
+pub fn is_refused<F: Family + Drop>(alloc: Global, bytes: &[u8]) -> Result<bool, Fail> {
+    let Ok(buf) = NlaBuffer::new_checked(bytes) else {
+        return Err(Fail::from("cut"));
+    };
+    match F::parse(alloc, &buf) {
+        Ok(_) => Ok(false),
+        Err(error) => Ok(!error.is_memory()),
+    }
+}
+
+/// Whether each attribute is read as its value and written from it, and one that the family does
+/// not name is kept as it is.
+pub fn are_read_as<F>(alloc: Global, cases: &[(&[u8], F)]) -> Result<bool, Fail>
+where
+    F: Family + PartialEq + Drop,
+{
+    for (bytes, value) in cases {
+        if !is_read_as(alloc, bytes, value)? || !is_written_as(value, bytes) {
+            return Ok(false);
+        }
+    }
+    let unnamed = F::other(DefaultNla::new(0xc046, [1u8].to_vec(alloc)?));
+    Ok(is_read_as(alloc, UNNAMED, &unnamed)? && is_written_as(&unnamed, UNNAMED))
+}

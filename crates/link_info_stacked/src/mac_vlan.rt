@@ -1,4 +1,4 @@
-//! Data of the kinds `macvlan` and `macvtap` (if_link.h, IFLA_MACVLAN_*). Numbers are little-endian.
+//! Data of the kinds `macvlan` and `macvtap` (if_link.h, IFLA_MACVLAN_*), little-endian.
 
 ghost use Rattle.std.specs.Prelude.{◌≡◌, ◌≢◌, ◌<◌, length, map, true, false, Some, IsTrue, IfOk, IfErr, IfSome, IfNone, OnOk};
 ghost use Rattle.std.specs.List.{All};
@@ -63,8 +63,8 @@ pub enum InfoMacVlan {
     /// `IFLA_MACVLAN_BC_QUEUE_LEN_USED`: how many may wait, the most that a link of the parent
     /// wants; 4 bytes.
     BcQueueLenUsed(u32),
-    /// `IFLA_MACVLAN_BC_CUTOFF`: from how many links on a multicast address is queued; 4 bytes, with
-    /// a sign.
+    /// `IFLA_MACVLAN_BC_CUTOFF`: from how many links on a multicast address is queued; 4 bytes,
+    /// signed.
     BcCutoff(i32),
     /// Any other kind, kept as it is.
     Other(DefaultNla),
@@ -165,16 +165,21 @@ impl InfoMacVlan {
     /// Reads the payload of a kind without its flag bits, of those that hold no list; `None` where
     /// the kind has no row in the list of source addresses.
     fn read_row(kind: u16, payload: &[u8]) -> Result<Option<Self>, DecodeError>
-        ensures ok { OnOk result (IsTrue ((family_row macvlan_address kind).rule.accepted payload.now)) }
+        ensures ok { OnOk result
+            (IsTrue ((family_row macvlan_address kind).rule.accepted payload.now)) }
         ensures none { IfOk result (λ o. IfNone o (has_no_row macvlan_address kind)) }
-        ensures typed { IfOk result (λ o. IfSome o (λ _. (family_row macvlan_address kind).is_typed ≡ true)) }
+        ensures typed { IfOk result
+            (λ o. IfSome o (λ _. (family_row macvlan_address kind).is_typed ≡ true)) }
         ensures value { IfOk result
             (λ o. IfSome o
-            (λ v. mac_vlan_entry v ≡ rewrite (family_row macvlan_address kind) (attribute kind payload.now))) }
+            (λ v. mac_vlan_entry v
+            ≡ rewrite (family_row macvlan_address kind) (attribute kind payload.now))) }
         ensures inside { IfOk result (λ o. IfSome o (λ v. mac_vlan_fits v ≡ true)) }
         ensures names_row { IfOk result (λ o. IfSome o (λ v. mac_vlan_names_row v)) }
-        ensures address_names_row { IfOk result (λ o. IfSome o (λ v. mac_vlan_address_names_row v)) }
-        ensures err { IfErr result (λ e. (family_row macvlan_address kind).rule.accepted payload.now ≡ false) }
+        ensures address_names_row { IfOk result
+            (λ o. IfSome o (λ v. mac_vlan_address_names_row v)) }
+        ensures err { IfErr result
+            (λ e. (family_row macvlan_address kind).rule.accepted payload.now ≡ false) }
         ensures memory { IfErr result (λ e. is_memory e ≡ false) }
     {
         match kind {
@@ -197,15 +202,18 @@ impl InfoMacVlan {
     fn read_address(alloc: Global, buf: &NlaBuffer<&[u8]>) -> Result<Self, DecodeError>
         requires { IsAttribute (storage buf.now).now }
         ensures ok { OnOk result (IsTrue (accepts macvlan_address (storage buf.now).now)) }
-        ensures value { IfOk result (λ v. Gives macvlan_address (storage buf.now).now (mac_vlan_entry v)) }
+        ensures value { IfOk result
+            (λ v. Gives macvlan_address (storage buf.now).now (mac_vlan_entry v)) }
         ensures inside { IfOk result (λ v. mac_vlan_fits v ≡ true) }
         ensures address_names_row { IfOk result (λ v. mac_vlan_address_names_row v) }
         ensures names_row { IfOk result
             (λ v. proper_kind (viewed_kind (storage buf.now).now) ≢ 5 → mac_vlan_names_row v) }
-        ensures err { IfErr result (λ e. accepts macvlan_address (storage buf.now).now ≡ is_memory e) }
+        ensures err { IfErr result
+            (λ e. accepts macvlan_address (storage buf.now).now ≡ is_memory e) }
         ensures memory { IfErr result
             (λ e. is_memory e ≡ true
-            → row_holds_bytes macvlan_address (proper_kind (viewed_kind (storage buf.now).now)) ≡ true) }
+            → row_holds_bytes macvlan_address (proper_kind (viewed_kind (storage buf.now).now))
+            ≡ true) }
     {
         match Self::read_row(buf.kind(), buf.value()) {
             Ok(Some(value)) => Ok(value),
@@ -238,15 +246,18 @@ impl Reader for AddressReader {
 /// a list of no bytes is never refused.
 #[tactic(auto, using(attribute_tables::proofs::Families::family_lists))]
 fn parse_addresses(alloc: Global, bytes: &[u8]) -> Result<Vec<InfoMacVlan>, DecodeError>
-    ensures ok { OnOk result (IsTrue ((list_of bytes_peer any macvlan_address).accepted bytes.now)) }
+    ensures ok { OnOk result
+        (IsTrue ((list_of bytes_peer any macvlan_address).accepted bytes.now)) }
     ensures text { IfOk result
-        (λ v. text_by mac_vlan_entry v.items ≡ (list_of bytes_peer any macvlan_address).canonical bytes.now) }
+        (λ v. text_by mac_vlan_entry v.items
+        ≡ (list_of bytes_peer any macvlan_address).canonical bytes.now) }
     ensures fits { IfOk result
         (λ v. all_fit_by mac_vlan_entry mac_vlan_fits v.items
         ≡ (list_of bytes_peer any macvlan_address).fits bytes.now) }
     ensures names_row { IfOk result (λ v. All mac_vlan_address_names_row v.items) }
     ensures err { IfErr result
-        (λ e. is_memory e ≡ false → (list_of bytes_peer any macvlan_address).accepted bytes.now ≡ false) }
+        (λ e. is_memory e ≡ false
+        → (list_of bytes_peer any macvlan_address).accepted bytes.now ≡ false) }
     ensures not_empty { IfErr result (λ _. 0 < length bytes.now) }
 {
     parse_list(alloc, &AddressReader, bytes)
@@ -300,9 +311,11 @@ pub fn parse_mac_vlan(alloc: Global, bytes: &[u8]) -> Result<Vec<InfoMacVlan>, D
         (λ v. reading_as any (without_context (family_row macvlan)) bytes.now
         ≡ Some (map (written_as mac_vlan_entry mac_vlan_fits) v.items)) }
     ensures text { IfOk result
-        (λ v. text_by mac_vlan_entry v.items ≡ (list_of bytes_peer any macvlan).canonical bytes.now) }
+        (λ v. text_by mac_vlan_entry v.items
+        ≡ (list_of bytes_peer any macvlan).canonical bytes.now) }
     ensures fits { IfOk result
-        (λ v. all_fit_by mac_vlan_entry mac_vlan_fits v.items ≡ (list_of bytes_peer any macvlan).fits bytes.now) }
+        (λ v. all_fit_by mac_vlan_entry mac_vlan_fits v.items
+        ≡ (list_of bytes_peer any macvlan).fits bytes.now) }
     ensures names_row { IfOk result (λ v. All mac_vlan_names_row v.items) }
     ensures err { IfErr result
         (λ e. is_memory e ≡ false → (list_of bytes_peer any macvlan).accepted bytes.now ≡ false) }

@@ -24,13 +24,14 @@ fn numbers_name_values(rt: HostRuntime) {
 
 #[test]
 fn texts_name_values(rt: HostRuntime) -> Result<(), Fail> {
-    assert!(rt; is_named(rt.alloc(), IpVlanMode::L3, "l3")?);
+    assert!(rt; is_named(rt.alloc(), IpVlanMode::L3S, "l3s")?);
     assert!(rt; is_named(rt.alloc(), MacVlanMode::Passthrough, "passthru")?);
     assert!(rt; is_named(rt.alloc(), NetkitMode::L2, "l2")?);
     assert!(rt; is_named(rt.alloc(), NetkitPolicy::Forward, "forward")?);
     assert!(rt; is_named(rt.alloc(), NetkitScrub::None, "none")?);
     assert!(rt; is_displayed(rt.alloc(), MacVlanMode::Other(3), "3")?);
     assert!(rt; MacVlanMode::from_str("passthrough").is_err());
+    assert!(rt; IpVlanMode::from_str("L3S").is_err());
     Ok(())
 }
 

@@ -20,6 +20,8 @@ mod overlays;
 #[cfg(test)]
 mod pairs;
 #[cfg(test)]
+mod stacked;
+#[cfg(test)]
 mod tunnel_types;
 #[cfg(test)]
 mod tunnels;

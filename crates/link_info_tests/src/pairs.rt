@@ -1,7 +1,7 @@
 use crate::attributes::{are_read_as, is_read_as, is_written_as};
-use attribute_tables::parse_first;
-use link_info::{NetkitMode, NetkitPolicy, NetkitScrub};
-use link_info_pairs::{InfoNetkit, InfoVeth, InfoVxcan};
+use link_info::{
+    InfoNetkit, InfoVeth, InfoVxcan, NetkitMode, NetkitPolicy, NetkitScrub, parse_first,
+};
 use std::test::Fail;
 
 // The other end of a pair: a link message that is its header alone, 16 zeros.

@@ -1,0 +1,82 @@
+use crate::attributes::{are_read_as, is_written_as};
+use link_info::{
+    InfoMacSec, InfoMacVlan, MacSecCipherId, MacSecValidate, MacVlanMode, parse_mac_vlan,
+};
+use netlink_packet_core::{DefaultNla, Nla};
+use std::test::Fail;
+
+// How deep a list is nested in itself.
+const DEPTH: usize = 1000;
+
+#[test]
+fn macsec(rt: HostRuntime) -> Result<(), Fail> {
+    let cases: &[(&[u8], InfoMacSec)] = &[
+        (
+            &[12, 0, 1, 0, 1, 2, 3, 4, 5, 6, 7, 8],
+            InfoMacSec::Sci(0x0807060504030201),
+        ),
+        (&[6, 0, 2, 0, 0x12, 0x34, 0, 0], InfoMacSec::Port(0x1234)),
+        (
+            &[12, 0, 4, 0, 4, 0, 0, 1, 0, 0xc2, 0x80, 0],
+            InfoMacSec::CipherSuite(MacSecCipherId::GcmAesXpn256),
+        ),
+        (
+            &[5, 0, 13, 0, 2, 0, 0, 0],
+            InfoMacSec::Validation(MacSecValidate::Strict),
+        ),
+    ];
+    assert!(rt; are_read_as(rt.alloc(), cases)?);
+    Ok(())
+}
+
+#[test]
+fn macvlan(rt: HostRuntime) -> Result<(), Fail> {
+    let bytes: &[u8] = &[
+        8, 0, 1, 0, 16, 0, 0, 0, 10, 0, 4, 0, 2, 0, 0, 0, 0, 1, 0, 0, 8, 0, 9, 0, 0xfb, 0xff, 0xff,
+        0xff,
+    ];
+    let list = parse_mac_vlan(rt.alloc(), bytes)?;
+    assert_eq!(rt;
+        list.as_slice(),
+        [
+            InfoMacVlan::Mode(MacVlanMode::Source),
+            InfoMacVlan::MacAddr([2, 0, 0, 0, 0, 1]),
+            InfoMacVlan::BcCutoff(-5),
+        ]
+        .as_slice()
+    );
+    assert!(rt; is_written_as(&list[1], &bytes[8..20]));
+    Ok(())
+}
+
+#[test]
+fn a_list_inside_a_list_is_kept(rt: HostRuntime) -> Result<(), Fail> {
+    let bytes: &[u8] = &[8, 0, 5, 0, 4, 0, 5, 0];
+    let list = parse_mac_vlan(rt.alloc(), bytes)?;
+    let [InfoMacVlan::MacAddrData(inner)] = list.as_slice() else {
+        return Err(Fail::from("another variant"));
+    };
+    let kept = [InfoMacVlan::Other(DefaultNla::new(5, Vec::new(rt.alloc())))];
+    assert_eq!(rt; inner.as_slice(), kept.as_slice());
+    assert!(rt; is_written_as(&list[0], bytes));
+    Ok(())
+}
+
+#[test]
+fn a_deep_list_is_read_one_level(rt: HostRuntime) -> Result<(), Fail> {
+    let mut bytes: Vec<u8> = Vec::new(rt.alloc());
+    for depth in 0..DEPTH {
+        let length = (4 * (DEPTH - depth)) as u16;
+        bytes.extend_from_slice(&length.to_le_bytes())?;
+        bytes.extend_from_slice(&[5, 0])?;
+    }
+    let list = parse_mac_vlan(rt.alloc(), bytes.as_slice())?;
+    let [InfoMacVlan::MacAddrData(inner)] = list.as_slice() else {
+        return Err(Fail::from("another variant"));
+    };
+    let [InfoMacVlan::Other(nla)] = inner.as_slice() else {
+        return Err(Fail::from("read further"));
+    };
+    assert_eq!(rt; nla.value(), &bytes[8..]);
+    Ok(())
+}

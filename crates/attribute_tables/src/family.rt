@@ -55,7 +55,8 @@ pub fn parse_family<F: Family + Drop>(alloc: Global, bytes: &[u8]) -> Result<Vec
     ensures text { IfOk result
         (λ v. text_by F.field_entry v.items ≡ (list_of bytes_peer any F.rows).canonical bytes.now) }
     ensures fits { IfOk result
-        (λ v. all_fit_by F.field_entry (λ _. true) v.items ≡ (list_of bytes_peer any F.rows).fits bytes.now) }
+        (λ v. all_fit_by F.field_entry
+        (λ _. true) v.items ≡ (list_of bytes_peer any F.rows).fits bytes.now) }
     ensures names_row { IfOk result (λ v. All F.names_row v.items) }
     ensures err { IfErr result
         (λ e. is_memory e ≡ false → (list_of bytes_peer any F.rows).accepted bytes.now ≡ false) }
@@ -69,9 +70,11 @@ pub fn parse_family<F: Family + Drop>(alloc: Global, bytes: &[u8]) -> Result<Vec
 pub fn parse_first<F: Family + Drop>(alloc: Global, bytes: &[u8]) -> Result<F, DecodeError>
     ensures ok { OnOk result (IsTrue ((list_of bytes_peer first_alone F.rows).accepted bytes.now)) }
     ensures text { IfOk result
-        (λ v. attribute_text (F.field_entry v) ≡ (list_of bytes_peer first_alone F.rows).canonical bytes.now) }
+        (λ v. attribute_text (F.field_entry v)
+        ≡ (list_of bytes_peer first_alone F.rows).canonical bytes.now) }
     ensures fits { IfOk result
-        (λ v. attribute_fits (F.field_entry v) ≡ (list_of bytes_peer first_alone F.rows).fits bytes.now) }
+        (λ v. attribute_fits (F.field_entry v)
+        ≡ (list_of bytes_peer first_alone F.rows).fits bytes.now) }
     ensures names_row { IfOk result (λ v. F.names_row v) }
     ensures err { IfErr result
         (λ e. (list_of bytes_peer first_alone F.rows).accepted bytes.now ≡ is_memory e) }

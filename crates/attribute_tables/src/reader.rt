@@ -2,13 +2,14 @@
 
 ghost use Rattle.std.specs.Prelude.{◌≡◌, ◌<◌, ℕ, List, Bool, true, false, length, map, Some, IsTrue, IfOk, IfErr, OnOk};
 ghost use Rattle.std.specs.List.{All};
-ghost use Rattle.netlink_packet_core_grammar.specs.AttributeViews.{viewed_attribute, viewed_payload, IsAttribute};
+ghost use Rattle.netlink_packet_core_grammar.specs.AttributeViews.{IsAttribute};
 ghost use Rattle.netlink_packet_core.specs.Errors.{is_memory};
 ghost use Rattle.netlink_packet_core.specs.NlaBuffers.{storage};
 ghost use Rattle.netlink_packet_core.specs.Lists.{text_by, all_fit_by};
-ghost use Rattle.attribute_tables_grammar.specs.Lists.{Row, any, row_at, rewrite, without_context};
+ghost use Rattle.attribute_tables_grammar.specs.Lists.{Row, any, without_context};
 ghost use Rattle.attribute_tables_grammar.specs.LookUps.{rows_rule};
 ghost use Rattle.attribute_tables_grammar.specs.Readings.{reading_as};
+ghost use Rattle.attribute_tables.specs.Views.{fits_by, is_accepted_by, rewritten_by};
 ghost use Rattle.attribute_tables.specs.Written.{written_as};
 
 use netlink_packet_core::{DecodeError, Nla, NlaBuffer, skip_first};
@@ -30,19 +31,15 @@ pub trait Reader {
     /// Reads one attribute.
     fn read(&self, alloc: Global, buf: &NlaBuffer<&[u8]>) -> Result<Self::Value, DecodeError>
         requires { IsAttribute (storage buf.now).now }
-        ensures ok { OnOk result
-            (IsTrue ((row_at (row_of self.now) (viewed_attribute (storage buf.now).now)).rule.accepted (viewed_payload (storage buf.now).now))) }
+        ensures ok { OnOk result (IsTrue (is_accepted_by (row_of self.now) (storage buf.now).now)) }
         ensures value { IfOk result
-            (λ v. Self.Value.entry v
-            ≡ rewrite (row_at (row_of self.now) (viewed_attribute (storage buf.now).now)) (viewed_attribute (storage buf.now).now)) }
+            (λ v. Self.Value.entry v ≡ rewritten_by (row_of self.now) (storage buf.now).now) }
         ensures inside { IfOk result
-            (λ v. Self.Value.inside_fits v
-            ≡ (row_at (row_of self.now) (viewed_attribute (storage buf.now).now)).rule.fits (viewed_payload (storage buf.now).now)) }
+            (λ v. Self.Value.inside_fits v ≡ fits_by (row_of self.now) (storage buf.now).now) }
         ensures names_row { IfOk result (λ v. names_row self.now v) }
         ensures err { IfErr result
             (λ e. is_memory e ≡ false
-            → (row_at (row_of self.now) (viewed_attribute (storage buf.now).now)).rule.accepted (viewed_payload (storage buf.now).now)
-            ≡ false) }
+            → is_accepted_by (row_of self.now) (storage buf.now).now ≡ false) }
         ensures memory { IfErr result
             (λ e. is_memory e ≡ true → may_want_memory self.now (storage buf.now).now ≡ true) };
 }
@@ -59,13 +56,15 @@ pub fn parse_list<R: Reader>(
         (λ v. reading_as any (without_context (R.row_of reader.now)) bytes.now
         ≡ Some (map (written_as R.Value.entry R.Value.inside_fits) v.items)) }
     ensures text { IfOk result
-        (λ v. text_by R.Value.entry v.items ≡ (rows_rule any (R.row_of reader.now)).canonical bytes.now) }
+        (λ v. text_by R.Value.entry v.items
+        ≡ (rows_rule any (R.row_of reader.now)).canonical bytes.now) }
     ensures fits { IfOk result
         (λ v. all_fit_by R.Value.entry R.Value.inside_fits v.items
         ≡ (rows_rule any (R.row_of reader.now)).fits bytes.now) }
     ensures names_row { IfOk result (λ v. All (R.names_row reader.now) v.items) }
     ensures err { IfErr result
-        (λ e. is_memory e ≡ false → (rows_rule any (R.row_of reader.now)).accepted bytes.now ≡ false) }
+        (λ e. is_memory e ≡ false → (rows_rule any (R.row_of reader.now)).accepted bytes.now
+        ≡ false) }
     ensures not_empty { IfErr result (λ _. 0 < length bytes.now) }
 {
     let mut list = Vec::new(alloc);

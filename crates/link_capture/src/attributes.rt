@@ -27,7 +27,8 @@ impl RawAttribute<'_> {
 #[tactic(auto, using(netlink_packet_core_grammar::proofs::FirstAttribute::first_attribute_is, netlink_packet_core_grammar::proofs::FirstAttribute::first_attribute_none))]
 pub(crate) fn first_attribute(bytes: &[u8]) -> Option<(RawAttribute<'_>, &[u8])>
     ensures { first_attribute bytes.now
-        ≡ option_map (λ r. (record { kind = r.0.kind; payload = r.0.payload.now }, r.1.now)) result }
+        ≡ option_map
+        (λ r. (record { kind = r.0.kind; payload = r.0.payload.now }, r.1.now)) result }
 {
     match NlaBuffer::new_checked(bytes) {
         Ok(buf) => {
@@ -79,7 +80,8 @@ pub(crate) fn push_attribute(
     out: &mut Vec<u8>,
 ) -> Result<(), AllocError>
     requires { 4 + (length attribute.now.payload.now + length attribute.now.payload_end.now) ≤ 65535 }
-    ensures ok { OnOk result (out.new.items ≡ out.old.items ++ attribute_text (parts_entry attribute.now)) }
+    ensures ok { OnOk result (out.new.items ≡ out.old.items
+        ++ attribute_text (parts_entry attribute.now)) }
     ensures err { OnErr result (take (length out.old.items) out.new.items ≡ out.old.items) }
 {
     let start = out.len();

@@ -90,7 +90,8 @@ impl NetlinkSerializable for CanonicalBody {
 /// The canonical text of the body of a link message.
 fn link_text(alloc: Global, bytes: &[u8]) -> Result<Vec<u8>, FaultKind>
     ensures ok { IfOk result (λ text. ruled_text link_body bytes.now ≡ Ok text.items) }
-    ensures err { IfErr result (λ kind. wants_memory kind ≡ false → faulty (ruled_text link_body bytes.now) ≡ Err kind) }
+    ensures err { IfErr result
+        (λ kind. wants_memory kind ≡ false → faulty (ruled_text link_body bytes.now) ≡ Err kind) }
 {
     let body = LinkBody::read(bytes)?;
     let mut text = Vec::new(alloc);
@@ -116,7 +117,8 @@ fn kept_text(alloc: Global, bytes: &[u8]) -> Result<Vec<u8>, FaultKind>
 fn canonical_text(alloc: Global, message_type: u16, bytes: &[u8]) -> Result<Vec<u8>, FaultKind>
     requires { IsInner message_type }
     ensures ok { IfOk result (λ text. body_text message_type bytes.now ≡ Ok text.items) }
-    ensures err { IfErr result (λ kind. wants_memory kind ≡ false → faulty (body_text message_type bytes.now) ≡ Err kind) }
+    ensures err { IfErr result
+        (λ kind. wants_memory kind ≡ false → faulty (body_text message_type bytes.now) ≡ Err kind) }
 {
     match message_type {
         RTM_NEWLINK..=RTM_SETLINK => link_text(alloc, bytes),

@@ -35,7 +35,8 @@ fn read_limit(word: &str) -> Option<u32>
 pub fn read_words(words: &[String]) -> Option<Command>
     ensures some { IfSome result (λ command. IsCommand (map string_bytes words.now) command) }
     ensures limit { IfSome result (λ command. HasLimit command) }
-    ensures none { IfNone result ((command : Command) → IsCommand (map string_bytes words.now) command → ⊥) }
+    ensures none { IfNone result ((command : Command)
+        → IsCommand (map string_bytes words.now) command → ⊥) }
 {
     match words {
         [norm] if norm.as_str() == "norm" => Some(Command::Norm {

@@ -72,7 +72,9 @@ fn push_text(alloc: Global, frame: &[u8], text_len: u32, out: &mut Vec<u8>) -> R
     requires whole { IsFrame frame.now }
     requires text { FrameHasText frame.now text_len }
     requires fits { 16 + text_len < 2 ^ 32 }
-    ensures ok { OnOk result ((body : List ℕ) × (body_text (frame_type frame.now) (frame_body frame.now) ≡ Ok body) × (out.new.items ≡ out.old.items ++ frame_text frame.now body)) }
+    ensures ok { OnOk result ((body : List ℕ)
+        × (body_text (frame_type frame.now) (frame_body frame.now) ≡ Ok body)
+        × (out.new.items ≡ out.old.items ++ frame_text frame.now body)) }
     ensures kind { IfErr result (λ kind. kind ≡ FaultKind.Memory) }
     ensures err { OnErr result (out.new.items ≡ out.old.items) }
 {
@@ -86,7 +88,9 @@ fn push_text(alloc: Global, frame: &[u8], text_len: u32, out: &mut Vec<u8>) -> R
 /// Judges the header of the frame in front of these bytes. The answer is its length.
 fn frame_len(bytes: &[u8], limit: u32) -> Result<usize, FaultKind>
     ensures ok { IfOk result (λ n. (n ≡ frame_length bytes.now) × (n ≤ limit) × IsFrame bytes.now) }
-    ensures err { IfErr result (λ kind. (judged : Judged) → tested limit (length bytes.now) (frame_length bytes.now) judged ≡ Err kind) }
+    ensures err { IfErr result
+        (λ kind. (judged : Judged) → tested limit (length bytes.now) (frame_length bytes.now) judged
+        ≡ Err kind) }
 {
     if bytes.len() < NETLINK_HEADER_LEN {
         return Err(FaultKind::Cut);
@@ -111,9 +115,12 @@ pub(crate) fn push_frame(
     limit: u32,
     out: &mut Vec<u8>,
 ) -> Result<usize, FaultKind>
-    ensures ok { IfOk result (λ n. (text : List ℕ) × (first_frame limit bytes.now ≡ Ok (n, text)) × (out.new.items ≡ out.old.items ++ text)) }
+    ensures ok { IfOk result
+        (λ n. (text : List ℕ) × (first_frame limit bytes.now ≡ Ok (n, text))
+        × (out.new.items ≡ out.old.items ++ text)) }
     ensures bounds { IfOk result (λ n. (16 ≤ n) × (n ≤ limit) × (n ≤ length bytes.now)) }
-    ensures refused { IfErr result (λ kind. kind ≢ FaultKind.Memory → first_frame limit bytes.now ≡ Err kind) }
+    ensures refused { IfErr result
+        (λ kind. kind ≢ FaultKind.Memory → first_frame limit bytes.now ≡ Err kind) }
     ensures err { OnErr result (out.new.items ≡ out.old.items) }
 {
     let size = frame_len(bytes, limit)?;

@@ -103,7 +103,8 @@ fn check_attributes(bytes: &[u8]) -> Option<TextMeasure>
 fn push_attributes(bytes: &[u8], out: &mut Vec<u8>) -> Result<(), AllocError>
     requires accepted { link_attributes.accepted bytes.now ≡ true }
     requires fits { link_attributes.fits bytes.now ≡ true }
-    ensures ok { OnOk result (out.new.items ≡ out.old.items ++ link_attributes.canonical bytes.now) }
+    ensures ok { OnOk result (out.new.items ≡ out.old.items
+        ++ link_attributes.canonical bytes.now) }
     ensures err { OnErr result (take (length out.old.items) out.new.items ≡ out.old.items) }
 {
     let mut rest = bytes;
@@ -211,7 +212,8 @@ impl<'a> LinkBody<'a> {
 
     /// Writes its canonical text at the end.
     pub(crate) fn push(&self, out: &mut Vec<u8>) -> Result<(), AllocError>
-        ensures ok { OnOk result (out.new.items ≡ out.old.items ++ link_body.canonical self.now.bytes.now) }
+        ensures ok { OnOk result (out.new.items ≡ out.old.items
+            ++ link_body.canonical self.now.bytes.now) }
         ensures err { OnErr result (take (length out.old.items) out.new.items ≡ out.old.items) }
     {
         push_header(self.bytes, out)?;

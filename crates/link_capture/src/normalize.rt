@@ -22,15 +22,22 @@ pub fn normalize_bytes(
 ) -> Result<(), CaptureFault>
     requires { 16 ≤ limit }
     // It succeeds on legal captures alone, and writes their normal text.
-    ensures legal { OnOk result ((first_fault limit bytes.now ≡ None) × (out.new.items ≡ out.old.items ++ texts limit bytes.now)) }
+    ensures legal { OnOk result ((first_fault limit bytes.now ≡ None)
+        × (out.new.items ≡ out.old.items ++ texts limit bytes.now)) }
     // Else it answers the first fault, unless memory ran out, and writes the texts before it.
-    ensures fault { IfErr result (λ fault. fault.kind ≢ FaultKind.Memory → (first_fault limit bytes.now ≡ Some fault) × (out.new.items ≡ out.old.items ++ texts limit bytes.now)) }
+    ensures fault { IfErr result
+        (λ fault. fault.kind ≢ FaultKind.Memory → (first_fault limit bytes.now ≡ Some fault)
+        × (out.new.items ≡ out.old.items ++ texts limit bytes.now)) }
     // A fault stands at a frame's start.
-    ensures place { IfErr result (λ fault. (fault.offset < length bytes.now) × (fault.offset % 4 ≡ 0)) }
+    ensures place { IfErr result
+        (λ fault. (fault.offset < length bytes.now) × (fault.offset % 4 ≡ 0)) }
     // A normal text is legal, and its own normal text.
-    ensures normal { IsLegal limit (texts limit bytes.now) × (texts limit (texts limit bytes.now) ≡ texts limit bytes.now) }
+    ensures normal { IsLegal limit (texts limit bytes.now)
+        × (texts limit (texts limit bytes.now) ≡ texts limit bytes.now) }
     // Where memory ran out, what stands before the place is legal, and has been written.
-    ensures memory { IfErr result (λ fault. fault.kind ≡ FaultKind.Memory → StopsAt limit bytes.now fault.offset × (out.new.items ≡ out.old.items ++ texts limit (take fault.offset bytes.now))) }
+    ensures memory { IfErr result
+        (λ fault. fault.kind ≡ FaultKind.Memory → StopsAt limit bytes.now fault.offset
+        × (out.new.items ≡ out.old.items ++ texts limit (take fault.offset bytes.now))) }
 {
     let mut at = 0usize;
     while at < bytes.len() {

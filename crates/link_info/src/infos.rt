@@ -112,7 +112,8 @@ fn next_in_force<'a>(
 ) -> Result<InForce<'a>, DecodeError>
     requires { IsAttribute (storage buf.now).now }
     ensures next { IfOk result (λ f. context_of f.kind f.port_kind
-        ≡ context_after_first (context_of force.entry.kind force.entry.port_kind) (storage buf.now).now) }
+        ≡ context_after_first (context_of force.entry.kind force.entry.port_kind)
+        (storage buf.now).now) }
     ensures err { IfErr result (λ e.
         is_accepted_in (context_of force.entry.kind force.entry.port_kind) (storage buf.now).now
         ≡ false) }
@@ -138,10 +139,12 @@ fn next_in_force<'a>(
 #[tactic(auto, using(crate::proofs::InForce::data_rule_at))]
 fn parse_data(alloc: Global, name: &str, payload: &[u8]) -> Result<InfoData, DecodeError>
     ensures ok { OnOk result (IsTrue ((data_rule name.now).accepted payload.now)) }
-    ensures text { IfOk result (λ d. info_data_payload d ≡ (data_rule name.now).canonical payload.now) }
+    ensures text { IfOk result
+        (λ d. info_data_payload d ≡ (data_rule name.now).canonical payload.now) }
     ensures fits { IfOk result (λ d. info_data_fits d ≡ (data_rule name.now).fits payload.now) }
     ensures names_row { IfOk result (λ d. data_names_row (Some name.now) d) }
-    ensures err { IfErr result (λ e. is_memory e ≡ false → (data_rule name.now).accepted payload.now ≡ false) }
+    ensures err { IfErr result
+        (λ e. is_memory e ≡ false → (data_rule name.now).accepted payload.now ≡ false) }
 {
     let kind = InfoKind::from_name(alloc, name)?;
     InfoData::parse_with_param(alloc, payload, &kind)
@@ -151,10 +154,13 @@ fn parse_data(alloc: Global, name: &str, payload: &[u8]) -> Result<InfoData, Dec
 #[tactic(auto, using(crate::proofs::InForce::port_data_rule_at))]
 fn parse_port_data(alloc: Global, name: &str, payload: &[u8]) -> Result<InfoPortData, DecodeError>
     ensures ok { OnOk result (IsTrue ((port_data_rule name.now).accepted payload.now)) }
-    ensures text { IfOk result (λ d. info_port_data_payload d ≡ (port_data_rule name.now).canonical payload.now) }
-    ensures fits { IfOk result (λ d. info_port_data_fits d ≡ (port_data_rule name.now).fits payload.now) }
+    ensures text { IfOk result
+        (λ d. info_port_data_payload d ≡ (port_data_rule name.now).canonical payload.now) }
+    ensures fits { IfOk result
+        (λ d. info_port_data_fits d ≡ (port_data_rule name.now).fits payload.now) }
     ensures names_row { IfOk result (λ d. port_data_names_row (Some name.now) d) }
-    ensures err { IfErr result (λ e. is_memory e ≡ false → (port_data_rule name.now).accepted payload.now ≡ false) }
+    ensures err { IfErr result
+        (λ e. is_memory e ≡ false → (port_data_rule name.now).accepted payload.now ≡ false) }
 {
     let kind = InfoPortKind::from_name(alloc, name)?;
     InfoPortData::parse_with_param(alloc, payload, &kind)
@@ -172,7 +178,8 @@ impl LinkInfo {
             (IsTrue (is_accepted_in (context_of force.entry.kind force.entry.port_kind) (storage buf.now).now)) }
         ensures value { IfOk result
             (λ v. link_info_entry v
-            ≡ written_in (context_of force.entry.kind force.entry.port_kind) (storage buf.now).now) }
+            ≡ written_in (context_of force.entry.kind force.entry.port_kind)
+            (storage buf.now).now) }
         ensures inside { IfOk result
             (λ v. link_info_fits v
             ≡ fits_in (context_of force.entry.kind force.entry.port_kind) (storage buf.now).now) }
@@ -214,12 +221,14 @@ impl LinkInfo {
         ensures read { IfOk result
             (λ v. reading_as any info_grammar bytes.now
             ≡ Some (map (written_as link_info_entry link_info_fits) v.items)) }
-        ensures text { IfOk result (λ v. text_by link_info_entry v.items ≡ info_rule.canonical bytes.now) }
+        ensures text { IfOk result
+            (λ v. text_by link_info_entry v.items ≡ info_rule.canonical bytes.now) }
         ensures fits { IfOk result
             (λ v. all_fit_by link_info_entry link_info_fits v.items ≡ info_rule.fits bytes.now) }
         ensures names_row { IfOk result
             (λ v. all_named info_grammar link_info_entry link_info_names_row nothing v.items) }
-        ensures err { IfErr result (λ e. is_memory e ≡ false → info_rule.accepted bytes.now ≡ false) }
+        ensures err { IfErr result
+            (λ e. is_memory e ≡ false → info_rule.accepted bytes.now ≡ false) }
         ensures not_empty { IfErr result (λ _. 0 < length bytes.now) }
     {
         let mut list = Vec::new(alloc);

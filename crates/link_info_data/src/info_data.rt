@@ -111,12 +111,15 @@ impl InfoData {
         kind: &InfoKind,
     ) -> Result<InfoData, DecodeError>
         ensures ok { OnOk result (IsTrue ((data_rule_of kind.now).accepted payload.now)) }
-        ensures text { IfOk result (λ d. info_data_payload d ≡ (data_rule_of kind.now).canonical payload.now) }
-        ensures fits { IfOk result (λ d. info_data_fits d ≡ (data_rule_of kind.now).fits payload.now) }
+        ensures text { IfOk result
+            (λ d. info_data_payload d ≡ (data_rule_of kind.now).canonical payload.now) }
+        ensures fits { IfOk result
+            (λ d. info_data_fits d ≡ (data_rule_of kind.now).fits payload.now) }
         ensures names_row { IfOk result (λ d. info_data_names_row kind.now d) }
         ensures err { IfErr result
             (λ e. is_memory e ≡ false → (data_rule_of kind.now).accepted payload.now ≡ false) }
-        ensures memory { IfErr result (λ e. is_memory e ≡ true → data_may_want_memory kind.now payload.now ≡ true) }
+        ensures memory { IfErr result
+            (λ e. is_memory e ≡ true → data_may_want_memory kind.now payload.now ≡ true) }
     {
         match kind {
             InfoKind::Bridge => Ok(Self::Bridge(parse_family(alloc, payload)?)),

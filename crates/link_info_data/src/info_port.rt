@@ -44,7 +44,8 @@ impl InfoPortData {
         ensures ok { OnOk result (IsTrue ((port_data_rule_of kind.now).accepted payload.now)) }
         ensures text { IfOk result
             (λ d. info_port_data_payload d ≡ (port_data_rule_of kind.now).canonical payload.now) }
-        ensures fits { IfOk result (λ d. info_port_data_fits d ≡ (port_data_rule_of kind.now).fits payload.now) }
+        ensures fits { IfOk result
+            (λ d. info_port_data_fits d ≡ (port_data_rule_of kind.now).fits payload.now) }
         ensures names_row { IfOk result (λ d. info_port_data_names_row kind.now d) }
         ensures err { IfErr result
             (λ e. is_memory e ≡ false → (port_data_rule_of kind.now).accepted payload.now ≡ false) }

@@ -67,10 +67,13 @@ pub trait Family: FieldNla + Sized {
         ensures typed { IfOk result (λ o. IfSome o (λ _. (family_row rows kind).is_typed ≡ true)) }
         ensures value { IfOk result
             (λ o. IfSome o
-            (λ v. Self.field_entry v ≡ rewrite (family_row rows kind) (attribute kind payload.now))) }
+            (λ v. Self.field_entry v
+            ≡ rewrite (family_row rows kind) (attribute kind payload.now))) }
         ensures names_row { IfOk result (λ o. IfSome o (λ v. names_row v)) }
-        ensures err { IfErr result (λ e. (family_row rows kind).rule.accepted payload.now ≡ is_memory e) }
-        ensures memory { IfErr result (λ e. is_memory e ≡ true → row_holds_bytes rows kind ≡ true) };
+        ensures err { IfErr result
+            (λ e. (family_row rows kind).rule.accepted payload.now ≡ is_memory e) }
+        ensures memory { IfErr result
+            (λ e. is_memory e ≡ true → row_holds_bytes rows kind ≡ true) };
 
     /// An attribute of a kind that has no row.
     fn other(nla: DefaultNla) -> Self
@@ -90,7 +93,8 @@ pub fn read_attribute<F: Family>(alloc: Global, buf: &NlaBuffer<&[u8]>) -> Resul
     ensures names_row { IfOk result (λ v. F.names_row v) }
     ensures err { IfErr result (λ e. accepts F.rows (storage buf.now).now ≡ is_memory e) }
     ensures memory { IfErr result
-        (λ e. is_memory e ≡ true → row_holds_bytes F.rows (proper_kind (viewed_kind (storage buf.now).now)) ≡ true) }
+        (λ e. is_memory e ≡ true
+        → row_holds_bytes F.rows (proper_kind (viewed_kind (storage buf.now).now)) ≡ true) }
 {
     match F::read_row(alloc, buf.kind(), buf.value()) {
         Ok(Some(value)) => Ok(value),

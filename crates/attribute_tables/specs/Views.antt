@@ -1,0 +1,18 @@
+-- The attribute that some bytes begin with, under rows.
+use Rattle.std.specs.Prelude.{ℕ, Bool, List}
+use Rattle.netlink_packet_core_grammar.specs.Attributes.{Attribute}
+use Rattle.netlink_packet_core_grammar.specs.AttributeViews.{viewed_attribute, viewed_payload}
+use Rattle.attribute_tables_grammar.specs.Lists.{Row, row_at, rewrite}
+
+abbrev pub viewed_row : (ℕ → Row) → List ℕ → Row
+viewed_row rows b = row_at rows (viewed_attribute b)
+
+abbrev pub is_accepted_by : (ℕ → Row) → List ℕ → Bool
+is_accepted_by rows b = (viewed_row rows b).rule.accepted (viewed_payload b)
+
+abbrev pub fits_by : (ℕ → Row) → List ℕ → Bool
+fits_by rows b = (viewed_row rows b).rule.fits (viewed_payload b)
+
+-- what it is written as
+abbrev pub rewritten_by : (ℕ → Row) → List ℕ → Attribute
+rewritten_by rows b = rewrite (viewed_row rows b) (viewed_attribute b)

@@ -2,7 +2,7 @@
 
 ghost use Rattle.std.specs.Prelude.{◌≡◌, ◌≢◌, ◌<◌, length, take, IfOk, OnOk, IfErr};
 ghost use Rattle.std.specs.Io.KnownBytes.{Consumes, Appends, IsAtEnd};
-ghost use Rattle.linkcap.specs.Runs.{Reads};
+ghost use Rattle.linkcap_program.specs.Runs.{Reads};
 
 use link_capture::{CaptureFault, FaultKind};
 use std::alloc::Global;

@@ -1,4 +1,1 @@
-pub mod LinkBody
-pub mod Messages
-pub mod Judging
 pub mod Commands

@@ -1,8 +1,3 @@
-pub mod LinkBody
-pub mod Judged
-pub mod Parts
-pub mod Bodies
-pub mod CanonicalBodies
 pub mod Commands
 pub use Rattle.link_capture_grammar.specs.Captures
 pub use Rattle.link_capture_grammar.specs.Faults

@@ -1,11 +1,7 @@
 // Netlink link captures: the normal text of a capture, or its first fault with its place.
 #![tactic(auto)]
 
-mod attributes;
-mod bodies;
 mod command;
-mod frames;
-mod link_body;
 mod normalize;
 
 pub use command::{Command, DEFAULT_LIMIT, read_words, status_norm};

@@ -3,7 +3,7 @@
 ghost use Rattle.std.specs.Prelude.{◌≡◌, ◌≢◌, ◌+◌, ◌≤◌, ◌<◌, ◌%◌, ◌++◌, length, take, None, Some, IfErr, OnOk};
 ghost use Rattle.link_capture_grammar.specs.Captures.{first_fault, texts, IsLegal, StopsAt};
 
-use super::frames::push_frame;
+use link_capture_frames::push_frame;
 use link_capture_grammar::fault::{CaptureFault, FaultKind};
 use netlink_packet_core::nla_align;
 use std::alloc::Global;

@@ -1,0 +1,3 @@
+pub mod LinkBody
+pub mod Messages
+pub mod Judging

@@ -1,0 +1,5 @@
+pub mod LinkBody
+pub mod Judged
+pub mod Parts
+pub mod Bodies
+pub mod CanonicalBodies

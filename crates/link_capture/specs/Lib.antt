@@ -2,3 +2,4 @@ pub mod Commands
 pub use Rattle.link_capture_grammar.specs.Captures
 pub use Rattle.link_capture_grammar.specs.Faults
 pub use Rattle.link_capture_grammar.specs.Laws
+pub use Rattle.link_capture_reader.specs.Readers

@@ -2,9 +2,8 @@
 #![tactic(auto)]
 
 mod command;
-mod normalize;
 
 pub use command::{Command, DEFAULT_LIMIT, read_words, status_norm};
 pub use link_capture_grammar::fault::{CaptureFault, FaultKind};
 pub use link_capture_grammar::laws;
-pub use normalize::normalize_bytes;
+pub use link_capture_reader::{CaptureReader, normalize_bytes};

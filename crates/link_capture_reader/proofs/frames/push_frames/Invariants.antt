@@ -2,7 +2,7 @@
 use Rattle.std.proofs.Common.{◌≡◌, ◌++◌, ◌-◌, length, take}
 use Rattle.link_capture_grammar.specs.Captures.{texts}
 use Rattle.link_capture_grammar.proofs.Frames.{Passed}
-use Rattle.link_capture.proofs.normalize.normalize_bytes.Given as goal
+use Rattle.link_capture_reader.proofs.frames.push_frames.Given as goal
 
 abbrev pub invariant-loop-at : goal.invariant-loop-at
 invariant-loop-at l = record {

@@ -1,11 +1,10 @@
 //! The normal text of a whole capture.
 
-ghost use Rattle.std.specs.Prelude.{◌≡◌, ◌≢◌, ◌+◌, ◌≤◌, ◌<◌, ◌%◌, ◌++◌, length, take, None, Some, IfErr, OnOk};
+ghost use Rattle.std.specs.Prelude.{◌≡◌, ◌≢◌, ◌≤◌, ◌<◌, ◌%◌, ◌++◌, length, take, None, Some, IfErr, OnOk};
 ghost use Rattle.link_capture_grammar.specs.Captures.{first_fault, texts, IsLegal, StopsAt};
 
-use link_capture_frames::push_frame;
+use super::reader::CaptureReader;
 use link_capture_grammar::fault::{CaptureFault, FaultKind};
-use netlink_packet_core::nla_align;
 use std::alloc::Global;
 
 /// Writes the normal text of a capture at the end of `out`.
@@ -39,23 +38,7 @@ pub fn normalize_bytes(
         (λ fault. fault.kind ≡ FaultKind.Memory → StopsAt limit bytes.now fault.offset
         × (out.new.items ≡ out.old.items ++ texts limit (take fault.offset bytes.now))) }
 {
-    let mut at = 0usize;
-    while at < bytes.len() {
-        match push_frame(alloc, &bytes[at..], limit, out) {
-            Ok(length) => {
-                let size = nla_align(length);
-                if size >= bytes.len() - at {
-                    return Ok(());
-                }
-                at += size;
-            }
-            Err(kind) => {
-                return Err(CaptureFault {
-                    kind,
-                    offset: at as u64,
-                });
-            }
-        }
-    }
-    Ok(())
+    let mut reader = CaptureReader::new(alloc, limit);
+    reader.feed(bytes, out)?;
+    reader.finish()
 }

@@ -4,8 +4,7 @@ use Rattle.std.proofs.lemmas.List.{append-nil, take_all, take_rest}
 use Rattle.netlink_packet_core_grammar.specs.Attributes.{nla_align}
 use Rattle.link_capture_grammar.specs.Captures.{first_frame, first_fault, texts}
 use Rattle.link_capture_grammar.proofs.Frames.{passed_none, passed_fault, passed_texts, passed_stop_fault, passed_stop_texts, texts_nil, grown}
-use Rattle.link_capture_grammar.proofs.Normal.{texts_legal, texts_again}
-use Rattle.link_capture.proofs.normalize.normalize_bytes.Goals as goal
+use Rattle.link_capture_reader.proofs.frames.push_frames.Goals as goal
 
 pub loop-at-init : goal.loop-at-init
 loop-at-init c = record { passed = passed_none _ _; written = rw (texts_nil c.args.limit 0) (sym (append-nil c.args.out.now.items)) }
@@ -43,12 +42,3 @@ returns-in-Err-clause-fault c = λ n.
       passed_stop_fault c.args.limit c.args.bytes.now c.loop-at.at c.in-Err.kind w.passed (omega arith) stuck,
       c.in-Err.ensures.err ∙ w.written ∙ ap (λ t. c.args.out.now.items ++ t) (sym (passed_stop_texts c.args.limit c.args.bytes.now c.loop-at.at c.in-Err.kind w.passed stuck)),
     )
-
-pub returns-then-size-bytes-clause-normal : goal.returns-then-size-bytes-clause-normal
-returns-then-size-bytes-clause-normal c = (texts_legal c.args.limit 0 c.args.bytes.now c.ranges.limit.fits, texts_again c.args.limit 0 c.args.bytes.now c.ranges.limit.fits)
-
-pub returns-in-Err-clause-normal : goal.returns-in-Err-clause-normal
-returns-in-Err-clause-normal c = (texts_legal c.args.limit 0 c.args.bytes.now c.ranges.limit.fits, texts_again c.args.limit 0 c.args.bytes.now c.ranges.limit.fits)
-
-pub returns-clause-normal : goal.returns-clause-normal
-returns-clause-normal c = (texts_legal c.args.limit 0 c.args.bytes.now c.ranges.limit.fits, texts_again c.args.limit 0 c.args.bytes.now c.ranges.limit.fits)

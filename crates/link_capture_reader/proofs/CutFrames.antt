@@ -1,0 +1,51 @@
+-- The cut frame's bytes, once more have come.
+use Rattle.std.proofs.Common.{◌≡◌, ℕ, ◌+◌, ◌-◌, ◌<◌, ◌≤◌, ◌⊎◌, inl, inr, Ok, Err, List, ◌++◌, length, take, drop, max, sym, ap, ◌∙◌, arith, length-append, append_assoc}
+use Rattle.std.proofs.lemmas.List.{length-drop, drop-drop, take-append-drop}
+use Rattle.std.proofs.Math.Seq.{take-add, drop-append-add}
+use Rattle.link_capture_grammar.specs.declared.fault.FaultKind.TheVariants.{Cut}
+use Rattle.netlink_packet_core_grammar.specs.Attributes.{nla_align}
+use Rattle.netlink_packet_core_grammar.specs.Numbers.{u32_at}
+use Rattle.netlink_packet_core_grammar.proofs.Numbers.{u32_at-append}
+use Rattle.link_capture_grammar.specs.Captures.{first_frame}
+use Rattle.link_capture_grammar.proofs.Frames.{cut_cases, accepted, first_frame-more, not_cut}
+
+-- bytes come in two steps
+pub two_steps : (old piece one two : List ℕ) (m n : ℕ) → one ≡ old ++ take m piece → two ≡ one ++ take n (drop m piece) → two ≡ old ++ take (m + n) piece
+two_steps old piece one two m n e f =
+    f ∙ ap (λ x. x ++ take n (drop m piece)) e ∙ append_assoc old (take m piece) (take n (drop m piece)) ∙ ap (λ x. old ++ x) (sym (take-add m n piece))
+
+-- A cut frame of 16 bytes or more, to which a fill nla_align to 16 adds none, tells a length within the limit that it does not reach.
+pub header_exact : (limit : ℕ) (old new : List ℕ) → first_frame limit old ≡ Err Cut → length new ≤ max 16 (length old) → (more : List ℕ) → new ≡ old ++ more → (length new ≤ 16) ⊎ ((u32_at 0 new ≡ u32_at 0 old) × (16 ≤ u32_at 0 old) × (u32_at 0 old ≤ limit) × (length new < u32_at 0 old))
+header_exact limit old new h le more e =
+    elim (cut_cases limit old h) [
+      | inl a ↦ inl (omega arith)
+      | inr a ↦
+          let n : u32_at 0 new ≡ u32_at 0 old = ap (u32_at 0) e ∙ u32_at-append old more (omega (arith, a.header)) in
+          inr (n, a.low, a.high, omega (arith, a.header, a.short))
+    ]
+
+-- what was moved and what was not
+pub whole : (old piece new : List ℕ) (m : ℕ) → new ≡ old ++ take m piece → old ++ piece ≡ new ++ drop m piece
+whole old piece new m e =
+    ap (λ x. old ++ x) (sym (take-append-drop m piece)) ∙ sym (append_assoc old (take m piece) (drop m piece)) ∙ ap (λ x. x ++ drop m piece) (sym e)
+
+-- the frame that is complete now
+pub record Completed (limit : ℕ) (old piece new : List ℕ) (m claimed : ℕ) (text : List ℕ) : Type 0 where
+  pub front_is : first_frame limit (old ++ piece) ≡ Ok (claimed, text)
+  pub size : length new ≡ claimed
+  pub total : length (old ++ piece) ≡ claimed + (length piece - m)
+  pub left : drop (nla_align claimed) (old ++ piece) ≡ drop (m + (nla_align claimed - claimed)) piece
+
+pub completed : (limit : ℕ) (old piece new : List ℕ) (m claimed : ℕ) (text : List ℕ) → new ≡ old ++ take m piece → m ≤ length piece → length new ≤ max 16 (u32_at 0 new) → first_frame limit new ≡ Ok (claimed, text) → Completed limit old piece new m claimed text
+completed limit old piece new m claimed text e l x h =
+    let a = accepted limit new (claimed, text) h in
+    let w = whole old piece new m e in
+    let size : length new ≡ claimed = omega (arith, a.is, a.low, a.whole) in
+    let total : length (old ++ piece) ≡ claimed + (length piece - m) = ap length w ∙ length-append new (drop m piece) ∙ omega (arith, length-drop m piece) in
+    let reach : nla_align claimed ≡ length new + (nla_align claimed - claimed) = omega arith in
+    record {
+      front_is = ap (first_frame limit) w ∙ first_frame-more limit new (drop m piece) (not_cut (first_frame limit new) (claimed, text) h) ∙ h;
+      size = size;
+      total = total;
+      left = ap (drop (nla_align claimed)) w ∙ ap (λ n. drop n (new ++ drop m piece)) reach ∙ drop-append-add new (drop m piece) (nla_align claimed - claimed) ∙ drop-drop (nla_align claimed - claimed) m piece;
+    }

@@ -1,0 +1,4 @@
+pub mod CutFrames
+pub mod Passing
+pub mod Reading
+pub mod Whole

@@ -1,0 +1,197 @@
+-- What a reader stands for, one piece further.
+use Rattle.std.proofs.Common.{◌≡◌, ◌≢◌, ℕ, ◌+◌, ◌-◌, ◌^◌, ◌<◌, ◌≤◌, ◌⊎◌, inl, inr, None, Some, Result, IfErr, Ok, Err, List, [], ◌++◌, length, take, drop, sym, ap, subst, ◌∙◌, refl, arith, length-append}
+use Rattle.std.proofs.lemmas.List.{length-drop, append-nil, drop_all, drop-append-le, nil_from_length}
+use Rattle.std.proofs.Math.Seq.{drop-append-add}
+use Rattle.link_capture_grammar.specs.declared.fault.CaptureFault.{CaptureFault}
+use Rattle.link_capture_grammar.specs.declared.fault.FaultKind.{FaultKind}
+use Rattle.link_capture_grammar.specs.declared.fault.FaultKind.TheVariants.{Cut, ShortLength, OverLimit, Refused, EmptyPorts, Unfit, TextOverLimit, Memory, Read, Write, TooLong, Failed}
+use Rattle.link_capture_grammar.specs.Captures.{first_frame, first_fault, texts, raised, StopsAt, IsOfFrames}
+use Rattle.link_capture_grammar.proofs.Frames.{Passed, fault-append, texts-append, fault_nil, texts_nil, place, place_legal, stops, fault_kinds, cut_cases, cut_nil}
+use Rattle.link_capture_reader.proofs.Passing.{left_fault, left_stop_texts, then_resumes, then_stop, resume_passed, resume_texts}
+use Rattle.link_capture_reader.specs.Readers.{IsReader, StandsFor, Resumes, Gains, FeedFault}
+use Rattle.link_capture_reader.specs.Walks.{Goes, Faults, Lacks}
+
+-- a reader of nothing
+pub new_reader : (limit : ℕ) → 16 ≤ limit → IsReader (record { limit = limit; accepted = 0; kept = []; owed = 0; failed = None })
+new_reader limit h = record { limit = h; cut = cut_nil limit; small = omega arith; inside = omega arith; owed = inl refl; padding = omega arith; failed = tt }
+
+pub new_stands : (limit : ℕ) → StandsFor (record { limit = limit; accepted = 0; kept = []; owed = 0; failed = None }) []
+new_stands limit = record { going = refl; accepted = refl; rest = subst (λ f. Resumes f [] [] 0) (sym (fault_nil limit 0)) (refl, refl) }
+
+-- a piece of padding alone
+pub padding_resumes : (limit : ℕ) (s p kept : List ℕ) (owed : ℕ) → length p ≤ owed → Resumes (first_fault limit s) s kept owed → Resumes (first_fault limit (s ++ p)) (s ++ p) kept (owed - length p)
+padding_resumes limit s p kept owed l r =
+    elim (stops limit 0 s) [
+      | inl w ↦
+          let q = subst (λ f. Resumes f s kept owed) w.fault_is r in
+          let at = place_legal limit s w.fault_is in
+          let n = length-append s p in
+          let none : first_fault limit (s ++ p) ≡ None =
+          fault-append limit 0 s p ∙ ap (λ x. raised (place limit s) (first_fault limit x)) (drop_all (place limit s) (s ++ p) (omega (arith, n, at, q.1, w.outside)))
+          ∙ ap (raised (place limit s)) (fault_nil limit 0) in
+          subst (λ f. Resumes f (s ++ p) kept (owed - length p)) (sym none) (q.0, omega (arith, n, q.1))
+      | inr w ↦
+          let q = subst (λ f. Resumes f s kept owed) w.1.fault_is r in
+          let e : p ≡ [] = nil_from_length p (omega (arith, q.2)) in
+          let z : owed - length p ≡ owed = omega (arith, q.2) in
+          let n : s ++ p ≡ s = ap (λ x. s ++ x) e ∙ append-nil s in
+          subst (λ x. Resumes (first_fault limit (s ++ p)) (s ++ p) kept x) (sym z) (subst (λ x. Resumes (first_fault limit x) x kept owed) (sym n) r)
+    ]
+
+pub padding_texts : (limit : ℕ) (s p kept : List ℕ) (owed : ℕ) → length p ≤ owed → Resumes (first_fault limit s) s kept owed → texts limit (s ++ p) ≡ texts limit s
+padding_texts limit s p kept owed l r =
+    elim (stops limit 0 s) [
+      | inl w ↦
+          let q = subst (λ f. Resumes f s kept owed) w.fault_is r in
+          let at = place_legal limit s w.fault_is in
+          let n = length-append s p in
+          texts-append limit 0 s p ∙ ap (λ x. texts limit s ++ texts limit x) (drop_all (place limit s) (s ++ p) (omega (arith, n, at, q.1, w.outside)))
+          ∙ ap (λ t. texts limit s ++ t) (texts_nil limit 0) ∙ append-nil (texts limit s)
+      | inr w ↦
+          let q = subst (λ f. Resumes f s kept owed) w.1.fault_is r in
+          let e : p ≡ [] = nil_from_length p (omega (arith, q.2)) in
+          ap (λ x. texts limit (s ++ x)) e ∙ ap (texts limit) (append-nil s)
+    ]
+
+-- What is judged of a longer string: the cut frame's bytes, and what comes behind the padding.
+pub record Resumed (limit : ℕ) (s p kept : List ℕ) (owed start : ℕ) : Type 0 where
+  pub at : place limit s ≡ start
+  pub left : kept ++ drop owed p ≡ drop (place limit s) (s ++ p)
+  pub passed : Passed limit (s ++ p) (place limit s)
+
+pub resumed : (limit : ℕ) (s p kept : List ℕ) (owed start : ℕ) → owed < length p → Resumes (first_fault limit s) s kept owed → start + length kept ≡ length s + owed → Resumed limit s p kept owed start
+resumed limit s p kept owed start l r e =
+    let n = length-append s p in
+    elim (stops limit 0 s) [
+      | inl w ↦
+          let q = subst (λ f. Resumes f s kept owed) w.fault_is r in
+          let at = place_legal limit s w.fault_is in
+          let reach : place limit s ≡ length s + owed = omega (arith, at, q.1, w.outside) in
+          let z = ap length q.0 in
+          record {
+            at = omega (arith, reach, z);
+            left = ap (λ x. x ++ drop owed p) q.0 ∙ sym (drop-append-add s p owed) ∙ ap (λ m. drop m (s ++ p)) (sym reach);
+            passed = resume_passed limit s p (omega (arith, n, reach));
+          }
+      | inr w ↦
+          let q = subst (λ f. Resumes f s kept owed) w.1.fault_is r in
+          let z = ap length q.1 ∙ length-drop (place limit s) s in
+          record {
+            at = omega (arith, z, q.2, w.1.inside);
+            left = ap (λ m. kept ++ drop m p) q.2 ∙ ap (λ x. x ++ p) q.1 ∙ sym (drop-append-le (place limit s) s p (omega (arith, w.1.inside)));
+            passed = resume_passed limit s p (omega (arith, n, w.1.inside));
+          }
+    ]
+
+gained : (limit : ℕ) (s p kept : List ℕ) (owed start : ℕ) → Resumed limit s p kept owed start → texts limit (s ++ p) ≡ texts limit s ++ texts limit (kept ++ drop owed p)
+gained limit s p kept owed start w = texts-append limit 0 s p ∙ ap (λ x. texts limit s ++ texts limit x) (sym w.left)
+
+pub goes_on : (limit : ℕ) (s p kept : List ℕ) (owed start : ℕ) (old new more : List ℕ) (then : ℕ) → Resumed limit s p kept owed start → Goes limit (kept ++ drop owed p) old new more then → Resumes (first_fault limit (s ++ p)) (s ++ p) more then × Gains limit s (s ++ p) old new
+goes_on limit s p kept owed start old new more then w h = (
+  then_resumes limit (s ++ p) (place limit s) (kept ++ drop owed p) more then w.passed w.left h.0,
+  (texts limit (kept ++ drop owed p), gained limit s p kept owed start w, h.1),
+)
+
+-- a fault of a frame, by its kind
+feed_fault : (limit : ℕ) (s p old new : List ℕ) (kind : FaultKind) (at : ℕ) → kind ≢ Cut → IsOfFrames kind → length s + length p < 2 ^ 64 → first_fault limit (s ++ p) ≡ Some (record { kind = kind; offset = at }) → Gains limit s (s ++ p) old new → FeedFault limit s p old new kind at
+feed_fault limit s p old new Cut at c k l f g = c refl
+feed_fault limit s p old new ShortLength at c k l f g = (l, f, g)
+feed_fault limit s p old new OverLimit at c k l f g = (l, f, g)
+feed_fault limit s p old new Refused at c k l f g = (l, f, g)
+feed_fault limit s p old new EmptyPorts at c k l f g = (l, f, g)
+feed_fault limit s p old new Unfit at c k l f g = (l, f, g)
+feed_fault limit s p old new TextOverLimit at c k l f g = (l, f, g)
+feed_fault limit s p old new Memory at c k l f g = absurd k
+feed_fault limit s p old new Read at c k l f g = k
+feed_fault limit s p old new Write at c k l f g = k
+feed_fault limit s p old new TooLong at c k l f g = absurd k
+feed_fault limit s p old new Failed at c k l f g = k
+
+memory_fault : (limit : ℕ) (s p old new : List ℕ) (kind : FaultKind) (at : ℕ) → kind ≡ Memory → length s + length p < 2 ^ 64 → StopsAt limit (s ++ p) at → Gains limit s (take at (s ++ p)) old new → FeedFault limit s p old new kind at
+memory_fault limit s p old new kind at e l h g = subst (λ k. FeedFault limit s p old new k at) (sym e) (l, h, g)
+
+is_memory : (kind : FaultKind) → (kind ≡ Memory) ⊎ (kind ≢ Memory)
+is_memory Memory = inl refl
+is_memory Cut = inr (λ e. cc)
+is_memory ShortLength = inr (λ e. cc)
+is_memory OverLimit = inr (λ e. cc)
+is_memory Refused = inr (λ e. cc)
+is_memory EmptyPorts = inr (λ e. cc)
+is_memory Unfit = inr (λ e. cc)
+is_memory TextOverLimit = inr (λ e. cc)
+is_memory Read = inr (λ e. cc)
+is_memory Write = inr (λ e. cc)
+is_memory TooLong = inr (λ e. cc)
+is_memory Failed = inr (λ e. cc)
+
+pub faults_on : (limit : ℕ) (s p kept : List ℕ) (owed start : ℕ) (old new : List ℕ) (fault : CaptureFault) → length s + length p < 2 ^ 64 → Resumed limit s p kept owed start → Faults limit start (kept ++ drop owed p) old new fault → Lacks limit start (kept ++ drop owed p) old new fault → FeedFault limit s p old new fault.kind fault.offset
+faults_on limit s p kept owed start old new fault l w h k =
+    let d = kept ++ drop owed p in
+    elim (is_memory fault.kind) [
+      | inl e ↦
+          let q = k e in
+          let at : fault.offset ≡ place limit s + q.0 = q.1 ∙ ap (λ n. n + q.0) (sym w.at) in
+          memory_fault limit s p old new fault.kind fault.offset e l
+          (subst (StopsAt limit (s ++ p)) (sym at) (then_stop limit (s ++ p) (place limit s) q.0 d w.passed w.left q.2)) (
+            texts limit (take q.0 d),
+            ap (λ n. texts limit (take n (s ++ p))) at ∙ left_stop_texts limit (s ++ p) (place limit s) q.0 w.passed ∙ ap (λ t. t ++ texts limit (take q.0 (drop (place limit s) (s ++ p)))) (resume_texts limit s p)
+                ∙ ap (λ x. texts limit s ++ texts limit (take q.0 x)) (sym w.left),
+            q.3,
+          )
+      | inr e ↦
+          let q = h e in
+          let f : first_fault limit (s ++ p) ≡ Some fault =
+          left_fault limit (s ++ p) (place limit s) w.passed ∙ ap (λ x. raised (place limit s) (first_fault limit x)) (sym w.left) ∙ ap (λ n. raised n (first_fault limit d)) w.at ∙ q.1 in
+          feed_fault limit s p old new fault.kind fault.offset q.0 (fault_kinds limit (s ++ p) fault f) l f (texts limit d, gained limit s p kept owed start w, q.2)
+    ]
+
+-- what a string resumes at makes a reader
+pub resumes_reader : (limit accepted : ℕ) (c kept : List ℕ) (owed : ℕ) → 16 ≤ limit → length c ≤ accepted → Resumes (first_fault limit c) c kept owed → IsReader (record { limit = limit; accepted = accepted; kept = kept; owed = owed; failed = None })
+resumes_reader limit accepted c kept owed h l r =
+    elim (stops limit 0 c) [
+      | inl w ↦
+          let q = subst (λ f. Resumes f c kept owed) w.fault_is r in
+          let z = ap length q.0 in
+          record {
+            limit = h;
+            cut = ap (first_frame limit) q.0 ∙ cut_nil limit;
+            small = omega (arith, z);
+            inside = omega (arith, z);
+            owed = inr q.0;
+            padding = omega (arith, q.1);
+            failed = tt;
+          }
+      | inr w ↦
+          let q = subst (λ f. Resumes f c kept owed) w.1.fault_is r in
+          let z = ap length q.1 ∙ length-drop (place limit c) c in
+          let cut : first_frame limit kept ≡ Err Cut = ap (first_frame limit) q.1 ∙ w.1.first_frame_is ∙ ap (λ k. Err k) q.0 in
+          record {
+            limit = h;
+            cut = cut;
+            small = elim (cut_cases limit kept cut) [ inl a ↦ omega arith | inr a ↦ omega (arith, a.short, a.high) ];
+            inside = omega (arith, z);
+            owed = inl q.2;
+            padding = omega (arith, q.2);
+            failed = tt;
+          }
+    ]
+
+-- two clauses on one `Err`
+pub IfErr-both : {T E : Type 0} (r : Result T E) (P Q R : E → Type 0) → ((e : E) → P e → Q e → R e) → IfErr r P → IfErr r Q → IfErr r R
+IfErr-both (Ok x) P Q R f p q = tt
+IfErr-both (Err e) P Q R f p q = f e p q
+
+-- a reader after a fault
+pub failed_reader : (limit accepted offset : ℕ) → 16 ≤ limit → IsReader (record { limit = limit; accepted = accepted; kept = []; owed = 0; failed = Some offset })
+failed_reader limit accepted offset h = record { limit = h; cut = cut_nil limit; small = omega arith; inside = omega arith; owed = inl refl; padding = omega arith; failed = refl }
+
+-- no frame is cut where no bytes of it are there
+pub nothing_cut : (limit : ℕ) (s : List ℕ) (owed : ℕ) → Resumes (first_fault limit s) s [] owed → first_fault limit s ≡ None
+nothing_cut limit s owed r =
+    elim (stops limit 0 s) [
+      | inl w ↦ w.fault_is
+      | inr w ↦
+          let q = subst (λ f. Resumes f s [] owed) w.1.fault_is r in
+          let z = ap length q.1 ∙ length-drop (place limit s) s in
+          absurd (omega (arith, z, w.1.inside))
+    ]

@@ -1,0 +1,62 @@
+-- padding alone, or more
+use Rattle.std.proofs.Common.{IfOk, IfErr, ◌≡◌, ◌+◌, ◌-◌, ◌^◌, ◌<◌, ◌≤◌, ◌++◌, ℕ, List, [], None, length, take, drop, sym, ap, subst, ◌∙◌, arith, length-append}
+use Rattle.std.proofs.lemmas.List.{take_rest, length-drop, append-nil}
+use Rattle.std.proofs.lemmas.Result.{IfOk-weaker}
+use Rattle.link_capture_grammar.specs.Captures.{first_fault, texts}
+use Rattle.link_capture_reader.specs.Readers.{IsReader, Resumes, Gains, FeedFault}
+use Rattle.link_capture_reader.specs.Walks.{Goes, Faults, Lacks}
+use Rattle.link_capture_reader.proofs.Reading.{padding_resumes, padding_texts, resumed, goes_on, faults_on, resumes_reader, IfErr-both}
+use Rattle.link_capture_reader.proofs.pieces.accept_piece.Goals as goal
+
+pub returns-then-piece-owed-clause-ok : goal.returns-then-piece-owed-clause-ok
+returns-then-piece-owed-clause-ok c = λ s a r.
+    let limit = c.args.limit in
+    let piece = c.args.piece.now in (
+      padding_resumes limit s piece c.args.kept.now.items c.args.owed (omega arith) r,
+      ([], padding_texts limit s piece c.args.kept.now.items c.args.owed (omega arith) r ∙ sym (append-nil (texts limit s)), sym (append-nil c.args.out.now.items)),
+    )
+
+pub returns-clause-reader : goal.returns-clause-reader
+returns-clause-reader c =
+    let limit = c.args.limit in
+    let piece = c.args.piece.now in
+    let kept = c.args.kept.now.items in
+    let more = take (length piece - c.args.owed) (drop c.args.owed piece) in
+    let e : more ≡ drop c.args.owed piece = take_rest piece c.args.owed in
+    let n : length (kept ++ more) ≤ c.args.accepted + length piece = omega (arith, length-append kept more, ap length e, length-drop c.args.owed piece, c.requires.reader.inside) in
+    IfOk-weaker c.resume_frame.result
+    (λ then. Goes limit (kept ++ more) c.args.out.now.items c.resume_frame.new.out.items c.resume_frame.new.kept.items then)
+    (λ then. IsReader (record { limit = limit; accepted = c.args.accepted + length piece; kept = c.resume_frame.new.kept.items; owed = then; failed = None }))
+    (λ then h. resumes_reader limit (c.args.accepted + length piece) (kept ++ more) c.resume_frame.new.kept.items then c.requires.reader.limit n h.0)
+    c.resume_frame.ensures.ok
+
+pub returns-clause-ok : goal.returns-clause-ok
+returns-clause-ok c =
+    let limit = c.args.limit in
+    let piece = c.args.piece.now in
+    let kept = c.args.kept.now.items in
+    let e = take_rest piece c.args.owed in
+    IfOk-weaker c.resume_frame.result
+    (λ then. Goes limit (kept ++ drop c.args.owed piece) c.args.out.now.items c.resume_frame.new.out.items c.resume_frame.new.kept.items then)
+    (λ then. (s : List ℕ) → c.args.accepted ≡ length s → Resumes (first_fault limit s) s kept c.args.owed
+    → Resumes (first_fault limit (s ++ piece)) (s ++ piece) c.resume_frame.new.kept.items then × Gains limit s (s ++ piece) c.args.out.now.items c.resume_frame.new.out.items)
+    (λ then h s a r. goes_on limit s piece kept c.args.owed (c.args.accepted + c.args.owed - length kept) _ _ c.resume_frame.new.kept.items then
+    (resumed limit s piece kept c.args.owed _ (omega arith) r (omega (arith, c.requires.reader.inside))) h)
+    (subst (λ x. IfOk c.resume_frame.result (λ then. Goes limit (kept ++ x) c.args.out.now.items c.resume_frame.new.out.items c.resume_frame.new.kept.items then)) e c.resume_frame.ensures.ok)
+
+pub returns-clause-fault : goal.returns-clause-fault
+returns-clause-fault c =
+    let limit = c.args.limit in
+    let piece = c.args.piece.now in
+    let kept = c.args.kept.now.items in
+    let start = c.args.accepted + c.args.owed - c.len.result in
+    let fits : c.args.accepted + length piece < 2 ^ 64 = omega arith in
+    let e = take_rest piece c.args.owed in
+    IfErr-both c.resume_frame.result
+    (λ fault. Faults limit start (kept ++ drop c.args.owed piece) c.args.out.now.items c.resume_frame.new.out.items fault)
+    (λ fault. Lacks limit start (kept ++ drop c.args.owed piece) c.args.out.now.items c.resume_frame.new.out.items fault)
+    (λ fault. (s : List ℕ) → c.args.accepted ≡ length s → Resumes (first_fault limit s) s kept c.args.owed → FeedFault limit s piece c.args.out.now.items c.resume_frame.new.out.items fault.kind fault.offset)
+    (λ fault h k s a r. faults_on limit s piece kept c.args.owed start _ _ fault (subst (λ n. n + length piece < 2 ^ 64) a fits)
+    (resumed limit s piece kept c.args.owed start (omega arith) r (omega (arith, c.requires.reader.inside))) h k)
+    (subst (λ x. IfErr c.resume_frame.result (λ fault. Faults limit start (kept ++ x) c.args.out.now.items c.resume_frame.new.out.items fault)) e c.resume_frame.ensures.fault)
+    (subst (λ x. IfErr c.resume_frame.result (λ fault. Lacks limit start (kept ++ x) c.args.out.now.items c.resume_frame.new.out.items fault)) e c.resume_frame.ensures.memory)

@@ -1,0 +1,55 @@
+-- What a reader of a capture stands for, and what its calls add.
+use Rattle.std.specs.Prelude.{◌≡◌, ℕ, ◌+◌, ◌-◌, ◌^◌, ◌<◌, ◌≤◌, List, [], ◌++◌, length, take, drop, Option, None, Some, IfSome, ◌⊎◌, Err}
+use Rattle.link_capture_grammar.specs.declared.fault.FaultKind.{FaultKind}
+use Rattle.link_capture_grammar.specs.declared.fault.FaultKind.TheVariants.{Cut, Memory, Read, Write, TooLong, Failed}
+use Rattle.link_capture_grammar.specs.declared.fault.CaptureFault.{CaptureFault}
+use Rattle.netlink_packet_core_grammar.specs.Attributes.{nla_align}
+use Rattle.link_capture_grammar.specs.Captures.{first_frame, first_fault, texts, StopsAt}
+
+-- a reader: its limit, how many bytes it has accepted, the bytes of the cut frame, the padding still owed, and the
+-- place of the first fault
+pub record ReaderState : Type 0 where
+  pub limit : ℕ
+  pub accepted : ℕ
+  pub kept : List ℕ
+  pub owed : ℕ
+  pub failed : Option ℕ
+
+-- What is true of every reader: between pieces it keeps the first bytes of a frame that is cut, fewer than the limit,
+-- or none, as where padding is owed and after a fault.
+pub record IsReader (r : ReaderState) : Type 0 where
+  pub limit : 16 ≤ r.limit
+  pub cut : first_frame r.limit r.kept ≡ Err Cut
+  pub small : length r.kept < r.limit
+  pub inside : length r.kept ≤ r.accepted
+  pub owed : (r.owed ≡ 0) ⊎ (r.kept ≡ [])
+  pub padding : r.owed < 4
+  pub failed : IfSome r.failed (λ _. r.kept ≡ [])
+
+-- Where the first fault of s is this one, kept are the bytes of the cut frame, and owed is what the padding of the last
+-- frame lacks.
+abbrev pub Resumes : Option CaptureFault → List ℕ → List ℕ → ℕ → Type 0
+Resumes None s kept owed = (kept ≡ []) × (owed ≡ nla_align (length s) - length s)
+Resumes (Some fault) s kept owed = (fault.kind ≡ Cut) × (kept ≡ drop fault.offset s) × (owed ≡ 0)
+
+-- The reader stands for the string s: no fault came, and its bytes are those that s leaves.
+pub record StandsFor (r : ReaderState) (s : List ℕ) : Type 0 where
+  pub going : r.failed ≡ None
+  pub accepted : r.accepted ≡ length s
+  pub rest : Resumes (first_fault r.limit s) s r.kept r.owed
+
+-- new is old, and behind it what the texts of t have after those of s
+abbrev pub Gains : ℕ → List ℕ → List ℕ → List ℕ → List ℕ → Type 0
+Gains limit s t old new = (more : List ℕ) × (texts limit t ≡ texts limit s ++ more) × (new ≡ old ++ more)
+
+-- What a fault of `feed` says, by its kind: s was accepted before, this piece was given, and the fault stands at this
+-- place.
+abbrev pub FeedFault : ℕ → List ℕ → List ℕ → List ℕ → List ℕ → FaultKind → ℕ → Type 0
+FeedFault limit s piece old new Memory at = (length s + length piece < 2 ^ 64) × StopsAt limit (s ++ piece) at × Gains limit s (take at (s ++ piece)) old new
+FeedFault limit s piece old new TooLong at = (2 ^ 64 ≤ length s + length piece) × (at ≡ length s) × (new ≡ old)
+FeedFault limit s piece old new Cut at = ⊥
+FeedFault limit s piece old new Read at = ⊥
+FeedFault limit s piece old new Write at = ⊥
+FeedFault limit s piece old new Failed at = ⊥
+FeedFault limit s piece old new kind at =
+    (length s + length piece < 2 ^ 64) × (first_fault limit (s ++ piece) ≡ Some (record { kind = kind; offset = at })) × Gains limit s (s ++ piece) old new

@@ -1,0 +1,50 @@
+//! The frames of bytes, one after the other.
+
+ghost use Rattle.std.specs.Prelude.{◌≡◌, ◌≢◌, ◌+◌, ◌≤◌, ◌<◌, ◌%◌, ◌++◌, length, take, None, Some, IfErr, OnOk};
+ghost use Rattle.link_capture_grammar.specs.Captures.{first_fault, texts, StopsAt};
+
+use link_capture_frames::push_frame;
+use link_capture_grammar::fault::{CaptureFault, FaultKind};
+use netlink_packet_core::nla_align;
+use std::alloc::Global;
+
+/// Writes the texts of these bytes at the end of `out`. Where they aren't legal, the answer is their first fault,
+/// and a cut frame is one; or want of memory at a frame.
+pub(crate) fn push_frames(
+    alloc: Global,
+    bytes: &[u8],
+    limit: u32,
+    out: &mut Vec<u8>,
+) -> Result<(), CaptureFault>
+    requires { 16 ≤ limit }
+    ensures legal { OnOk result ((first_fault limit bytes.now ≡ None)
+        × (out.new.items ≡ out.old.items ++ texts limit bytes.now)) }
+    ensures fault { IfErr result
+        (λ fault. fault.kind ≢ FaultKind.Memory → (first_fault limit bytes.now ≡ Some fault)
+        × (out.new.items ≡ out.old.items ++ texts limit bytes.now)) }
+    ensures place { IfErr result
+        (λ fault. (fault.offset < length bytes.now) × (fault.offset % 4 ≡ 0)) }
+    ensures memory { IfErr result
+        (λ fault. fault.kind ≡ FaultKind.Memory → StopsAt limit bytes.now fault.offset
+        × (out.new.items ≡ out.old.items ++ texts limit (take fault.offset bytes.now))) }
+{
+    let mut at = 0usize;
+    while at < bytes.len() {
+        match push_frame(alloc, &bytes[at..], limit, out) {
+            Ok(length) => {
+                let size = nla_align(length);
+                if size >= bytes.len() - at {
+                    return Ok(());
+                }
+                at += size;
+            }
+            Err(kind) => {
+                return Err(CaptureFault {
+                    kind,
+                    offset: at as u64,
+                });
+            }
+        }
+    }
+    Ok(())
+}

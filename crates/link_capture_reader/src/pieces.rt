@@ -1,0 +1,198 @@
+//! One more piece of a capture: the bytes of the cut frame, and what comes after them.
+
+ghost use Rattle.std.specs.Prelude.{◌≡◌, ◌≢◌, ◌+◌, ◌-◌, ◌^◌, ◌<◌, ◌≤◌, ◌++◌, ◌⊎◌, ℕ, List, [], length, take, max, IfOk, IfErr, OnOk, OnErr, None, Err};
+ghost use Rattle.netlink_packet_core.specs.Attributes.{nla_align};
+ghost use Rattle.netlink_packet_core.specs.Frames.{frame_length};
+ghost use Rattle.link_capture_grammar.specs.Captures.{first_frame, first_fault};
+ghost use Rattle.link_capture_reader.specs.Readers.{IsReader, Resumes, Gains, FeedFault};
+ghost use Rattle.link_capture_reader.specs.Walks.{Goes, Faults, Lacks};
+
+use super::frames::push_frames;
+use link_capture_frames::push_frame;
+use link_capture_grammar::fault::{CaptureFault, FaultKind};
+use netlink_packet_core::{NETLINK_HEADER_LEN, NetlinkBuffer, nla_align};
+use std::alloc::{AllocError, Global};
+
+/// The zeros behind a frame of this length, up to a multiple of 4.
+fn padding(length: usize) -> usize
+    requires { length ≤ 18446744073709551611 }
+    ensures { result ≡ nla_align length - length }
+{
+    nla_align(length) - length
+}
+
+/// The length that a header gives.
+fn claimed_length(header: &[u8]) -> u32
+    requires { 4 ≤ length header.now }
+    ensures { result ≡ frame_length header.now }
+{
+    NetlinkBuffer::new(header).length()
+}
+
+/// Moves bytes from the piece's front until `kept` has this size, or the piece is used up. The answer is how many.
+fn fill(kept: &mut Vec<u8>, piece: &[u8], size: usize) -> Result<usize, AllocError>
+    ensures within { IfOk result (λ n. n ≤ length piece.now) }
+    ensures moved { IfOk result (λ n. kept.new.items ≡ kept.old.items ++ take n piece.now) }
+    ensures enough { IfOk result (λ n. (n ≡ length piece.now) ⊎ (size ≤ length kept.new.items)) }
+    ensures exact { OnOk result (length kept.new.items ≤ max size (length kept.old.items)) }
+{
+    let count = size.saturating_sub(kept.len()).min(piece.len());
+    kept.extend_from_slice(&piece[..count])?;
+    Ok(count)
+}
+
+/// Moves bytes from the piece's front until the cut frame can be judged, or the piece is used up.
+fn complete_frame(kept: &mut Vec<u8>, piece: &[u8], limit: u32) -> Result<usize, AllocError>
+    requires { first_frame limit kept.old.items ≡ Err FaultKind.Cut }
+    ensures within { IfOk result (λ n. n ≤ length piece.now) }
+    ensures moved { IfOk result (λ n. kept.new.items ≡ kept.old.items ++ take n piece.now) }
+    ensures judged { IfOk result
+        (λ n. (n ≡ length piece.now) ⊎ (first_frame limit kept.new.items ≢ Err FaultKind.Cut)) }
+    ensures exact { OnOk result (length kept.new.items ≤ max 16 (frame_length kept.new.items)) }
+{
+    let header = fill(kept, piece, NETLINK_HEADER_LEN)?;
+    if kept.len() < NETLINK_HEADER_LEN {
+        return Ok(header);
+    }
+    let claimed = claimed_length(kept.as_slice());
+    if claimed > limit {
+        return Ok(header);
+    }
+    let more = fill(kept, &piece[header..], claimed as usize)?;
+    Ok(header + more)
+}
+
+/// Goes on over bytes that stand at `start` of the capture: the texts of their whole frames go to `out`, and the bytes
+/// of a cut one to `kept`. The answer is the padding that is owed then.
+fn read_frames(
+    alloc: Global,
+    start: u64,
+    kept: &mut Vec<u8>,
+    bytes: &[u8],
+    limit: u32,
+    out: &mut Vec<u8>,
+) -> Result<usize, CaptureFault>
+    requires limit { 16 ≤ limit }
+    requires empty { kept.old.items ≡ [] }
+    requires fits { start + length bytes.now < 2 ^ 64 }
+    ensures ok { IfOk result
+        (λ owed. Goes limit bytes.now out.old.items out.new.items kept.new.items owed) }
+    ensures fault { IfErr result
+        (λ fault. Faults limit start bytes.now out.old.items out.new.items fault) }
+    ensures memory { IfErr result
+        (λ fault. Lacks limit start bytes.now out.old.items out.new.items fault) }
+{
+    match push_frames(alloc, bytes, limit, out) {
+        Ok(()) => Ok(padding(bytes.len())),
+        Err(fault) => match fault.kind {
+            FaultKind::Cut => match kept.extend_from_slice(&bytes[fault.offset as usize..]) {
+                Ok(()) => Ok(0),
+                Err(_) => Err(CaptureFault {
+                    kind: FaultKind::Memory,
+                    offset: start + fault.offset,
+                }),
+            },
+            kind => Err(CaptureFault {
+                kind,
+                offset: start + fault.offset,
+            }),
+        },
+    }
+}
+
+/// Goes on with the bytes of a cut frame, which stand at `start` of the capture, and those that come after them.
+fn resume_frame(
+    alloc: Global,
+    start: u64,
+    kept: &mut Vec<u8>,
+    bytes: &[u8],
+    limit: u32,
+    out: &mut Vec<u8>,
+) -> Result<usize, CaptureFault>
+    requires limit { 16 ≤ limit }
+    requires cut { first_frame limit kept.old.items ≡ Err FaultKind.Cut }
+    requires more { 0 < length bytes.now }
+    requires fits { start + (length kept.old.items + length bytes.now) < 2 ^ 64 }
+    ensures ok { IfOk result (λ owed. Goes limit (kept.old.items ++ bytes.now)
+        out.old.items out.new.items kept.new.items owed) }
+    ensures fault { IfErr result (λ fault. Faults limit start (kept.old.items ++ bytes.now)
+        out.old.items out.new.items fault) }
+    ensures memory { IfErr result (λ fault. Lacks limit start (kept.old.items ++ bytes.now)
+        out.old.items out.new.items fault) }
+{
+    if kept.is_empty() {
+        return read_frames(alloc, start, kept, bytes, limit, out);
+    }
+    let Ok(moved) = complete_frame(kept, bytes, limit) else {
+        return Err(CaptureFault {
+            kind: FaultKind::Memory,
+            offset: start,
+        });
+    };
+    match push_frame(alloc, kept.as_slice(), limit, out) {
+        Ok(size) => {
+            kept.clear();
+            let owed = padding(size);
+            let left = bytes.len() - moved;
+            if left <= owed {
+                return Ok(owed - left);
+            }
+            let start = start + (size + owed) as u64;
+            read_frames(alloc, start, kept, &bytes[moved + owed..], limit, out)
+        }
+        Err(kind) => match kind {
+            FaultKind::Cut => Ok(0),
+            kind => Err(CaptureFault {
+                kind,
+                offset: start,
+            }),
+        },
+    }
+}
+
+/// Takes a piece after so many bytes, where `kept` has the bytes of the cut frame and so much padding is owed. The
+/// answer is the padding that is owed then.
+pub(crate) fn accept_piece(
+    alloc: Global,
+    accepted: u64,
+    kept: &mut Vec<u8>,
+    owed: usize,
+    piece: &[u8],
+    limit: u32,
+    out: &mut Vec<u8>,
+) -> Result<usize, CaptureFault>
+    requires reader { IsReader (record {
+      limit = limit;
+      accepted = accepted;
+      kept = kept.old.items;
+      owed = owed;
+      failed = None;
+    }) }
+    ensures fits { OnOk result (accepted + length piece.now < 2 ^ 64) }
+    ensures reader { IfOk result (λ more. IsReader (record {
+      limit = limit;
+      accepted = accepted + length piece.now;
+      kept = kept.new.items;
+      owed = more;
+      failed = None;
+    })) }
+    ensures ok { IfOk result (λ more. (s : List ℕ) → accepted ≡ length s
+        → Resumes (first_fault limit s) s kept.old.items owed
+        → Resumes (first_fault limit (s ++ piece.now)) (s ++ piece.now) kept.new.items more
+        × Gains limit s (s ++ piece.now) out.old.items out.new.items) }
+    ensures fault { IfErr result (λ fault. (s : List ℕ) → accepted ≡ length s
+        → Resumes (first_fault limit s) s kept.old.items owed
+        → FeedFault limit s piece.now out.old.items out.new.items fault.kind fault.offset) }
+{
+    if piece.len() as u64 > u64::MAX - accepted {
+        return Err(CaptureFault {
+            kind: FaultKind::TooLong,
+            offset: accepted,
+        });
+    }
+    if piece.len() <= owed {
+        return Ok(owed - piece.len());
+    }
+    let start = accepted + owed as u64 - kept.len() as u64;
+    resume_frame(alloc, start, kept, &piece[owed..], limit, out)
+}

@@ -1,0 +1,152 @@
+//! The reader of captures that come in pieces.
+
+ghost use Rattle.std.specs.Prelude.{◌≡◌, ◌+◌, ◌^◌, ◌<◌, ◌≤◌, ◌++◌, ℕ, List, [], length, OnOk, IfErr, IfSome, None, Some, Err};
+ghost use Rattle.link_capture_grammar.specs.Captures.{first_fault};
+ghost use Rattle.link_capture_reader.specs.Readers.{ReaderState, IsReader, StandsFor, Gains, FeedFault};
+
+use super::pieces::accept_piece;
+use link_capture_grammar::fault::{CaptureFault, FaultKind};
+use std::alloc::Global;
+use std::marker::Model;
+
+/// Reads a capture that comes in pieces of any sizes, and writes its normal text as far as its frames have come.
+///
+/// A frame that lies whole in a piece is judged and written from the piece itself. Between pieces the reader keeps
+/// nothing but the bytes of the frame that is cut.
+#[derive(Drop)]
+pub struct CaptureReader {
+    limit: u32,
+    accepted: u64,
+    kept: Vec<u8>,
+    owed: usize,
+    failed: Option<u64>,
+}
+
+impl Model for CaptureReader {
+    ghost Value = { ReaderState };
+
+    ghost view = { λ r. record {
+      limit = r.limit;
+      accepted = r.accepted;
+      kept = r.kept.items;
+      owed = r.owed;
+      failed = r.failed;
+    } };
+
+    ghost invariant = { λ r. IsReader (record {
+      limit = r.limit;
+      accepted = r.accepted;
+      kept = r.kept.items;
+      owed = r.owed;
+      failed = r.failed;
+    }) };
+}
+
+impl CaptureReader {
+    /// A reader of nothing yet. `limit` is the greatest length in bytes that a message, read or written, may have.
+    pub fn new(alloc: Global, limit: u32) -> CaptureReader
+        requires { 16 ≤ limit }
+        ensures empty { StandsFor result [] }
+        ensures limit { result.limit ≡ limit }
+    {
+        CaptureReader {
+            limit,
+            accepted: 0,
+            kept: Vec::new(alloc),
+            owed: 0,
+            failed: None,
+        }
+    }
+
+    /// Takes the next piece of the capture. The text of each frame that is whole now, its padding with it, goes to the
+    /// end of `out`.
+    ///
+    /// The answer is the first fault of the capture so far, other than a cut frame; want of memory at a frame; or
+    /// `TooLong`, at the number of bytes before the piece, where that and the piece together pass `u64::MAX`. After
+    /// any fault each later call answers `Failed`, at the place of the first fault, and leaves `out` alone.
+    pub fn feed(&mut self, piece: &[u8], out: &mut Vec<u8>) -> Result<(), CaptureFault>
+        // The capture goes on by the piece, and `out` by the texts that it gains.
+        ensures ok { OnOk result ((s : List ℕ) → StandsFor self.old s
+            → (length s + length piece.now < 2 ^ 64) × StandsFor self.new (s ++ piece.now)
+            × Gains self.old.limit s (s ++ piece.now) out.old.items out.new.items) }
+        // A fault is that of the capture with the piece, and the texts before it are in `out`.
+        ensures fault { IfErr result (λ fault. (s : List ℕ) → StandsFor self.old s
+            → FeedFault self.old.limit s piece.now out.old.items out.new.items fault.kind fault.offset) }
+        // A fault is one for good.
+        ensures failed { IfErr result (λ fault. self.new.failed ≡ Some fault.offset) }
+        ensures again { IfSome self.old.failed (λ offset.
+            (result ≡ Err (record { kind = FaultKind.Failed; offset = offset }))
+            × (out.new.items ≡ out.old.items)) }
+        ensures limit { self.new.limit ≡ self.old.limit }
+    {
+        if let Some(offset) = self.failed {
+            return Err(CaptureFault {
+                kind: FaultKind::Failed,
+                offset,
+            });
+        }
+        let alloc = *self.kept.allocator();
+        let kept = &mut self.kept;
+        match accept_piece(
+            alloc,
+            self.accepted,
+            kept,
+            self.owed,
+            piece,
+            self.limit,
+            out,
+        ) {
+            Ok(owed) => {
+                self.owed = owed;
+                self.accepted += piece.len() as u64;
+                Ok(())
+            }
+            Err(fault) => {
+                self.kept.clear();
+                self.owed = 0;
+                self.failed = Some(fault.offset);
+                Err(fault)
+            }
+        }
+    }
+
+    /// The capture ends here. The answer is `Cut`, at its place, where a frame is cut; after a fault `Failed`, at the
+    /// place of that.
+    pub fn finish(self) -> Result<(), CaptureFault>
+        ensures ok { OnOk result ((s : List ℕ) → StandsFor self s → first_fault self.limit s ≡ None) }
+        ensures fault { IfErr result (λ fault. (s : List ℕ) → StandsFor self s
+            → (fault.kind ≡ FaultKind.Cut) × (first_fault self.limit s ≡ Some fault)) }
+        ensures again { IfSome self.failed (λ offset.
+            result ≡ Err (record { kind = FaultKind.Failed; offset = offset })) }
+    {
+        if let Some(offset) = self.failed {
+            return Err(CaptureFault {
+                kind: FaultKind::Failed,
+                offset,
+            });
+        }
+        if self.kept.is_empty() {
+            return Ok(());
+        }
+        Err(CaptureFault {
+            kind: FaultKind::Cut,
+            offset: self.accepted - self.kept.len() as u64,
+        })
+    }
+
+    /// How many bytes were accepted.
+    pub fn accepted(&self) -> u64
+        ensures { result ≡ self.now.accepted }
+    {
+        self.accepted
+    }
+
+    /// How many bytes of the cut frame have come: 0 where none is cut, and after a fault.
+    pub fn kept(&self) -> usize
+        ensures value { result ≡ length self.now.kept }
+        ensures bound { result < self.now.limit }
+        ensures failed { IfSome self.now.failed (λ _. result ≡ 0) }
+    {
+        self.kept.len()
+    }
+}

@@ -2,19 +2,21 @@
 //! to standard output.
 #![tactic(auto)]
 
-mod streams;
-
-ghost use Rattle.std.specs.Prelude.{◌≡◌, ◌≤◌, drop, map, IfSome, IfNone, IfErr, OnOk, string_bytes};
+ghost use Rattle.std.specs.Prelude.{◌≡◌, ◌≤◌, ℕ, drop, map, IfSome, IfNone, string_bytes};
 ghost use Rattle.std.specs.Process.{exit_status};
 ghost use Rattle.link_capture.specs.Commands.{HasLimit, IsCommand};
-ghost use Rattle.linkcap_program.specs.Runs.{IsDone, IsFaulty, IsRun, IsNoRun, status_of_run};
+ghost use Rattle.link_capture.specs.Devices.{Rises, TellsItsEnd};
+ghost use Rattle.link_capture.specs.Known.{source_reader, source_failures, source_ends_told, sink_writer, sink_failures};
+ghost use Rattle.link_capture.specs.Outcomes.{Normalizes};
+ghost use Rattle.linkcap_program.specs.Runs.{AsksFor, AsksForNothing, status_of_run};
 
-use link_capture::{CaptureFault, Command, normalize_bytes, read_words, status_norm};
+use link_capture::{
+    CaptureFault, Command, ReadSource, WriteSink, normalize, read_words, status_norm,
+};
 use std::alloc::Global;
 use std::env;
 use std::io::{self, Read, Write};
 use std::process::ExitCode;
-use streams::{read_all, write_all};
 
 const USAGE: &str = "usage: linkcap norm [LIMIT] or linkcap same FILE FILE [LIMIT]";
 
@@ -29,41 +31,43 @@ pub fn command(args: &[String]) -> Option<Command>
     read_words(args.get(1..)?)
 }
 
-/// Writes the normal text of all that a source has. A failed write is told in place of any other fault.
+/// Writes the normal text of all that a source has, as its frames come. A failed write is told in place of any other
+/// fault.
 pub fn norm<R: Read, W: Write>(
     alloc: Global,
-    source: &mut R,
-    sink: &mut W,
+    source: &mut ReadSource<R>,
+    sink: &mut WriteSink<W>,
     limit: u32,
 ) -> Result<(), CaptureFault>
     requires { 16 ≤ limit }
-    // It is done where all that the source had is a legal capture, and the sink has gained its normal text.
-    ensures done { OnOk result (IsDone limit (R.remaining source.old) (R.remaining source.new)
-        (W.contents sink.old) (W.contents sink.new)) }
-    // Else the fault's kind and place say what was read and what was written.
-    ensures faulty { IfErr result (IsFaulty limit (R.remaining source.old) (R.remaining source.new)
-        (W.contents sink.old) (W.contents sink.new)) }
+    ensures { Normalizes
+        (R.remaining (source_reader source.old)) (R.remaining (source_reader source.new))
+        (W.contents (sink_writer sink.old)) (W.contents (sink_writer sink.new))
+        (TellsItsEnd (source_ends_told source.old) (source_ends_told source.new)
+        (R.remaining (source_reader source.new)))
+        (Rises (source_failures source.old) (source_failures source.new))
+        (Rises (sink_failures sink.old) (sink_failures sink.new)) limit result }
 {
-    let bytes = read_all(alloc, source)?;
-    let mut out = Vec::new(alloc);
-    let outcome = normalize_bytes(alloc, bytes.as_slice(), limit, &mut out);
-    write_all(sink, out.as_slice())?;
-    outcome
+    normalize(alloc, source, sink, limit)
 }
 
 /// Does what the program's arguments ask for. Where they ask for nothing, nothing is read or written.
 pub fn run<R: Read, W: Write>(
     alloc: Global,
     args: &[String],
-    source: &mut R,
-    sink: &mut W,
+    source: &mut ReadSource<R>,
+    sink: &mut WriteSink<W>,
 ) -> Option<Result<(), CaptureFault>>
-    ensures some { IfSome result (IsRun (map string_bytes (drop 1 args.now))
-        (R.remaining source.old) (R.remaining source.new)
-        (W.contents sink.old) (W.contents sink.new)) }
-    ensures none { IfNone result (IsNoRun (map string_bytes (drop 1 args.now))
-        (R.remaining source.old) (R.remaining source.new)
-        (W.contents sink.old) (W.contents sink.new)) }
+    ensures some { IfSome result (λ outcome. AsksFor (map string_bytes (drop 1 args.now))
+        (λ limit. Normalizes
+        (R.remaining (source_reader source.old)) (R.remaining (source_reader source.new))
+        (W.contents (sink_writer sink.old)) (W.contents (sink_writer sink.new))
+        (TellsItsEnd (source_ends_told source.old) (source_ends_told source.new)
+        (R.remaining (source_reader source.new)))
+        (Rises (source_failures source.old) (source_failures source.new))
+        (Rises (sink_failures sink.old) (sink_failures sink.new)) limit outcome)) }
+    ensures none { IfNone result (AsksForNothing (map string_bytes (drop 1 args.now))
+        × (source.new ≡ source.old) × (sink.new ≡ sink.old)) }
 {
     let Command::Norm { limit } = command(args)?;
     Some(norm(alloc, source, sink, limit))
@@ -72,12 +76,9 @@ pub fn run<R: Read, W: Write>(
 /// Runs on standard input and output. None where the arguments can't be had, or ask for nothing.
 pub fn outcome(rt: &HostRuntime) -> Option<Result<(), CaptureFault>> {
     let args: Vec<String> = env::args(rt).ok()?.collect(rt.alloc()).ok()?;
-    run(
-        rt.alloc(),
-        args.as_slice(),
-        &mut rt.reader(),
-        &mut io::writer(rt),
-    )
+    let mut source = ReadSource::new(rt.reader());
+    let mut sink = WriteSink::new(io::writer(rt));
+    run(rt.alloc(), args.as_slice(), &mut source, &mut sink)
 }
 
 /// Tells on standard error what went wrong, and gives the program's status.

@@ -1,7 +1,7 @@
 //! What no clause says: that a run succeeds where no device fails, and tells a failure where one does.
 
 use super::{norm, run};
-use link_capture::{CaptureFault, FaultKind};
+use link_capture::{CaptureFault, FaultKind, ReadSource, WriteSink};
 use std::alloc::Global;
 use std::io::{self, ErrorKind, Read, Write};
 use std::test::Fail;
@@ -80,7 +80,7 @@ struct Case {
     written: usize,
 }
 
-const CASES: [Case; 6] = [
+const CASES: [Case; 8] = [
     Case {
         name: "pieces are read and written",
         given: 64,
@@ -91,7 +91,7 @@ const CASES: [Case; 6] = [
         written: 68,
     },
     Case {
-        name: "a failed read is told at the bytes read",
+        name: "a failed read is told at the bytes read, and the texts before it are written",
         given: 50,
         read_fails: true,
         room: 100,
@@ -99,6 +99,30 @@ const CASES: [Case; 6] = [
         outcome: Err(CaptureFault {
             kind: FaultKind::Read,
             offset: 50,
+        }),
+        written: 48,
+    },
+    Case {
+        name: "a read that fails inside the first message leaves nothing written",
+        given: 30,
+        read_fails: true,
+        room: 100,
+        write_fails: false,
+        outcome: Err(CaptureFault {
+            kind: FaultKind::Read,
+            offset: 30,
+        }),
+        written: 0,
+    },
+    Case {
+        name: "a write that fails at once is told at 0",
+        given: 64,
+        read_fails: false,
+        room: 0,
+        write_fails: true,
+        outcome: Err(CaptureFault {
+            kind: FaultKind::Write,
+            offset: 0,
         }),
         written: 0,
     },
@@ -155,19 +179,20 @@ const CASES: [Case; 6] = [
 #[test]
 fn devices_are_followed(rt: HostRuntime) {
     for case in &CASES {
-        let mut source = SlowReader {
+        let mut source = ReadSource::new(SlowReader {
             rest: &CAPTURE[..case.given.min(64)],
             fails: case.read_fails,
-        };
-        let mut sink = SmallWriter {
+        });
+        let mut writer = SmallWriter {
             taken: Vec::new(rt.alloc()),
             room: case.room,
             fails: case.write_fails,
         };
+        let mut sink = WriteSink::new(&mut writer);
         let outcome = norm(rt.alloc(), &mut source, &mut sink, 1000);
         assert_eq!(rt; outcome, case.outcome, "{}", case.name);
         assert_eq!(rt;
-            sink.taken.as_slice(),
+            writer.taken.as_slice(),
             &TEXT[..case.written.min(68)],
             "{}",
             case.name
@@ -204,15 +229,12 @@ fn arguments(alloc: Global, words: &[&str]) -> Result<Vec<String>, Fail> {
 fn words_are_followed(rt: HostRuntime) -> Result<(), Fail> {
     for (words, wanted, written) in WORDS {
         let args = arguments(rt.alloc(), words)?;
-        let mut sink = Vec::new(rt.alloc());
-        let outcome = run(
-            rt.alloc(),
-            args.as_slice(),
-            &mut CAPTURE.as_slice(),
-            &mut sink,
-        );
+        let mut source = ReadSource::new(CAPTURE.as_slice());
+        let mut text = Vec::new(rt.alloc());
+        let mut sink = WriteSink::new(&mut text);
+        let outcome = run(rt.alloc(), args.as_slice(), &mut source, &mut sink);
         assert_eq!(rt; outcome, wanted, "{words:?}");
-        assert_eq!(rt; sink.as_slice(), &TEXT[..written.min(68)], "{words:?}");
+        assert_eq!(rt; text.as_slice(), &TEXT[..written.min(68)], "{words:?}");
     }
     Ok(())
 }

@@ -1,22 +1,43 @@
 //! Captures, and what their normalisation gives.
 
+use super::pieces::Pieces;
 use hex::{decode, encode};
-use link_capture::{FaultKind, normalize_bytes};
+use link_capture::{CaptureFault, ReadSource, VecSink, normalize, normalize_bytes};
 use std::alloc::Global;
 use std::test::Fail;
 
-/// The texts that a capture in hex gives, in hex, and behind them the display of its fault, if it has one.
-fn normalized(alloc: Global, capture: &str, limit: u32) -> Result<String, Fail> {
-    let Ok(bytes) = decode(alloc, capture) else {
-        return Err(Fail::from("not hex"));
-    };
-    let mut out = Vec::new(alloc);
-    let outcome = normalize_bytes(alloc, bytes.as_slice(), limit.max(16), &mut out);
-    let mut text = encode(alloc, out.as_slice())?;
+/// Texts in hex, and behind them the display of a fault, if there is one.
+fn shown(alloc: Global, texts: &[u8], outcome: Result<(), CaptureFault>) -> Result<String, Fail> {
+    let mut text = encode(alloc, texts)?;
     if let Err(fault) = outcome {
         text.push_str(format!(in alloc; " {fault}")?.as_str())?;
     }
     Ok(text)
+}
+
+/// What a capture in hex gives.
+fn normalized(alloc: Global, capture: &str, limit: u32) -> Result<String, Fail> {
+    let bytes = decode(alloc, capture).map_err(|_| Fail::from("not hex"))?;
+    let mut out = Vec::new(alloc);
+    let outcome = normalize_bytes(alloc, bytes.as_slice(), limit.max(16), &mut out);
+    shown(alloc, out.as_slice(), outcome)
+}
+
+/// What it gives in pieces of this size.
+fn normalized_in_pieces(
+    alloc: Global,
+    capture: &str,
+    limit: u32,
+    size: usize,
+) -> Result<String, Fail> {
+    let bytes = decode(alloc, capture).map_err(|_| Fail::from("not hex"))?;
+    let mut source = ReadSource::new(Pieces {
+        rest: bytes.as_slice(),
+        size,
+    });
+    let mut sink = VecSink::new(alloc);
+    let outcome = normalize(alloc, &mut source, &mut sink, limit.max(16));
+    shown(alloc, sink.bytes(), outcome)
 }
 
 /// A capture in hex, and what its normalisation is to give.
@@ -130,30 +151,15 @@ fn worked_captures(rt: HostRuntime) -> Result<(), Fail> {
     for case in &WORKED {
         let text = normalized(rt.alloc(), case.capture, case.limit)?;
         assert_eq!(rt; text.as_str(), case.wanted, "{}", case.name);
-    }
-    Ok(())
-}
-
-/// A request for a link of the name `lo`, with its mask of statistics.
-const REQUEST: [u8; 48] = [
-    48, 0, 0, 0, 18, 0, 1, 3, 52, 14, 249, 90, 0, 0, 0, 0, 0, 0, 0, 0, 0, 0, 0, 0, 0, 0, 0, 0, 0,
-    0, 0, 0, 8, 0, 29, 0, 9, 0, 0, 0, 7, 0, 3, 0, 108, 111, 0, 0,
-];
-
-/// With ample memory both texts are written. Run with each request for memory refused in turn, it shows that want
-/// of memory is told at the start of a frame, and that `out` then has the texts before it.
-#[test]
-fn want_of_memory_is_told_at_a_frame(rt: HostRuntime) {
-    let mut capture = [0u8; 96];
-    capture[..48].copy_from_slice(&REQUEST);
-    capture[48..].copy_from_slice(&REQUEST);
-    let mut out = Vec::new(rt.alloc());
-    match normalize_bytes(rt.alloc(), &capture, 1000, &mut out) {
-        Ok(()) => assert!(rt; out.as_slice() == capture.as_slice()),
-        Err(fault) => {
-            assert_eq!(rt; fault.kind, FaultKind::Memory);
-            assert!(rt; fault.offset == 0 || fault.offset == 48);
-            assert_eq!(rt; out.len() as u64, fault.offset);
+        for size in [1, 7, 100, 65536] {
+            let text = normalized_in_pieces(rt.alloc(), case.capture, case.limit, size)?;
+            assert_eq!(rt;
+                text.as_str(),
+                case.wanted,
+                "{} in pieces of {size}",
+                case.name
+            );
         }
     }
+    Ok(())
 }

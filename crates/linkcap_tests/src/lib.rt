@@ -8,4 +8,10 @@ mod core_examples;
 #[cfg(test)]
 mod fault_texts;
 #[cfg(test)]
+mod memory;
+#[cfg(test)]
+mod pieces;
+#[cfg(test)]
 mod program_words;
+#[cfg(test)]
+mod readers;

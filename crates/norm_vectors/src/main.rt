@@ -1,11 +1,12 @@
-// norm_vectors: answers captures on standard input, one in a line, by their normal texts and faults.
+// norm_vectors: answers captures on standard input, one in a line, by their normal texts and faults. Each is read in
+// pieces too, and has to be answered alike.
 #![tactic(auto)]
 
-ghost use Rattle.std.specs.Prelude.{◌≡◌, ◌≤◌, IfOk, IfSome, string_bytes};
+ghost use Rattle.std.specs.Prelude.{◌≡◌, ◌<◌, ◌≤◌, IfOk, IfSome, string_bytes};
 ghost use Rattle.norm_vectors.specs.Answers.{answer};
 
 use hex::{decode, encode};
-use link_capture::{FaultKind, normalize_bytes};
+use link_capture::{CaptureFault, CaptureReader, FaultKind, normalize_bytes};
 use std::alloc::{AllocError, Global};
 use std::io::{self, BufRead, BufReader, BufWriter, ErrorKind, Write};
 
@@ -46,6 +47,42 @@ fn answer_case(alloc: Global, case: &Case) -> Result<String, AllocError>
     }
 }
 
+/// The sizes of pieces, in bytes.
+const PIECES: [usize; 3] = [1, 7, 100];
+
+/// Reads a capture in pieces of this size. Its texts go to `out`.
+fn read_pieces(
+    alloc: Global,
+    case: &Case,
+    size: usize,
+    out: &mut Vec<u8>,
+) -> Result<(), CaptureFault>
+    requires limit { 16 ≤ case.now.limit }
+    requires size { 0 < size }
+{
+    let mut reader = CaptureReader::new(alloc, case.limit);
+    for piece in case.capture.as_slice().chunks(size) {
+        reader.feed(piece, out)?;
+    }
+    reader.finish()
+}
+
+/// Whether a capture is answered in pieces as it is in one.
+fn agrees_in_pieces(alloc: Global, case: &Case) -> bool
+    requires { 16 ≤ case.now.limit }
+{
+    let mut text = Vec::new(alloc);
+    let whole = normalize_bytes(alloc, case.capture.as_slice(), case.limit, &mut text);
+    for size in PIECES {
+        let mut out = Vec::new(alloc);
+        let outcome = read_pieces(alloc, case, size.max(1), &mut out);
+        if outcome != whole || out.as_slice() != text.as_slice() {
+            return false;
+        }
+    }
+    true
+}
+
 fn main(rt: HostRuntime) -> io::Result<()> {
     let alloc = rt.alloc();
     let mut out = BufWriter::new(alloc, io::writer(&rt))?;
@@ -53,6 +90,9 @@ fn main(rt: HostRuntime) -> io::Result<()> {
         let Some(case) = read_case(alloc, line?.as_str()) else {
             return Err(io::Error::from(ErrorKind::InvalidInput));
         };
+        if !agrees_in_pieces(alloc, &case) {
+            return Err(io::Error::from(ErrorKind::InvalidData));
+        }
         let answer = answer_case(alloc, &case)?;
         writeln!(out, "{answer}")?;
     }

@@ -3,6 +3,7 @@ use Rattle.std.proofs.Common.{◌≡◌, ℕ, ◌+◌, ◌-◌, ◌<◌, ◌≤�
 use Rattle.std.proofs.lemmas.List.{get_or-take, get_or_append_left, drop-append-le, drop-take, take_at, length-take-le}
 use Rattle.netlink_packet_core_grammar.specs.Numbers.{u16_at, u32_at}
 use Rattle.netlink_packet_core_grammar.specs.Frames.{IsFrame, frame_length, frame_type, frame_body}
+use Rattle.netlink_packet_core_grammar.proofs.Numbers.{u32_at-append}
 use Rattle.netlink_packet_core_messages.specs.Headers.{header_of}
 use Rattle.netlink_packet_core_messages.specs.Messages.{read_message, is_frame}
 use Rattle.netlink_packet_core_messages.proofs.Frames.{is_frame-true, is_frame-false}
@@ -51,7 +52,7 @@ body_agrees c rest n l m =
     let s = length-take-le (n - 16) (drop 16 c) (omega (arith, length-drop 16 c)) in
     rw d (take_at (take (n - 16) (drop 16 c)) rest (n - 16) s)
 
-cut_frame : (c rest : List ℕ) → IsFrame c → IsFrame (take (frame_length c) c ++ rest)
+pub cut_frame : (c rest : List ℕ) → IsFrame c → IsFrame (take (frame_length c) c ++ rest)
 cut_frame c rest f =
     let k = length-take-le (frame_length c) c f.within in
     let l = length_agrees _ _ (cut_agrees c rest (frame_length c) f.covers_header f.within) in
@@ -62,14 +63,18 @@ cut_frame c rest f =
       within = omega (arith, l, k, a);
     }
 
+pub past_body : (c rest : List ℕ) → IsFrame c → frame_body (take (frame_length c) c ++ rest) ≡ frame_body c
+past_body c rest f =
+    let l = length_agrees _ _ (cut_agrees c rest (frame_length c) f.covers_header f.within) in
+    ap (λ n. take (n - 16) (drop 16 (take (frame_length c) c ++ rest))) l ∙ body_agrees c rest (frame_length c) f.covers_header f.within
+
 pub past_frame : {V : Type 0} (reads : ℕ → List ℕ → Option V) (c rest : List ℕ) → IsFrame c → read_message reads (take (frame_length c) c ++ rest) ≡ read_message reads c
 past_frame reads c rest f =
     let g = cut_agrees c rest (frame_length c) f.covers_header f.within in
-    let l = length_agrees _ _ g in
     same_reading reads (take (frame_length c) c ++ rest) c
     (is_frame-true _ (cut_frame c rest f) ∙ sym (is_frame-true c f))
     (type_agrees _ _ g)
-    (ap (λ n. take (n - 16) (drop 16 (take (frame_length c) c ++ rest))) l ∙ body_agrees c rest (frame_length c) f.covers_header f.within)
+    (past_body c rest f)
     (header_agrees _ _ g)
 
 cut_length : (c : List ℕ) (n : ℕ) → 16 ≤ n → n ≤ length c → u32_at 0 (take n c) ≡ u32_at 0 c
@@ -87,3 +92,8 @@ none_read reads c e = rw e refl
 
 pub cut_refused : {V : Type 0} (reads : ℕ → List ℕ → Option V) (c : List ℕ) (n : ℕ) → IsFrame c → n < frame_length c → read_message reads (take n c) ≡ None
 cut_refused reads c n f h = none_read reads (take n c) (is_frame-false _ (not_whole c n f h))
+
+pub short_refused : {V : Type 0} (reads : ℕ → List ℕ → Option V) (c rest : List ℕ) → 16 ≤ length c → frame_length c < 16 → read_message reads (c ++ rest) ≡ None
+short_refused reads c rest h l =
+    let n : u32_at 0 (c ++ rest) ≡ u32_at 0 c = u32_at-append c rest (omega arith) in
+    none_read reads (c ++ rest) (is_frame-false _ (λ f. let k = f.covers_header in omega (arith, k, n)))

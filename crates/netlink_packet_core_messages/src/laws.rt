@@ -50,6 +50,21 @@ pub fn finalized_messages_tell<I: NetlinkSerializable>(message: &NetlinkMessage<
     ensures { IsFinalized I.entry (finalized I.entry message.now) }
 {}
 
+/// A whole header whose length is under 16 begins no message, whatever follows it.
+pub fn short_lengths_are_refused<I: NetlinkDeserializable>(header: &[u8], rest: &[u8])
+    requires whole { 16 ≤ length header.now }
+    requires short { frame_length header.now < 16 }
+    ensures { read_message I.reads (header.now ++ rest.now) ≡ None }
+{}
+
+/// The body of a frame is the same whatever follows its length.
+pub fn bodies_end_with_their_frame(frame: &[u8], rest: &[u8])
+    requires { IsFrame frame.now }
+    ensures whole { IsFrame (take (frame_length frame.now) frame.now ++ rest.now) }
+    ensures body { frame_body (take (frame_length frame.now) frame.now ++ rest.now)
+        ≡ frame_body frame.now }
+{}
+
 /// To finalize twice is to finalize once.
 pub fn finalized_twice_is_once<I: NetlinkSerializable>(message: &NetlinkMessage<I>)
     ensures { finalized I.entry (finalized I.entry message.now) ≡ finalized I.entry message.now }

@@ -295,6 +295,7 @@ fn laws_are_seen_on_a_frame(rt: HostRuntime) -> Result<(), Fail> {
     };
     laws::bytes_past_a_frame_change_nothing::<KeptMessage>(bytes, &[]);
     laws::cut_frames_are_refused::<KeptMessage>(bytes, 0);
+    laws::bodies_end_with_their_frame(bytes, &[]);
     let mut message = read(rt.alloc(), bytes)?;
     assert_eq!(rt; message.buffer_len(), 17);
     message.finalize();
@@ -305,6 +306,19 @@ fn laws_are_seen_on_a_frame(rt: HostRuntime) -> Result<(), Fail> {
     assert!(rt; read(rt.alloc(), &bytes[..17])? == message);
     assert!(rt; is_refused(rt.alloc(), &bytes[..16]));
     Ok(())
+}
+
+#[test]
+fn a_short_length_is_refused_whatever_follows(rt: HostRuntime) {
+    let bytes: &[u8] = &[
+        0x0f, 0, 0, 0, 0x14, 0, 0, 0, 0, 0, 0, 0, 0, 0, 0, 0, 0x61, 0, 0, 0,
+    ];
+    let header = &bytes[..16];
+    if NetlinkBuffer::new(header).length() < 16 {
+        laws::short_lengths_are_refused::<KeptMessage>(header, &bytes[16..]);
+    }
+    assert!(rt; is_refused(rt.alloc(), header));
+    assert!(rt; is_refused(rt.alloc(), bytes));
 }
 
 #[test]

@@ -1,7 +1,10 @@
 #!/usr/bin/env bash
-# Compares `linkcap norm` with `cat` over 50 MB of link messages, made from the samples, in one run.
+# Compares `linkcap norm` with `cat` over link messages, in one run.
 #
-#     bench/run.sh [PROGRAM]      PROGRAM: crates/linkcap/out/linkcap where none is given
+#     bench/run.sh [PROGRAM [MEGABYTES [LENGTH]]]
+#
+# PROGRAM is crates/linkcap/out/linkcap where none is given, and MEGABYTES 50. The messages are those of the samples, or
+# RTM_NEWLINK messages of LENGTH bytes (at least 44), with attributes of 36 bytes.
 #
 # It builds nothing and no gate runs it: speed is measured here, and promised nowhere. Each program reads one file and
 # writes another, so that no pipe stands between. Of five rounds, in which the two take turns, the best time and the
@@ -10,7 +13,8 @@ set -euo pipefail
 cd "$(dirname "$0")/.."
 
 program=$(realpath "${1:-crates/linkcap/out/linkcap}")
-wanted=50000000
+wanted=$((${2:-50} * 1000000))
+length=${3:-}
 rounds=5
 # The two dumps twice, the requests once: the mean frame has about 1000 bytes.
 samples=(get-veth notify-vrf get-veth notify-vrf req-veth)
@@ -20,16 +24,35 @@ work=$(mktemp -d)
 trap 'rm -rf "$work"' EXIT
 
 # One capture follows another where the first's size is a multiple of 4.
-files=()
-for sample in "${samples[@]}"; do
-    file=samples/$sample.bin
-    if [ $(($(stat -c %s "$file") % 4)) -ne 0 ]; then
-        echo "$file: its size is no multiple of 4" >&2
-        exit 1
-    fi
-    files+=("$file")
-done
-cat "${files[@]}" > "$work/group"
+make_group() {
+    local files=() sample file
+    for sample in "${samples[@]}"; do
+        file=samples/$sample.bin
+        if [ $(($(stat -c %s "$file") % 4)) -ne 0 ]; then
+            echo "$file: its size is no multiple of 4" >&2
+            exit 1
+        fi
+        files+=("$file")
+    done
+    cat "${files[@]}"
+}
+
+# About 100,000 bytes of messages of one length: a name, and attributes of a kind that no table has.
+make_group_of() {
+    python3 - "$1" <<'PYTHON'
+import struct, sys
+length = int(sys.argv[1])
+attributes, left = struct.pack("<HH4s", 8, 3, b"lo0\0"), length - 40
+while left >= 4:
+    size = 36 if left >= 40 or left == 36 else left
+    attributes += struct.pack("<HH", size, 1000) + bytes(range(size - 4)) + bytes(-size % 4)
+    left -= (size + 3) // 4 * 4
+frame = struct.pack("<IHHII", length, 16, 0, 1, 0) + bytes(16) + attributes
+sys.stdout.buffer.write(frame * max(1, 100000 // len(frame)))
+PYTHON
+}
+
+if [ -n "$length" ]; then make_group_of "$length"; else make_group; fi > "$work/group"
 groups=$(((wanted + $(stat -c %s "$work/group") - 1) / $(stat -c %s "$work/group")))
 for ((i = 0; i < groups; i++)); do cat "$work/group"; done > "$work/input"
 size=$(stat -c %s "$work/input")

@@ -95,28 +95,29 @@ failed_write E R W limit s a out written n fault w p l c k o =
     subst (λ x. OutcomeAt E R W limit s (a ++ take n out) x fault.offset) (sym k) (w, omega (arith, size), part_front a out (texts limit s) n p)
 
 -- a fault of `feed` is the engine's, once what it added is written
-pub fed_fault : (E R W : Type 0) (limit : ℕ) (s p out : List ℕ) (kind : FaultKind) (at : ℕ) → IsOpen (first_fault limit s) → FeedFault limit s p [] out kind at → OutcomeAt E R W limit (s ++ p) (texts limit s ++ out) kind at
-fed_fault E R W limit s p out Cut at o h = absurd h
-fed_fault E R W limit s p out ShortLength at o h = (h.1, all_is limit s (s ++ p) out h.2)
-fed_fault E R W limit s p out OverLimit at o h = (h.1, all_is limit s (s ++ p) out h.2)
-fed_fault E R W limit s p out Refused at o h = (h.1, all_is limit s (s ++ p) out h.2)
-fed_fault E R W limit s p out EmptyPorts at o h = (h.1, all_is limit s (s ++ p) out h.2)
-fed_fault E R W limit s p out Unfit at o h = (h.1, all_is limit s (s ++ p) out h.2)
-fed_fault E R W limit s p out TextOverLimit at o h = (h.1, all_is limit s (s ++ p) out h.2)
-fed_fault E R W limit s p out Memory at o h = (h.1, all_is limit s (take at (s ++ p)) out h.2)
-fed_fault E R W limit s p out Read at o h = absurd h
-fed_fault E R W limit s p out Write at o h = absurd h
-fed_fault E R W limit s p out TooLong at o h =
+pub fed_fault : (E R W : Type 0) (limit : ℕ) (s p out : List ℕ) (kind : FaultKind) (at : ℕ) → length p ≤ 65536 → IsOpen (first_fault limit s) → FeedFault limit s p [] out kind at → OutcomeAt E R W limit (s ++ p) (texts limit s ++ out) kind at
+fed_fault E R W limit s p out Cut at z o h = absurd h
+fed_fault E R W limit s p out ShortLength at z o h = (h.1, all_is limit s (s ++ p) out h.2)
+fed_fault E R W limit s p out OverLimit at z o h = (h.1, all_is limit s (s ++ p) out h.2)
+fed_fault E R W limit s p out Refused at z o h = (h.1, all_is limit s (s ++ p) out h.2)
+fed_fault E R W limit s p out EmptyPorts at z o h = (h.1, all_is limit s (s ++ p) out h.2)
+fed_fault E R W limit s p out Unfit at z o h = (h.1, all_is limit s (s ++ p) out h.2)
+fed_fault E R W limit s p out TextOverLimit at z o h = (h.1, all_is limit s (s ++ p) out h.2)
+fed_fault E R W limit s p out Memory at z o h = (h.1, all_is limit s (take at (s ++ p)) out h.2)
+fed_fault E R W limit s p out Read at z o h = absurd h
+fed_fault E R W limit s p out Write at z o h = absurd h
+fed_fault E R W limit s p out TooLong at z o h =
     let e : take at (s ++ p) ≡ s = take_at s p at (sym h.1) in
     record {
       long = omega (arith, h.0, length-append s p);
       inside = omega (arith, h.1, length-append s p);
+      last = omega (arith, h.1, length-append s p);
       going = subst (λ x. IsOpen (first_fault limit x)) (sym e) o;
       written = ap (λ x. texts limit s ++ x) h.2 ∙ append-nil (texts limit s) ∙ ap (texts limit) (sym e);
     }
-fed_fault E R W limit s p out Failed at o h = absurd h
+fed_fault E R W limit s p out Failed at z o h = absurd h
 
-pub fed_outcome : (E R W : Type 0) (limit : ℕ) (reader : ReaderState) (s p old out : List ℕ) (fault : CaptureFault) → reader.limit ≡ limit → old ≡ [] → StandsFor reader s → FeedErr reader p old out fault → OutcomeAt E R W limit (s ++ p) (texts limit s ++ out) fault.kind fault.offset
-fed_outcome E R W limit reader s p old out fault l e h b =
+pub fed_outcome : (E R W : Type 0) (limit : ℕ) (reader : ReaderState) (s p old out : List ℕ) (fault : CaptureFault) → reader.limit ≡ limit → old ≡ [] → length p ≤ 65536 → StandsFor reader s → FeedErr reader p old out fault → OutcomeAt E R W limit (s ++ p) (texts limit s ++ out) fault.kind fault.offset
+fed_outcome E R W limit reader s p old out fault l e z h b =
     subst (λ n. OutcomeAt E R W n (s ++ p) (texts n s ++ out) fault.kind fault.offset) l
-    (fed_fault E R W reader.limit s p out fault.kind fault.offset (open_from _ s reader.kept reader.owed h.rest) (subst (λ o. FeedFault reader.limit s p o out fault.kind fault.offset) e (b s h)))
+    (fed_fault E R W reader.limit s p out fault.kind fault.offset z (open_from _ s reader.kept reader.owed h.rest) (subst (λ o. FeedFault reader.limit s p o out fault.kind fault.offset) e (b s h)))

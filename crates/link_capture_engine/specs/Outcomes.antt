@@ -1,5 +1,5 @@
 -- What an answer of the engine says of the bytes that were read and of those that were written.
-use Rattle.std.specs.Prelude.{◌<◌, ◌≡◌, ℕ, ◌-◌, ◌^◌, ◌≤◌, min, List, ◌++◌, length, take, Option, None, Some, Result, Ok, Err}
+use Rattle.std.specs.Prelude.{◌<◌, ◌≡◌, ℕ, ◌+◌, ◌-◌, ◌^◌, ◌≤◌, min, List, ◌++◌, length, take, Option, None, Some, Result, Ok, Err}
 use Rattle.std.specs.Io.KnownBytes.{Consumes, Appends}
 use Rattle.link_capture_grammar.specs.declared.fault.FaultKind.{FaultKind}
 use Rattle.link_capture_grammar.specs.declared.fault.FaultKind.TheVariants.{Cut, Memory, Read, Write, TooLong, Failed}
@@ -14,10 +14,12 @@ IsOpen (Some fault) = fault.kind ≡ Cut
 abbrev pub IsPrefix : List ℕ → List ℕ → Type 0
 IsPrefix front whole = (rest : List ℕ) × (whole ≡ front ++ rest)
 
--- More bytes were read than can be counted: all but the last piece were accepted, and their texts are written.
+-- More bytes were read than can be counted. All but the last piece, of at most 65,536 bytes, were accepted, and their
+-- texts are written.
 pub record PassesLength (limit : ℕ) (s w : List ℕ) (at : ℕ) : Type 0 where
   pub long : 2 ^ 64 ≤ length s
   pub inside : at ≤ length s
+  pub last : length s ≤ at + 65536
   pub going : IsOpen (first_fault limit (take at s))
   pub written : w ≡ texts limit (take at s)
 

@@ -1,5 +1,6 @@
 -- what was read and written at each exit
-use Rattle.std.proofs.Common.{◌∙◌, ◌++◌, [], take, refl, sym, ap, subst}
+use Rattle.std.proofs.Common.{◌∙◌, ◌++◌, [], take, refl, sym, ap, subst, arith}
+use Rattle.std.proofs.lemmas.List.{length-take}
 use Rattle.std.proofs.lemmas.Result.{err_from_is_err_and}
 use Rattle.link_capture_engine.proofs.Progress.{nothing_came, fed_front, failed_write, fed_outcome}
 use Rattle.std.specs.Io.KnownBytes.{Appends}
@@ -51,5 +52,5 @@ returns-in_err-fed g c =
       texts c.args.limit s ++ c.feed-fed.new.out.items,
       Consumes-trans _ _ _ s piece came.consumed c.in-Ok.ensures.bytes.0,
       Appends-trans _ _ _ (texts c.args.limit s) c.feed-fed.new.out.items came.wrote (subst (Appends _ _) c.as_slice.ensures.value z.1),
-      fed_outcome _ _ _ c.args.limit c.pieces.reader s piece c.pieces.out.items c.feed-fed.new.out.items c.in_err-fed.field-0.0 came.limit_is i.empty came.stands c.in_err-fed.ensures.fault,
+      fed_outcome _ _ _ c.args.limit c.pieces.reader s piece c.pieces.out.items c.feed-fed.new.out.items c.in_err-fed.field-0.0 came.limit_is i.empty (omega (arith, length-take c.in-Ok.size c.read.new.buffer)) came.stands c.in_err-fed.ensures.fault,
     )

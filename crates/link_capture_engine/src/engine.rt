@@ -81,8 +81,8 @@ pub fn read_all<S: Source>(alloc: Global, source: &mut S) -> Result<Vec<u8>, Cap
     // s was read.
     ensures { (s : List ℕ) × Consumes (S.to_come source.old) (S.to_come source.new) s
         × MatchResult result
-        (λ bytes. TellsItsEnd (S.ends_told source.old) (S.ends_told source.new) (S.to_come source.new)
-        × (bytes.items ≡ s))
+        (λ bytes. (bytes.items ≡ s)
+        × TellsItsEnd (S.ends_told source.old) (S.ends_told source.new) (S.to_come source.new))
         (λ fault. ReadFault (Rises (S.failures source.old) (S.failures source.new)) s fault.kind
         × (fault.offset ≡ length s)) }
 {

@@ -71,7 +71,8 @@ impl CaptureReader {
             × Gains self.old.limit s (s ++ piece.now) out.old.items out.new.items) }
         // A fault is that of the capture with the piece, and the texts before it are in `out`.
         ensures fault { IfErr result (λ fault. (s : List ℕ) → StandsFor self.old s
-            → FeedFault self.old.limit s piece.now out.old.items out.new.items fault.kind fault.offset) }
+            → FeedFault self.old.limit s piece.now out.old.items out.new.items
+            fault.kind fault.offset) }
         // A fault is one for good.
         ensures failed { IfErr result (λ fault. self.new.failed ≡ Some fault.offset) }
         ensures again { IfSome self.old.failed (λ offset.
@@ -113,7 +114,8 @@ impl CaptureReader {
     /// The capture ends here. The answer is `Cut`, at its place, where a frame is cut; after a fault `Failed`, at the
     /// place of that.
     pub fn finish(self) -> Result<(), CaptureFault>
-        ensures ok { OnOk result ((s : List ℕ) → StandsFor self s → first_fault self.limit s ≡ None) }
+        ensures ok { OnOk result
+            ((s : List ℕ) → StandsFor self s → first_fault self.limit s ≡ None) }
         ensures fault { IfErr result (λ fault. (s : List ℕ) → StandsFor self s
             → (fault.kind ≡ FaultKind.Cut) × (first_fault self.limit s ≡ Some fault)) }
         ensures again { IfSome self.failed (λ offset.

@@ -1,3 +1,6 @@
+pub mod IpVlanTypes
+pub mod IpoibTypes
+pub mod RmNetTypes
 pub mod Batadv
 pub mod Ipoib
 pub mod Ipvlan

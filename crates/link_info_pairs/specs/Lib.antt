@@ -1,2 +1,3 @@
+pub mod NetkitTypes
 pub mod Netkit
 pub mod Veth

@@ -5,5 +5,5 @@ mod netkit;
 mod peer;
 mod veth;
 
-pub use netkit::InfoNetkit;
+pub use netkit::{InfoNetkit, NetkitMode, NetkitPolicy, NetkitScrub};
 pub use veth::{InfoVeth, InfoVxcan, PairData};

@@ -1,2 +1,4 @@
+pub mod MacSecTypes
+pub mod MacVlanTypes
 pub mod MacVlan
 pub mod Macsec

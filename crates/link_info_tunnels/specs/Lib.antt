@@ -1,3 +1,6 @@
+pub mod GreTypes
+pub mod IpTunnelTypes
+pub mod IpProtocols
 pub mod Bareudp
 pub mod Gre
 pub mod Gre6

@@ -1,0 +1,2 @@
+pub mod LayerTypes
+pub mod HeaderBytes

@@ -1,0 +1,21 @@
+//! Number types, flag sets and the header of link messages.
+#![tactic(auto)]
+
+pub mod address_family;
+pub mod event;
+pub mod header;
+pub mod link_flag;
+pub mod link_layer_type;
+pub mod link_state;
+pub mod mode;
+pub mod phys_id;
+
+pub use address_family::AddressFamily;
+pub use bitflags::Flags;
+pub use event::LinkEvent;
+pub use header::{LINK_HEADER_LEN, LinkHeader};
+pub use link_flag::LinkFlags;
+pub use link_layer_type::LinkLayerType;
+pub use link_state::State;
+pub use mode::LinkMode;
+pub use phys_id::LinkPhysId;

@@ -6,3 +6,4 @@ pub mod LinkModes
 pub mod Events
 pub mod PhysIds
 pub mod Headers
+pub mod RecordBuffers

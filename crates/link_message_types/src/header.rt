@@ -6,13 +6,15 @@ ghost use Rattle.netlink_packet_core.specs.Errors.{is_memory};
 ghost use Rattle.netlink_packet_core.specs.Numbers.{u16_at, le2, le4};
 ghost use Rattle.link_message_grammar.specs.Body.{header_text};
 ghost use Rattle.link_message_types.specs.AddressFamilies.{address_family_of};
-ghost use Rattle.link_message_types.specs.Headers.{link_header_bytes};
+ghost use Rattle.link_message_types.specs.Headers.{link_header_bytes, link_header_size};
 ghost use Rattle.link_message_types.specs.LinkFlagTypes.{link_flags_bits};
 ghost use Rattle.link_message_types.specs.LinkLayerTypes.{link_layer_type_of};
+
 
 use super::address_family::AddressFamily;
 use super::link_flag::LinkFlags;
 use super::link_layer_type::LinkLayerType;
+use super::record_buffer::{Record, RecordBuffer};
 use bitflags::Flags;
 use netlink_packet_core::{DecodeError, Emitable, fill_u16, fill_u32};
 
@@ -113,3 +115,12 @@ impl Emitable for LinkHeader {
         fill_u32(change_mask, self.change_mask.bits());
     }
 }
+
+impl Record<16> for LinkHeader {
+    ghost has_size = { link_header_size };
+
+    ghost is_ready = { λ _. tt };
+}
+
+/// The 16 bytes of a header.
+pub type LinkMessageBuffer = RecordBuffer<LinkHeader, 16>;

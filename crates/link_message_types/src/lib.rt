@@ -9,13 +9,15 @@ pub mod link_layer_type;
 pub mod link_state;
 pub mod mode;
 pub mod phys_id;
+pub mod record_buffer;
 
 pub use address_family::AddressFamily;
 pub use bitflags::Flags;
 pub use event::LinkEvent;
-pub use header::{LINK_HEADER_LEN, LinkHeader};
+pub use header::{LINK_HEADER_LEN, LinkHeader, LinkMessageBuffer};
 pub use link_flag::LinkFlags;
 pub use link_layer_type::LinkLayerType;
 pub use link_state::State;
 pub use mode::LinkMode;
 pub use phys_id::LinkPhysId;
+pub use record_buffer::{Record, RecordBuffer};

@@ -1,5 +1,6 @@
 -- The 16 bytes of a header.
 use Rattle.std.proofs.Common.{◌≡◌, ℕ, ◌+◌, ◌*◌, ◌^◌, ◌<◌, ◌≤◌, Bool, true, false, List, [], ◌∷◌, ◌++◌, length, take, drop, refl, sym, ap, ◌∙◌, arith, length-append, append-nil}
+use Rattle.std.proofs.Math.ListN.{drop_of_length-le}
 use Rattle.std.proofs.Math.Seq.{take-add}
 use Rattle.std.proofs.lemmas.List.{drop-drop}
 use Rattle.std.specs.Prelude.{cond, slice_index}
@@ -55,3 +56,8 @@ header_text_of h b s f t i g m =
     let numbers : take 12 r ≡ take 4 r ++ (take 4 (drop 8 b) ++ take 4 (drop 12 b)) = take-add 4 8 r ∙ ap (λ x. take 4 r ++ x) (take-add 4 4 (drop 4 r) ∙ ap (λ x. take 4 x ++ take 4 (drop 4 x)) (drop-drop 4 4 b) ∙ ap (λ x. take 4 (drop 8 b) ++ take 4 x) (drop-drop 4 8 b)) in
     let text = header_is b s in
     cc
+
+-- a header written into 16 bytes is all of them
+pub whole_header : (h : LinkHeader) (old new : List ℕ) → length old ≡ 16 → new ≡ link_header_bytes h ++ drop (length (link_header_bytes h)) old → new ≡ link_header_bytes h
+whole_header h old new l e =
+    e ∙ ap (λ x. link_header_bytes h ++ x) (drop_of_length-le old (omega (arith, length-link_header_bytes h))) ∙ append-nil (link_header_bytes h)

@@ -1,5 +1,5 @@
 -- The header of a link message (rtnetlink.h, struct ifinfomsg).
-use Rattle.std.specs.Prelude.{◌≡◌, ℕ, List, [], ◌∷◌, ◌++◌, length, refl}
+use Rattle.std.specs.Prelude.{ℕ, List, [], ◌∷◌, ◌++◌}
 use Rattle.netlink_packet_core.specs.Numbers.{le2, le4}
 use Rattle.link_message_types.specs.AddressFamilies.{address_family_number}
 use Rattle.link_message_types.specs.LinkFlagTypes.{link_flags_bits}
@@ -12,7 +12,3 @@ link_header_bytes h =
     (address_family_number h.interface_family ∷ 0 ∷ [])
     ++ (le2 (link_layer_type_number h.link_layer_type)
     ++ (le4 h.index ++ (le4 (link_flags_bits h.flags) ++ le4 (link_flags_bits h.change_mask))))
-
-pub link_header_size : (h : LinkHeader) → length (link_header_bytes h) ≡ 16
-unfolding link_header_bytes le2 le4
-link_header_size h = refl

@@ -6,7 +6,7 @@ ghost use Rattle.netlink_packet_core.specs.Errors.{is_memory};
 ghost use Rattle.netlink_packet_core.specs.Numbers.{u16_at, le2, le4};
 ghost use Rattle.link_message_grammar.specs.Body.{header_text};
 ghost use Rattle.link_message_types.specs.AddressFamilies.{address_family_of};
-ghost use Rattle.link_message_types.specs.Headers.{link_header_bytes, link_header_size};
+ghost use Rattle.link_message_types.specs.Headers.{link_header_bytes};
 ghost use Rattle.link_message_types.specs.LinkFlagTypes.{link_flags_bits};
 ghost use Rattle.link_message_types.specs.LinkLayerTypes.{link_layer_type_of};
 
@@ -117,9 +117,12 @@ impl Emitable for LinkHeader {
 }
 
 impl Record<16> for LinkHeader {
-    ghost has_size = { link_header_size };
-
-    ghost is_ready = { λ _. tt };
+    #[tactic(auto, using(crate::proofs::HeaderBytes::headers))]
+    fn to_bytes(&self) -> [u8; 16] {
+        let mut bytes = [0; 16];
+        self.emit(&mut bytes);
+        bytes
+    }
 }
 
 /// The 16 bytes of a header.

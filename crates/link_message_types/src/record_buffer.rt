@@ -8,11 +8,9 @@ use std::marker::PhantomData;
 
 /// A value that is always written as `N` bytes.
 pub trait Record<const N: usize>: Emitable {
-    /// It has so many bytes.
-    ghost has_size: { (v : Self) → length (Self.text v) ≡ N };
-
-    /// It can always be written.
-    ghost is_ready: { (v : Self) → Self.can_emit v };
+    /// The bytes that it is written as.
+    fn to_bytes(&self) -> [u8; N]
+        ensures { result ≡ Self.text self.now };
 }
 
 /// The `N` bytes of a record.
@@ -26,10 +24,8 @@ impl<R: Record<N>, const N: usize> From<&R> for RecordBuffer<R, N> {
     ghost from_gives = { λ v b. record_bytes b ≡ R.text v.now };
 
     fn from(value: &R) -> Self {
-        let mut bytes = [0; N];
-        value.emit(&mut bytes);
         RecordBuffer {
-            bytes,
+            bytes: value.to_bytes(),
             record: PhantomData,
         }
     }

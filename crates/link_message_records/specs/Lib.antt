@@ -1,0 +1,3 @@
+pub mod VfRecords
+pub mod Maps
+pub mod CacheInfos

@@ -1,0 +1,18 @@
+//! Records of link messages: payloads that are written with a fixed size.
+#![tactic(auto)]
+
+pub mod cache_info;
+pub mod fields;
+pub mod map;
+pub mod record;
+pub mod vf;
+
+pub use cache_info::{Inet6CacheInfo, Inet6CacheInfoBuffer};
+pub use fields::Fields;
+pub use map::{Map, MapBuffer};
+pub use record::FieldRecord;
+pub use vf::{
+    VfInfoBroadcast, VfInfoBroadcastBuffer, VfInfoLinkState, VfInfoLinkStateBuffer, VfInfoMac,
+    VfInfoMacBuffer, VfInfoRate, VfInfoRateBuffer, VfInfoTxRate, VfInfoTxRateBuffer, VfInfoVlan,
+    VfInfoVlanBuffer, VfVlanInfo,
+};

@@ -1,0 +1,9 @@
+pub mod Props
+pub mod Xdp
+pub mod DownReasons
+pub mod Devlink
+pub mod Dpll
+pub mod Mctp
+pub mod VfStatistics
+pub mod VfPorts
+pub mod ProtocolInfos

@@ -4,6 +4,4 @@ pub mod DownReasons
 pub mod Devlink
 pub mod Dpll
 pub mod Mctp
-pub mod VfStatistics
-pub mod VfPorts
 pub mod ProtocolInfos

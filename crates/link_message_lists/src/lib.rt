@@ -7,8 +7,6 @@ mod dpll;
 mod mctp;
 mod prop;
 mod proto_info;
-mod vf_port;
-mod vf_stats;
 mod xdp;
 
 pub use devlink::DevlinkPort;
@@ -17,6 +15,4 @@ pub use dpll::DpllPin;
 pub use mctp::AfSpecMctp;
 pub use prop::Prop;
 pub use proto_info::LinkProtoInfoInet6;
-pub use vf_port::VfPort;
-pub use vf_stats::VfStats;
 pub use xdp::LinkXdp;

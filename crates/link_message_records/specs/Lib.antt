@@ -1,3 +1,4 @@
 pub mod VfRecords
 pub mod Maps
 pub mod CacheInfos
+pub mod VfSettings

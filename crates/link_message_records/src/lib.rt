@@ -6,6 +6,7 @@ pub mod fields;
 pub mod map;
 pub mod record;
 pub mod vf;
+pub mod vf_setting;
 
 pub use cache_info::{Inet6CacheInfo, Inet6CacheInfoBuffer};
 pub use fields::Fields;
@@ -15,4 +16,8 @@ pub use vf::{
     VfInfoBroadcast, VfInfoBroadcastBuffer, VfInfoLinkState, VfInfoLinkStateBuffer, VfInfoMac,
     VfInfoMacBuffer, VfInfoRate, VfInfoRateBuffer, VfInfoTxRate, VfInfoTxRateBuffer, VfInfoVlan,
     VfInfoVlanBuffer, VfVlanInfo,
+};
+pub use vf_setting::{
+    VfInfoRssQueryEn, VfInfoRssQueryEnBuffer, VfInfoSetting, VfInfoSpoofCheck,
+    VfInfoSpoofCheckBuffer, VfInfoTrust, VfInfoTrustBuffer,
 };

@@ -4,8 +4,8 @@ use Rattle.netlink_packet_core.specs.Families.{attribute}
 use Rattle.netlink_packet_core.specs.Numbers.{le8}
 use Rattle.attribute_tables_grammar.specs.LookUps.{has_no_row}
 use Rattle.link_message_grammar.specs.NestedTables.{vf_stats}
-use Rattle.link_message_lists.specs.declared.vf_stats.VfStats.{VfStats}
-use Rattle.link_message_lists.specs.declared.vf_stats.VfStats.TheVariants.{RxPackets, TxPackets, RxBytes, TxBytes, Broadcast, Multicast, RxDropped, TxDropped, Other}
+use Rattle.link_message_virtual_functions.specs.declared.vf_stats.VfStats.{VfStats}
+use Rattle.link_message_virtual_functions.specs.declared.vf_stats.VfStats.TheVariants.{RxPackets, TxPackets, RxBytes, TxBytes, Broadcast, Multicast, RxDropped, TxDropped, Other}
 
 abbrev pub vf_stats_entry : VfStats → Attribute
 vf_stats_entry (RxPackets n) = attribute 0 (le8 n)

@@ -2,7 +2,7 @@
 
 ghost use Rattle.std.specs.Prelude.{⊤, refl};
 ghost use Rattle.attribute_tables_grammar.specs.Tables.{Table.end};
-ghost use Rattle.link_message_lists.specs.VfPorts.{vf_port_entry};
+ghost use Rattle.link_message_virtual_functions.specs.VfPorts.{vf_port_entry};
 
 use netlink_packet_core::{DecodeError, DefaultNla, Family, Field, FieldNla, Nla};
 use std::alloc::Global;

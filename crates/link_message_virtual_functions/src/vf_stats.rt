@@ -2,7 +2,7 @@
 
 ghost use Rattle.std.specs.Prelude.{refl};
 ghost use Rattle.link_message_grammar.specs.NestedTables.{vf_stats};
-ghost use Rattle.link_message_lists.specs.VfStatistics.{vf_stats_entry, vf_stats_names_row};
+ghost use Rattle.link_message_virtual_functions.specs.VfStatistics.{vf_stats_entry, vf_stats_names_row};
 
 use attribute_tables::typed;
 use netlink_packet_core::{DecodeError, DefaultNla, Family, Field, FieldNla, Nla, parse_u64};

@@ -6,7 +6,7 @@ ghost use Rattle.netlink_packet_core_grammar.specs.AttributeViews.{viewed_attrib
 ghost use Rattle.netlink_packet_core.specs.Errors.{is_memory};
 ghost use Rattle.netlink_packet_core.specs.NlaBuffers.{storage};
 ghost use Rattle.netlink_packet_core.specs.Lists.{text_by, all_fit_by};
-ghost use Rattle.attribute_tables_grammar.specs.Lists.{Row, rewrite, of_kind_one, is_of_kind_one, without_context};
+ghost use Rattle.attribute_tables_grammar.specs.Lists.{Row, rewrite, of_kind_one, ports, is_of_kind_one, without_context};
 ghost use Rattle.attribute_tables_grammar.specs.LookUps.{rows_rule, only_one};
 ghost use Rattle.attribute_tables_grammar.specs.Readings.{reading_as};
 ghost use Rattle.attribute_tables.specs.Written.{written_as};
@@ -74,4 +74,35 @@ pub fn parse_entries<R: EntryReader>(
         rest = skip_first(rest);
     }
     Ok(list)
+}
+
+/// Reads a list of which the attributes of kind 1 are kept, and which has an attribute of any kind
+/// in it. It succeeds exactly where the list is accepted, memory aside.
+#[tactic(auto, using(crate::proofs::Ports::port_lists))]
+pub fn parse_ports<R: EntryReader>(
+    alloc: Global,
+    reader: &R,
+    bytes: &[u8],
+) -> Result<Vec<R::Value>, DecodeError>
+    ensures ok { OnOk result
+        (IsTrue ((rows_rule ports (only_one (R.entry_row reader.now))).accepted bytes.now)) }
+    ensures read { IfOk result
+        (λ v. reading_as ports (without_context (only_one (R.entry_row reader.now))) bytes.now
+        ≡ Some (map (written_as R.Value.entry R.Value.inside_fits) v.items)) }
+    ensures text { IfOk result
+        (λ v. text_by R.Value.entry v.items
+        ≡ (rows_rule ports (only_one (R.entry_row reader.now))).canonical bytes.now) }
+    ensures fits { IfOk result
+        (λ v. all_fit_by R.Value.entry R.Value.inside_fits v.items
+        ≡ (rows_rule ports (only_one (R.entry_row reader.now))).fits bytes.now) }
+    ensures names_row { IfOk result (λ v. All (R.names_row reader.now) v.items) }
+    ensures err { IfErr result
+        (λ e. is_memory e ≡ false
+        → (rows_rule ports (only_one (R.entry_row reader.now))).accepted bytes.now ≡ false) }
+    ensures not_empty { IfErr result (λ e. is_memory e ≡ true → 0 < length bytes.now) }
+{
+    if bytes.is_empty() {
+        return Err(DecodeError::from("a list of ports without an attribute"));
+    }
+    parse_entries(alloc, reader, bytes)
 }

@@ -5,7 +5,7 @@ mod entries;
 mod family;
 mod reader;
 
-pub use entries::{EntryReader, parse_entries};
+pub use entries::{EntryReader, parse_entries, parse_ports};
 pub use family::{FamilyReader, parse_family, parse_first};
 pub use reader::{Reader, parse_list};
 

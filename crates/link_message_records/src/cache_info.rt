@@ -53,6 +53,8 @@ impl FieldRecord<16> for Inet6CacheInfo {
 
     ghost record_text = { inet_6_cache_info_bytes };
 
+    ghost is_named = { λ _. ⊤ };
+
     fn from_fields((max_reasm_len, (tstamp, (reachable_time, retrans_time))): Self::Fields) -> Self {
         Self {
             max_reasm_len,

@@ -57,6 +57,8 @@ impl FieldRecord<32> for Map {
 
     ghost record_text = { map_bytes };
 
+    ghost is_named = { λ _. ⊤ };
+
     fn from_fields((memory_start, (memory_end, (base_address, (irq, (dma, port))))): Self::Fields) -> Self {
         Self {
             memory_start,

@@ -22,9 +22,13 @@ pub trait FieldRecord<const N: usize>: Sized {
     /// The bytes that a record is written as.
     ghost record_text: { Self → List ℕ };
 
+    /// Each number in it that has a name is held as what it names.
+    ghost is_named: { Self → Type 0 };
+
     /// The record with these fields.
     fn from_fields(fields: Self::Fields) -> Self
-        ensures { fields_of result ≡ fields };
+        ensures fields { fields_of result ≡ fields }
+        ensures named { is_named result };
 
     /// The fields.
     fn fields(&self) -> Self::Fields
@@ -37,6 +41,7 @@ pub trait FieldRecord<const N: usize>: Sized {
             (λ v. record_text v
             ≡ spelling (fixed_record Self.Fields.size N)
             (meaning (fixed_record Self.Fields.size N) payload.now)) }
+        ensures named { IfOk result (λ v. is_named v) }
         ensures err { IfErr result (λ e. is_memory e ≡ false) }
     {
         match Self::Fields::read_front(payload) {

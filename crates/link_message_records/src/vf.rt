@@ -4,8 +4,8 @@ ghost use Rattle.std.specs.Prelude.{◌≡◌, ⊤, refl, take, length, ◌++◌
 ghost use Rattle.std.proofs.Common.{append-nil, sym};
 ghost use Rattle.netlink_packet_core.specs.Attributes.{zeros};
 ghost use Rattle.netlink_packet_core.specs.Numbers.{be2};
-ghost use Rattle.link_message_types.specs.VfTypes.{vf_link_state_number};
-ghost use Rattle.link_message_types.specs.VlanTypes.{vlan_protocol_number};
+ghost use Rattle.link_message_types.specs.VfTypes.{vf_link_state_number, vf_link_state_of};
+ghost use Rattle.link_message_types.specs.VlanTypes.{vlan_protocol_number, vlan_protocol_of};
 ghost use Rattle.link_message_records.specs.VfRecords.{vf_info_vlan_bytes, vf_info_tx_rate_bytes, vf_info_rate_bytes, vf_info_link_state_bytes, vf_info_mac_bytes, vf_info_broadcast_bytes, vf_vlan_info_bytes};
 
 use super::record::{FieldRecord, bytes_of, write_record};
@@ -65,6 +65,8 @@ impl FieldRecord<12> for VfInfoVlan {
     ghost padding = { 0 };
 
     ghost record_text = { vf_info_vlan_bytes };
+
+    ghost is_named = { λ _. ⊤ };
 
     fn from_fields((vf_id, (vlan_id, qos)): Self::Fields) -> Self {
         Self {
@@ -136,6 +138,8 @@ impl FieldRecord<8> for VfInfoTxRate {
     ghost padding = { 0 };
 
     ghost record_text = { vf_info_tx_rate_bytes };
+
+    ghost is_named = { λ _. ⊤ };
 
     fn from_fields((vf_id, rate): Self::Fields) -> Self {
         Self {
@@ -210,6 +214,8 @@ impl FieldRecord<12> for VfInfoRate {
 
     ghost record_text = { vf_info_rate_bytes };
 
+    ghost is_named = { λ _. ⊤ };
+
     fn from_fields((vf_id, (min_tx_rate, max_tx_rate)): Self::Fields) -> Self {
         Self {
             vf_id,
@@ -280,6 +286,8 @@ impl FieldRecord<8> for VfInfoLinkState {
     ghost padding = { 0 };
 
     ghost record_text = { vf_info_link_state_bytes };
+
+    ghost is_named = { λ v. v.state ≡ vf_link_state_of (vf_link_state_number v.state) };
 
     fn from_fields((vf_id, state): Self::Fields) -> Self {
         Self {
@@ -355,6 +363,8 @@ impl FieldRecord<36> for VfInfoMac {
 
     ghost record_text = { vf_info_mac_bytes };
 
+    ghost is_named = { λ _. ⊤ };
+
     fn from_fields((vf_id, mac): Self::Fields) -> Self {
         Self {
             vf_id,
@@ -424,6 +434,8 @@ impl FieldRecord<32> for VfInfoBroadcast {
     ghost padding = { 0 };
 
     ghost record_text = { vf_info_broadcast_bytes };
+
+    ghost is_named = { λ _. ⊤ };
 
     fn from_fields(addr: Self::Fields) -> Self {
         Self {
@@ -500,6 +512,8 @@ impl FieldRecord<16> for VfVlanInfo {
     ghost padding = { 2 };
 
     ghost record_text = { vf_vlan_info_bytes };
+
+    ghost is_named = { λ v. v.protocol ≡ vlan_protocol_of (vlan_protocol_number v.protocol) };
 
     #[tactic(auto, using(std::proofs::lemmas::Nat::be_bytes_2), unfolding(netlink_packet_core_grammar::specs::Numbers::be2))]
     fn from_fields((vf_id, (vlan_id, (qos, protocol))): Self::Fields) -> Self {

@@ -1,5 +1,6 @@
 -- Fields one after another, read and written.
-use Rattle.std.proofs.Common.{◌≡◌, ℕ, ◌+◌, ◌-◌, List, ◌++◌, length, take, drop, refl, sym, ap, ◌∙◌, arith, append_assoc, length-append, length-drop}
+use Rattle.std.proofs.Common.{◌≡◌, ℕ, ◌+◌, ◌-◌, List, ◌++◌, length, take, drop, refl, sym, ap, ◌∙◌, arith, append_assoc, length-append, length-drop, append-nil}
+use Rattle.std.proofs.Math.ListN.{drop_of_length-le}
 use Rattle.std.proofs.Math.Seq.{take-add}
 use Rattle.std.proofs.lemmas.List.{drop-drop, take_at, drop_at}
 use Rattle.netlink_packet_core_grammar.specs.Attributes.{zeros}
@@ -27,3 +28,9 @@ pub both_sizes : (a b : List ℕ) → length (a ++ b) ≡ length a + length b
 both_sizes a b = length-append a b
 
 pub ruleset pairs = (both_sizes)
+
+-- nothing is left of a buffer that a text fills
+pub whole_text : (t b : List ℕ) → length b ≡ length t → t ++ drop (length t) b ≡ t
+whole_text t b e = ap (λ x. t ++ x) (drop_of_length-le b (omega arith)) ∙ append-nil t
+
+pub ruleset whole_texts = (whole_text)

@@ -11,7 +11,7 @@ pub mod vf_setting;
 pub use cache_info::{Inet6CacheInfo, Inet6CacheInfoBuffer};
 pub use fields::Fields;
 pub use map::{Map, MapBuffer};
-pub use record::FieldRecord;
+pub use record::{FieldRecord, emit_record};
 pub use vf::{
     VfInfoBroadcast, VfInfoBroadcastBuffer, VfInfoLinkState, VfInfoLinkStateBuffer, VfInfoMac,
     VfInfoMacBuffer, VfInfoRate, VfInfoRateBuffer, VfInfoTxRate, VfInfoTxRateBuffer, VfInfoVlan,

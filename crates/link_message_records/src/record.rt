@@ -6,7 +6,7 @@ ghost use Rattle.netlink_packet_core.specs.Errors.{is_memory};
 ghost use Rattle.attribute_tables_grammar.specs.Shapes.{Shape, accepts, meaning, spelling, fixed_record};
 
 use super::fields::Fields;
-use netlink_packet_core::DecodeError;
+use netlink_packet_core::{DecodeError, Emitable};
 
 /// A record that is its fields, one after another, and zeros behind them: `N` bytes in all.
 pub trait FieldRecord<const N: usize>: Sized {
@@ -75,6 +75,16 @@ pub(crate) fn bytes_of<R: FieldRecord<N>, const N: usize>(record: &R) -> [u8; N]
     let mut bytes = [0; N];
     write_record(record, &mut bytes);
     bytes
+}
+
+/// Writes a value into a buffer of its size.
+#[tactic(auto, using(crate::proofs::Pairs::whole_texts))]
+pub fn emit_record<R: Emitable>(record: &R, buffer: &mut [u8])
+    requires ready { R.can_emit record.now }
+    requires room { length buffer.old ≡ length (R.text record.now) }
+    ensures { buffer.new ≡ R.text record.now }
+{
+    record.emit(buffer);
 }
 
 /// Writes zeros all over a buffer.

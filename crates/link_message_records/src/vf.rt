@@ -327,7 +327,7 @@ impl VfInfoMac {
     {
         Self {
             vf_id,
-            mac: resized(mac),
+            mac: filled(mac),
         }
     }
 }
@@ -399,7 +399,7 @@ impl VfInfoBroadcast {
         ensures { result.addr ≡ take 32 (addr.now ++ zeros 32) }
     {
         Self {
-            addr: resized(addr),
+            addr: filled(addr),
         }
     }
 }
@@ -539,11 +539,11 @@ impl FieldRecord<16> for VfVlanInfo {
 pub(crate) type VfVlanInfoBuffer = RecordBuffer<VfVlanInfo, 16>;
 
 /// The first `N` of some bytes, and zeros where there are fewer.
-fn resized<const N: usize>(bytes: &[u8]) -> [u8; N]
+pub(crate) fn filled<const N: usize>(bytes: &[u8]) -> [u8; N]
     ensures { result ≡ take N (bytes.now ++ zeros N) }
 {
-    let mut resized = [0; N];
+    let mut filled = [0; N];
     let count = bytes.len().min(N);
-    resized[..count].copy_from_slice(&bytes[..count]);
-    resized
+    filled[..count].copy_from_slice(&bytes[..count]);
+    filled
 }

@@ -5,7 +5,9 @@ ghost use Rattle.link_message_grammar.specs.NestedTables.{devlink_port};
 ghost use Rattle.link_message_lists.specs.Devlink.{devlink_port_entry, devlink_port_names_row};
 
 use attribute_tables::typed;
-use netlink_packet_core::{DecodeError, DefaultNla, Family, Field, FieldNla, Nla, parse_string, parse_u32};
+use netlink_packet_core::{
+    DecodeError, DefaultNla, Family, Field, FieldNla, Nla, parse_string, parse_u32,
+};
 use std::alloc::Global;
 
 const DEVLINK_ATTR_BUS_NAME: u16 = 1;

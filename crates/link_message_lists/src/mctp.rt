@@ -5,8 +5,10 @@ ghost use Rattle.link_message_grammar.specs.NestedTables.{mctp};
 ghost use Rattle.link_message_lists.specs.Mctp.{af_spec_mctp_entry, af_spec_mctp_names_row};
 
 use attribute_tables::typed;
-use link_message_types::{MctpPhysBinding};
-use netlink_packet_core::{DecodeError, DefaultNla, Family, Field, FieldNla, Nla, parse_u32, parse_u8};
+use link_message_types::MctpPhysBinding;
+use netlink_packet_core::{
+    DecodeError, DefaultNla, Family, Field, FieldNla, Nla, parse_u8, parse_u32,
+};
 use std::alloc::Global;
 
 const IFLA_MCTP_NET: u16 = 1;

@@ -5,8 +5,10 @@ ghost use Rattle.link_message_grammar.specs.NestedTables.{xdp};
 ghost use Rattle.link_message_lists.specs.Xdp.{link_xdp_entry, link_xdp_names_row};
 
 use attribute_tables::typed;
-use link_message_types::{XdpAttached};
-use netlink_packet_core::{DecodeError, DefaultNla, Family, Field, FieldNla, Nla, parse_i32, parse_u32, parse_u8};
+use link_message_types::XdpAttached;
+use netlink_packet_core::{
+    DecodeError, DefaultNla, Family, Field, FieldNla, Nla, parse_i32, parse_u8, parse_u32,
+};
 use std::alloc::Global;
 
 const IFLA_XDP_FD: u16 = 1;

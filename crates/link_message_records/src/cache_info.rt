@@ -55,7 +55,9 @@ impl FieldRecord<16> for Inet6CacheInfo {
 
     ghost is_named = { λ _. ⊤ };
 
-    fn from_fields((max_reasm_len, (tstamp, (reachable_time, retrans_time))): Self::Fields) -> Self {
+    fn from_fields(
+        (max_reasm_len, (tstamp, (reachable_time, retrans_time))): Self::Fields,
+    ) -> Self {
         Self {
             max_reasm_len,
             tstamp,
@@ -65,7 +67,10 @@ impl FieldRecord<16> for Inet6CacheInfo {
     }
 
     fn fields(&self) -> Self::Fields {
-        (self.max_reasm_len, (self.tstamp, (self.reachable_time, self.retrans_time)))
+        (
+            self.max_reasm_len,
+            (self.tstamp, (self.reachable_time, self.retrans_time)),
+        )
     }
 
     ghost has_room = { refl };

@@ -59,7 +59,9 @@ impl FieldRecord<32> for Map {
 
     ghost is_named = { λ _. ⊤ };
 
-    fn from_fields((memory_start, (memory_end, (base_address, (irq, (dma, port))))): Self::Fields) -> Self {
+    fn from_fields(
+        (memory_start, (memory_end, (base_address, (irq, (dma, port))))): Self::Fields,
+    ) -> Self {
         Self {
             memory_start,
             memory_end,
@@ -71,7 +73,13 @@ impl FieldRecord<32> for Map {
     }
 
     fn fields(&self) -> Self::Fields {
-        (self.memory_start, (self.memory_end, (self.base_address, (self.irq, (self.dma, self.port)))))
+        (
+            self.memory_start,
+            (
+                self.memory_end,
+                (self.base_address, (self.irq, (self.dma, self.port))),
+            ),
+        )
     }
 
     ghost has_room = { refl };

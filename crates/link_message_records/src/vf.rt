@@ -31,7 +31,11 @@ impl VfInfoVlan {
         ensures vlan_id { result.vlan_id ≡ vlan_id }
         ensures qos { result.qos ≡ qos }
     {
-        Self { vf_id, vlan_id, qos }
+        Self {
+            vf_id,
+            vlan_id,
+            qos,
+        }
     }
 }
 
@@ -142,10 +146,7 @@ impl FieldRecord<8> for VfInfoTxRate {
     ghost is_named = { λ _. ⊤ };
 
     fn from_fields((vf_id, rate): Self::Fields) -> Self {
-        Self {
-            vf_id,
-            rate,
-        }
+        Self { vf_id, rate }
     }
 
     fn fields(&self) -> Self::Fields {
@@ -179,7 +180,11 @@ impl VfInfoRate {
         ensures min_tx_rate { result.min_tx_rate ≡ min_tx_rate }
         ensures max_tx_rate { result.max_tx_rate ≡ max_tx_rate }
     {
-        Self { vf_id, min_tx_rate, max_tx_rate }
+        Self {
+            vf_id,
+            min_tx_rate,
+            max_tx_rate,
+        }
     }
 }
 
@@ -366,10 +371,7 @@ impl FieldRecord<36> for VfInfoMac {
     ghost is_named = { λ _. ⊤ };
 
     fn from_fields((vf_id, mac): Self::Fields) -> Self {
-        Self {
-            vf_id,
-            mac,
-        }
+        Self { vf_id, mac }
     }
 
     fn fields(&self) -> Self::Fields {
@@ -398,9 +400,7 @@ impl VfInfoBroadcast {
     pub fn new(addr: &[u8]) -> Self
         ensures { result.addr ≡ take 32 (addr.now ++ zeros 32) }
     {
-        Self {
-            addr: filled(addr),
-        }
+        Self { addr: filled(addr) }
     }
 }
 
@@ -438,9 +438,7 @@ impl FieldRecord<32> for VfInfoBroadcast {
     ghost is_named = { λ _. ⊤ };
 
     fn from_fields(addr: Self::Fields) -> Self {
-        Self {
-            addr,
-        }
+        Self { addr }
     }
 
     fn fields(&self) -> Self::Fields {
@@ -478,7 +476,12 @@ impl VfVlanInfo {
         ensures qos { result.qos ≡ qos }
         ensures protocol { result.protocol ≡ protocol }
     {
-        Self { vf_id, vlan_id, qos, protocol }
+        Self {
+            vf_id,
+            vlan_id,
+            qos,
+            protocol,
+        }
     }
 }
 
@@ -527,7 +530,13 @@ impl FieldRecord<16> for VfVlanInfo {
 
     #[tactic(auto, unfolding(netlink_packet_core_grammar::specs::Numbers::be2))]
     fn fields(&self) -> Self::Fields {
-        (self.vf_id, (self.vlan_id, (self.qos, u16::from(self.protocol).to_be_bytes())))
+        (
+            self.vf_id,
+            (
+                self.vlan_id,
+                (self.qos, u16::from(self.protocol).to_be_bytes()),
+            ),
+        )
     }
 
     ghost has_room = { refl };

@@ -10,7 +10,6 @@ ghost use Rattle.link_message_types.specs.Headers.{link_header_bytes};
 ghost use Rattle.link_message_types.specs.LinkFlagTypes.{link_flags_bits};
 ghost use Rattle.link_message_types.specs.LinkLayerTypes.{link_layer_type_of};
 
-
 use super::address_family::AddressFamily;
 use super::link_flag::LinkFlags;
 use super::link_layer_type::LinkLayerType;

@@ -5,8 +5,8 @@ ghost use Rattle.std.specs.Prelude.{⊤};
 ghost use Rattle.link_message_types.specs.Inet6Types.{inet_6_iface_flags_bits, inet_6_iface_flags_table};
 ghost use Rattle.link_message_types.specs.Inet6Types.{in_6_addr_gen_mode_number, in_6_addr_gen_mode_of, in_6_addr_gen_mode_text};
 
-use std::fmt;
 use bitflags::{Flag, Flags};
+use std::fmt;
 
 /// How a link makes its own addresses, `IN6_ADDR_GEN_MODE_*` of `linux/if_link.h`. On the wire 1
 /// byte.

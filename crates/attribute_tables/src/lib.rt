@@ -1,9 +1,11 @@
 // Lists of attributes of one table, read into typed values.
 #![tactic(auto)]
 
+mod entries;
 mod family;
 mod reader;
 
+pub use entries::{EntryReader, parse_entries, parse_ports};
 pub use family::{FamilyReader, parse_family, parse_first};
 pub use reader::{Reader, parse_list};
 

@@ -1,3 +1,4 @@
+pub mod NestedTables
 pub mod LinkMessage
 pub mod Body
 pub mod Laws

@@ -1,0 +1,15 @@
+-- What was read, followed by the reading of the rest, is the reading of the whole.
+use Rattle.std.proofs.Common.{◌≤◌, length}
+use Rattle.std.specs.List.{All}
+use Rattle.attribute_tables.proofs.KeptEntries.{Entries}
+use Rattle.attribute_tables.proofs.entries.parse_entries.Given as goal
+
+abbrev pub invariant-loop-rest : goal.invariant-loop-rest
+invariant-loop-rest g l = record {
+  so_far : Entries (g.R.EntryReader.entry_row l.reader) g.R.Value.Nla.entry g.R.Value.Nla.inside_fits l.bytes l.list.items l.rest;
+  names_row : All (g.R.EntryReader.names_row l.reader) l.list.items;
+  within : length l.rest ≤ length l.bytes;
+}
+
+abbrev pub decreases-loop-rest : goal.decreases-loop-rest
+decreases-loop-rest g l = length l.rest

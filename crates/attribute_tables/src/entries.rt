@@ -1,0 +1,108 @@
+//! Lists of which the attributes of kind 1 alone are kept.
+
+ghost use Rattle.std.specs.Prelude.{◌≡◌, ◌<◌, ℕ, List, Bool, true, false, length, map, Some, IsTrue, IfOk, IfErr, OnOk};
+ghost use Rattle.std.specs.List.{All};
+ghost use Rattle.netlink_packet_core_grammar.specs.AttributeViews.{viewed_attribute, viewed_payload, IsAttribute};
+ghost use Rattle.netlink_packet_core.specs.Errors.{is_memory};
+ghost use Rattle.netlink_packet_core.specs.NlaBuffers.{storage};
+ghost use Rattle.netlink_packet_core.specs.Lists.{text_by, all_fit_by};
+ghost use Rattle.attribute_tables_grammar.specs.Lists.{Row, rewrite, of_kind_one, ports, is_of_kind_one, without_context};
+ghost use Rattle.attribute_tables_grammar.specs.LookUps.{rows_rule, only_one};
+ghost use Rattle.attribute_tables_grammar.specs.Readings.{reading_as};
+ghost use Rattle.attribute_tables.specs.Written.{written_as};
+
+use netlink_packet_core::{DecodeError, Nla, NlaBuffer, skip_first};
+use std::alloc::Global;
+
+/// The kind of the entries that are kept.
+const ENTRY: u16 = 1;
+
+/// A reader of the entries of a list that keeps those of kind 1 alone.
+pub trait EntryReader {
+    type Value: Nla + Drop;
+
+    /// The row of kind 1.
+    ghost entry_row: { Self → Row };
+
+    /// The value is the one that its row names.
+    ghost names_row: { Self → Self.Value → Type 0 };
+
+    /// Reads one entry.
+    fn read(&self, alloc: Global, buf: &NlaBuffer<&[u8]>) -> Result<Self::Value, DecodeError>
+        requires whole { IsAttribute (storage buf.now).now }
+        requires one { is_of_kind_one (viewed_attribute (storage buf.now).now) ≡ true }
+        ensures ok { OnOk result (IsTrue ((entry_row self.now).rule.accepted (viewed_payload (storage buf.now).now))) }
+        ensures value { IfOk result
+            (λ v. Self.Value.entry v ≡ rewrite (entry_row self.now) (viewed_attribute (storage buf.now).now)) }
+        ensures inside { IfOk result
+            (λ v. Self.Value.inside_fits v ≡ (entry_row self.now).rule.fits (viewed_payload (storage buf.now).now)) }
+        ensures names_row { IfOk result (λ v. names_row self.now v) }
+        ensures err { IfErr result
+            (λ e. is_memory e ≡ false → (entry_row self.now).rule.accepted (viewed_payload (storage buf.now).now) ≡ false) };
+}
+
+/// Reads a list of which the attributes of kind 1 are kept; every other attribute may hold any
+/// bytes, and is dropped. It succeeds exactly where the list is accepted, memory aside; a list of
+/// no bytes is never refused.
+pub fn parse_entries<R: EntryReader>(
+    alloc: Global,
+    reader: &R,
+    bytes: &[u8],
+) -> Result<Vec<R::Value>, DecodeError>
+    ensures ok { OnOk result (IsTrue ((rows_rule of_kind_one (only_one (R.entry_row reader.now))).accepted bytes.now)) }
+    ensures read { IfOk result
+        (λ v. reading_as of_kind_one (without_context (only_one (R.entry_row reader.now))) bytes.now
+        ≡ Some (map (written_as R.Value.entry R.Value.inside_fits) v.items)) }
+    ensures text { IfOk result
+        (λ v. text_by R.Value.entry v.items ≡ (rows_rule of_kind_one (only_one (R.entry_row reader.now))).canonical bytes.now) }
+    ensures fits { IfOk result
+        (λ v. all_fit_by R.Value.entry R.Value.inside_fits v.items
+        ≡ (rows_rule of_kind_one (only_one (R.entry_row reader.now))).fits bytes.now) }
+    ensures names_row { IfOk result (λ v. All (R.names_row reader.now) v.items) }
+    ensures err { IfErr result
+        (λ e. is_memory e ≡ false
+        → (rows_rule of_kind_one (only_one (R.entry_row reader.now))).accepted bytes.now ≡ false) }
+    ensures not_empty { IfErr result (λ _. 0 < length bytes.now) }
+{
+    let mut list = Vec::new(alloc);
+    let mut rest = bytes;
+    while !rest.is_empty() {
+        let buf = NlaBuffer::new_checked(rest)?;
+        if buf.kind() == ENTRY {
+            list.push(reader.read(alloc, &buf)?)?;
+        }
+        rest = skip_first(rest);
+    }
+    Ok(list)
+}
+
+/// Reads a list of which the attributes of kind 1 are kept, and which has an attribute of any kind
+/// in it. It succeeds exactly where the list is accepted, memory aside.
+#[tactic(auto, using(crate::proofs::Ports::port_lists))]
+pub fn parse_ports<R: EntryReader>(
+    alloc: Global,
+    reader: &R,
+    bytes: &[u8],
+) -> Result<Vec<R::Value>, DecodeError>
+    ensures ok { OnOk result
+        (IsTrue ((rows_rule ports (only_one (R.entry_row reader.now))).accepted bytes.now)) }
+    ensures read { IfOk result
+        (λ v. reading_as ports (without_context (only_one (R.entry_row reader.now))) bytes.now
+        ≡ Some (map (written_as R.Value.entry R.Value.inside_fits) v.items)) }
+    ensures text { IfOk result
+        (λ v. text_by R.Value.entry v.items
+        ≡ (rows_rule ports (only_one (R.entry_row reader.now))).canonical bytes.now) }
+    ensures fits { IfOk result
+        (λ v. all_fit_by R.Value.entry R.Value.inside_fits v.items
+        ≡ (rows_rule ports (only_one (R.entry_row reader.now))).fits bytes.now) }
+    ensures names_row { IfOk result (λ v. All (R.names_row reader.now) v.items) }
+    ensures err { IfErr result
+        (λ e. is_memory e ≡ false
+        → (rows_rule ports (only_one (R.entry_row reader.now))).accepted bytes.now ≡ false) }
+    ensures not_empty { IfErr result (λ e. is_memory e ≡ true → 0 < length bytes.now) }
+{
+    if bytes.is_empty() {
+        return Err(DecodeError::from("a list of ports without an attribute"));
+    }
+    parse_entries(alloc, reader, bytes)
+}

@@ -1,0 +1,4 @@
+pub mod Pairs
+pub mod RecordSizes
+pub mod TruthBytes
+pub mod Filled

@@ -1,0 +1,6 @@
+pub mod Numbers
+pub mod VfRecords
+pub mod Maps
+pub mod CacheInfos
+pub mod VfSettings
+pub mod ValueRecords

@@ -1,0 +1,17 @@
+-- Records of many numbers of one size, one after another.
+use Rattle.std.specs.Prelude.{ℕ, ℤ, List}
+use Rattle.std.specs.Int.{w32, cast_unsigned}
+use Rattle.std.specs.List.{flat_map}
+use Rattle.netlink_packet_core.specs.Numbers.{le4, le8}
+use Rattle.link_message_records.specs.declared.values.Values.{Values}
+
+-- numbers of 4 and of 8 bytes
+abbrev pub u32_values_bytes : {n : ℕ} → Values ℕ n → List ℕ
+u32_values_bytes v = flat_map le4 v.values
+
+abbrev pub u64_values_bytes : {n : ℕ} → Values ℕ n → List ℕ
+u64_values_bytes v = flat_map le8 v.values
+
+-- signed numbers of 4 bytes
+abbrev pub i32_values_bytes : {n : ℕ} → Values ℤ n → List ℕ
+i32_values_bytes v = flat_map (λ z. le4 (cast_unsigned w32 z)) v.values

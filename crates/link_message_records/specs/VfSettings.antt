@@ -1,0 +1,10 @@
+-- Settings of virtual functions that are on or off (if_link.h, struct ifla_vf_spoofchk and the like).
+use Rattle.std.specs.Prelude.{ℕ, List, ◌++◌}
+use Rattle.netlink_packet_core.specs.Attributes.{zeros}
+use Rattle.netlink_packet_core.specs.Numbers.{le4}
+use Rattle.netlink_packet_core.specs.Truths.{truth_byte}
+use Rattle.link_message_records.specs.declared.vf_setting.VfInfoSetting.{VfInfoSetting}
+
+-- a number of 4 bytes and a truth of 4
+abbrev pub vf_info_setting_bytes : {k : ℕ} → VfInfoSetting k → List ℕ
+vf_info_setting_bytes v = le4 v.vf_id ++ (truth_byte v.enabled ++ zeros 3)

@@ -1,0 +1,82 @@
+//! Times of IPv6 on a link.
+
+ghost use Rattle.std.specs.Prelude.{◌≡◌, ⊤, refl};
+ghost use Rattle.std.proofs.Common.{append-nil, sym};
+ghost use Rattle.link_message_records.specs.CacheInfos.{inet_6_cache_info_bytes};
+
+use super::record::{FieldRecord, bytes_of, write_record};
+use link_message_types::{Record, RecordBuffer};
+use netlink_packet_core::Emitable;
+
+/// Times of IPv6 on a link, `struct ifla_cacheinfo` of `linux/if_link.h`. On the wire 16 bytes,
+/// numbers of 4 in native order.
+#[derive(Debug, PartialEq, Eq, Clone, Copy)]
+pub struct Inet6CacheInfo {
+    /// The longest packet that is put together from parts, in bytes.
+    pub max_reasm_len: u32,
+    /// When the settings changed last, in hundredths of a second since the start.
+    pub tstamp: u32,
+    /// How long a neighbour is taken to be there, in milliseconds.
+    pub reachable_time: u32,
+    /// How long an answer is waited for, in milliseconds.
+    pub retrans_time: u32,
+}
+
+impl Emitable for Inet6CacheInfo {
+    ghost text = { inet_6_cache_info_bytes };
+
+    ghost can_emit = { λ _. ⊤ };
+
+    #[tactic(auto, using(netlink_packet_core_grammar::proofs::Sizes::sizes))]
+    fn buffer_len(&self) -> usize {
+        16
+    }
+
+    #[tactic(auto, using(netlink_packet_core_grammar::proofs::Sizes::sizes))]
+    fn emit(&self, buffer: &mut [u8]) {
+        write_record(self, buffer);
+    }
+}
+
+impl Record<16> for Inet6CacheInfo {
+    fn to_bytes(&self) -> [u8; 16] {
+        bytes_of(self)
+    }
+}
+
+impl FieldRecord<16> for Inet6CacheInfo {
+    type Fields = (u32, (u32, (u32, u32)));
+
+    ghost fields_of = { λ v. (v.max_reasm_len, (v.tstamp, (v.reachable_time, v.retrans_time))) };
+
+    ghost padding = { 0 };
+
+    ghost record_text = { inet_6_cache_info_bytes };
+
+    ghost is_named = { λ _. ⊤ };
+
+    fn from_fields(
+        (max_reasm_len, (tstamp, (reachable_time, retrans_time))): Self::Fields,
+    ) -> Self {
+        Self {
+            max_reasm_len,
+            tstamp,
+            reachable_time,
+            retrans_time,
+        }
+    }
+
+    fn fields(&self) -> Self::Fields {
+        (
+            self.max_reasm_len,
+            (self.tstamp, (self.reachable_time, self.retrans_time)),
+        )
+    }
+
+    ghost has_room = { refl };
+
+    ghost is_text = { λ v. sym (append-nil (inet_6_cache_info_bytes v)) };
+}
+
+/// The 16 bytes of a `Inet6CacheInfo`.
+pub type Inet6CacheInfoBuffer = RecordBuffer<Inet6CacheInfo, 16>;

@@ -1,0 +1,91 @@
+//! The memory of a device.
+
+ghost use Rattle.std.specs.Prelude.{◌≡◌, ⊤, refl};
+ghost use Rattle.link_message_records.specs.Maps.{map_bytes};
+
+use super::record::{FieldRecord, bytes_of, write_record};
+use link_message_types::{Record, RecordBuffer};
+use netlink_packet_core::Emitable;
+
+/// Where a device stands in memory, `struct rtnl_link_ifmap` of `linux/if_link.h`. On the wire 32
+/// bytes: three numbers of 8, one of 2, two of 1, in native order, and 4 zeros, of which a reader
+/// asks for none.
+#[derive(Debug, PartialEq, Eq, Clone, Copy)]
+pub struct Map {
+    /// Where its memory begins.
+    pub memory_start: u64,
+    /// Where its memory ends.
+    pub memory_end: u64,
+    /// Where its registers are.
+    pub base_address: u64,
+    /// Its interrupt.
+    pub irq: u16,
+    /// Its channel of direct memory access.
+    pub dma: u8,
+    /// Its port.
+    pub port: u8,
+}
+
+impl Emitable for Map {
+    ghost text = { map_bytes };
+
+    ghost can_emit = { λ _. ⊤ };
+
+    #[tactic(auto, using(crate::proofs::RecordSizes::record_sizes))]
+    fn buffer_len(&self) -> usize {
+        32
+    }
+
+    #[tactic(auto, using(crate::proofs::RecordSizes::record_sizes))]
+    fn emit(&self, buffer: &mut [u8]) {
+        write_record(self, buffer);
+    }
+}
+
+impl Record<32> for Map {
+    fn to_bytes(&self) -> [u8; 32] {
+        bytes_of(self)
+    }
+}
+
+impl FieldRecord<32> for Map {
+    type Fields = (u64, (u64, (u64, (u16, (u8, u8)))));
+
+    ghost fields_of = { λ v. (v.memory_start, (v.memory_end, (v.base_address, (v.irq, (v.dma, v.port))))) };
+
+    ghost padding = { 4 };
+
+    ghost record_text = { map_bytes };
+
+    ghost is_named = { λ _. ⊤ };
+
+    fn from_fields(
+        (memory_start, (memory_end, (base_address, (irq, (dma, port))))): Self::Fields,
+    ) -> Self {
+        Self {
+            memory_start,
+            memory_end,
+            base_address,
+            irq,
+            dma,
+            port,
+        }
+    }
+
+    fn fields(&self) -> Self::Fields {
+        (
+            self.memory_start,
+            (
+                self.memory_end,
+                (self.base_address, (self.irq, (self.dma, self.port))),
+            ),
+        )
+    }
+
+    ghost has_room = { refl };
+
+    ghost is_text = { λ _. refl };
+}
+
+/// The 32 bytes of a `Map`.
+pub type MapBuffer = RecordBuffer<Map, 32>;

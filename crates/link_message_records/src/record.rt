@@ -1,0 +1,95 @@
+//! Records that are their fields, one after another.
+
+ghost use Rattle.std.specs.Prelude.{◌≡◌, ◌↔◌, ◌+◌, ◌++◌, ◌≤◌, ℕ, List, true, false, length, drop, IsOk, IfOk, IfErr};
+ghost use Rattle.netlink_packet_core.specs.Attributes.{zeros};
+ghost use Rattle.netlink_packet_core.specs.Errors.{is_memory};
+ghost use Rattle.attribute_tables_grammar.specs.Shapes.{Shape, accepts, meaning, spelling, fixed_record};
+
+use super::fields::Fields;
+use netlink_packet_core::{DecodeError, Emitable};
+
+/// A record that is its fields, one after another, and zeros behind them: `N` bytes in all.
+pub trait FieldRecord<const N: usize>: Sized {
+    /// The fields, as they stand in the bytes.
+    type Fields: Fields;
+
+    /// The fields of a record.
+    ghost fields_of: { Self → Self.Fields };
+
+    /// How many zeros stand behind them.
+    ghost padding: { ℕ };
+
+    /// The bytes that a record is written as.
+    ghost record_text: { Self → List ℕ };
+
+    /// Each number in it that has a name is held as what it names.
+    ghost is_named: { Self → Type 0 };
+
+    /// The record with these fields.
+    fn from_fields(fields: Self::Fields) -> Self
+        ensures fields { fields_of result ≡ fields }
+        ensures named { is_named result };
+
+    /// The fields.
+    fn fields(&self) -> Self::Fields
+        ensures { result ≡ fields_of self.now };
+
+    /// Reads the record that a payload begins with; what follows it is dropped.
+    fn parse(payload: &[u8]) -> Result<Self, DecodeError>
+        ensures size { IsOk result ↔ (accepts (fixed_record Self.Fields.size N) payload.now ≡ true) }
+        ensures text { IfOk result
+            (λ v. record_text v
+            ≡ spelling (fixed_record Self.Fields.size N)
+            (meaning (fixed_record Self.Fields.size N) payload.now)) }
+        ensures named { IfOk result (λ v. is_named v) }
+        ensures err { IfErr result (λ e. is_memory e ≡ false) }
+    {
+        match Self::Fields::read_front(payload) {
+            Some((fields, _)) => Ok(Self::from_fields(fields)),
+            None => Err(DecodeError::invalid_number(N, payload.len())),
+        }
+    }
+
+    /// The fields' bytes and the zeros are all.
+    ghost has_room: { Self.Fields.size + padding ≡ N };
+
+    /// The bytes of a record are those of its fields' and the zeros.
+    ghost is_text: { (v : Self) → record_text v ≡ Self.Fields.bytes (fields_of v) ++ zeros padding };
+}
+
+/// Writes a record into the front of a buffer, and leaves the rest of the buffer alone.
+pub(crate) fn write_record<R: FieldRecord<N>, const N: usize>(record: &R, buffer: &mut [u8])
+    requires { N ≤ length buffer.old }
+    ensures { buffer.new ≡ R.record_text record.now ++ drop N buffer.old }
+{
+    let (front, _) = buffer.split_at_mut(N);
+    let size = record.fields().write_front(front);
+    let (_, rest) = front.split_at_mut(size);
+    fill_zeros(rest);
+}
+
+/// The bytes that a record is written as.
+pub(crate) fn bytes_of<R: FieldRecord<N>, const N: usize>(record: &R) -> [u8; N]
+    ensures { result ≡ R.record_text record.now }
+{
+    let mut bytes = [0; N];
+    write_record(record, &mut bytes);
+    bytes
+}
+
+/// Writes a value into a buffer of its size.
+#[tactic(auto, using(crate::proofs::Pairs::whole_texts))]
+pub fn emit_record<R: Emitable>(record: &R, buffer: &mut [u8])
+    requires ready { R.can_emit record.now }
+    requires room { length buffer.old ≡ length (R.text record.now) }
+    ensures { buffer.new ≡ R.text record.now }
+{
+    record.emit(buffer);
+}
+
+/// Writes zeros all over a buffer.
+fn fill_zeros(buffer: &mut [u8])
+    ensures { buffer.new ≡ zeros (length buffer.old) }
+{
+    buffer.fill(0);
+}

@@ -1,0 +1,135 @@
+//! Settings of virtual functions that are on or off.
+
+ghost use Rattle.std.specs.Prelude.{◌≡◌, ◌↔◌, ◌++◌, ⊤, true, false, length, IsOk, IfOk, IfErr};
+ghost use Rattle.netlink_packet_core.specs.Attributes.{zeros};
+ghost use Rattle.netlink_packet_core.specs.Errors.{is_memory};
+ghost use Rattle.netlink_packet_core.specs.Truths.{truth_byte};
+ghost use Rattle.netlink_packet_core.specs.Numbers.{le4};
+ghost use Rattle.attribute_tables_grammar.specs.Shapes.{accepts, meaning, spelling, id_and_truth, number_truth};
+ghost use Rattle.link_message_records.specs.VfSettings.{vf_info_setting_bytes};
+
+use link_message_types::{Record, RecordBuffer};
+use netlink_packet_core::{DecodeError, Emitable, fill_bool, fill_u32};
+
+/// How many bytes a setting has.
+const VF_INFO_SETTING_LEN: usize = 8;
+
+/// A setting of a virtual function that is on or off, as `struct ifla_vf_spoofchk` of
+/// `linux/if_link.h`, by the kind of its attribute. On the wire 8 bytes, numbers of 4 in native
+/// order; every number that isn't 0 is on, and written 1.
+#[derive(Debug, PartialEq, Eq, Clone, Copy)]
+pub struct VfInfoSetting<const KIND: u16> {
+    /// The virtual function.
+    pub vf_id: u32,
+    /// Whether it is on.
+    pub enabled: bool,
+}
+
+/// Whether the source addresses of a virtual function are checked: `IFLA_VF_SPOOFCHK`.
+pub type VfInfoSpoofCheck = VfInfoSetting<4>;
+
+/// Whether a virtual function may ask how its packets are spread: `IFLA_VF_RSS_QUERY_EN`.
+pub type VfInfoRssQueryEn = VfInfoSetting<7>;
+
+/// Whether a virtual function is trusted: `IFLA_VF_TRUST`.
+pub type VfInfoTrust = VfInfoSetting<9>;
+
+/// The 8 bytes of a `VfInfoSpoofCheck`.
+pub type VfInfoSpoofCheckBuffer = RecordBuffer<VfInfoSpoofCheck, 8>;
+
+/// The 8 bytes of a `VfInfoRssQueryEn`.
+pub type VfInfoRssQueryEnBuffer = RecordBuffer<VfInfoRssQueryEn, 8>;
+
+/// The 8 bytes of a `VfInfoTrust`.
+pub type VfInfoTrustBuffer = RecordBuffer<VfInfoTrust, 8>;
+
+impl<const KIND: u16> VfInfoSetting<KIND> {
+    /// A record of these fields.
+    pub fn new(vf_id: u32, enabled: bool) -> Self
+        ensures vf_id { result.vf_id ≡ vf_id }
+        ensures enabled { result.enabled ≡ enabled }
+    {
+        Self { vf_id, enabled }
+    }
+
+    /// Reads the record that a payload begins with; what follows it is dropped.
+    pub fn parse(payload: &[u8]) -> Result<Self, DecodeError>
+        ensures size { IsOk result ↔ (accepts id_and_truth payload.now ≡ true) }
+        ensures text { IfOk result
+            (λ v. vf_info_setting_bytes v
+            ≡ spelling id_and_truth (meaning id_and_truth payload.now)) }
+        ensures err { IfErr result (λ e. is_memory e ≡ false) }
+    {
+        if payload.len() < VF_INFO_SETTING_LEN {
+            return Err(DecodeError::invalid_number(VF_INFO_SETTING_LEN, payload.len()));
+        }
+        let (vf_id, rest) = payload.split_at(4);
+        let (truth, _) = rest.split_at(4);
+        Ok(Self {
+            vf_id: number_u32(vf_id),
+            enabled: is_true(truth),
+        })
+    }
+}
+
+/// The number of 4 bytes, the lowest first.
+#[tactic(auto, using(std::proofs::lemmas::Nat::le_bytes_4), unfolding(netlink_packet_core_grammar::specs::Numbers::le4))]
+fn number_u32(bytes: &[u8]) -> u32
+    requires { length bytes.now ≡ 4 }
+    ensures { le4 result ≡ bytes.now }
+{
+    match bytes {
+        [a, b, c, d] => u32::from_le_bytes([*a, *b, *c, *d]),
+        _ => unreachable!(),
+    }
+}
+
+/// Whether the number of 4 bytes isn't 0.
+#[tactic(auto, using(crate::proofs::TruthBytes::truths))]
+fn is_true(bytes: &[u8]) -> bool
+    requires { length bytes.now ≡ 4 }
+    ensures { truth_byte result ++ zeros 3 ≡ number_truth bytes.now }
+{
+    match bytes {
+        [a, b, c, d] => *a as u32 + *b as u32 + *c as u32 + *d as u32 != 0,
+        _ => unreachable!(),
+    }
+}
+
+impl<const KIND: u16> Emitable for VfInfoSetting<KIND> {
+    ghost text = { vf_info_setting_bytes };
+
+    ghost can_emit = { λ _. ⊤ };
+
+    #[tactic(auto, using(crate::proofs::TruthBytes::setting_sizes))]
+    fn buffer_len(&self) -> usize {
+        VF_INFO_SETTING_LEN
+    }
+
+    #[tactic(auto, using(crate::proofs::TruthBytes::setting_sizes))]
+    fn emit(&self, buffer: &mut [u8]) {
+        let (front, _) = buffer.split_at_mut(VF_INFO_SETTING_LEN);
+        fill_setting(self, front);
+    }
+}
+
+impl<const KIND: u16> Record<8> for VfInfoSetting<KIND> {
+    fn to_bytes(&self) -> [u8; 8] {
+        let mut bytes = [0; 8];
+        fill_setting(self, &mut bytes);
+        bytes
+    }
+}
+
+/// Writes a setting into a buffer of its size.
+#[tactic(auto, using(netlink_packet_core_grammar::proofs::Sizes::sizes))]
+fn fill_setting<const KIND: u16>(setting: &VfInfoSetting<KIND>, buffer: &mut [u8])
+    requires { length buffer.old ≡ 8 }
+    ensures { buffer.new ≡ vf_info_setting_bytes setting.now }
+{
+    let (vf_id, rest) = buffer.split_at_mut(4);
+    fill_u32(vf_id, setting.vf_id);
+    let (truth, zeros) = rest.split_at_mut(1);
+    fill_bool(truth, setting.enabled);
+    zeros.fill(0);
+}

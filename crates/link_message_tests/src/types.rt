@@ -1,0 +1,78 @@
+use link_message_types::{
+    AddressFamily, Flags, In6AddrGenMode, LinkEvent, LinkExtentMask, LinkFlags, LinkHeader,
+    LinkLayerType, LinkMessageBuffer, LinkMode, LinkPhysId, MctpPhysBinding, State, VfLinkState,
+    VlanProtocol,
+};
+use std::str::FromStr;
+use std::test::Fail;
+
+#[test]
+fn numbers_name_values(rt: HostRuntime) {
+    assert_eq!(rt; AddressFamily::from(45), AddressFamily::Mctp);
+    assert_eq!(rt; LinkLayerType::from(513), LinkLayerType::Cisco);
+    assert_eq!(rt; LinkLayerType::from(1280), LinkLayerType::Void);
+    assert_eq!(rt; u16::from(LinkLayerType::Ieee80211Radiotap), 803);
+    assert_eq!(rt; VfLinkState::from(2), VfLinkState::Disable);
+    assert_eq!(rt; VlanProtocol::from(0x88a8), VlanProtocol::Ieee8021Ad);
+    assert_eq!(rt; u8::from(&MctpPhysBinding::Ucie), 9);
+    assert_eq!(rt; u8::from(&In6AddrGenMode::Random), 3);
+}
+
+#[test]
+fn texts_name_values(rt: HostRuntime) -> Result<(), Fail> {
+    assert_eq!(rt;
+        State::from_str("LOWERLAYERDOWN"),
+        Ok(State::LowerLayerDown)
+    );
+    assert!(rt; State::from_str("up").is_err());
+    let layer = LinkLayerType::Sixlowpan;
+    let mode = LinkMode::Other(9);
+    assert_eq!(rt;
+        format!(in rt.alloc(); "{layer} {mode}")?.as_str(),
+        "sixlowpan 9"
+    );
+    Ok(())
+}
+
+#[test]
+fn events_have_four_bytes(rt: HostRuntime) {
+    assert_eq!(rt; LinkEvent::parse(&[4, 0, 0, 0]), Ok(LinkEvent::NotifyPeers));
+    assert!(rt; LinkEvent::parse(&[4, 0, 0]).is_err());
+}
+
+#[test]
+fn masks_are_listed(rt: HostRuntime) -> Result<(), Fail> {
+    let masks = LinkExtentMask::list(rt.alloc(), 0x109)?;
+    let listed = &[
+        LinkExtentMask::Vf,
+        LinkExtentMask::SkipStats,
+        LinkExtentMask::Other(0x100),
+    ];
+    assert!(rt; masks.as_slice() == listed.as_slice());
+    assert_eq!(rt; LinkExtentMask::join(&masks), 0x109);
+    Ok(())
+}
+
+#[test]
+fn identifiers_are_bytes(rt: HostRuntime) -> Result<(), Fail> {
+    let id = LinkPhysId::parse(rt.alloc(), &[1, 2, 3])?;
+    assert!(rt; id.bytes.as_slice() == [1, 2, 3].as_slice());
+    Ok(())
+}
+
+#[test]
+fn headers_have_sixteen_bytes(rt: HostRuntime) -> Result<(), Fail> {
+    let bytes = &[0, 5, 9, 0, 7, 0, 0, 0, 1, 16, 0, 0, 1, 0, 0, 0];
+    let header = LinkHeader {
+        interface_family: AddressFamily::Unspec,
+        link_layer_type: LinkLayerType::Void,
+        index: 7,
+        flags: LinkFlags::Up.union(LinkFlags::Multicast),
+        change_mask: LinkFlags::Up,
+    };
+    assert_eq!(rt; LinkHeader::parse(bytes), Ok(header));
+    assert!(rt; LinkHeader::parse(&bytes[..15]).is_err());
+    let written = &[0, 0, 255, 255, 7, 0, 0, 0, 1, 16, 0, 0, 1, 0, 0, 0];
+    assert!(rt; LinkMessageBuffer::from(&header).as_bytes() == written.as_slice());
+    Ok(())
+}

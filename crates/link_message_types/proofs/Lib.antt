@@ -1,0 +1,3 @@
+pub mod LayerTypes
+pub mod HeaderBytes
+pub mod Masks

@@ -1,0 +1,15 @@
+pub mod AddressFamilies
+pub mod LinkLayerTypes
+pub mod LinkFlagTypes
+pub mod LinkStates
+pub mod LinkModes
+pub mod Events
+pub mod ExtentMasks
+pub mod PhysIds
+pub mod Headers
+pub mod RecordBuffers
+pub mod VlanTypes
+pub mod VfTypes
+pub mod MctpTypes
+pub mod Inet6Types
+pub mod XdpTypes

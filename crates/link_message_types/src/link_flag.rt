@@ -1,0 +1,153 @@
+//! Flags of links.
+
+ghost use Rattle.std.specs.Prelude.{◌≡◌, ⊤};
+ghost use Rattle.link_message_types.specs.LinkFlagTypes.{link_flags_bits, link_flags_table};
+
+use bitflags::{Flag, Flags};
+
+/// What a link is and does, `IFF_*` of `linux/if.h`. On the wire 4 bytes in native order; all bits
+/// are kept.
+#[derive(Debug, PartialEq, Eq, Clone, Copy)]
+pub struct LinkFlags(u32);
+
+impl LinkFlags {
+    /// The link is up: `IFF_UP`.
+    pub const Up: Self = Self(0x1);
+    /// Its broadcast address is valid: `IFF_BROADCAST`.
+    pub const Broadcast: Self = Self(0x2);
+    /// Its driver writes messages for debugging: `IFF_DEBUG`.
+    pub const Debug: Self = Self(0x4);
+    /// It is a loopback: `IFF_LOOPBACK`.
+    pub const Loopback: Self = Self(0x8);
+    /// It has one other end: `IFF_POINTOPOINT`.
+    pub const Pointopoint: Self = Self(0x10);
+    /// It uses no trailers: `IFF_NOTRAILERS`.
+    pub const Notrailers: Self = Self(0x20);
+    /// It can transfer data: `IFF_RUNNING`.
+    pub const Running: Self = Self(0x40);
+    /// It doesn't resolve addresses: `IFF_NOARP`.
+    pub const Noarp: Self = Self(0x80);
+    /// It receives all packets: `IFF_PROMISC`.
+    pub const Promisc: Self = Self(0x100);
+    /// It receives all multicast packets: `IFF_ALLMULTI`.
+    pub const Allmulti: Self = Self(0x200);
+    /// It is several links as one: `IFF_MASTER`.
+    pub const Controller: Self = Self(0x400);
+    /// It is one of several links: `IFF_SLAVE`.
+    pub const Port: Self = Self(0x800);
+    /// It supports multicast: `IFF_MULTICAST`.
+    pub const Multicast: Self = Self(0x1000);
+    /// It can choose the type of its medium: `IFF_PORTSEL`.
+    pub const Portsel: Self = Self(0x2000);
+    /// It chooses the type of its medium by itself: `IFF_AUTOMEDIA`.
+    pub const Automedia: Self = Self(0x4000);
+    /// Its addresses are lost when it goes down: `IFF_DYNAMIC`.
+    pub const Dynamic: Self = Self(0x8000);
+    /// There is a signal: `IFF_LOWER_UP`.
+    pub const LowerUp: Self = Self(0x10000);
+    /// It is dormant: `IFF_DORMANT`.
+    pub const Dormant: Self = Self(0x20000);
+    /// It hears what it sends: `IFF_ECHO`.
+    pub const Echo: Self = Self(0x40000);
+
+    const FLAGS: [Flag<LinkFlags>; 19] = [
+        Flag {
+            name: "Up",
+            value: Self::Up,
+        },
+        Flag {
+            name: "Broadcast",
+            value: Self::Broadcast,
+        },
+        Flag {
+            name: "Debug",
+            value: Self::Debug,
+        },
+        Flag {
+            name: "Loopback",
+            value: Self::Loopback,
+        },
+        Flag {
+            name: "Pointopoint",
+            value: Self::Pointopoint,
+        },
+        Flag {
+            name: "Notrailers",
+            value: Self::Notrailers,
+        },
+        Flag {
+            name: "Running",
+            value: Self::Running,
+        },
+        Flag {
+            name: "Noarp",
+            value: Self::Noarp,
+        },
+        Flag {
+            name: "Promisc",
+            value: Self::Promisc,
+        },
+        Flag {
+            name: "Allmulti",
+            value: Self::Allmulti,
+        },
+        Flag {
+            name: "Controller",
+            value: Self::Controller,
+        },
+        Flag {
+            name: "Port",
+            value: Self::Port,
+        },
+        Flag {
+            name: "Multicast",
+            value: Self::Multicast,
+        },
+        Flag {
+            name: "Portsel",
+            value: Self::Portsel,
+        },
+        Flag {
+            name: "Automedia",
+            value: Self::Automedia,
+        },
+        Flag {
+            name: "Dynamic",
+            value: Self::Dynamic,
+        },
+        Flag {
+            name: "LowerUp",
+            value: Self::LowerUp,
+        },
+        Flag {
+            name: "Dormant",
+            value: Self::Dormant,
+        },
+        Flag {
+            name: "Echo",
+            value: Self::Echo,
+        },
+    ];
+}
+
+impl Flags for LinkFlags {
+    type Bits = u32;
+
+    ghost exact = { ⊤ };
+
+    ghost table = { link_flags_table };
+
+    ghost set_of = { link_flags_bits };
+
+    fn flags<'a>() -> &'a [Flag<LinkFlags>] {
+        &LinkFlags::FLAGS
+    }
+
+    fn bits(&self) -> u32 {
+        self.0
+    }
+
+    fn from_bits_retain(bits: u32) -> LinkFlags {
+        LinkFlags(bits)
+    }
+}

@@ -1,0 +1,399 @@
+//! Types of the layer below a link.
+
+ghost use Rattle.std.specs.Prelude.{◌≡◌, Some};
+ghost use Rattle.netlink_packet_core.specs.Named.{numbered_by};
+ghost use Rattle.link_message_types.specs.LinkLayerTypes.{link_layer_type_number, link_layer_type_of, link_layer_type_text};
+
+use std::fmt;
+
+/// What a link carries its packets over, `ARPHRD_*` of `linux/if_arp.h`. On the wire 2 bytes in
+/// native order. A number that isn't listed is `Void`, and written as 65535.
+#[derive(Debug, PartialEq, Eq, Clone, Copy)]
+pub enum LinkLayerType {
+    /// An amateur radio network, NET/ROM: `ARPHRD_NETROM`, 0.
+    Netrom,
+    /// Ethernet: `ARPHRD_ETHER`, 1.
+    Ether,
+    /// Experimental Ethernet: `ARPHRD_EETHER`, 2.
+    Eether,
+    /// Amateur radio, AX.25: `ARPHRD_AX25`, 3.
+    Ax25,
+    /// A token ring, PROnet: `ARPHRD_PRONET`, 4.
+    Pronet,
+    /// Chaosnet: `ARPHRD_CHAOS`, 5.
+    Chaos,
+    /// Ethernet, token ring or another of IEEE 802.2: `ARPHRD_IEEE802`, 6.
+    Ieee802,
+    /// ARCnet: `ARPHRD_ARCNET`, 7.
+    Arcnet,
+    /// AppleTalk: `ARPHRD_APPLETLK`, 8.
+    Appletlk,
+    /// Frame relay, one circuit: `ARPHRD_DLCI`, 15.
+    Dlci,
+    /// The asynchronous transfer mode: `ARPHRD_ATM`, 19.
+    Atm,
+    /// Metricom STRIP: `ARPHRD_METRICOM`, 23.
+    Metricom,
+    /// IEEE 1394 over IPv4: `ARPHRD_IEEE1394`, 24.
+    Ieee1394,
+    /// Addresses of 64 bits, EUI-64: `ARPHRD_EUI64`, 27.
+    Eui64,
+    /// InfiniBand: `ARPHRD_INFINIBAND`, 32.
+    Infiniband,
+    /// The serial line protocol, SLIP: `ARPHRD_SLIP`, 256.
+    Slip,
+    /// SLIP with compressed headers: `ARPHRD_CSLIP`, 257.
+    Cslip,
+    /// SLIP in 6 bits: `ARPHRD_SLIP6`, 258.
+    Slip6,
+    /// SLIP in 6 bits with compressed headers: `ARPHRD_CSLIP6`, 259.
+    Cslip6,
+    /// Notional, of KISS: `ARPHRD_RSRVD`, 260.
+    Rsrvd,
+    /// Adaptive SLIP: `ARPHRD_ADAPT`, 264.
+    Adapt,
+    /// Amateur radio, ROSE: `ARPHRD_ROSE`, 270.
+    Rose,
+    /// CCITT X.25: `ARPHRD_X25`, 271.
+    X25,
+    /// Boards with X.25 in firmware: `ARPHRD_HWX25`, 272.
+    Hwx25,
+    /// A controller area network: `ARPHRD_CAN`, 280.
+    Can,
+    /// The management component transport protocol: `ARPHRD_MCTP`, 290.
+    Mctp,
+    /// The point-to-point protocol: `ARPHRD_PPP`, 512.
+    Ppp,
+    /// Cisco HDLC: `ARPHRD_HDLC`, 513.
+    Hdlc,
+    /// Link access procedure, balanced: `ARPHRD_LAPB`, 516.
+    Lapb,
+    /// The DDCMP protocol of DEC: `ARPHRD_DDCMP`, 517.
+    Ddcmp,
+    /// Raw HDLC: `ARPHRD_RAWHDLC`, 518.
+    Rawhdlc,
+    /// Raw IP: `ARPHRD_RAWIP`, 519.
+    Rawip,
+    /// An IPv4 tunnel: `ARPHRD_TUNNEL`, 768.
+    Tunnel,
+    /// An IPv6 tunnel: `ARPHRD_TUNNEL6`, 769.
+    Tunnel6,
+    /// A frame relay access device: `ARPHRD_FRAD`, 770.
+    Frad,
+    /// SKIP: `ARPHRD_SKIP`, 771.
+    Skip,
+    /// The loopback device: `ARPHRD_LOOPBACK`, 772.
+    Loopback,
+    /// A LocalTalk device: `ARPHRD_LOCALTLK`, 773.
+    Localtlk,
+    /// The fiber distributed data interface: `ARPHRD_FDDI`, 774.
+    Fddi,
+    /// AP1000 BIF: `ARPHRD_BIF`, 775.
+    Bif,
+    /// An IPv6 tunnel in IPv4: `ARPHRD_SIT`, 776.
+    Sit,
+    /// IP over DDP: `ARPHRD_IPDDP`, 777.
+    Ipddp,
+    /// GRE over IPv4: `ARPHRD_IPGRE`, 778.
+    Ipgre,
+    /// The register interface of PIM: `ARPHRD_PIMREG`, 779.
+    Pimreg,
+    /// The high performance parallel interface: `ARPHRD_HIPPI`, 780.
+    Hippi,
+    /// Nexus, 64 Mbit/s: `ARPHRD_ASH`, 781.
+    Ash,
+    /// Acorn Econet: `ARPHRD_ECONET`, 782.
+    Econet,
+    /// Infrared, IrDA: `ARPHRD_IRDA`, 783.
+    Irda,
+    /// Fibre channel, point to point: `ARPHRD_FCPP`, 784.
+    Fcpp,
+    /// Fibre channel, arbitrated loop: `ARPHRD_FCAL`, 785.
+    Fcal,
+    /// Fibre channel, public loop: `ARPHRD_FCPL`, 786.
+    Fcpl,
+    /// Fibre channel, fabric: `ARPHRD_FCFABRIC`, 787.
+    Fcfabric,
+    /// A token ring of IEEE 802.5: `ARPHRD_IEEE802_TR`, 800.
+    Ieee802Tr,
+    /// A wireless network, IEEE 802.11: `ARPHRD_IEEE80211`, 801.
+    Ieee80211,
+    /// IEEE 802.11 with Prism headers: `ARPHRD_IEEE80211_PRISM`, 802.
+    Ieee80211Prism,
+    /// IEEE 802.11 with radiotap headers: `ARPHRD_IEEE80211_RADIOTAP`, 803.
+    Ieee80211Radiotap,
+    /// A personal network, IEEE 802.15.4: `ARPHRD_IEEE802154`, 804.
+    Ieee802154,
+    /// A monitor of IEEE 802.15.4: `ARPHRD_IEEE802154_MONITOR`, 805.
+    Ieee802154Monitor,
+    /// Phonet: `ARPHRD_PHONET`, 820.
+    Phonet,
+    /// A pipe of Phonet: `ARPHRD_PHONET_PIPE`, 821.
+    PhonetPipe,
+    /// CAIF: `ARPHRD_CAIF`, 822.
+    Caif,
+    /// GRE over IPv6: `ARPHRD_IP6GRE`, 823.
+    Ip6gre,
+    /// A monitor of netlink: `ARPHRD_NETLINK`, 824.
+    Netlink,
+    /// IPv6 over low power wireless networks: `ARPHRD_6LOWPAN`, 825.
+    Sixlowpan,
+    /// A monitor of vsock: `ARPHRD_VSOCKMON`, 826.
+    Vsockmon,
+    /// There is no header at all: `ARPHRD_NONE`, 65534.
+    None,
+    /// Nothing is known, and every number that isn't listed: `ARPHRD_VOID`, 65535.
+    Void,
+}
+
+impl LinkLayerType {
+    /// Cisco HDLC by its other name: `ARPHRD_CISCO`.
+    pub const Cisco: Self = Self::Hdlc;
+}
+
+/// The types that have a number of their own.
+const LISTED: [LinkLayerType; 67] = [
+    LinkLayerType::Netrom,
+    LinkLayerType::Ether,
+    LinkLayerType::Eether,
+    LinkLayerType::Ax25,
+    LinkLayerType::Pronet,
+    LinkLayerType::Chaos,
+    LinkLayerType::Ieee802,
+    LinkLayerType::Arcnet,
+    LinkLayerType::Appletlk,
+    LinkLayerType::Dlci,
+    LinkLayerType::Atm,
+    LinkLayerType::Metricom,
+    LinkLayerType::Ieee1394,
+    LinkLayerType::Eui64,
+    LinkLayerType::Infiniband,
+    LinkLayerType::Slip,
+    LinkLayerType::Cslip,
+    LinkLayerType::Slip6,
+    LinkLayerType::Cslip6,
+    LinkLayerType::Rsrvd,
+    LinkLayerType::Adapt,
+    LinkLayerType::Rose,
+    LinkLayerType::X25,
+    LinkLayerType::Hwx25,
+    LinkLayerType::Can,
+    LinkLayerType::Mctp,
+    LinkLayerType::Ppp,
+    LinkLayerType::Hdlc,
+    LinkLayerType::Lapb,
+    LinkLayerType::Ddcmp,
+    LinkLayerType::Rawhdlc,
+    LinkLayerType::Rawip,
+    LinkLayerType::Tunnel,
+    LinkLayerType::Tunnel6,
+    LinkLayerType::Frad,
+    LinkLayerType::Skip,
+    LinkLayerType::Loopback,
+    LinkLayerType::Localtlk,
+    LinkLayerType::Fddi,
+    LinkLayerType::Bif,
+    LinkLayerType::Sit,
+    LinkLayerType::Ipddp,
+    LinkLayerType::Ipgre,
+    LinkLayerType::Pimreg,
+    LinkLayerType::Hippi,
+    LinkLayerType::Ash,
+    LinkLayerType::Econet,
+    LinkLayerType::Irda,
+    LinkLayerType::Fcpp,
+    LinkLayerType::Fcal,
+    LinkLayerType::Fcpl,
+    LinkLayerType::Fcfabric,
+    LinkLayerType::Ieee802Tr,
+    LinkLayerType::Ieee80211,
+    LinkLayerType::Ieee80211Prism,
+    LinkLayerType::Ieee80211Radiotap,
+    LinkLayerType::Ieee802154,
+    LinkLayerType::Ieee802154Monitor,
+    LinkLayerType::Phonet,
+    LinkLayerType::PhonetPipe,
+    LinkLayerType::Caif,
+    LinkLayerType::Ip6gre,
+    LinkLayerType::Netlink,
+    LinkLayerType::Sixlowpan,
+    LinkLayerType::Vsockmon,
+    LinkLayerType::None,
+    LinkLayerType::Void,
+];
+
+impl From<u16> for LinkLayerType {
+    ghost from_gives = { λ n v. v ≡ link_layer_type_of n };
+
+    #[tactic(auto, unfolding(crate::specs::LinkLayerTypes::link_layer_type_of))]
+    fn from(number: u16) -> Self
+        ensures named { result ≡ link_layer_type_of number }
+    {
+        numbered(&LISTED, number)
+    }
+}
+
+/// The first of some types that has a number; `Void` where none has it.
+fn numbered(types: &[LinkLayerType], number: u16) -> LinkLayerType
+    ensures { result
+        ≡ numbered_by link_layer_type_number types.now (λ _. LinkLayerType.Void) number }
+{
+    for layer_type in types {
+        if u16::from(*layer_type) == number {
+            return *layer_type;
+        }
+    }
+    LinkLayerType::Void
+}
+
+impl From<LinkLayerType> for u16 {
+    ghost from_gives = { λ v n. n ≡ link_layer_type_number v };
+
+    fn from(value: LinkLayerType) -> Self {
+        match value {
+            LinkLayerType::Netrom => 0,
+            LinkLayerType::Ether => 1,
+            LinkLayerType::Eether => 2,
+            LinkLayerType::Ax25 => 3,
+            LinkLayerType::Pronet => 4,
+            LinkLayerType::Chaos => 5,
+            LinkLayerType::Ieee802 => 6,
+            LinkLayerType::Arcnet => 7,
+            LinkLayerType::Appletlk => 8,
+            LinkLayerType::Dlci => 15,
+            LinkLayerType::Atm => 19,
+            LinkLayerType::Metricom => 23,
+            LinkLayerType::Ieee1394 => 24,
+            LinkLayerType::Eui64 => 27,
+            LinkLayerType::Infiniband => 32,
+            LinkLayerType::Slip => 256,
+            LinkLayerType::Cslip => 257,
+            LinkLayerType::Slip6 => 258,
+            LinkLayerType::Cslip6 => 259,
+            LinkLayerType::Rsrvd => 260,
+            LinkLayerType::Adapt => 264,
+            LinkLayerType::Rose => 270,
+            LinkLayerType::X25 => 271,
+            LinkLayerType::Hwx25 => 272,
+            LinkLayerType::Can => 280,
+            LinkLayerType::Mctp => 290,
+            LinkLayerType::Ppp => 512,
+            LinkLayerType::Hdlc => 513,
+            LinkLayerType::Lapb => 516,
+            LinkLayerType::Ddcmp => 517,
+            LinkLayerType::Rawhdlc => 518,
+            LinkLayerType::Rawip => 519,
+            LinkLayerType::Tunnel => 768,
+            LinkLayerType::Tunnel6 => 769,
+            LinkLayerType::Frad => 770,
+            LinkLayerType::Skip => 771,
+            LinkLayerType::Loopback => 772,
+            LinkLayerType::Localtlk => 773,
+            LinkLayerType::Fddi => 774,
+            LinkLayerType::Bif => 775,
+            LinkLayerType::Sit => 776,
+            LinkLayerType::Ipddp => 777,
+            LinkLayerType::Ipgre => 778,
+            LinkLayerType::Pimreg => 779,
+            LinkLayerType::Hippi => 780,
+            LinkLayerType::Ash => 781,
+            LinkLayerType::Econet => 782,
+            LinkLayerType::Irda => 783,
+            LinkLayerType::Fcpp => 784,
+            LinkLayerType::Fcal => 785,
+            LinkLayerType::Fcpl => 786,
+            LinkLayerType::Fcfabric => 787,
+            LinkLayerType::Ieee802Tr => 800,
+            LinkLayerType::Ieee80211 => 801,
+            LinkLayerType::Ieee80211Prism => 802,
+            LinkLayerType::Ieee80211Radiotap => 803,
+            LinkLayerType::Ieee802154 => 804,
+            LinkLayerType::Ieee802154Monitor => 805,
+            LinkLayerType::Phonet => 820,
+            LinkLayerType::PhonetPipe => 821,
+            LinkLayerType::Caif => 822,
+            LinkLayerType::Ip6gre => 823,
+            LinkLayerType::Netlink => 824,
+            LinkLayerType::Sixlowpan => 825,
+            LinkLayerType::Vsockmon => 826,
+            LinkLayerType::None => 65534,
+            LinkLayerType::Void => 65535,
+        }
+    }
+}
+
+impl fmt::Display for LinkLayerType {
+    ghost output = { λ v. Some (link_layer_type_text v) };
+
+    fn fmt<W: fmt::Write>(&self, f: &mut fmt::Formatter<W>) -> fmt::Result {
+        match self {
+            Self::Netrom => f.write_str("netrom"),
+            Self::Ether => f.write_str("ether"),
+            Self::Eether => f.write_str("eether"),
+            Self::Ax25 => f.write_str("ax25"),
+            Self::Pronet => f.write_str("pronet"),
+            Self::Chaos => f.write_str("chaos"),
+            Self::Ieee802 => f.write_str("ieee802"),
+            Self::Arcnet => f.write_str("arcnet"),
+            Self::Appletlk => f.write_str("appletlk"),
+            Self::Dlci => f.write_str("dlci"),
+            Self::Atm => f.write_str("atm"),
+            Self::Metricom => f.write_str("metricom"),
+            Self::Ieee1394 => f.write_str("ieee1394"),
+            Self::Eui64 => f.write_str("eui64"),
+            Self::Infiniband => f.write_str("infiniband"),
+            Self::Slip => f.write_str("slip"),
+            Self::Cslip => f.write_str("cslip"),
+            Self::Slip6 => f.write_str("slip6"),
+            Self::Cslip6 => f.write_str("cslip6"),
+            Self::Rsrvd => f.write_str("rsrvd"),
+            Self::Adapt => f.write_str("adapt"),
+            Self::Rose => f.write_str("rose"),
+            Self::X25 => f.write_str("x25"),
+            Self::Hwx25 => f.write_str("hwx25"),
+            Self::Can => f.write_str("can"),
+            Self::Mctp => f.write_str("mctp"),
+            Self::Ppp => f.write_str("ppp"),
+            Self::Hdlc => f.write_str("hdlc"),
+            Self::Lapb => f.write_str("lapb"),
+            Self::Ddcmp => f.write_str("ddcmp"),
+            Self::Rawhdlc => f.write_str("rawhdlc"),
+            Self::Rawip => f.write_str("rawip"),
+            Self::Tunnel => f.write_str("tunnel"),
+            Self::Tunnel6 => f.write_str("tunnel6"),
+            Self::Frad => f.write_str("frad"),
+            Self::Skip => f.write_str("skip"),
+            Self::Loopback => f.write_str("loopback"),
+            Self::Localtlk => f.write_str("localtlk"),
+            Self::Fddi => f.write_str("fddi"),
+            Self::Bif => f.write_str("bif"),
+            Self::Sit => f.write_str("sit"),
+            Self::Ipddp => f.write_str("ipddp"),
+            Self::Ipgre => f.write_str("ipgre"),
+            Self::Pimreg => f.write_str("pimreg"),
+            Self::Hippi => f.write_str("hippi"),
+            Self::Ash => f.write_str("ash"),
+            Self::Econet => f.write_str("econet"),
+            Self::Irda => f.write_str("irda"),
+            Self::Fcpp => f.write_str("fcpp"),
+            Self::Fcal => f.write_str("fcal"),
+            Self::Fcpl => f.write_str("fcpl"),
+            Self::Fcfabric => f.write_str("fcfabric"),
+            Self::Ieee802Tr => f.write_str("ieee802tr"),
+            Self::Ieee80211 => f.write_str("ieee80211"),
+            Self::Ieee80211Prism => f.write_str("ieee80211prism"),
+            Self::Ieee80211Radiotap => f.write_str("ieee80211radiotap"),
+            Self::Ieee802154 => f.write_str("ieee802154"),
+            Self::Ieee802154Monitor => f.write_str("ieee802154monitor"),
+            Self::Phonet => f.write_str("phonet"),
+            Self::PhonetPipe => f.write_str("phonetpipe"),
+            Self::Caif => f.write_str("caif"),
+            Self::Ip6gre => f.write_str("ip6gre"),
+            Self::Netlink => f.write_str("netlink"),
+            Self::Sixlowpan => f.write_str("sixlowpan"),
+            Self::Vsockmon => f.write_str("vsockmon"),
+            Self::None => f.write_str("none"),
+            Self::Void => f.write_str("void"),
+        }
+    }
+}

@@ -1,0 +1,43 @@
+//! Identifiers of ports and switches.
+
+ghost use Rattle.std.specs.Prelude.{◌≡◌, true, ⊤, IfOk, IfErr};
+ghost use Rattle.netlink_packet_core.specs.Errors.{is_memory};
+ghost use Rattle.link_message_types.specs.PhysIds.{link_phys_id_bytes};
+
+use netlink_packet_core::{ByteVec, DecodeError, Emitable};
+use std::alloc::Global;
+
+/// What a port or a switch is known by, as in `IFLA_PHYS_PORT_ID` and `IFLA_PHYS_SWITCH_ID` of
+/// `linux/if_link.h`: any number of bytes.
+#[derive(Debug, PartialEq, Eq, Drop)]
+pub struct LinkPhysId {
+    /// The bytes as they are.
+    pub bytes: ByteVec,
+}
+
+impl Emitable for LinkPhysId {
+    ghost text = { link_phys_id_bytes };
+
+    ghost can_emit = { λ _. ⊤ };
+
+    fn buffer_len(&self) -> usize {
+        self.bytes.len()
+    }
+
+    fn emit(&self, buffer: &mut [u8]) {
+        let (front, _) = buffer.split_at_mut(self.bytes.len());
+        front.copy_from_slice(self.bytes.as_slice());
+    }
+}
+
+impl LinkPhysId {
+    /// Reads any bytes.
+    pub fn parse(alloc: Global, payload: &[u8]) -> Result<Self, DecodeError>
+        ensures ok { IfOk result (λ id. link_phys_id_bytes id ≡ payload.now) }
+        ensures err { IfErr result (λ e. is_memory e ≡ true) }
+    {
+        Ok(LinkPhysId {
+            bytes: ByteVec::from_slice(alloc, payload)?,
+        })
+    }
+}

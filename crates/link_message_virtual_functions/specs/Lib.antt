@@ -1,0 +1,4 @@
+pub mod VfStatistics
+pub mod VfVlans
+pub mod VfInfos
+pub mod VfPorts

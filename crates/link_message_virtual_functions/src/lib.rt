@@ -1,0 +1,12 @@
+// Virtual functions and their ports inside attributes of link messages.
+#![tactic(auto)]
+
+mod vf_info;
+mod vf_port;
+mod vf_stats;
+mod vf_vlan;
+
+pub use vf_info::{LinkVfInfo, LinkVfInfoReader, VfInfo, VfInfoReader};
+pub use vf_port::{LinkVfPort, LinkVfPortReader, VfPort};
+pub use vf_stats::VfStats;
+pub use vf_vlan::{VfVlan, VfVlanReader};

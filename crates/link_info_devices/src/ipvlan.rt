@@ -8,7 +8,7 @@ ghost use Rattle.netlink_packet_core.specs.Errors.{is_memory};
 ghost use Rattle.link_info_devices.specs.IpVlanTypes.{ip_vlan_mode_number, ip_vlan_mode_of, ip_vlan_mode_text, ip_vlan_mode_named, ip_vlan_flags_bits, ip_vlan_flags_table};
 
 use attribute_tables::typed;
-use bitflags::{Flags, Flag};
+use bitflags::{Flag, Flags};
 use netlink_packet_core::{DecodeError, DefaultNla, Family, Field, FieldNla, Nla, parse_u16};
 use std::alloc::Global;
 use std::fmt;

@@ -11,7 +11,9 @@ mod wwan;
 pub use batadv::InfoBatAdv;
 pub use bitflags::Flags;
 pub use ipoib::{InfoIpoib, IpoibMode};
-pub use ipvlan::{InfoIpVlan, InfoIpVtap, IpVlanData, IpVlanFlags, IpVlanMode, IpVtapFlags, IpVtapMode};
+pub use ipvlan::{
+    InfoIpVlan, InfoIpVtap, IpVlanData, IpVlanFlags, IpVlanMode, IpVtapFlags, IpVtapMode,
+};
 pub use rmnet::{InfoRmNet, InfoRmNetFlags, RmNetFlags};
 pub use vrf::InfoVrf;
 pub use wwan::InfoWwan;

@@ -7,8 +7,10 @@ ghost use Rattle.link_info_devices.specs.Rmnet.{flags_bytes, rmnet_entry, rmnet_
 ghost use Rattle.link_info_devices.specs.RmNetTypes.{rm_net_flags_bits, rm_net_flags_table};
 
 use attribute_tables::typed;
-use bitflags::{Flags, Flag};
-use netlink_packet_core::{DecodeError, DefaultNla, Family, Field, FieldNla, Nla, parse_u16, parse_u32};
+use bitflags::{Flag, Flags};
+use netlink_packet_core::{
+    DecodeError, DefaultNla, Family, Field, FieldNla, Nla, parse_u16, parse_u32,
+};
 use std::alloc::Global;
 
 const IFLA_RMNET_MUX_ID: u16 = 1;

@@ -8,10 +8,12 @@ ghost use Rattle.netlink_packet_core.specs.Errors.{is_memory};
 ghost use Rattle.link_info_overlays.specs.AmtTypes.{amt_mode_number, amt_mode_of, amt_mode_text, amt_mode_named};
 
 use attribute_tables::typed;
-use netlink_packet_core::{DecodeError, DefaultNla, Family, Field, FieldNla, Nla, parse_ip, parse_u16_be, parse_u32};
+use netlink_packet_core::{
+    DecodeError, DefaultNla, Family, Field, FieldNla, Nla, parse_ip, parse_u16_be, parse_u32,
+};
 use std::alloc::Global;
-use std::net::IpAddr;
 use std::fmt;
+use std::net::IpAddr;
 use std::str::FromStr;
 
 const IFLA_AMT_MODE: u16 = 1;

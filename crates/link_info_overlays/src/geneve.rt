@@ -8,10 +8,13 @@ ghost use Rattle.netlink_packet_core.specs.Errors.{is_memory};
 ghost use Rattle.link_info_overlays.specs.GeneveTypes.{geneve_df_number, geneve_df_of, geneve_df_text, geneve_df_named};
 
 use attribute_tables::typed;
-use netlink_packet_core::{DecodeError, DefaultNla, Family, Field, FieldNla, Nla, parse_bool, parse_ipv4_addr, parse_ipv6_addr, parse_u8, parse_u16_be, parse_u32, parse_u32_be};
+use netlink_packet_core::{
+    DecodeError, DefaultNla, Family, Field, FieldNla, Nla, parse_bool, parse_ipv4_addr,
+    parse_ipv6_addr, parse_u8, parse_u16_be, parse_u32, parse_u32_be,
+};
 use std::alloc::Global;
-use std::net::{Ipv4Addr, Ipv6Addr};
 use std::fmt;
+use std::net::{Ipv4Addr, Ipv6Addr};
 use std::str::FromStr;
 
 const IFLA_GENEVE_ID: u16 = 1;

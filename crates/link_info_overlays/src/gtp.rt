@@ -6,10 +6,13 @@ ghost use Rattle.link_info_overlays.specs.Gtp.{gtp_entry, gtp_names_row};
 ghost use Rattle.link_info_overlays.specs.GtpTypes.{gtp_role_number, gtp_role_of, gtp_role_text};
 
 use attribute_tables::typed;
-use netlink_packet_core::{DecodeError, DefaultNla, Family, Field, FieldNla, Nla, parse_bool, parse_ipv4_addr, parse_ipv6_addr, parse_u8, parse_u32};
+use netlink_packet_core::{
+    DecodeError, DefaultNla, Family, Field, FieldNla, Nla, parse_bool, parse_ipv4_addr,
+    parse_ipv6_addr, parse_u8, parse_u32,
+};
 use std::alloc::Global;
-use std::net::{Ipv4Addr, Ipv6Addr};
 use std::fmt;
+use std::net::{Ipv4Addr, Ipv6Addr};
 
 const IFLA_GTP_FD0: u16 = 1;
 

@@ -6,10 +6,13 @@ ghost use Rattle.link_info_overlays.specs.Vxlan.{vxlan_entry, vxlan_names_row};
 ghost use Rattle.link_info_overlays.specs.VxlanTypes.{vxlan_df_number, vxlan_df_of, vxlan_df_text};
 
 use attribute_tables::typed;
-use netlink_packet_core::{DecodeError, DefaultNla, Family, Field, FieldNla, Nla, parse_bool, parse_ipv4_addr, parse_ipv6_addr, parse_range, parse_u8, parse_u16_be, parse_u32, parse_u32_be, parse_u64_be};
+use netlink_packet_core::{
+    DecodeError, DefaultNla, Family, Field, FieldNla, Nla, parse_bool, parse_ipv4_addr,
+    parse_ipv6_addr, parse_range, parse_u8, parse_u16_be, parse_u32, parse_u32_be, parse_u64_be,
+};
 use std::alloc::Global;
-use std::net::{Ipv4Addr, Ipv6Addr};
 use std::fmt;
+use std::net::{Ipv4Addr, Ipv6Addr};
 
 const IFLA_VXLAN_ID: u16 = 1;
 

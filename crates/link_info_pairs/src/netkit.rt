@@ -11,7 +11,9 @@ ghost use Rattle.std.specs.Result.{result_ok};
 
 use super::peer::parse_peer;
 use attribute_tables::typed;
-use netlink_packet_core::{DecodeError, DefaultNla, Family, Field, FieldNla, Nla, parse_bool, parse_u16, parse_u32};
+use netlink_packet_core::{
+    DecodeError, DefaultNla, Family, Field, FieldNla, Nla, parse_bool, parse_u16, parse_u32,
+};
 use std::alloc::Global;
 use std::fmt;
 use std::str::FromStr;

@@ -19,8 +19,11 @@ ghost use Rattle.std.specs.Result.{result_ok};
 ghost use Rattle.link_info_stacked.specs.MacVlanTypes.{mac_vlan_mode_number, mac_vlan_mode_of, mac_vlan_mode_text, mac_vlan_mode_named, mac_vlan_flags_bits, mac_vlan_flags_table, mac_vlan_mac_address_mode_number, mac_vlan_mac_address_mode_of};
 
 use attribute_tables::{Reader, parse_list, typed};
-use bitflags::{Flags, Flag};
-use netlink_packet_core::{DecodeError, DefaultNla, NLA_HEADER_SIZE, Nla, NlaBuffer, Parseable, attribute_len, emit_header, fill_u16, fill_u32, length_fits, parse_i32, parse_mac, parse_u16, parse_u32};
+use bitflags::{Flag, Flags};
+use netlink_packet_core::{
+    DecodeError, DefaultNla, NLA_HEADER_SIZE, Nla, NlaBuffer, Parseable, attribute_len,
+    emit_header, fill_u16, fill_u32, length_fits, parse_i32, parse_mac, parse_u16, parse_u32,
+};
 use std::alloc::Global;
 use std::fmt;
 use std::str::FromStr;

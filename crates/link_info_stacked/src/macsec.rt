@@ -6,7 +6,10 @@ ghost use Rattle.link_info_stacked.specs.Macsec.{macsec_entry, macsec_names_row}
 ghost use Rattle.link_info_stacked.specs.MacSecTypes.{mac_sec_cipher_id_number, mac_sec_cipher_id_of, mac_sec_validate_number, mac_sec_validate_of, mac_sec_offload_number, mac_sec_offload_of};
 
 use attribute_tables::typed;
-use netlink_packet_core::{DecodeError, DefaultNla, Family, Field, FieldNla, Nla, parse_u8, parse_u16_be, parse_u32, parse_u64};
+use netlink_packet_core::{
+    DecodeError, DefaultNla, Family, Field, FieldNla, Nla, parse_u8, parse_u16_be, parse_u32,
+    parse_u64,
+};
 use std::alloc::Global;
 
 const IFLA_MACSEC_SCI: u16 = 1;

@@ -16,14 +16,18 @@ ghost use Rattle.attribute_tables_grammar.specs.Readings.{reading_as};
 ghost use Rattle.link_info_tunnels.specs.IpTunnel.{ip_tunnel_entry, ip_tunnel_names_row, ip_tunnel_of, ip_tunnel_rule};
 ghost use Rattle.link_info_tunnels.specs.IpTunnelTypes.{tunnel_encap_type_number, tunnel_encap_type_of, tunnel_encap_type_text, tunnel_encap_flags_bits, tunnel_encap_flags_table, ip6_tunnel_flags_bits, ip6_tunnel_flags_table};
 
-use attribute_tables::{Reader, parse_list, typed};
-use link_info_kinds::InfoKind;
-use bitflags::{Flags, Flag};
 use super::ip_protocol::IpProtocol;
-use netlink_packet_core::{DecodeError, DefaultNla, Field, FieldNla, Nla, NlaBuffer, Parseable, ParseableParametrized, parse_bool, parse_ip, parse_ipv4_addr, parse_ipv6_addr, parse_u8, parse_u16, parse_u16_be, parse_u32, parse_u32_be};
+use attribute_tables::{Reader, parse_list, typed};
+use bitflags::{Flag, Flags};
+use link_info_kinds::InfoKind;
+use netlink_packet_core::{
+    DecodeError, DefaultNla, Field, FieldNla, Nla, NlaBuffer, Parseable, ParseableParametrized,
+    parse_bool, parse_ip, parse_ipv4_addr, parse_ipv6_addr, parse_u8, parse_u16, parse_u16_be,
+    parse_u32, parse_u32_be,
+};
 use std::alloc::Global;
-use std::net::{IpAddr, Ipv4Addr, Ipv6Addr};
 use std::fmt;
+use std::net::{IpAddr, Ipv4Addr, Ipv6Addr};
 
 const IFLA_IPTUN_LINK: u16 = 1;
 

@@ -2,3 +2,4 @@ pub mod Frames
 pub mod Normal
 pub mod Small
 pub mod Together
+pub mod Same

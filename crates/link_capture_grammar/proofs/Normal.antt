@@ -135,10 +135,10 @@ after_length c body r = ap (drop 4) (append_assoc (le4 (16 + length body)) _ r) 
 header_size : (c : List ℕ) → 16 ≤ length c → length (take 12 (drop 4 c)) ≡ 12
 header_size c h = length-take 12 (drop 4 c) ∙ omega (arith, length-drop 4 c)
 
-text_header : (c body r : List ℕ) → 16 ≤ length c → take 12 (drop 4 (frame_text c body ++ r)) ≡ take 12 (drop 4 c)
+pub text_header : (c body r : List ℕ) → 16 ≤ length c → take 12 (drop 4 (frame_text c body ++ r)) ≡ take 12 (drop 4 c)
 text_header c body r h = ap (take 12) (after_length c body r) ∙ take_at (take 12 (drop 4 c)) _ 12 (header_size c h)
 
-text_type : (c body r : List ℕ) → 16 ≤ length c → frame_type (frame_text c body ++ r) ≡ frame_type c
+pub text_type : (c body r : List ℕ) → 16 ≤ length c → frame_type (frame_text c body ++ r) ≡ frame_type c
 text_type c body r h =
     u16_at-drop_4 (frame_text c body ++ r)
     ∙ ap (u16_at 0) (after_length c body r)
@@ -147,7 +147,7 @@ text_type c body r h =
     ∙ ap (u16_at 0) (take-append-drop 12 (drop 4 c))
     ∙ sym (u16_at-drop_4 c)
 
-text_body : (c body r : List ℕ) → 16 ≤ length c → 16 + length body < 2 ^ 32 → frame_body (frame_text c body ++ r) ≡ body
+pub text_body : (c body r : List ℕ) → 16 ≤ length c → 16 + length body < 2 ^ 32 → frame_body (frame_text c body ++ r) ≡ body
 text_body c body r h l =
     let x = frame_text c body ++ r in
     let pad = zeros (nla_align (16 + length body) - (16 + length body)) in

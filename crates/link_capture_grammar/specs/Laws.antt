@@ -1,8 +1,10 @@
 -- The laws of captures, as the functions of `laws` state them.
-use Rattle.std.specs.Prelude.{◌≡◌, ◌≢◌, ℕ, ◌*◌, ◌%◌, ◌^◌, ◌<◌, ◌≤◌, ◌↔◌, List, ◌++◌, length, Some}
+use Rattle.std.specs.Prelude.{◌≡◌, ◌≢◌, ℕ, ◌*◌, ◌%◌, ◌^◌, ◌<◌, ◌≤◌, ◌↔◌, List, ◌++◌, length, Some, Ok}
 use Rattle.link_capture_grammar.specs.declared.fault.CaptureFault.{CaptureFault}
 use Rattle.link_capture_grammar.specs.declared.fault.FaultKind.TheVariants.{Cut}
+use Rattle.link_capture_grammar.specs.Bodies.{body_text}
 use Rattle.link_capture_grammar.specs.Captures.{first_fault, texts, raised, IsLegal, IsOfFrames}
+use Rattle.link_capture_grammar.specs.Same.{SameCapture}
 
 -- a limit is a number of 32 bits
 abbrev pub IsLimit : ℕ → Type 0
@@ -42,3 +44,15 @@ TextsAreSmall = (limit : ℕ) (c : List ℕ) → length (texts limit c) ≤ 77 *
 -- a fault stands at the start of a frame, inside the capture, and is one that a frame can have
 abbrev pub FaultsStand : Type 0
 FaultsStand = (limit : ℕ) (c : List ℕ) (fault : CaptureFault) → first_fault limit c ≡ Some fault → (fault.offset < length c) × (fault.offset % 4 ≡ 0) × IsOfFrames fault.kind
+
+-- a body's text is its own text
+abbrev pub BodiesAreNormal : Type 0
+BodiesAreNormal = (t : ℕ) (b text : List ℕ) → body_text t b ≡ Ok text → body_text t text ≡ Ok text
+
+-- a legal capture and its normal text mean the same
+abbrev pub TextsMeanTheSame : Type 0
+TextsMeanTheSame = (limit : ℕ) (c : List ℕ) → IsLimit limit → IsLegal limit c → SameCapture limit c (texts limit c)
+
+-- captures that mean the same are legal
+abbrev pub SameAreLegal : Type 0
+SameAreLegal = (limit : ℕ) (a b : List ℕ) → SameCapture limit a b → IsLegal limit a × IsLegal limit b

@@ -1,4 +1,5 @@
 pub mod Faults
 pub mod Bodies
 pub mod Captures
+pub mod Same
 pub mod Laws

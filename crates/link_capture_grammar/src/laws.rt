@@ -2,6 +2,7 @@
 
 ghost use Rattle.link_capture_grammar.specs.Laws.{TextsAreLegal, TextsAreNormal, JoinedFaults, JoinedLegal};
 ghost use Rattle.link_capture_grammar.specs.Laws.{JoinedTexts, PrefixFaults, PrefixTexts, TextsAreSmall, FaultsStand};
+ghost use Rattle.link_capture_grammar.specs.Laws.{BodiesAreNormal, TextsMeanTheSame, SameAreLegal};
 
 /// The texts of any bytes are legal under the same limit.
 pub fn texts_are_legal()
@@ -46,4 +47,19 @@ pub fn texts_are_small()
 /// A first fault stands inside the capture, at a multiple of 4, and is of a kind that a frame can have.
 pub fn faults_stand_at_frames()
     ensures { FaultsStand }
+{}
+
+/// The text of a body is its own text.
+pub fn bodies_are_normal()
+    ensures { BodiesAreNormal }
+{}
+
+/// A legal capture and its normal text mean the same.
+pub fn texts_mean_the_same()
+    ensures { TextsMeanTheSame }
+{}
+
+/// Captures that mean the same are legal.
+pub fn same_captures_are_legal()
+    ensures { SameAreLegal }
 {}

@@ -15,19 +15,19 @@ pub use Rattle.link_info_grammar.specs.Families
 pub use Rattle.link_info_grammar.specs.KindNames
 pub use Rattle.link_info_grammar.specs.Laws as GrammarLaws
 pub use Rattle.link_info_grammar.specs.LinkInfo as InfoGrammar
-pub use Rattle.link_info_devices.specs.IpVlanTypes
-pub use Rattle.link_info_devices.specs.IpoibTypes
-pub use Rattle.link_info_stacked.specs.MacSecTypes
-pub use Rattle.link_info_stacked.specs.MacVlanTypes
-pub use Rattle.link_info_pairs.specs.NetkitTypes
-pub use Rattle.link_info_devices.specs.RmNetTypes
-pub use Rattle.link_info_overlays.specs.AmtTypes
-pub use Rattle.link_info_overlays.specs.GeneveTypes
-pub use Rattle.link_info_tunnels.specs.GreTypes
-pub use Rattle.link_info_overlays.specs.GtpTypes
-pub use Rattle.link_info_tunnels.specs.IpProtocols
-pub use Rattle.link_info_tunnels.specs.IpTunnelTypes
-pub use Rattle.link_info_overlays.specs.VxlanTypes
+pub use Rattle.link_info_types.specs.IpVlanTypes
+pub use Rattle.link_info_types.specs.IpoibTypes
+pub use Rattle.link_info_types.specs.MacSecTypes
+pub use Rattle.link_info_types.specs.MacVlanTypes
+pub use Rattle.link_info_types.specs.NetkitTypes
+pub use Rattle.link_info_types.specs.RmNetTypes
+pub use Rattle.link_info_tunnel_types.specs.AmtTypes
+pub use Rattle.link_info_tunnel_types.specs.GeneveTypes
+pub use Rattle.link_info_tunnel_types.specs.GreTypes
+pub use Rattle.link_info_tunnel_types.specs.GtpTypes
+pub use Rattle.link_info_tunnel_types.specs.IpProtocols
+pub use Rattle.link_info_tunnel_types.specs.IpTunnelTypes
+pub use Rattle.link_info_tunnel_types.specs.VxlanTypes
 pub use Rattle.link_info_pairs.specs.Netkit
 pub use Rattle.link_info_pairs.specs.Veth
 pub use Rattle.link_info_stacked.specs.MacVlan

@@ -11,27 +11,27 @@ pub use attribute_tables::{FamilyReader, Reader, parse_family, parse_first, pars
 pub use infos::LinkInfo;
 pub use link_info_data::{InfoData, InfoPortData, InfoVrfPort, LinkXstats};
 pub use link_info_devices::{
-    Flags, InfoBatAdv, InfoIpVlan, InfoIpVtap, InfoIpoib, InfoRmNet, InfoRmNetFlags, InfoVrf,
-    InfoWwan, IpVlanData, IpVlanFlags, IpVlanMode, IpVtapFlags, IpVtapMode, IpoibMode, RmNetFlags,
+    InfoBatAdv, InfoIpVlan, InfoIpVtap, InfoIpoib, InfoRmNet, InfoRmNetFlags, InfoVrf, InfoWwan,
+    IpVlanData,
 };
 pub use link_info_kinds::{InfoKind, InfoPortKind};
-pub use link_info_overlays::{
-    AmtMode, GeneveDf, GtpRole, InfoAmt, InfoGeneve, InfoGtp, InfoVxlan, VxlanDf,
-};
-pub use link_info_pairs::{
-    InfoNetkit, InfoVeth, InfoVxcan, NetkitMode, NetkitPolicy, NetkitScrub, PairData,
-};
+pub use link_info_overlays::{InfoAmt, InfoGeneve, InfoGtp, InfoVxlan};
+pub use link_info_pairs::{InfoNetkit, InfoVeth, InfoVxcan, PairData};
 pub use link_info_raw::{
     InfoBond, InfoBondPort, InfoBridge, InfoBridgePort, InfoCan, InfoDsa, InfoHsr, InfoTeamPort,
     InfoTun, InfoVlan, InfoWireguard, RawData,
 };
-pub use link_info_stacked::{
-    InfoMacSec, InfoMacVlan, InfoMacVtap, MacSecCipherId, MacSecOffload, MacSecValidate,
-    MacVlanFlags, MacVlanMacAddressMode, MacVlanMode, MacVlanReader, MacVtapFlags,
-    MacVtapMacAddressMode, MacVtapMode, parse_mac_vlan,
+pub use link_info_stacked::{InfoMacSec, InfoMacVlan, InfoMacVtap, MacVlanReader, parse_mac_vlan};
+pub use link_info_tunnel_types::{
+    AmtMode, ErSpanDir, GeneveDf, GreEncapFlags, GreEncapType, GreIOFlags, GtpRole, Ip6TunnelFlags,
+    IpProtocol, TunnelEncapFlags, TunnelEncapType, VxlanDf,
 };
 pub use link_info_tunnels::{
-    ErSpanDir, GreEncapFlags, GreEncapType, GreIOFlags, InfoBareUdp, InfoGre, InfoGre6,
-    InfoIpTunnel, InfoIpTunnelReader, InfoVti, InfoXfrm, Ip6TunnelFlags, IpProtocol,
-    TunnelEncapFlags, TunnelEncapType, parse_ip_tunnel,
+    InfoBareUdp, InfoGre, InfoGre6, InfoIpTunnel, InfoIpTunnelReader, InfoVti, InfoXfrm,
+    parse_ip_tunnel,
+};
+pub use link_info_types::{
+    Flags, IpVlanFlags, IpVlanMode, IpVtapFlags, IpVtapMode, IpoibMode, MacSecCipherId,
+    MacSecOffload, MacSecValidate, MacVlanFlags, MacVlanMacAddressMode, MacVlanMode, MacVtapFlags,
+    MacVtapMacAddressMode, MacVtapMode, NetkitMode, NetkitPolicy, NetkitScrub, RmNetFlags,
 };

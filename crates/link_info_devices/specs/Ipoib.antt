@@ -2,7 +2,7 @@
 use Rattle.std.specs.Prelude.{◌≡◌}
 use Rattle.netlink_packet_core.specs.Attributes.{Attribute, proper_kind}
 use Rattle.netlink_packet_core.specs.Numbers.{le2}
-use Rattle.link_info_devices.specs.IpoibTypes.{ipoib_mode_number, ipoib_mode_of}
+use Rattle.link_info_types.specs.IpoibTypes.{ipoib_mode_number, ipoib_mode_of}
 use Rattle.link_info_grammar.specs.Families.{ipoib}
 use Rattle.attribute_tables_grammar.specs.LookUps.{has_no_row}
 use Rattle.netlink_packet_core.specs.Families.{attribute}

@@ -1,6 +1,3 @@
-pub mod IpVlanTypes
-pub mod IpoibTypes
-pub mod RmNetTypes
 pub mod Batadv
 pub mod Ipoib
 pub mod Ipvlan

@@ -2,7 +2,7 @@
 use Rattle.std.specs.Prelude.{ℕ, List, ◌++◌}
 use Rattle.netlink_packet_core.specs.Attributes.{Attribute, proper_kind}
 use Rattle.netlink_packet_core.specs.Numbers.{le2, le4}
-use Rattle.link_info_devices.specs.RmNetTypes.{rm_net_flags_bits}
+use Rattle.link_info_types.specs.RmNetTypes.{rm_net_flags_bits}
 use Rattle.link_info_grammar.specs.Families.{rmnet}
 use Rattle.attribute_tables_grammar.specs.LookUps.{has_no_row}
 use Rattle.netlink_packet_core.specs.Families.{attribute}

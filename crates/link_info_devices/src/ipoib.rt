@@ -1,11 +1,11 @@
 //! Data of the kind `ipoib` (if_link.h, IFLA_IPOIB_*). Numbers are little-endian.
 
-ghost use Rattle.std.specs.Prelude.{refl, ◌≡◌};
+ghost use Rattle.std.specs.Prelude.{refl};
 ghost use Rattle.link_info_grammar.specs.Families.{ipoib};
 ghost use Rattle.link_info_devices.specs.Ipoib.{ipoib_entry, ipoib_names_row};
-ghost use Rattle.link_info_devices.specs.IpoibTypes.{ipoib_mode_number, ipoib_mode_of};
 
 use attribute_tables::typed;
+use link_info_types::IpoibMode;
 use netlink_packet_core::{DecodeError, DefaultNla, Family, Field, FieldNla, Nla, parse_u16};
 use std::alloc::Global;
 
@@ -60,43 +60,4 @@ impl Family for InfoIpoib {
     }
 
     ghost plain = { refl };
-}
-
-/// How IP over InfiniBand sends its packets, `IPOIB_MODE_*` of `linux/if_link.h`. On the wire 2
-/// bytes in native order.
-#[derive(Debug, PartialEq, Eq, Clone, Copy)]
-pub enum IpoibMode {
-    /// Over unreliable datagrams: `IPOIB_MODE_DATAGRAM`, 0.
-    Datagram,
-    /// Over reliable connections: `IPOIB_MODE_CONNECTED`, 1.
-    Connected,
-    /// Every other number.
-    Other(u16),
-}
-
-impl From<u16> for IpoibMode {
-    ghost from_gives = { λ n m. m ≡ ipoib_mode_of n };
-
-    fn from(number: u16) -> Self
-        ensures named { result ≡ ipoib_mode_of number }
-        ensures keeps_the_number { ipoib_mode_number result ≡ number }
-    {
-        match number {
-            0 => Self::Datagram,
-            1 => Self::Connected,
-            _ => Self::Other(number),
-        }
-    }
-}
-
-impl From<IpoibMode> for u16 {
-    ghost from_gives = { λ m n. n ≡ ipoib_mode_number m };
-
-    fn from(value: IpoibMode) -> Self {
-        match value {
-            IpoibMode::Datagram => 0,
-            IpoibMode::Connected => 1,
-            IpoibMode::Other(number) => number,
-        }
-    }
 }

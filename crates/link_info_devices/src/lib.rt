@@ -9,11 +9,8 @@ mod vrf;
 mod wwan;
 
 pub use batadv::InfoBatAdv;
-pub use bitflags::Flags;
-pub use ipoib::{InfoIpoib, IpoibMode};
-pub use ipvlan::{
-    InfoIpVlan, InfoIpVtap, IpVlanData, IpVlanFlags, IpVlanMode, IpVtapFlags, IpVtapMode,
-};
-pub use rmnet::{InfoRmNet, InfoRmNetFlags, RmNetFlags};
+pub use ipoib::InfoIpoib;
+pub use ipvlan::{InfoIpVlan, InfoIpVtap, IpVlanData};
+pub use rmnet::{InfoRmNet, InfoRmNetFlags};
 pub use vrf::InfoVrf;
 pub use wwan::InfoWwan;

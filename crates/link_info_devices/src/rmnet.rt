@@ -1,13 +1,12 @@
 //! Data of the kind `rmnet` (if_link.h, IFLA_RMNET_*). Numbers are little-endian.
 
-ghost use Rattle.std.specs.Prelude.{◌≡◌, ◌↔◌, false, length, refl, IsOk, IfOk, IfErr, ⊤};
+ghost use Rattle.std.specs.Prelude.{◌≡◌, ◌↔◌, false, length, refl, IsOk, IfOk, IfErr};
 ghost use Rattle.netlink_packet_core.specs.Errors.{is_memory};
 ghost use Rattle.link_info_grammar.specs.Families.{rmnet};
 ghost use Rattle.link_info_devices.specs.Rmnet.{flags_bytes, rmnet_entry, rmnet_names_row};
-ghost use Rattle.link_info_devices.specs.RmNetTypes.{rm_net_flags_bits, rm_net_flags_table};
 
 use attribute_tables::typed;
-use bitflags::{Flag, Flags};
+use link_info_types::{Flags, RmNetFlags};
 use netlink_packet_core::{
     DecodeError, DefaultNla, Family, Field, FieldNla, Nla, parse_u16, parse_u32,
 };
@@ -95,73 +94,4 @@ impl Family for InfoRmNet {
     }
 
     ghost plain = { refl };
-}
-
-/// What an RMNET device does with the packets of its modem, `RMNET_FLAGS_*` of `linux/if_link.h`.
-/// On the wire 4 bytes in native order; all bits are kept.
-#[derive(Debug, Clone, Copy, PartialEq, Eq)]
-pub struct RmNetFlags(u32);
-
-impl RmNetFlags {
-    /// Received packets that were joined are taken apart: `RMNET_FLAGS_INGRESS_DEAGGREGATION`.
-    pub const IngressDeaggregation: Self = Self(0x01);
-    /// Received commands are obeyed: `RMNET_FLAGS_INGRESS_MAP_COMMANDS`.
-    pub const IngressCommands: Self = Self(0x02);
-    /// Received packets have a checksum, version 4: `RMNET_FLAGS_INGRESS_MAP_CKSUMV4`.
-    pub const IngressMapCksumV4: Self = Self(0x04);
-    /// Sent packets have a checksum, version 4: `RMNET_FLAGS_EGRESS_MAP_CKSUMV4`.
-    pub const EgressMapCksumV4: Self = Self(0x08);
-    /// Received packets have a checksum, version 5: `RMNET_FLAGS_INGRESS_MAP_CKSUMV5`.
-    pub const IngressMapCksumV5: Self = Self(0x10);
-    /// Sent packets have a checksum, version 5: `RMNET_FLAGS_EGRESS_MAP_CKSUMV5`.
-    pub const EgressMapCksumV5: Self = Self(0x20);
-
-    const FLAGS: [Flag<RmNetFlags>; 6] = [
-        Flag {
-            name: "IngressDeaggregation",
-            value: Self::IngressDeaggregation,
-        },
-        Flag {
-            name: "IngressCommands",
-            value: Self::IngressCommands,
-        },
-        Flag {
-            name: "IngressMapCksumV4",
-            value: Self::IngressMapCksumV4,
-        },
-        Flag {
-            name: "EgressMapCksumV4",
-            value: Self::EgressMapCksumV4,
-        },
-        Flag {
-            name: "IngressMapCksumV5",
-            value: Self::IngressMapCksumV5,
-        },
-        Flag {
-            name: "EgressMapCksumV5",
-            value: Self::EgressMapCksumV5,
-        },
-    ];
-}
-
-impl Flags for RmNetFlags {
-    type Bits = u32;
-
-    ghost exact = { ⊤ };
-
-    ghost table = { rm_net_flags_table };
-
-    ghost set_of = { rm_net_flags_bits };
-
-    fn flags<'a>() -> &'a [Flag<RmNetFlags>] {
-        &RmNetFlags::FLAGS
-    }
-
-    fn bits(&self) -> u32 {
-        self.0
-    }
-
-    fn from_bits_retain(bits: u32) -> RmNetFlags {
-        RmNetFlags(bits)
-    }
 }

@@ -3,7 +3,7 @@ use Rattle.std.specs.Prelude.{◌≡◌}
 use Rattle.netlink_packet_core.specs.Addresses.{ip_octets}
 use Rattle.netlink_packet_core.specs.Attributes.{Attribute, proper_kind}
 use Rattle.netlink_packet_core.specs.Numbers.{be2, le4}
-use Rattle.link_info_overlays.specs.AmtTypes.{amt_mode_number, amt_mode_of}
+use Rattle.link_info_tunnel_types.specs.AmtTypes.{amt_mode_number, amt_mode_of}
 use Rattle.link_info_grammar.specs.Families.{amt}
 use Rattle.attribute_tables_grammar.specs.LookUps.{has_no_row}
 use Rattle.netlink_packet_core.specs.Families.{attribute}

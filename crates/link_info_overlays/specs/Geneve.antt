@@ -4,7 +4,7 @@ use Rattle.std.specs.Net.Addr.{ipv4_octets, ipv6_octets}
 use Rattle.netlink_packet_core.specs.Attributes.{Attribute, proper_kind}
 use Rattle.netlink_packet_core.specs.Numbers.{be2, be4, le4}
 use Rattle.netlink_packet_core.specs.Truths.{truth_byte}
-use Rattle.link_info_overlays.specs.GeneveTypes.{geneve_df_number, geneve_df_of}
+use Rattle.link_info_tunnel_types.specs.GeneveTypes.{geneve_df_number, geneve_df_of}
 use Rattle.link_info_grammar.specs.Families.{geneve}
 use Rattle.attribute_tables_grammar.specs.LookUps.{has_no_row}
 use Rattle.netlink_packet_core.specs.Families.{attribute}

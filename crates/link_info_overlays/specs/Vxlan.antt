@@ -4,7 +4,7 @@ use Rattle.std.specs.Net.Addr.{ipv4_octets, ipv6_octets}
 use Rattle.netlink_packet_core.specs.Attributes.{Attribute, proper_kind}
 use Rattle.netlink_packet_core.specs.Numbers.{be2, be4, be8, le4}
 use Rattle.netlink_packet_core.specs.Truths.{truth_byte}
-use Rattle.link_info_overlays.specs.VxlanTypes.{vxlan_df_number, vxlan_df_of}
+use Rattle.link_info_tunnel_types.specs.VxlanTypes.{vxlan_df_number, vxlan_df_of}
 use Rattle.link_info_grammar.specs.Families.{vxlan}
 use Rattle.attribute_tables_grammar.specs.LookUps.{has_no_row}
 use Rattle.netlink_packet_core.specs.Families.{attribute}

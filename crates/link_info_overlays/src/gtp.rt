@@ -1,17 +1,16 @@
 //! Data of the kind `gtp` (if_link.h, IFLA_GTP_*). Numbers are little-endian.
 
-ghost use Rattle.std.specs.Prelude.{refl, ◌≡◌, Some};
+ghost use Rattle.std.specs.Prelude.{refl};
 ghost use Rattle.link_info_grammar.specs.Families.{gtp};
 ghost use Rattle.link_info_overlays.specs.Gtp.{gtp_entry, gtp_names_row};
-ghost use Rattle.link_info_overlays.specs.GtpTypes.{gtp_role_number, gtp_role_of, gtp_role_text};
 
 use attribute_tables::typed;
+use link_info_tunnel_types::GtpRole;
 use netlink_packet_core::{
     DecodeError, DefaultNla, Family, Field, FieldNla, Nla, parse_bool, parse_ipv4_addr,
     parse_ipv6_addr, parse_u8, parse_u32,
 };
 use std::alloc::Global;
-use std::fmt;
 use std::net::{Ipv4Addr, Ipv6Addr};
 
 const IFLA_GTP_FD0: u16 = 1;
@@ -95,56 +94,4 @@ impl Family for InfoGtp {
     }
 
     ghost plain = { refl };
-}
-
-/// Which end of a GTP tunnel the device is, `GTP_ROLE_*` of `linux/if_link.h`. On the wire 4 bytes
-/// in native order.
-#[derive(Debug, PartialEq, Eq, Clone, Copy, Default)]
-pub enum GtpRole {
-    /// The gateway: `GTP_ROLE_GGSN`, 0.
-    #[default]
-    Ggsn,
-    /// The serving node: `GTP_ROLE_SGSN`, 1.
-    Sgsn,
-    /// Every other number.
-    Other(u32),
-}
-
-impl From<u32> for GtpRole {
-    ghost from_gives = { λ n r. r ≡ gtp_role_of n };
-
-    fn from(number: u32) -> Self
-        ensures named { result ≡ gtp_role_of number }
-        ensures keeps_the_number { gtp_role_number result ≡ number }
-    {
-        match number {
-            0 => Self::Ggsn,
-            1 => Self::Sgsn,
-            _ => Self::Other(number),
-        }
-    }
-}
-
-impl From<GtpRole> for u32 {
-    ghost from_gives = { λ r n. n ≡ gtp_role_number r };
-
-    fn from(value: GtpRole) -> Self {
-        match value {
-            GtpRole::Ggsn => 0,
-            GtpRole::Sgsn => 1,
-            GtpRole::Other(number) => number,
-        }
-    }
-}
-
-impl fmt::Display for GtpRole {
-    ghost output = { λ r. Some (gtp_role_text r) };
-
-    fn fmt<W: fmt::Write>(&self, f: &mut fmt::Formatter<W>) -> fmt::Result {
-        match self {
-            Self::Ggsn => f.write_str("ggsn"),
-            Self::Sgsn => f.write_str("sgsn"),
-            Self::Other(number) => write!(f, "unknown({number})"),
-        }
-    }
 }

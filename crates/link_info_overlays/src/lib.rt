@@ -6,7 +6,7 @@ mod geneve;
 mod gtp;
 mod vxlan;
 
-pub use amt::{AmtMode, InfoAmt};
-pub use geneve::{GeneveDf, InfoGeneve};
-pub use gtp::{GtpRole, InfoGtp};
-pub use vxlan::{InfoVxlan, VxlanDf};
+pub use amt::InfoAmt;
+pub use geneve::InfoGeneve;
+pub use gtp::InfoGtp;
+pub use vxlan::InfoVxlan;

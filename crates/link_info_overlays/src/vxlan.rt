@@ -1,17 +1,16 @@
 //! Data of the kind `vxlan` (if_link.h, IFLA_VXLAN_*). Numbers are little-endian unless told; a truth is 1 byte, zero or not.
 
-ghost use Rattle.std.specs.Prelude.{refl, ◌≡◌, Some};
+ghost use Rattle.std.specs.Prelude.{refl};
 ghost use Rattle.link_info_grammar.specs.Families.{vxlan};
 ghost use Rattle.link_info_overlays.specs.Vxlan.{vxlan_entry, vxlan_names_row};
-ghost use Rattle.link_info_overlays.specs.VxlanTypes.{vxlan_df_number, vxlan_df_of, vxlan_df_text};
 
 use attribute_tables::typed;
+use link_info_tunnel_types::VxlanDf;
 use netlink_packet_core::{
     DecodeError, DefaultNla, Family, Field, FieldNla, Nla, parse_bool, parse_ipv4_addr,
     parse_ipv6_addr, parse_range, parse_u8, parse_u16_be, parse_u32, parse_u32_be, parse_u64_be,
 };
 use std::alloc::Global;
-use std::fmt;
 use std::net::{Ipv4Addr, Ipv6Addr};
 
 const IFLA_VXLAN_ID: u16 = 1;
@@ -259,60 +258,4 @@ impl Family for InfoVxlan {
     }
 
     ghost plain = { refl };
-}
-
-/// The "don't fragment" bit of the outer IPv4 header of a VXLAN tunnel, `VXLAN_DF_*` of
-/// `linux/if_link.h`. On the wire 1 byte.
-#[derive(Debug, PartialEq, Eq, Clone, Copy)]
-pub enum VxlanDf {
-    /// Not set: `VXLAN_DF_UNSET`, 0.
-    Unset,
-    /// Set: `VXLAN_DF_SET`, 1.
-    Set,
-    /// As in the inner header: `VXLAN_DF_INHERIT`, 2.
-    Inherit,
-    /// Every other number.
-    Other(u8),
-}
-
-impl From<u8> for VxlanDf {
-    ghost from_gives = { λ n d. d ≡ vxlan_df_of n };
-
-    fn from(number: u8) -> Self
-        ensures named { result ≡ vxlan_df_of number }
-        ensures keeps_the_number { vxlan_df_number result ≡ number }
-    {
-        match number {
-            0 => Self::Unset,
-            1 => Self::Set,
-            2 => Self::Inherit,
-            _ => Self::Other(number),
-        }
-    }
-}
-
-impl From<VxlanDf> for u8 {
-    ghost from_gives = { λ d n. n ≡ vxlan_df_number d };
-
-    fn from(value: VxlanDf) -> Self {
-        match value {
-            VxlanDf::Unset => 0,
-            VxlanDf::Set => 1,
-            VxlanDf::Inherit => 2,
-            VxlanDf::Other(number) => number,
-        }
-    }
-}
-
-impl fmt::Display for VxlanDf {
-    ghost output = { λ d. Some (vxlan_df_text d) };
-
-    fn fmt<W: fmt::Write>(&self, f: &mut fmt::Formatter<W>) -> fmt::Result {
-        match self {
-            Self::Unset => f.write_str("unset"),
-            Self::Set => f.write_str("set"),
-            Self::Inherit => f.write_str("inherit"),
-            Self::Other(number) => write!(f, "{number}"),
-        }
-    }
 }

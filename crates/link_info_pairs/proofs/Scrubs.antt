@@ -5,8 +5,8 @@ use Rattle.std.proofs.lemmas.Bool.{eqb-true}
 use Rattle.netlink_packet_core_grammar.specs.Numbers.{le4}
 use Rattle.netlink_packet_core_grammar.specs.Truths.{truth_of}
 use Rattle.attribute_tables_grammar.specs.Shapes.{number, number_truth}
-use Rattle.link_info_pairs.specs.NetkitTypes.{netkit_scrub_number, netkit_scrub_of}
-use Rattle.link_info_pairs.specs.declared.netkit.NetkitScrub.{NetkitScrub}
+use Rattle.link_info_types.specs.NetkitTypes.{netkit_scrub_number, netkit_scrub_of}
+use Rattle.link_info_types.specs.declared.netkit.NetkitScrub.{NetkitScrub}
 
 of_more : (n : ℕ) → 0 < n → truth_of n ≡ 1
 of_more zero h = absurd (omega arith)

@@ -1,3 +1,2 @@
-pub mod NetkitTypes
 pub mod Netkit
 pub mod Veth

@@ -5,5 +5,5 @@ mod netkit;
 mod peer;
 mod veth;
 
-pub use netkit::{InfoNetkit, NetkitMode, NetkitPolicy, NetkitScrub};
+pub use netkit::InfoNetkit;
 pub use veth::{InfoVeth, InfoVxcan, PairData};

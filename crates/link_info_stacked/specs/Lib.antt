@@ -1,4 +1,2 @@
-pub mod MacSecTypes
-pub mod MacVlanTypes
 pub mod MacVlan
 pub mod Macsec

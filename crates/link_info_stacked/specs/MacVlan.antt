@@ -5,7 +5,7 @@ use Rattle.std.specs.Int.{w32, cast_unsigned}
 use Rattle.netlink_packet_core.specs.Attributes.{Attribute, proper_kind, attribute_text}
 use Rattle.netlink_packet_core.specs.Fits.{attribute_fits}
 use Rattle.netlink_packet_core.specs.Numbers.{le2, le4}
-use Rattle.link_info_stacked.specs.MacVlanTypes.{mac_vlan_mode_number, mac_vlan_mode_of, mac_vlan_flags_bits, mac_vlan_mac_address_mode_number, mac_vlan_mac_address_mode_of}
+use Rattle.link_info_types.specs.MacVlanTypes.{mac_vlan_mode_number, mac_vlan_mode_of, mac_vlan_flags_bits, mac_vlan_mac_address_mode_number, mac_vlan_mac_address_mode_of}
 use Rattle.link_info_grammar.specs.Families.{macvlan, macvlan_address}
 use Rattle.attribute_tables_grammar.specs.Lists.{row_at}
 use Rattle.attribute_tables_grammar.specs.LookUps.{has_no_row}

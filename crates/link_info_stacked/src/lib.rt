@@ -4,9 +4,5 @@
 mod mac_vlan;
 mod macsec;
 
-pub use bitflags::Flags;
-pub use mac_vlan::{
-    InfoMacVlan, InfoMacVtap, MacVlanFlags, MacVlanMacAddressMode, MacVlanMode, MacVlanReader,
-    MacVtapFlags, MacVtapMacAddressMode, MacVtapMode, parse_mac_vlan,
-};
-pub use macsec::{InfoMacSec, MacSecCipherId, MacSecOffload, MacSecValidate};
+pub use mac_vlan::{InfoMacVlan, InfoMacVtap, MacVlanReader, parse_mac_vlan};
+pub use macsec::InfoMacSec;

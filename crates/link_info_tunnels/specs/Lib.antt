@@ -1,6 +1,3 @@
-pub mod GreTypes
-pub mod IpTunnelTypes
-pub mod IpProtocols
 pub mod Bareudp
 pub mod Gre
 pub mod Gre6

@@ -6,14 +6,14 @@ ghost use Rattle.link_info_grammar.specs.Families.{gre};
 ghost use Rattle.link_info_tunnels.specs.Gre.{gre_entry, gre_names_row};
 
 use super::gre_common::{
-    ErSpanDir, GreEncapFlags, GreEncapType, GreIOFlags, IFLA_GRE_COLLECT_METADATA,
-    IFLA_GRE_ENCAP_DPORT, IFLA_GRE_ENCAP_FLAGS, IFLA_GRE_ENCAP_SPORT, IFLA_GRE_ENCAP_TYPE,
-    IFLA_GRE_ERSPAN_DIR, IFLA_GRE_ERSPAN_HWID, IFLA_GRE_ERSPAN_INDEX, IFLA_GRE_ERSPAN_VER,
-    IFLA_GRE_FWMARK, IFLA_GRE_IFLAGS, IFLA_GRE_IKEY, IFLA_GRE_LINK, IFLA_GRE_LOCAL,
-    IFLA_GRE_OFLAGS, IFLA_GRE_OKEY, IFLA_GRE_PMTUDISC, IFLA_GRE_REMOTE, IFLA_GRE_TOS, IFLA_GRE_TTL,
+    IFLA_GRE_COLLECT_METADATA, IFLA_GRE_ENCAP_DPORT, IFLA_GRE_ENCAP_FLAGS, IFLA_GRE_ENCAP_SPORT,
+    IFLA_GRE_ENCAP_TYPE, IFLA_GRE_ERSPAN_DIR, IFLA_GRE_ERSPAN_HWID, IFLA_GRE_ERSPAN_INDEX,
+    IFLA_GRE_ERSPAN_VER, IFLA_GRE_FWMARK, IFLA_GRE_IFLAGS, IFLA_GRE_IKEY, IFLA_GRE_LINK,
+    IFLA_GRE_LOCAL, IFLA_GRE_OFLAGS, IFLA_GRE_OKEY, IFLA_GRE_PMTUDISC, IFLA_GRE_REMOTE,
+    IFLA_GRE_TOS, IFLA_GRE_TTL,
 };
 use attribute_tables::typed;
-use bitflags::Flags;
+use link_info_tunnel_types::{ErSpanDir, Flags, GreEncapFlags, GreEncapType, GreIOFlags};
 use netlink_packet_core::{
     DecodeError, DefaultNla, Family, Field, FieldNla, Nla, parse_ipv4_addr, parse_one, parse_u8,
     parse_u16, parse_u16_be, parse_u32, parse_u32_be,

@@ -1,6 +1,6 @@
 use Rattle.std.proofs.Common.{◌∙◌, ap, arith}
 use Rattle.netlink_packet_core_grammar.specs.Numbers.{le4}
-use Rattle.link_info_pairs.specs.NetkitTypes.{netkit_scrub_number}
+use Rattle.link_info_types.specs.NetkitTypes.{netkit_scrub_number}
 use Rattle.link_info_pairs.proofs.Scrubs.{scrub_of_parts}
 use Rattle.link_info_pairs.proofs.netkit.parse_scrub.Goals as goal
 

@@ -1,7 +1,7 @@
 -- The numbers of the protocols that IP carries.
 use Rattle.std.specs.Prelude.{ℕ, List, [], ◌∷◌}
 use Rattle.netlink_packet_core.specs.Named.{numbered_by}
-use Rattle.link_info_tunnels.specs.declared.ip_protocol.IpProtocol.{IpProtocol}
+use Rattle.link_info_tunnel_types.specs.declared.ip_protocol.IpProtocol.{IpProtocol}
 
 -- the number of a protocol
 abbrev pub ip_protocol_number : IpProtocol → ℕ

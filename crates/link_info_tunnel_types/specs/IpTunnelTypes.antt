@@ -2,9 +2,9 @@
 use Rattle.std.specs.Prelude.{ℕ, List, [], ◌∷◌, codes}
 use Rattle.std.specs.Fmt.{decimal}
 use Rattle.netlink_packet_core.specs.Named.{numbered_by}
-use Rattle.link_info_tunnels.specs.declared.iptunnel.TunnelEncapType.{TunnelEncapType}
-use Rattle.link_info_tunnels.specs.declared.iptunnel.TunnelEncapFlags.{TunnelEncapFlags}
-use Rattle.link_info_tunnels.specs.declared.iptunnel.Ip6TunnelFlags.{Ip6TunnelFlags}
+use Rattle.link_info_tunnel_types.specs.declared.iptunnel.TunnelEncapType.{TunnelEncapType}
+use Rattle.link_info_tunnel_types.specs.declared.iptunnel.TunnelEncapFlags.{TunnelEncapFlags}
+use Rattle.link_info_tunnel_types.specs.declared.iptunnel.Ip6TunnelFlags.{Ip6TunnelFlags}
 
 -- the number and the text of an encapsulation
 abbrev pub tunnel_encap_type_row : TunnelEncapType → ℕ × List ℕ

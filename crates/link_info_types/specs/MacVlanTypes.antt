@@ -2,9 +2,9 @@
 use Rattle.std.specs.Prelude.{ℕ, List, [], ◌∷◌, codes, Option}
 use Rattle.std.specs.Fmt.{decimal}
 use Rattle.netlink_packet_core.specs.Named.{numbered_by, named_by}
-use Rattle.link_info_stacked.specs.declared.mac_vlan.MacVlanMode.{MacVlanMode}
-use Rattle.link_info_stacked.specs.declared.mac_vlan.MacVlanFlags.{MacVlanFlags}
-use Rattle.link_info_stacked.specs.declared.mac_vlan.MacVlanMacAddressMode.{MacVlanMacAddressMode}
+use Rattle.link_info_types.specs.declared.mac_vlan.MacVlanMode.{MacVlanMode}
+use Rattle.link_info_types.specs.declared.mac_vlan.MacVlanFlags.{MacVlanFlags}
+use Rattle.link_info_types.specs.declared.mac_vlan.MacVlanMacAddressMode.{MacVlanMacAddressMode}
 
 -- the number and the text of a mode
 abbrev pub mac_vlan_mode_row : MacVlanMode → ℕ × List ℕ

@@ -1,7 +1,7 @@
 //! Numbers of the protocols that IP carries.
 
 ghost use Rattle.std.specs.Prelude.{◌≡◌};
-ghost use Rattle.link_info_tunnels.specs.IpProtocols.{ip_protocol_number, ip_protocol_of};
+ghost use Rattle.link_info_tunnel_types.specs.IpProtocols.{ip_protocol_number, ip_protocol_of};
 
 /// The protocol that an IP packet carries, `IPPROTO_*` of `linux/in.h` and `linux/in6.h`. On the
 /// wire 1 byte.

@@ -2,8 +2,8 @@
 use Rattle.std.specs.Prelude.{ℕ, List, [], ◌∷◌, codes, Option}
 use Rattle.std.specs.Fmt.{decimal}
 use Rattle.netlink_packet_core.specs.Named.{numbered_by, named_by}
-use Rattle.link_info_devices.specs.declared.ipvlan.IpVlanMode.{IpVlanMode}
-use Rattle.link_info_devices.specs.declared.ipvlan.IpVlanFlags.{IpVlanFlags}
+use Rattle.link_info_types.specs.declared.ipvlan.IpVlanMode.{IpVlanMode}
+use Rattle.link_info_types.specs.declared.ipvlan.IpVlanFlags.{IpVlanFlags}
 
 -- the number and the text of a mode
 abbrev pub ip_vlan_mode_row : IpVlanMode → ℕ × List ℕ

@@ -2,7 +2,7 @@
 use Rattle.std.specs.Prelude.{ℕ, List, [], ◌∷◌, ◌++◌, codes}
 use Rattle.std.specs.Fmt.{decimal}
 use Rattle.netlink_packet_core.specs.Named.{numbered_by}
-use Rattle.link_info_overlays.specs.declared.gtp.GtpRole.{GtpRole}
+use Rattle.link_info_tunnel_types.specs.declared.gtp.GtpRole.{GtpRole}
 
 -- the number and the text of a role
 abbrev pub gtp_role_row : GtpRole → ℕ × List ℕ

@@ -1,6 +1,6 @@
 -- The flags of RMNET.
 use Rattle.std.specs.Prelude.{ℕ, List, [], ◌∷◌, codes}
-use Rattle.link_info_devices.specs.declared.rmnet.RmNetFlags.{RmNetFlags}
+use Rattle.link_info_types.specs.declared.rmnet.RmNetFlags.{RmNetFlags}
 
 -- the bits of a set of flags
 abbrev pub rm_net_flags_bits : RmNetFlags → ℕ

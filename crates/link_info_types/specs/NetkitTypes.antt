@@ -2,9 +2,9 @@
 use Rattle.std.specs.Prelude.{ℕ, List, [], ◌∷◌, codes, Option}
 use Rattle.std.specs.Fmt.{decimal}
 use Rattle.netlink_packet_core.specs.Named.{numbered_by, named_by}
-use Rattle.link_info_pairs.specs.declared.netkit.NetkitMode.{NetkitMode}
-use Rattle.link_info_pairs.specs.declared.netkit.NetkitPolicy.{NetkitPolicy}
-use Rattle.link_info_pairs.specs.declared.netkit.NetkitScrub.{NetkitScrub}
+use Rattle.link_info_types.specs.declared.netkit.NetkitMode.{NetkitMode}
+use Rattle.link_info_types.specs.declared.netkit.NetkitPolicy.{NetkitPolicy}
+use Rattle.link_info_types.specs.declared.netkit.NetkitScrub.{NetkitScrub}
 
 -- the number and the text of a mode
 abbrev pub netkit_mode_row : NetkitMode → ℕ × List ℕ

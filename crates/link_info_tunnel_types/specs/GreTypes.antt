@@ -2,10 +2,10 @@
 use Rattle.std.specs.Prelude.{ℕ, List, [], ◌∷◌, ◌++◌, codes}
 use Rattle.std.specs.Fmt.{decimal}
 use Rattle.netlink_packet_core.specs.Named.{numbered_by}
-use Rattle.link_info_tunnels.specs.declared.gre_common.GreIOFlags.{GreIOFlags}
-use Rattle.link_info_tunnels.specs.declared.gre_common.GreEncapFlags.{GreEncapFlags}
-use Rattle.link_info_tunnels.specs.declared.gre_common.GreEncapType.{GreEncapType}
-use Rattle.link_info_tunnels.specs.declared.gre_common.ErSpanDir.{ErSpanDir}
+use Rattle.link_info_tunnel_types.specs.declared.gre.GreIOFlags.{GreIOFlags}
+use Rattle.link_info_tunnel_types.specs.declared.gre.GreEncapFlags.{GreEncapFlags}
+use Rattle.link_info_tunnel_types.specs.declared.gre.GreEncapType.{GreEncapType}
+use Rattle.link_info_tunnel_types.specs.declared.gre.ErSpanDir.{ErSpanDir}
 
 -- the bits of a set of GRE flags
 abbrev pub gre_io_flags_bits : GreIOFlags → ℕ

@@ -2,7 +2,7 @@
 use Rattle.std.specs.Prelude.{ℕ, List, [], ◌∷◌, codes, Option}
 use Rattle.std.specs.Fmt.{decimal}
 use Rattle.netlink_packet_core.specs.Named.{numbered_by, named_by}
-use Rattle.link_info_overlays.specs.declared.geneve.GeneveDf.{GeneveDf}
+use Rattle.link_info_tunnel_types.specs.declared.geneve.GeneveDf.{GeneveDf}
 
 -- the number and the text of a setting of the DF bit
 abbrev pub geneve_df_row : GeneveDf → ℕ × List ℕ

@@ -1,9 +1,9 @@
 -- The numbers of MACsec.
 use Rattle.std.specs.Prelude.{ℕ, List, [], ◌∷◌}
 use Rattle.netlink_packet_core.specs.Named.{numbered_by}
-use Rattle.link_info_stacked.specs.declared.macsec.MacSecCipherId.{MacSecCipherId}
-use Rattle.link_info_stacked.specs.declared.macsec.MacSecValidate.{MacSecValidate}
-use Rattle.link_info_stacked.specs.declared.macsec.MacSecOffload.{MacSecOffload}
+use Rattle.link_info_types.specs.declared.macsec.MacSecCipherId.{MacSecCipherId}
+use Rattle.link_info_types.specs.declared.macsec.MacSecValidate.{MacSecValidate}
+use Rattle.link_info_types.specs.declared.macsec.MacSecOffload.{MacSecOffload}
 
 -- the number of a cipher suite
 abbrev pub mac_sec_cipher_id_number : MacSecCipherId → ℕ

@@ -2,7 +2,7 @@
 use Rattle.std.specs.Prelude.{ℕ, List, [], ◌∷◌, codes}
 use Rattle.std.specs.Fmt.{decimal}
 use Rattle.netlink_packet_core.specs.Named.{numbered_by}
-use Rattle.link_info_overlays.specs.declared.vxlan.VxlanDf.{VxlanDf}
+use Rattle.link_info_tunnel_types.specs.declared.vxlan.VxlanDf.{VxlanDf}
 
 -- the number and the text of a setting of the DF bit
 abbrev pub vxlan_df_row : VxlanDf → ℕ × List ℕ

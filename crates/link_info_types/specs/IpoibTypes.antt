@@ -1,7 +1,7 @@
 -- The numbers of IP over InfiniBand.
 use Rattle.std.specs.Prelude.{ℕ, List, [], ◌∷◌}
 use Rattle.netlink_packet_core.specs.Named.{numbered_by}
-use Rattle.link_info_devices.specs.declared.ipoib.IpoibMode.{IpoibMode}
+use Rattle.link_info_types.specs.declared.ipoib.IpoibMode.{IpoibMode}
 
 -- the number of a transport mode
 abbrev pub ipoib_mode_number : IpoibMode → ℕ

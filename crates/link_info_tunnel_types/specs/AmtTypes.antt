@@ -2,7 +2,7 @@
 use Rattle.std.specs.Prelude.{ℕ, List, [], ◌∷◌, codes, Option}
 use Rattle.std.specs.Fmt.{decimal}
 use Rattle.netlink_packet_core.specs.Named.{numbered_by, named_by}
-use Rattle.link_info_overlays.specs.declared.amt.AmtMode.{AmtMode}
+use Rattle.link_info_tunnel_types.specs.declared.amt.AmtMode.{AmtMode}
 
 -- the number and the text of a mode
 abbrev pub amt_mode_row : AmtMode → ℕ × List ℕ

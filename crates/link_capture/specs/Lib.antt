@@ -6,3 +6,9 @@ pub use Rattle.link_capture_reader.specs.Readers
 pub use Rattle.link_capture_engine.specs.Devices
 pub use Rattle.link_capture_engine.specs.Known
 pub use Rattle.link_capture_engine.specs.Outcomes
+pub use Rattle.link_capture_grammar.specs.Same
+pub use Rattle.link_capture_messages.specs.KeptTypes
+pub use Rattle.link_capture_messages.specs.Readable
+pub use Rattle.link_capture_messages.specs.Views
+pub use Rattle.link_capture_messages.specs.Routes
+pub use Rattle.link_capture_reader.specs.Joined

@@ -9,4 +9,8 @@ pub use link_capture_engine::{
 };
 pub use link_capture_grammar::fault::{CaptureFault, FaultKind};
 pub use link_capture_grammar::laws;
+pub use link_capture_messages::{
+    NotReadable, OtherMessage, RTM_DELLINK, RTM_GETLINK, RTM_NEWLINK, RTM_SETLINK, ReadableLink,
+    RouteFault, RouteLink,
+};
 pub use link_capture_reader::{CaptureReader, normalize_bytes};

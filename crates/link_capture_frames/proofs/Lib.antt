@@ -1,3 +1,3 @@
-pub mod LinkBody
-pub mod Messages
+pub mod ReadBodies
+pub mod WrittenBodies
 pub mod Judging

@@ -1,5 +1,1 @@
-pub mod LinkBody
-pub mod Judged
-pub mod Parts
-pub mod Bodies
-pub mod CanonicalBodies
+pub mod Texts

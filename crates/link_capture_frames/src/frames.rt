@@ -2,17 +2,18 @@
 
 ghost use Rattle.std.specs.Prelude.{◌≡◌, ◌≢◌, ◌+◌, ◌≤◌, ◌<◌, ◌^◌, ◌++◌, ℕ, List, length, IfOk, IfErr, OnOk, OnErr, Ok, Err};
 ghost use Rattle.netlink_packet_core.specs.Frames.{IsFrame, frame_length, frame_type, frame_body, frame_text};
-ghost use Rattle.netlink_packet_core.specs.NetlinkBuffers.{storage};
 ghost use Rattle.link_capture_grammar.specs.Bodies.{body_text};
-ghost use Rattle.link_capture_grammar.specs.Captures.{Judged, first_frame, tested};
-ghost use Rattle.netlink_packet_core.specs.Messages.{IsFinalized, message_text};
-ghost use Rattle.link_capture_frames.specs.Bodies.{FrameHasText};
-ghost use Rattle.link_capture_frames.specs.CanonicalBodies.{canonical_entry, HasUnpaddedText, padded_text};
+ghost use Rattle.link_capture_grammar.specs.Captures.{Judged, faulty, first_frame, tested};
+ghost use Rattle.link_capture_frames.specs.Texts.{kind_of, HasTextOf, padded_text};
 
-use super::bodies::{CanonicalBody, body_len};
 use link_capture_grammar::fault::FaultKind;
-use netlink_packet_core::laws::{finalized_messages_tell, read_frames_keep_their_header};
-use netlink_packet_core::{Emitable, NETLINK_HEADER_LEN, NetlinkBuffer, NetlinkMessage, nla_align};
+use link_capture_messages::{RouteFault, RouteLink};
+use netlink_packet_core::laws::{
+    finalized_messages_tell, frames_are_tested, read_frames_keep_their_header,
+};
+use netlink_packet_core::{
+    Emitable, FrameError, NETLINK_HEADER_LEN, NetlinkBuffer, NetlinkMessage, nla_align,
+};
 use std::alloc::{AllocError, Global};
 
 /// Writes a value at the end.
@@ -45,43 +46,39 @@ fn push_padded<T: Emitable>(value: &T, out: &mut Vec<u8>) -> Result<(), AllocErr
     padded
 }
 
-/// Reads a whole frame whose body has a text of this length. The message is finalized.
-fn read_frame(
-    alloc: Global,
-    frame: &[u8],
-    text_len: u32,
-) -> Result<NetlinkMessage<CanonicalBody>, FaultKind>
-    requires whole { IsFrame frame.now }
-    requires text { FrameHasText frame.now text_len }
-    requires fits { 16 + text_len < 2 ^ 32 }
-    ensures finalized { IfOk result (λ m. IsFinalized canonical_entry m) }
-    ensures text { IfOk result (λ m. HasUnpaddedText frame.now (message_text canonical_entry m)) }
-    ensures err { IfErr result (λ kind. kind ≡ FaultKind.Memory) }
+/// The kind of fault that the refusal of a frame is.
+fn fault_kind(error: FrameError<RouteFault>) -> FaultKind
+    ensures { result ≡ kind_of error }
 {
-    let Ok(mut message) = NetlinkMessage::<CanonicalBody>::deserialize(alloc, frame) else {
-        return Err(FaultKind::Memory);
-    };
-    read_frames_keep_their_header(&message, frame);
-    finalized_messages_tell(&message);
-    message.finalize();
-    Ok(message)
+    match error {
+        FrameError::Frame(error) => {
+            if error.is_memory() {
+                FaultKind::Memory
+            } else {
+                FaultKind::Refused
+            }
+        }
+        FrameError::Inner(RouteFault::Refused) => FaultKind::Refused,
+        FrameError::Inner(RouteFault::EmptyPorts) => FaultKind::EmptyPorts,
+        FrameError::Inner(RouteFault::Unfit) => FaultKind::Unfit,
+        FrameError::Inner(RouteFault::Memory) => FaultKind::Memory,
+    }
 }
 
-/// Writes the text of a whole frame at the end. Its body has one, of this length.
-fn push_text(alloc: Global, frame: &[u8], text_len: u32, out: &mut Vec<u8>) -> Result<(), FaultKind>
-    requires whole { IsFrame frame.now }
-    requires text { FrameHasText frame.now text_len }
-    requires fits { 16 + text_len < 2 ^ 32 }
-    ensures ok { OnOk result ((body : List ℕ)
-        × (body_text (frame_type frame.now) (frame_body frame.now) ≡ Ok body)
-        × (out.new.items ≡ out.old.items ++ frame_text frame.now body)) }
-    ensures kind { IfErr result (λ kind. kind ≡ FaultKind.Memory) }
-    ensures err { OnErr result (out.new.items ≡ out.old.items) }
+/// Reads a whole frame.
+fn read_frame(alloc: Global, frame: &[u8]) -> Result<NetlinkMessage<RouteLink>, FaultKind>
+    requires { IsFrame frame.now }
+    ensures text { IfOk result (λ message. HasTextOf frame.now message) }
+    ensures err { IfErr result (λ kind. kind ≢ FaultKind.Memory
+        → faulty (body_text (frame_type frame.now) (frame_body frame.now)) ≡ Err kind) }
 {
-    let message = read_frame(alloc, frame, text_len)?;
-    match push_padded(&message, out) {
-        Ok(()) => Ok(()),
-        Err(_) => Err(FaultKind::Memory),
+    frames_are_tested(frame);
+    match NetlinkMessage::<RouteLink>::deserialize(alloc, frame) {
+        Ok(message) => {
+            read_frames_keep_their_header(&message, frame);
+            Ok(message)
+        }
+        Err(error) => Err(fault_kind(error)),
     }
 }
 
@@ -124,11 +121,14 @@ pub fn push_frame(
     ensures err { OnErr result (out.new.items ≡ out.old.items) }
 {
     let size = frame_len(bytes, limit)?;
-    let frame = NetlinkBuffer::new(bytes);
-    let text_len = body_len(frame.message_type(), frame.payload())?;
-    if text_len > limit as u128 - NETLINK_HEADER_LEN as u128 {
+    let mut message = read_frame(alloc, bytes)?;
+    if message.buffer_len() > limit as usize {
         return Err(FaultKind::TextOverLimit);
     }
-    push_text(alloc, bytes, text_len as u32, out)?;
-    Ok(size)
+    finalized_messages_tell(&message);
+    message.finalize();
+    match push_padded(&message, out) {
+        Ok(()) => Ok(size),
+        Err(_) => Err(FaultKind::Memory),
+    }
 }

@@ -1,2 +1,3 @@
 pub mod Readers
 pub mod Walks
+pub mod Joined

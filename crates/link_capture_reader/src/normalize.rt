@@ -1,10 +1,16 @@
 //! The normal text of a whole capture.
 
-ghost use Rattle.std.specs.Prelude.{◌≡◌, ◌≢◌, ◌≤◌, ◌<◌, ◌%◌, ◌++◌, length, take, None, Some, IfErr, OnOk};
+ghost use Rattle.std.specs.Prelude.{◌≡◌, ◌≢◌, ◌≤◌, ◌<◌, ◌*◌, ◌%◌, ◌++◌, length, take, None, Some, IfErr, OnOk};
 ghost use Rattle.link_capture_grammar.specs.Captures.{first_fault, texts, IsLegal, StopsAt};
+ghost use Rattle.link_capture_grammar.specs.Same.{SameCapture};
+ghost use Rattle.link_capture_reader.specs.Joined.{IsJoined};
 
 use super::reader::CaptureReader;
 use link_capture_grammar::fault::{CaptureFault, FaultKind};
+use link_capture_grammar::laws::{
+    joined_captures_are_legal, joined_captures_have_joined_texts, texts_are_legal,
+    texts_are_normal, texts_are_small, texts_mean_the_same,
+};
 use std::alloc::Global;
 
 /// Writes the normal text of a capture at the end of `out`.
@@ -37,7 +43,20 @@ pub fn normalize_bytes(
     ensures memory { IfErr result
         (λ fault. fault.kind ≡ FaultKind.Memory → StopsAt limit bytes.now fault.offset
         × (out.new.items ≡ out.old.items ++ texts limit (take fault.offset bytes.now))) }
+    // A legal capture and its normal text mean the same.
+    ensures same { IsLegal limit bytes.now → SameCapture limit bytes.now (texts limit bytes.now) }
+    // A normal text is at most 77 times as long.
+    ensures small { length (texts limit bytes.now) ≤ 77 * length bytes.now }
+    // What follows a legal capture whose size is a multiple of 4 is judged and written by itself.
+    ensures joined { IsLegal limit bytes.now → length bytes.now % 4 ≡ 0
+        → IsJoined limit bytes.now }
 {
+    texts_are_legal();
+    texts_are_normal();
+    texts_mean_the_same();
+    texts_are_small();
+    joined_captures_are_legal();
+    joined_captures_have_joined_texts();
     let mut reader = CaptureReader::new(alloc, limit);
     reader.feed(bytes, out)?;
     reader.finish()

@@ -172,29 +172,149 @@ raw_kind_keeps_flags-same : link_body.same raw_kind_keeps_flags (0 ∷ 0 ∷ 0 �
 unfolding everything
 raw_kind_keeps_flags-same = refl
 
--- so far link info is raw
-abbrev nested_kind_is_raw : List ℕ
-nested_kind_is_raw = (0 ∷ 0 ∷ 0 ∷ 0 ∷ 0 ∷ 0 ∷ 0 ∷ 0 ∷ 0 ∷ 0 ∷ 0 ∷ 0 ∷ 0 ∷ 0 ∷ 0 ∷ 0 ∷ 4 ∷ 0 ∷ 18 ∷ 0 ∷ [])
+-- link info: the text of a kind gains its NUL, and its padding is zeros
+abbrev link_info_with_a_kind : List ℕ
+link_info_with_a_kind = (0 ∷ 0 ∷ 0 ∷ 0 ∷ 0 ∷ 0 ∷ 0 ∷ 0 ∷ 0 ∷ 0 ∷ 0 ∷ 0 ∷ 0 ∷ 0 ∷ 0 ∷ 0 ∷ 12 ∷ 0 ∷ 18 ∷ 0 ∷ 8 ∷ 0 ∷ 1 ∷ 0 ∷ 112 ∷ 102 ∷ 99 ∷ 112 ∷ [])
 
-nested_kind_is_raw-accepted : link_body.accepted nested_kind_is_raw ≡ true
+link_info_with_a_kind-accepted : link_body.accepted link_info_with_a_kind ≡ true
 unfolding everything
-nested_kind_is_raw-accepted = refl
+link_info_with_a_kind-accepted = refl
 
-nested_kind_is_raw-count : link_body.attributes nested_kind_is_raw ≡ 1
+link_info_with_a_kind-count : link_body.attributes link_info_with_a_kind ≡ 2
 unfolding everything
-nested_kind_is_raw-count = refl
+link_info_with_a_kind-count = refl
 
-nested_kind_is_raw-fits : link_body.fits nested_kind_is_raw ≡ true
+link_info_with_a_kind-fits : link_body.fits link_info_with_a_kind ≡ true
 unfolding everything
-nested_kind_is_raw-fits = refl
+link_info_with_a_kind-fits = refl
 
-nested_kind_is_raw-text : link_body.canonical nested_kind_is_raw ≡ (0 ∷ 0 ∷ 0 ∷ 0 ∷ 0 ∷ 0 ∷ 0 ∷ 0 ∷ 0 ∷ 0 ∷ 0 ∷ 0 ∷ 0 ∷ 0 ∷ 0 ∷ 0 ∷ 4 ∷ 0 ∷ 18 ∷ 0 ∷ [])
+link_info_with_a_kind-text : link_body.canonical link_info_with_a_kind ≡ (0 ∷ 0 ∷ 0 ∷ 0 ∷ 0 ∷ 0 ∷ 0 ∷ 0 ∷ 0 ∷ 0 ∷ 0 ∷ 0 ∷ 0 ∷ 0 ∷ 0 ∷ 0 ∷ 16 ∷ 0 ∷ 18 ∷ 0 ∷ 9 ∷ 0 ∷ 1 ∷ 0 ∷ 112 ∷ 102 ∷ 99 ∷ 112 ∷ 0 ∷ 0 ∷ 0 ∷ 0 ∷ [])
 unfolding everything
-nested_kind_is_raw-text = refl
+link_info_with_a_kind-text = refl
 
-nested_kind_is_raw-same : link_body.same nested_kind_is_raw (0 ∷ 0 ∷ 0 ∷ 0 ∷ 0 ∷ 0 ∷ 0 ∷ 0 ∷ 0 ∷ 0 ∷ 0 ∷ 0 ∷ 0 ∷ 0 ∷ 0 ∷ 0 ∷ 4 ∷ 0 ∷ 18 ∷ 0 ∷ []) ≡ true
+link_info_with_a_kind-same : link_body.same link_info_with_a_kind (0 ∷ 0 ∷ 0 ∷ 0 ∷ 0 ∷ 0 ∷ 0 ∷ 0 ∷ 0 ∷ 0 ∷ 0 ∷ 0 ∷ 0 ∷ 0 ∷ 0 ∷ 0 ∷ 16 ∷ 0 ∷ 18 ∷ 0 ∷ 9 ∷ 0 ∷ 1 ∷ 0 ∷ 112 ∷ 102 ∷ 99 ∷ 112 ∷ 0 ∷ 0 ∷ 0 ∷ 0 ∷ []) ≡ true
 unfolding everything
-nested_kind_is_raw-same = refl
+link_info_with_a_kind-same = refl
+
+-- link info of no bytes
+abbrev empty_link_info : List ℕ
+empty_link_info = (0 ∷ 0 ∷ 0 ∷ 0 ∷ 0 ∷ 0 ∷ 0 ∷ 0 ∷ 0 ∷ 0 ∷ 0 ∷ 0 ∷ 0 ∷ 0 ∷ 0 ∷ 0 ∷ 4 ∷ 0 ∷ 18 ∷ 0 ∷ [])
+
+empty_link_info-accepted : link_body.accepted empty_link_info ≡ false
+unfolding everything
+empty_link_info-accepted = refl
+
+-- each link info begins with no kind in force
+abbrev kind_of_another_link_info : List ℕ
+kind_of_another_link_info = (0 ∷ 0 ∷ 0 ∷ 0 ∷ 0 ∷ 0 ∷ 0 ∷ 0 ∷ 0 ∷ 0 ∷ 0 ∷ 0 ∷ 0 ∷ 0 ∷ 0 ∷ 0 ∷ 16 ∷ 0 ∷ 18 ∷ 0 ∷ 9 ∷ 0 ∷ 1 ∷ 0 ∷ 120 ∷ 102 ∷ 114 ∷ 109 ∷ 0 ∷ 0 ∷ 0 ∷ 0 ∷ 16 ∷ 0 ∷ 18 ∷ 0 ∷ 12 ∷ 0 ∷ 2 ∷ 0 ∷ 8 ∷ 0 ∷ 1 ∷ 0 ∷ 2 ∷ 0 ∷ 0 ∷ 0 ∷ [])
+
+kind_of_another_link_info-accepted : link_body.accepted kind_of_another_link_info ≡ false
+unfolding everything
+kind_of_another_link_info-accepted = refl
+
+-- a kind with flag bits is in force, and a payload inside has its canonical text
+abbrev data_of_vxlan : List ℕ
+data_of_vxlan = (0 ∷ 0 ∷ 0 ∷ 0 ∷ 0 ∷ 0 ∷ 0 ∷ 0 ∷ 0 ∷ 0 ∷ 0 ∷ 0 ∷ 0 ∷ 0 ∷ 0 ∷ 0 ∷ 36 ∷ 0 ∷ 18 ∷ 0 ∷ 10 ∷ 0 ∷ 1 ∷ 192 ∷ 118 ∷ 120 ∷ 108 ∷ 97 ∷ 110 ∷ 0 ∷ 0 ∷ 0 ∷ 20 ∷ 0 ∷ 2 ∷ 0 ∷ 5 ∷ 0 ∷ 7 ∷ 0 ∷ 5 ∷ 0 ∷ 0 ∷ 0 ∷ 5 ∷ 0 ∷ 23 ∷ 0 ∷ 170 ∷ 0 ∷ 0 ∷ 0 ∷ [])
+
+data_of_vxlan-accepted : link_body.accepted data_of_vxlan ≡ true
+unfolding everything
+data_of_vxlan-accepted = refl
+
+data_of_vxlan-count : link_body.attributes data_of_vxlan ≡ 5
+unfolding everything
+data_of_vxlan-count = refl
+
+data_of_vxlan-fits : link_body.fits data_of_vxlan ≡ true
+unfolding everything
+data_of_vxlan-fits = refl
+
+data_of_vxlan-text : link_body.canonical data_of_vxlan ≡ (0 ∷ 0 ∷ 0 ∷ 0 ∷ 0 ∷ 0 ∷ 0 ∷ 0 ∷ 0 ∷ 0 ∷ 0 ∷ 0 ∷ 0 ∷ 0 ∷ 0 ∷ 0 ∷ 32 ∷ 0 ∷ 18 ∷ 0 ∷ 10 ∷ 0 ∷ 1 ∷ 0 ∷ 118 ∷ 120 ∷ 108 ∷ 97 ∷ 110 ∷ 0 ∷ 0 ∷ 0 ∷ 16 ∷ 0 ∷ 2 ∷ 0 ∷ 5 ∷ 0 ∷ 7 ∷ 0 ∷ 1 ∷ 0 ∷ 0 ∷ 0 ∷ 4 ∷ 0 ∷ 23 ∷ 0 ∷ [])
+unfolding everything
+data_of_vxlan-text = refl
+
+data_of_vxlan-same : link_body.same data_of_vxlan (0 ∷ 0 ∷ 0 ∷ 0 ∷ 0 ∷ 0 ∷ 0 ∷ 0 ∷ 0 ∷ 0 ∷ 0 ∷ 0 ∷ 0 ∷ 0 ∷ 0 ∷ 0 ∷ 32 ∷ 0 ∷ 18 ∷ 0 ∷ 10 ∷ 0 ∷ 1 ∷ 0 ∷ 118 ∷ 120 ∷ 108 ∷ 97 ∷ 110 ∷ 0 ∷ 0 ∷ 0 ∷ 16 ∷ 0 ∷ 2 ∷ 0 ∷ 5 ∷ 0 ∷ 7 ∷ 0 ∷ 1 ∷ 0 ∷ 0 ∷ 0 ∷ 4 ∷ 0 ∷ 23 ∷ 0 ∷ []) ≡ true
+unfolding everything
+data_of_vxlan-same = refl
+
+-- a number of another size
+abbrev number_of_three_bytes : List ℕ
+number_of_three_bytes = (0 ∷ 0 ∷ 0 ∷ 0 ∷ 0 ∷ 0 ∷ 0 ∷ 0 ∷ 0 ∷ 0 ∷ 0 ∷ 0 ∷ 0 ∷ 0 ∷ 0 ∷ 0 ∷ 7 ∷ 0 ∷ 4 ∷ 0 ∷ 220 ∷ 5 ∷ 0 ∷ [])
+
+number_of_three_bytes-accepted : link_body.accepted number_of_three_bytes ≡ false
+unfolding everything
+number_of_three_bytes-accepted = refl
+
+-- a typed number loses the flag bits of its kind
+abbrev number_with_flag_bits : List ℕ
+number_with_flag_bits = (0 ∷ 0 ∷ 0 ∷ 0 ∷ 0 ∷ 0 ∷ 0 ∷ 0 ∷ 0 ∷ 0 ∷ 0 ∷ 0 ∷ 0 ∷ 0 ∷ 0 ∷ 0 ∷ 8 ∷ 0 ∷ 4 ∷ 192 ∷ 220 ∷ 5 ∷ 0 ∷ 0 ∷ [])
+
+number_with_flag_bits-accepted : link_body.accepted number_with_flag_bits ≡ true
+unfolding everything
+number_with_flag_bits-accepted = refl
+
+number_with_flag_bits-count : link_body.attributes number_with_flag_bits ≡ 1
+unfolding everything
+number_with_flag_bits-count = refl
+
+number_with_flag_bits-fits : link_body.fits number_with_flag_bits ≡ true
+unfolding everything
+number_with_flag_bits-fits = refl
+
+number_with_flag_bits-text : link_body.canonical number_with_flag_bits ≡ (0 ∷ 0 ∷ 0 ∷ 0 ∷ 0 ∷ 0 ∷ 0 ∷ 0 ∷ 0 ∷ 0 ∷ 0 ∷ 0 ∷ 0 ∷ 0 ∷ 0 ∷ 0 ∷ 8 ∷ 0 ∷ 4 ∷ 0 ∷ 220 ∷ 5 ∷ 0 ∷ 0 ∷ [])
+unfolding everything
+number_with_flag_bits-text = refl
+
+number_with_flag_bits-same : link_body.same number_with_flag_bits (0 ∷ 0 ∷ 0 ∷ 0 ∷ 0 ∷ 0 ∷ 0 ∷ 0 ∷ 0 ∷ 0 ∷ 0 ∷ 0 ∷ 0 ∷ 0 ∷ 0 ∷ 0 ∷ 8 ∷ 0 ∷ 4 ∷ 0 ∷ 220 ∷ 5 ∷ 0 ∷ 0 ∷ []) ≡ true
+unfolding everything
+number_with_flag_bits-same = refl
+
+-- bytes under a kind that has a row
+abbrev address_with_the_nested_bit : List ℕ
+address_with_the_nested_bit = (0 ∷ 0 ∷ 0 ∷ 0 ∷ 0 ∷ 0 ∷ 0 ∷ 0 ∷ 0 ∷ 0 ∷ 0 ∷ 0 ∷ 0 ∷ 0 ∷ 0 ∷ 0 ∷ 10 ∷ 0 ∷ 1 ∷ 128 ∷ 2 ∷ 0 ∷ 0 ∷ 0 ∷ 0 ∷ 1 ∷ [])
+
+address_with_the_nested_bit-accepted : link_body.accepted address_with_the_nested_bit ≡ true
+unfolding everything
+address_with_the_nested_bit-accepted = refl
+
+address_with_the_nested_bit-count : link_body.attributes address_with_the_nested_bit ≡ 1
+unfolding everything
+address_with_the_nested_bit-count = refl
+
+address_with_the_nested_bit-fits : link_body.fits address_with_the_nested_bit ≡ true
+unfolding everything
+address_with_the_nested_bit-fits = refl
+
+address_with_the_nested_bit-text : link_body.canonical address_with_the_nested_bit ≡ (0 ∷ 0 ∷ 0 ∷ 0 ∷ 0 ∷ 0 ∷ 0 ∷ 0 ∷ 0 ∷ 0 ∷ 0 ∷ 0 ∷ 0 ∷ 0 ∷ 0 ∷ 0 ∷ 10 ∷ 0 ∷ 1 ∷ 0 ∷ 2 ∷ 0 ∷ 0 ∷ 0 ∷ 0 ∷ 1 ∷ 0 ∷ 0 ∷ [])
+unfolding everything
+address_with_the_nested_bit-text = refl
+
+address_with_the_nested_bit-same : link_body.same address_with_the_nested_bit (0 ∷ 0 ∷ 0 ∷ 0 ∷ 0 ∷ 0 ∷ 0 ∷ 0 ∷ 0 ∷ 0 ∷ 0 ∷ 0 ∷ 0 ∷ 0 ∷ 0 ∷ 0 ∷ 10 ∷ 0 ∷ 1 ∷ 0 ∷ 2 ∷ 0 ∷ 0 ∷ 0 ∷ 0 ∷ 1 ∷ 0 ∷ 0 ∷ []) ≡ true
+unfolding everything
+address_with_the_nested_bit-same = refl
+
+-- so far a nested list is raw
+abbrev nested_list_is_raw : List ℕ
+nested_list_is_raw = (0 ∷ 0 ∷ 0 ∷ 0 ∷ 0 ∷ 0 ∷ 0 ∷ 0 ∷ 0 ∷ 0 ∷ 0 ∷ 0 ∷ 0 ∷ 0 ∷ 0 ∷ 0 ∷ 4 ∷ 0 ∷ 24 ∷ 128 ∷ [])
+
+nested_list_is_raw-accepted : link_body.accepted nested_list_is_raw ≡ true
+unfolding everything
+nested_list_is_raw-accepted = refl
+
+nested_list_is_raw-count : link_body.attributes nested_list_is_raw ≡ 1
+unfolding everything
+nested_list_is_raw-count = refl
+
+nested_list_is_raw-fits : link_body.fits nested_list_is_raw ≡ true
+unfolding everything
+nested_list_is_raw-fits = refl
+
+nested_list_is_raw-text : link_body.canonical nested_list_is_raw ≡ (0 ∷ 0 ∷ 0 ∷ 0 ∷ 0 ∷ 0 ∷ 0 ∷ 0 ∷ 0 ∷ 0 ∷ 0 ∷ 0 ∷ 0 ∷ 0 ∷ 0 ∷ 0 ∷ 4 ∷ 0 ∷ 24 ∷ 128 ∷ [])
+unfolding everything
+nested_list_is_raw-text = refl
+
+nested_list_is_raw-same : link_body.same nested_list_is_raw (0 ∷ 0 ∷ 0 ∷ 0 ∷ 0 ∷ 0 ∷ 0 ∷ 0 ∷ 0 ∷ 0 ∷ 0 ∷ 0 ∷ 0 ∷ 0 ∷ 0 ∷ 0 ∷ 4 ∷ 0 ∷ 24 ∷ 128 ∷ []) ≡ true
+unfolding everything
+nested_list_is_raw-same = refl
 
 -- a layer type without a name is void, and the second byte is 0
 abbrev unnamed_layer_type : List ℕ

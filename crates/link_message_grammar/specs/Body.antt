@@ -2,10 +2,11 @@
 use Rattle.std.specs.Prelude.{ℕ, ◌+◌, ◌*◌, ◌==◌, ◌&&◌, not, nat_le, Bool, cond, List, [], ◌∷◌, ◌++◌, length, take, drop, bytes_eq, slice_index}
 use Rattle.std.specs.List.{list_any}
 use Rattle.attribute_tables_grammar.specs.Rules.{Rule}
-use Rattle.attribute_tables_grammar.specs.Lists.{any}
+use Rattle.attribute_tables_grammar.specs.Lists.{Row, any}
+use Rattle.attribute_tables_grammar.specs.LookUps.{payload_rule, table_row}
 use Rattle.attribute_tables_grammar.specs.Peers.{Peer, bytes_peer}
 use Rattle.attribute_tables_grammar.specs.Tables.{Payload.list, rule}
-use Rattle.link_message_grammar.specs.LinkMessage.{Family, family_of, link_table}
+use Rattle.link_message_grammar.specs.LinkMessage.{Family, family_of, info, link_table}
 
 abbrev pub layer_types : List ℕ
 layer_types =
@@ -60,3 +61,17 @@ link_peer = link_peer_of (body_rule bytes_peer)
 -- the rule of link bodies in force: peers are bytes
 unfoldable pub link_body : Rule
 link_body = body_rule bytes_peer
+
+-- ---- the parts of the rule in force
+
+-- the row of a kind without its flag bits, under a family
+abbrev pub attribute_row : Family → ℕ → Row
+attribute_row f k = table_row bytes_peer (link_table f) k
+
+-- the attributes of a family
+unfoldable pub attributes_rule : Family → Rule
+attributes_rule f = list_rule_of bytes_peer f
+
+-- link info in an attribute
+abbrev pub info_payload_rule : Rule
+info_payload_rule = payload_rule bytes_peer info

@@ -1,12 +1,14 @@
 -- The laws of the definitions, as the functions of `laws` state them.
-use Rattle.std.specs.Prelude.{◌≡◌, ℕ, ◌*◌, ◌≤◌, true, List, length}
+use Rattle.std.specs.Prelude.{◌≡◌, ℕ, ◌*◌, ◌≤◌, ◌<◌, ◌&&◌, ◌++◌, nat_le, true, false, List, length}
 use Rattle.attribute_tables_grammar.specs.Rules.{Lawful, Renews}
 use Rattle.attribute_tables_grammar.specs.Lists.{any}
+use Rattle.attribute_tables_grammar.specs.LookUps.{rows_rule}
 use Rattle.attribute_tables_grammar.specs.Peers.{Peer, LawfulPeer, bytes_peer}
 use Rattle.attribute_tables_grammar.specs.Tables.{Payload.list, rule, rising}
 use Rattle.attribute_tables_grammar.specs.Laws.{OneTextEach, KeepsMeaning}
+use Rattle.link_info_grammar.specs.LinkInfo.{info_rule}
 use Rattle.link_message_grammar.specs.LinkMessage.{Family, link_table}
-use Rattle.link_message_grammar.specs.Body.{body_rule, link_peer}
+use Rattle.link_message_grammar.specs.Body.{attribute_bytes, attribute_row, attributes_rule, body_rule, family, header_text, info_payload_rule, link_body, link_peer}
 
 abbrev pub AttributesAreLawful : Type 0
 AttributesAreLawful = (p : Peer) → LawfulPeer p → (f : Family) → Lawful (rule p (list any (link_table f)))
@@ -35,3 +37,31 @@ BodiesKeepMeanings = (p : Peer) → LawfulPeer p → KeepsMeaning (body_rule p)
 -- under a rule of peers an old text becomes what the first bytes become
 abbrev pub OldBodiesAreRenewed : Type 0
 OldBodiesAreRenewed = (p : Peer) → Renews (body_rule bytes_peer) (body_rule p)
+
+-- a body is a header and the attributes of its family
+pub record BodyParts (b : List ℕ) : Type 0 where
+  pub accepted : link_body.accepted b ≡ nat_le 16 (length b) && (attributes_rule (family b)).accepted (attribute_bytes b)
+  pub canonical : link_body.canonical b ≡ header_text b ++ (attributes_rule (family b)).canonical (attribute_bytes b)
+  pub fits : link_body.fits b ≡ (attributes_rule (family b)).fits (attribute_bytes b)
+  pub empty_ports : link_body.empty_ports b ≡ (attributes_rule (family b)).empty_ports (attribute_bytes b)
+
+abbrev pub BodiesAreHeadersAndAttributes : Type 0
+BodiesAreHeadersAndAttributes = (b : List ℕ) → BodyParts b
+
+-- the attributes of a family have the rule of the rows that a look-up of each kind finds
+abbrev pub AttributesAreLookedUp : Type 0
+AttributesAreLookedUp = (f : Family) → attributes_rule f ≡ rows_rule any (attribute_row f)
+
+-- link info in an attribute is the list of link info, and is refused where there is no attribute in it
+pub record InfoParts (b : List ℕ) : Type 0 where
+  pub accepted : info_payload_rule.accepted b ≡ info_rule.accepted b
+  pub canonical : info_payload_rule.canonical b ≡ info_rule.canonical b
+  pub fits : info_payload_rule.fits b ≡ info_rule.fits b
+
+pub record InfoIsAListInside : Type 0 where
+  pub of_some_bytes : (b : List ℕ) → 0 < length b → InfoParts b
+  pub of_no_bytes : (b : List ℕ) → length b ≡ 0 → info_payload_rule.accepted b ≡ false
+
+-- no table has a list of ports so far, so none is emptied
+abbrev pub BodiesHaveNoEmptyPorts : Type 0
+BodiesHaveNoEmptyPorts = (b : List ℕ) → link_body.empty_ports b ≡ false

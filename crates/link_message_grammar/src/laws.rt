@@ -2,6 +2,7 @@
 
 ghost use Rattle.link_message_grammar.specs.Laws.{AttributesAreLawful, KindsRise, BodiesAreLawful, BodiesAreSmall};
 ghost use Rattle.link_message_grammar.specs.Laws.{LinkPeersAreLawful, BodiesTellMeanings, BodiesKeepMeanings, OldBodiesAreRenewed};
+ghost use Rattle.link_message_grammar.specs.Laws.{BodiesAreHeadersAndAttributes, AttributesAreLookedUp, InfoIsAListInside, BodiesHaveNoEmptyPorts};
 
 /// Lists of link attributes are lawful, under each address family.
 pub fn attributes_are_lawful()
@@ -41,4 +42,24 @@ pub fn bodies_keep_meanings()
 /// Under a rule of peers an old text becomes what the first bytes become.
 pub fn old_bodies_are_renewed()
     ensures { OldBodiesAreRenewed }
+{}
+
+/// A body is a header of 16 bytes and the attributes of its family.
+pub fn bodies_are_headers_and_attributes()
+    ensures { BodiesAreHeadersAndAttributes }
+{}
+
+/// The attributes of a family have the rule of the rows that a look-up of each kind finds.
+pub fn attributes_are_looked_up()
+    ensures { AttributesAreLookedUp }
+{}
+
+/// Link info in an attribute is the list of link info, and is refused where it is empty.
+pub fn info_is_a_list_inside()
+    ensures { InfoIsAListInside }
+{}
+
+/// No table has a list of ports so far, so none is emptied.
+pub fn bodies_have_no_empty_ports()
+    ensures { BodiesHaveNoEmptyPorts }
 {}

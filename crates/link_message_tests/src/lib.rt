@@ -1,6 +1,7 @@
-// Worked cases of link messages, as tests. The wanted values come from outside this project's code.
+// Calls of link messages that the pages quote, and worked cases of link messages, as tests. The wanted values come from outside this project's code.
 #![tactic(auto)]
 
+pub mod callers;
 #[cfg(test)]
 mod types;
 #[cfg(test)]

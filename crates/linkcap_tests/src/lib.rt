@@ -10,6 +10,8 @@ mod fault_texts;
 #[cfg(test)]
 mod memory;
 #[cfg(test)]
+mod messages;
+#[cfg(test)]
 mod pieces;
 #[cfg(test)]
 mod program_words;

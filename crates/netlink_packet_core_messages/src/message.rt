@@ -4,7 +4,7 @@ ghost use Rattle.netlink_packet_core_grammar.specs.Numbers.{as_usize};
 ghost use Rattle.netlink_packet_core_buffers.specs.NetlinkBuffers.{storage};
 ghost use Rattle.netlink_packet_core_messages.specs.Payloads.{payload_may_want_memory, OfInner};
 ghost use Rattle.netlink_packet_core_messages.specs.Messages.{message_text, message_size, message_value, read_message, finalized, IsFinalized};
-ghost use Rattle.netlink_packet_core_messages.specs.Refusals.{wants_memory};
+ghost use Rattle.netlink_packet_core_messages.specs.Refusals.{wants_memory, Tells};
 
 use super::frame_error::FrameError;
 use super::header::NetlinkHeader;
@@ -66,6 +66,9 @@ impl<I: NetlinkDeserializable> NetlinkMessage<I> {
             ≡ Some (message_value I.value m)) }
         ensures err { IfErr result (λ e. wants_memory I.is_memory e ≡ false
             → read_message I.reads (storage buf.now).now ≡ None) }
+        ensures told { IfErr result (λ e. wants_memory I.is_memory e ≡ false
+            → Tells I.tells e (frame_type (storage buf.now).now)
+            (frame_body (storage buf.now).now)) }
         ensures memory { IfErr result (λ e. wants_memory I.is_memory e ≡ true
             → payload_may_want_memory I.may_want_memory (frame_type (storage buf.now).now)
             (frame_body (storage buf.now).now) ≡ true) }
@@ -82,6 +85,9 @@ impl<I: NetlinkDeserializable> NetlinkMessage<I> {
             ≡ Some (message_value I.value m)) }
         ensures err { IfErr result (λ e. wants_memory I.is_memory e ≡ false
             → read_message I.reads buffer.now ≡ None) }
+        ensures told { IfErr result (λ e. wants_memory I.is_memory e ≡ false
+            → IsFrame buffer.now → Tells I.tells e (frame_type buffer.now)
+            (frame_body buffer.now)) }
         ensures memory { IfErr result (λ e. wants_memory I.is_memory e ≡ true → IsFrame buffer.now
             × (payload_may_want_memory I.may_want_memory (frame_type buffer.now)
             (frame_body buffer.now) ≡ true)) }

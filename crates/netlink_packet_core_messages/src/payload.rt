@@ -1,7 +1,7 @@
 ghost use Rattle.std.specs.Prelude.{◌≡◌, true, false, length, Some, None, IfOk, IfErr};
 ghost use Rattle.netlink_packet_core_grammar.specs.Numbers.{as_usize};
 ghost use Rattle.netlink_packet_core_messages.specs.Payloads.{payload_entry, payload_value, read_payload, payload_may_want_memory, OfInner, HasCode};
-ghost use Rattle.netlink_packet_core_messages.specs.Refusals.{wants_memory};
+ghost use Rattle.netlink_packet_core_messages.specs.Refusals.{wants_memory, Tells};
 
 use super::byte_vec::ByteVec;
 use super::done::DoneMessage;
@@ -50,6 +50,8 @@ impl<I: NetlinkDeserializable> NetlinkPayload<I> {
             ≡ Some (payload_value I.value p)) }
         ensures err { IfErr result (λ e. wants_memory I.is_memory e ≡ false
             → read_payload I.reads header.now.message_type body.now ≡ None) }
+        ensures told { IfErr result (λ e. wants_memory I.is_memory e ≡ false
+            → Tells I.tells e header.now.message_type body.now) }
         ensures memory { IfErr result (λ e. wants_memory I.is_memory e ≡ true
             → payload_may_want_memory I.may_want_memory header.now.message_type body.now ≡ true) }
     {

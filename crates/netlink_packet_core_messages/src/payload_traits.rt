@@ -47,6 +47,9 @@ pub trait NetlinkDeserializable: Sized {
     /// Whether reading the body of a frame of a type may take memory.
     ghost may_want_memory: { ℕ → List ℕ → Bool };
 
+    /// What a refusal says of the type and the bytes of a body.
+    ghost tells: { Self.Error → ℕ → List ℕ → Type 0 };
+
     /// Reads the body of a frame with this header. The types 1 to 4 are those of control messages.
     fn deserialize(
         alloc: Global,
@@ -58,6 +61,8 @@ pub trait NetlinkDeserializable: Sized {
             ≡ Some (value m)) }
         ensures err { IfErr result (λ e. is_memory e ≡ false
             → reads header.now.message_type payload.now ≡ None) }
+        ensures told { IfErr result (λ e. is_memory e ≡ false
+            → tells e header.now.message_type payload.now) }
         ensures memory { IfErr result (λ e. is_memory e ≡ true
             → may_want_memory header.now.message_type payload.now ≡ true) };
 }

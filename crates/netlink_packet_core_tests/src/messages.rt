@@ -55,6 +55,8 @@ impl NetlinkDeserializable for KeptMessage {
 
     ghost may_want_memory = { λ _ _. true };
 
+    ghost tells = { λ _ _ _. ⊥ };
+
     fn deserialize(
         alloc: Global,
         header: &NetlinkHeader,

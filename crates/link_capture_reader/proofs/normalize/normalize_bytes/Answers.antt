@@ -2,7 +2,6 @@
 use Rattle.std.proofs.Common.{[], sym, ap, ◌∙◌, arith}
 use Rattle.std.proofs.lemmas.Result.{err_from_is_err_and, IfErr-weaker, on_ok_weaker}
 use Rattle.link_capture_grammar.specs.Captures.{first_fault}
-use Rattle.link_capture_grammar.proofs.Normal.{texts_legal, texts_again}
 use Rattle.link_capture_reader.proofs.Whole.{Ends, gained_by, of_reader, of_end}
 use Rattle.link_capture_reader.proofs.normalize.normalize_bytes.Goals as goal
 
@@ -25,10 +24,10 @@ returns-in_err-feed-clause-memory c =
     rw (p.1, p.2) w.memory
 
 pub returns-in_err-feed-clause-normal : goal.returns-in_err-feed-clause-normal
-returns-in_err-feed-clause-normal c = (texts_legal c.args.limit 0 c.args.bytes.now c.ranges.limit.fits, texts_again c.args.limit 0 c.args.bytes.now c.ranges.limit.fits)
+returns-in_err-feed-clause-normal c = (c.texts_are_legal.ensures c.args.limit c.args.bytes.now c.ranges.limit.fits, c.texts_are_normal.ensures c.args.limit c.args.bytes.now c.ranges.limit.fits)
 
 pub returns-clause-normal : goal.returns-clause-normal
-returns-clause-normal c = (texts_legal c.args.limit 0 c.args.bytes.now c.ranges.limit.fits, texts_again c.args.limit 0 c.args.bytes.now c.ranges.limit.fits)
+returns-clause-normal c = (c.texts_are_legal.ensures c.args.limit c.args.bytes.now c.ranges.limit.fits, c.texts_are_normal.ensures c.args.limit c.args.bytes.now c.ranges.limit.fits)
 
 pub returns-clause-legal : goal.returns-clause-legal
 returns-clause-legal c =
@@ -57,3 +56,27 @@ returns-clause-memory c =
     let e = c.feed.ensures.limit ∙ c.new-reader.ensures.limit in
     let g = gained_by c.args.limit c.new-reader.result c.args.bytes.now c.args.out.now.items c.feed.new.out.items c.new-reader.ensures.limit ok.2 in
     IfErr-weaker c.finish.result (Ends c.feed.new.self) _ (λ fault h. (of_end c.args.limit c.feed.new.self c.args.bytes.now c.args.out.now.items c.feed.new.out.items fault e ok.1 h g).memory) c.finish.ensures.fault
+
+pub returns-in_err-feed-clause-same : goal.returns-in_err-feed-clause-same
+returns-in_err-feed-clause-same c = λ h. c.texts_mean_the_same.ensures c.args.limit c.args.bytes.now c.ranges.limit.fits h
+
+pub returns-in_err-feed-clause-small : goal.returns-in_err-feed-clause-small
+returns-in_err-feed-clause-small c = c.texts_are_small.ensures c.args.limit c.args.bytes.now
+
+pub returns-in_err-feed-clause-joined : goal.returns-in_err-feed-clause-joined
+returns-in_err-feed-clause-joined c = λ h m b. (
+  c.joined_captures_are_legal.ensures c.args.limit c.args.bytes.now b h m,
+  c.joined_captures_have_joined_texts.ensures c.args.limit c.args.bytes.now b h m,
+)
+
+pub returns-clause-same : goal.returns-clause-same
+returns-clause-same c = λ h. c.texts_mean_the_same.ensures c.args.limit c.args.bytes.now c.ranges.limit.fits h
+
+pub returns-clause-small : goal.returns-clause-small
+returns-clause-small c = c.texts_are_small.ensures c.args.limit c.args.bytes.now
+
+pub returns-clause-joined : goal.returns-clause-joined
+returns-clause-joined c = λ h m b. (
+  c.joined_captures_are_legal.ensures c.args.limit c.args.bytes.now b h m,
+  c.joined_captures_have_joined_texts.ensures c.args.limit c.args.bytes.now b h m,
+)

@@ -1,0 +1,98 @@
+-- A message that was read fits or doesn't, and is read again from what it is written as.
+use Rattle.std.proofs.Common.{◌≡◌, ℕ, ◌≤◌, List, [], ◌∷◌, ◌++◌, Ok, Err, Bool, true, false, cond, Result, refl, sym, ap, subst, ◌∙◌, arith, inl, inr}
+use Rattle.std.specs.Prelude.{nat_le, ◌&&◌, bytes_eq, slice_index, length}
+use Rattle.std.proofs.lemmas.Bool.{and_parts, and_from, leb-true}
+use Rattle.std.proofs.lemmas.Slice.Eq.{bytes_eq-Decides}
+use Rattle.std.proofs.lemmas.Grind.{merely}
+use Rattle.link_message_grammar.specs.Body.{header_text, link_body}
+use Rattle.link_message_grammar.specs.Laws.{BodiesHaveNoEmptyPorts, BodiesAreHeadersAndAttributes}
+use Rattle.link_message_types.specs.AddressFamilies.{address_family_of}
+use Rattle.link_message_messages.specs.declared.message.LinkMessage.{LinkMessage}
+use Rattle.link_message_messages.specs.LinkMessages.{link_message_text, link_message_fits, link_message_names_row}
+use Rattle.link_message_messages.specs.contracts.message.LinkMessageEq.TheImpl.Laws.{laws-law}
+use Rattle.link_capture_grammar.specs.Bodies.{Refusal, refused, empty_ports, unfit, ruled_text, body_text}
+use Rattle.link_capture_grammar.specs.Laws.{BodiesAreNormal}
+use Rattle.link_capture_messages.specs.Readable.{IsReadFrom, IsReadable, ReadsAsAnother, equal_messages, says_the_same}
+
+-- ---- a body that is accepted
+
+pub ruled_ok : (b : List ℕ) → link_body.accepted b ≡ true → BodiesHaveNoEmptyPorts → link_body.fits b ≡ true → ruled_text link_body b ≡ Ok (link_body.canonical b)
+ruled_ok b a p f = rw (a, p b, f) refl
+
+pub ruled_refused : (b : List ℕ) → link_body.accepted b ≡ false → ruled_text link_body b ≡ Err refused
+ruled_refused b a = rw a refl
+
+pub ruled_unfit : (b : List ℕ) → link_body.accepted b ≡ true → BodiesHaveNoEmptyPorts → link_body.fits b ≡ false → ruled_text link_body b ≡ Err unfit
+ruled_unfit b a p f = rw (a, p b, f) refl
+
+-- a text that is its own
+pub record Own (t : List ℕ) : Type 0 where
+  pub accepted : link_body.accepted t ≡ true
+  pub canonical : link_body.canonical t ≡ t
+
+own_by : (t : List ℕ) (a p f : Bool) → link_body.accepted t ≡ a → cond a (cond p (Err empty_ports) (cond f (Ok (link_body.canonical t)) (Err unfit))) (Err refused) ≡ Ok t → Own t
+own_by t false p f h e = absurd cc
+own_by t true true f h e = absurd cc
+own_by t true false false h e = absurd cc
+own_by t true false true h e = record { accepted = h; canonical = cc }
+
+own : (t : List ℕ) → ruled_text link_body t ≡ Ok t → Own t
+own t h = own_by t (link_body.accepted t) (link_body.empty_ports t) (link_body.fits t) refl h
+
+-- the first byte is kept
+first_byte : (b c : List ℕ) → 16 ≤ length b → slice_index (header_text b ++ c) 0 ≡ slice_index b 0
+first_byte (f ∷ x ∷ k ∷ l ∷ b) c h = refl
+first_byte [] c h = absurd (omega arith)
+first_byte (f ∷ []) c h = absurd (omega arith)
+first_byte (f ∷ x ∷ []) c h = absurd (omega arith)
+first_byte (f ∷ x ∷ k ∷ []) c h = absurd (omega arith)
+
+same_text : (t : List ℕ) → bytes_eq t t ≡ true
+same_text t = (bytes_eq-Decides t t).1 refl
+
+pub says_itself : (m : LinkMessage) → link_message_fits m ≡ true → says_the_same m m ≡ true
+says_itself m f = and_from _ _ (laws-law.refl m) (and_from _ _ f (same_text (link_message_text m)))
+
+normal_text : BodiesAreNormal → (b t : List ℕ) → ruled_text link_body b ≡ Ok t → ruled_text link_body t ≡ Ok t
+unfolding body_text
+normal_text law b t h = law 16 b t h
+
+pub readable_from : BodiesAreNormal → BodiesHaveNoEmptyPorts → BodiesAreHeadersAndAttributes → (b : List ℕ) (m : LinkMessage) → IsReadFrom b m → link_message_fits m ≡ link_body.fits b → link_message_fits m ≡ true → IsReadable m
+readable_from law ports parts b m r s f =
+    let t = link_message_text m in
+    let text : ruled_text link_body t ≡ Ok t = normal_text law b t (ruled_ok b r.accepted ports (sym s ∙ f) ∙ ap Ok (sym r.text)) in
+    let o = own t text in
+    let p = parts b in
+    let long = leb-true _ _ (and_parts _ _ (sym p.accepted ∙ r.accepted)).0 in
+    record {
+      fits = f;
+      text = text;
+      again = merely (
+        m,
+        record {
+          accepted = o.accepted;
+          family = r.family ∙ ap address_family_of (sym (ap (λ x. slice_index x 0) (r.text ∙ p.canonical) ∙ first_byte b _ long));
+          text = sym o.canonical;
+          names_row = r.names_row;
+        },
+        says_itself m f,
+      );
+    }
+
+-- ---- a message that is read again
+
+-- what a reader says of some bytes, of the bytes that they are
+pub read_from : (b t : List ℕ) (n : LinkMessage) → b ≡ t → link_body.accepted b ≡ true → n.header.interface_family ≡ address_family_of (slice_index b 0) → link_message_text n ≡ link_body.canonical b → link_message_names_row n → IsReadFrom t n
+read_from b t n e a f x r = subst (λ (y : List ℕ). IsReadFrom y n) e (record { accepted = a; family = f; text = x; names_row = r })
+
+pub readable_again : BodiesHaveNoEmptyPorts → (m n : LinkMessage) → link_message_fits m ≡ true → IsReadFrom (link_message_text m) n → link_message_fits n ≡ link_body.fits (link_message_text m) → says_the_same m n ≡ true → IsReadable m
+readable_again ports m n f r s e =
+    let t = link_message_text m in
+    let a = and_parts (equal_messages n m) (link_message_fits n && bytes_eq (link_message_text n) t) e in
+    let b = and_parts (link_message_fits n) (bytes_eq (link_message_text n) t) a.1 in
+    let same = (bytes_eq-Decides (link_message_text n) t).0 b.1 in
+    record { fits = f; text = ruled_ok t r.accepted ports (sym s ∙ b.0) ∙ ap Ok (sym r.text ∙ same); again = merely (n, r, e) }
+
+pub ruleset readable = (ruled_ok, ruled_refused, ruled_unfit, readable_from)
+
+pub ruleset reads_back = (readable_again)

@@ -1,0 +1,5 @@
+pub mod KeptTypes
+pub mod Readable
+pub mod Views
+pub mod Routes
+pub mod RoundTrips

@@ -1,0 +1,35 @@
+-- Messages of links that are read back as they are written.
+use Rattle.std.specs.Prelude.{◌≡◌, ◌⊎◌, ℕ, ◌&&◌, Bool, true, false, List, Ok, bytes_eq, slice_index}
+use Rattle.link_capture_grammar.specs.Bodies.{ruled_text}
+use Rattle.link_message_grammar.specs.Body.{link_body}
+use Rattle.link_message_types.specs.AddressFamilies.{address_family_of}
+use Rattle.link_message_messages.specs.declared.message.LinkMessage.{LinkMessage}
+use Rattle.link_message_messages.specs.LinkMessages.{link_message_text, link_message_fits, link_message_names_row}
+use Rattle.link_message_messages.specs.contracts.message.LinkMessagePartialEq.TheImpl as link_message_eq
+
+-- what is known of the message that a body is read as
+pub record IsReadFrom (bytes : List ℕ) (m : LinkMessage) : Type 0 where
+  pub accepted : link_body.accepted bytes ≡ true
+  pub family : m.header.interface_family ≡ address_family_of (slice_index bytes 0)
+  pub text : link_message_text m ≡ link_body.canonical bytes
+  pub names_row : link_message_names_row m
+
+-- two messages are equal, by `==`
+abbrev pub equal_messages : LinkMessage → LinkMessage → Bool
+equal_messages = (link_message_eq.ghosts).eq
+
+-- the second says what the first does: it is equal, fits, and is written as the same bytes
+abbrev pub says_the_same : LinkMessage → LinkMessage → Bool
+says_the_same m n = equal_messages n m && (link_message_fits n && bytes_eq (link_message_text n) (link_message_text m))
+
+-- it fits, and what it is written as is legal and is read as a message that says the same
+pub record IsReadable (m : LinkMessage) : Type 0 where
+  pub fits : link_message_fits m ≡ true
+  pub text : ruled_text link_body (link_message_text m) ≡ Ok (link_message_text m)
+  pub again : ∥ ((n : LinkMessage) × IsReadFrom (link_message_text m) n × (says_the_same m n ≡ true)) ∥₁
+
+-- what it is written as is refused, or is read as a message that says something else
+abbrev pub ReadsAsAnother : LinkMessage → Type 0
+ReadsAsAnother m =
+    (link_body.accepted (link_message_text m) ≡ false)
+    ⊎ ((n : LinkMessage) × IsReadFrom (link_message_text m) n × (says_the_same m n ≡ false))

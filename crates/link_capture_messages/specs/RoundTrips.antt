@@ -1,0 +1,43 @@
+-- What is written of a message is read as the message.
+use Rattle.std.proofs.Common.{◌≡◌, ℕ, ◌≤◌, List, Ok, Err, Some, refl, ap, arith}
+use Rattle.std.specs.Prelude.{false, nat_eq, nat_le, ◌&&◌}
+use Rattle.std.proofs.lemmas.Bool.Decides.{nat_tests}
+use Rattle.netlink_packet_core.specs.TypedBodies.{IsInner}
+use Rattle.link_message_grammar.specs.Body.{link_body}
+use Rattle.link_capture_grammar.specs.Bodies.{is_link_type, ruled_text, body_text}
+use Rattle.link_capture_messages.specs.declared.route.RouteLink.{RouteLink}
+use Rattle.link_capture_messages.specs.KeptTypes.{IsKeptType}
+use Rattle.link_capture_messages.specs.Routes.{route_entry, typed_text, reads_route}
+
+record NotListed (t : ℕ) : Type 0 where
+  noop : nat_eq t 1 ≡ false
+  error : nat_eq t 2 ≡ false
+  done : nat_eq t 3 ≡ false
+  link : is_link_type t ≡ false
+
+not_listed : (t : ℕ) → IsKeptType t → NotListed t
+not_listed t k =
+    let a = k.no_control in
+    let b = k.no_link in
+    record { noop = grind (arith, nat_tests); error = grind (arith, nat_tests); done = grind (arith, nat_tests); link = grind (arith, nat_tests) }
+
+-- a body of another type is kept
+pub other_text : (t : ℕ) (b : List ℕ) → IsKeptType t → body_text t b ≡ Ok b
+unfolding body_text
+other_text t b k = let n = not_listed t k in rw (n.noop, n.error, n.done, n.link) refl
+
+pub round_trip : (x : RouteLink) → reads_route (route_entry x).0 (route_entry x).1 ≡ Some (route_entry x)
+unfolding body_text
+round_trip (RouteLink.NewLink link) = ap (typed_text 16) link.readable.text
+round_trip (RouteLink.DelLink link) = ap (typed_text 17) link.readable.text
+round_trip (RouteLink.GetLink link) = ap (typed_text 18) link.readable.text
+round_trip (RouteLink.SetLink link) = ap (typed_text 19) link.readable.text
+round_trip (RouteLink.Other message) = ap (typed_text message.message_type) (other_text message.message_type message.bytes message.kept)
+
+pub route_inner : (x : RouteLink) → IsInner (route_entry x).0
+route_inner (RouteLink.NewLink link) h = omega arith
+route_inner (RouteLink.DelLink link) h = omega arith
+route_inner (RouteLink.GetLink link) h = omega arith
+route_inner (RouteLink.SetLink link) h = omega arith
+route_inner (RouteLink.Other message) h = message.kept.no_control h
+

@@ -1,0 +1,19 @@
+-- What the messages of a capture hold.
+use Rattle.std.specs.Prelude.{ℕ, List}
+use Rattle.link_message_messages.specs.declared.message.LinkMessage.{LinkMessage}
+use Rattle.link_message_messages.specs.LinkMessages.{link_message_text}
+use Rattle.link_capture_messages.specs.declared.types.OtherMessage.{OtherMessage}
+use Rattle.link_capture_messages.specs.declared.types.ReadableLink.{ReadableLink}
+
+abbrev pub other_type : OtherMessage → ℕ
+other_type m = m.message_type
+
+abbrev pub other_bytes : OtherMessage → List ℕ
+other_bytes m = m.bytes
+
+abbrev pub readable_message : ReadableLink → LinkMessage
+readable_message r = r.message
+
+-- what the message is written as
+abbrev pub readable_text : ReadableLink → List ℕ
+readable_text r = link_message_text (readable_message r)

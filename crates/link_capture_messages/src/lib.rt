@@ -1,0 +1,13 @@
+// The messages of captures: those of links, which are read back as they are written, and others, which are kept as they are.
+#![tactic(auto)]
+
+mod fault;
+mod other;
+mod readable;
+mod route;
+mod types;
+
+pub use fault::RouteFault;
+pub use readable::NotReadable;
+pub use route::{RTM_DELLINK, RTM_GETLINK, RTM_NEWLINK, RTM_SETLINK, RouteLink};
+pub use types::{OtherMessage, ReadableLink};

@@ -1,0 +1,70 @@
+//! Messages whose bodies are kept as they are.
+
+ghost use Rattle.std.specs.Prelude.{◌≡◌, ◌↔◌, IsTrue, IfOk};
+ghost use Rattle.link_capture_messages.specs.KeptTypes.{IsKeptType};
+ghost use Rattle.link_capture_messages.specs.Views.{other_type, other_bytes};
+
+use super::types::OtherMessage;
+use netlink_packet_core::ByteVec;
+use std::alloc::{AllocError, Global};
+
+impl OtherMessage {
+    /// Whether the bodies of messages of a type are kept as they are: the type is outside 1 to 4
+    /// and 16 to 19.
+    pub fn is_kept_type(message_type: u16) -> bool
+        ensures { IsTrue result ↔ IsKeptType message_type }
+    {
+        !matches!(message_type, 1..=4 | 16..=19)
+    }
+
+    /// A message of a type, see `is_kept_type`, and the bytes of its body.
+    pub fn new(message_type: u16, bytes: Vec<u8>) -> Self
+        requires { IsKeptType message_type }
+        ensures message_type { other_type result ≡ message_type }
+        ensures bytes { other_bytes result ≡ bytes.items }
+    {
+        OtherMessage {
+            message_type,
+            bytes: ByteVec::from(bytes),
+        }
+    }
+
+    /// A message of a type, see `is_kept_type`, with a copy of the bytes of its body.
+    pub(crate) fn from_slice(
+        alloc: Global,
+        message_type: u16,
+        bytes: &[u8],
+    ) -> Result<Self, AllocError>
+        requires { IsKeptType message_type }
+        ensures message_type { IfOk result (λ m. other_type m ≡ message_type) }
+        ensures bytes { IfOk result (λ m. other_bytes m ≡ bytes.now) }
+    {
+        Ok(OtherMessage {
+            message_type,
+            bytes: ByteVec::from_slice(alloc, bytes)?,
+        })
+    }
+
+    /// The type of the message.
+    pub fn message_type(&self) -> u16
+        ensures same_type { result ≡ other_type self.now }
+        ensures kept { IsKeptType result }
+    {
+        self.message_type
+    }
+
+    /// The bytes of its body.
+    pub fn bytes(&self) -> &[u8]
+        ensures { result.now ≡ other_bytes self.now }
+    {
+        self.bytes.as_slice()
+    }
+
+    /// The bytes of its body, as a vector.
+    pub fn into_bytes(self) -> Vec<u8>
+        ensures { result.items ≡ other_bytes self }
+    {
+        let OtherMessage { bytes, .. } = self;
+        bytes.into_vec()
+    }
+}

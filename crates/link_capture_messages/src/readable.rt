@@ -1,0 +1,148 @@
+//! Messages of links that are read back as they are written.
+
+ghost use Rattle.std.specs.Prelude.{◌≡◌, ◌≢◌, ◌↔◌, Ok, true, false, IfOk, IfErr, OnOk};
+ghost use Rattle.link_capture_grammar.specs.Bodies.{ruled_text};
+ghost use Rattle.link_message_grammar.specs.Body.{link_body};
+ghost use Rattle.link_message_messages.specs.LinkMessages.{link_message_text, link_message_fits};
+ghost use Rattle.link_capture_messages.specs.Readable.{IsReadFrom, IsReadable, ReadsAsAnother, says_the_same};
+ghost use Rattle.link_capture_messages.specs.Views.{readable_message, readable_text};
+ghost use Rattle.link_capture_messages.specs.Routes.{TellsOf};
+
+use super::fault::RouteFault;
+use super::types::ReadableLink;
+use link_capture_grammar::laws::bodies_are_normal;
+use link_message::LinkMessage;
+use link_message::laws::{bodies_are_headers_and_attributes, bodies_have_no_empty_ports};
+use netlink_packet_core::Emitable;
+use std::alloc::Global;
+
+/// Why a message isn't readable.
+#[derive(Clone, Copy, Debug, PartialEq, Eq, Drop)]
+pub enum NotReadable {
+    /// A length inside doesn't fit the 2 bytes of its header.
+    Unfit,
+    /// What it is written as is refused, or read as another message.
+    ReadsOtherwise,
+    /// No memory was to be had to find out.
+    Memory,
+}
+
+impl ReadableLink {
+    /// Takes a message. It succeeds exactly where the message fits and is read back equal from what it
+    /// is written as, memory aside; otherwise it gives the message back unchanged.
+    pub fn new(
+        alloc: Global,
+        message: LinkMessage,
+    ) -> Result<ReadableLink, (LinkMessage, NotReadable)>
+        ensures ok { IfOk result (λ r. readable_message r ≡ message) }
+        ensures readable { OnOk result (IsReadable message) }
+        ensures unchanged { IfErr result (λ e. e.0 ≡ message) }
+        ensures unfit { IfErr result
+            (λ e. (e.1 ≡ NotReadable.Unfit) ↔ (link_message_fits message ≡ false)) }
+        ensures otherwise { IfErr result
+            (λ e. e.1 ≡ NotReadable.ReadsOtherwise → ReadsAsAnother message) }
+    {
+        match reads_back(alloc, &message) {
+            Ok(()) => Ok(ReadableLink { message }),
+            Err(why) => Err((message, why)),
+        }
+    }
+
+    /// Reads the body of a message of links.
+    #[tactic(auto, using(crate::proofs::ReadAgain::readable))]
+    pub(crate) fn read(alloc: Global, bytes: &[u8]) -> Result<ReadableLink, RouteFault>
+        ensures ok { IfOk result (λ r. ruled_text link_body bytes.now ≡ Ok (readable_text r)) }
+        ensures message { IfOk result (λ r. IsReadFrom bytes.now (readable_message r)) }
+        ensures err { IfErr result (λ fault. fault ≢ RouteFault.Memory
+            → TellsOf fault (ruled_text link_body bytes.now)) }
+    {
+        bodies_are_normal();
+        bodies_have_no_empty_ports();
+        bodies_are_headers_and_attributes();
+        let message = match LinkMessage::parse(alloc, bytes) {
+            Ok(message) => message,
+            Err(error) if error.is_memory() => return Err(RouteFault::Memory),
+            Err(_) => return Err(RouteFault::Refused),
+        };
+        if !message.fits() {
+            return Err(RouteFault::Unfit);
+        }
+        Ok(ReadableLink { message })
+    }
+
+    /// The message.
+    pub fn message(&self) -> &LinkMessage
+        ensures message { result.now ≡ readable_message self.now }
+        ensures readable { IsReadable result.now }
+    {
+        &self.message
+    }
+
+    /// The message, by value.
+    pub fn into_message(self) -> LinkMessage
+        ensures message { result ≡ readable_message self }
+        ensures readable { IsReadable result }
+    {
+        let ReadableLink { message } = self;
+        message
+    }
+}
+
+/// What a message is written as.
+fn write_message(alloc: Global, message: &LinkMessage) -> Result<Vec<u8>, NotReadable>
+    requires { link_message_fits message.now ≡ true }
+    ensures ok { IfOk result (λ text. text.items ≡ link_message_text message.now) }
+    ensures err { IfErr result (λ why. why ≡ NotReadable.Memory) }
+{
+    let size = message.buffer_len();
+    if size == usize::MAX {
+        return Err(NotReadable::Memory);
+    }
+    let Ok(mut text) = Vec::from_elem(alloc, 0u8, size) else {
+        return Err(NotReadable::Memory);
+    };
+    message.emit(text.as_mut_slice());
+    Ok(text)
+}
+
+/// Whether the second message says what the first does, which is written as `text`.
+fn says_the_same(
+    alloc: Global,
+    text: &[u8],
+    message: &LinkMessage,
+    again: &LinkMessage,
+) -> Result<bool, NotReadable>
+    requires { text.now ≡ link_message_text message.now }
+    ensures ok { IfOk result (λ same. same ≡ says_the_same message.now again.now) }
+    ensures err { IfErr result (λ why. why ≡ NotReadable.Memory) }
+{
+    if again != message || !again.fits() {
+        return Ok(false);
+    }
+    Ok(write_message(alloc, again)?.as_slice() == text)
+}
+
+/// Whether a message is read back as it is written.
+#[tactic(auto, using(crate::proofs::ReadAgain::reads_back))]
+fn reads_back(alloc: Global, message: &LinkMessage) -> Result<(), NotReadable>
+    ensures ok { OnOk result (IsReadable message.now) }
+    ensures unfit { IfErr result
+        (λ why. (why ≡ NotReadable.Unfit) ↔ (link_message_fits message.now ≡ false)) }
+    ensures otherwise { IfErr result
+        (λ why. why ≡ NotReadable.ReadsOtherwise → ReadsAsAnother message.now) }
+{
+    bodies_have_no_empty_ports();
+    if !message.fits() {
+        return Err(NotReadable::Unfit);
+    }
+    let text = write_message(alloc, message)?;
+    let again = match LinkMessage::parse(alloc, text.as_slice()) {
+        Ok(again) => again,
+        Err(error) if error.is_memory() => return Err(NotReadable::Memory),
+        Err(_) => return Err(NotReadable::ReadsOtherwise),
+    };
+    if !says_the_same(alloc, text.as_slice(), message, &again)? {
+        return Err(NotReadable::ReadsOtherwise);
+    }
+    Ok(())
+}

@@ -1,0 +1,118 @@
+//! The messages of a capture, for the core's `NetlinkMessage`.
+
+ghost use Rattle.std.specs.Prelude.{⊤, true};
+ghost use Rattle.netlink_packet_core.specs.TypedBodies.{TypedBody};
+ghost use Rattle.link_capture_messages.specs.Routes.{route_entry, reads_route, route_tells, route_wants_memory};
+ghost use Rattle.link_capture_messages.specs.RoundTrips.{round_trip, route_inner};
+
+use super::fault::RouteFault;
+use super::types::{OtherMessage, ReadableLink};
+use netlink_packet_core::{
+    Emitable, NetlinkDeserializable, NetlinkHeader, NetlinkProtocol, NetlinkSerializable,
+};
+use std::alloc::Global;
+
+/// The type of a message that tells of a link, or makes one (rtnetlink.h).
+pub const RTM_NEWLINK: u16 = 16;
+
+/// The type of a message that tells that a link is gone, or deletes one.
+pub const RTM_DELLINK: u16 = 17;
+
+/// The type of a message that asks for links.
+pub const RTM_GETLINK: u16 = 18;
+
+/// The type of a message that changes a link.
+pub const RTM_SETLINK: u16 = 19;
+
+/// A message of a capture: of links, or of any other type. Control messages are `NetlinkPayload`'s own.
+#[derive(Debug, PartialEq, Eq, Drop)]
+pub enum RouteLink {
+    /// `RTM_NEWLINK`, 16: a link is there, or is to be made.
+    NewLink(ReadableLink),
+    /// `RTM_DELLINK`, 17: a link is gone, or is to be deleted.
+    DelLink(ReadableLink),
+    /// `RTM_GETLINK`, 18: links are asked for.
+    GetLink(ReadableLink),
+    /// `RTM_SETLINK`, 19: a link is to be changed.
+    SetLink(ReadableLink),
+    /// A message of another type, kept as it is.
+    Other(OtherMessage),
+}
+
+impl NetlinkSerializable for RouteLink {
+    ghost entry = { route_entry };
+
+    ghost fits = { λ _. ⊤ };
+
+    fn message_type(&self) -> u16 {
+        match self {
+            Self::NewLink(_) => RTM_NEWLINK,
+            Self::DelLink(_) => RTM_DELLINK,
+            Self::GetLink(_) => RTM_GETLINK,
+            Self::SetLink(_) => RTM_SETLINK,
+            Self::Other(message) => message.message_type(),
+        }
+    }
+
+    fn buffer_len(&self) -> usize {
+        match self {
+            Self::NewLink(link)
+            | Self::DelLink(link)
+            | Self::GetLink(link)
+            | Self::SetLink(link) => link.message().buffer_len(),
+            Self::Other(message) => message.bytes().len(),
+        }
+    }
+
+    fn serialize(&self, buffer: &mut [u8]) {
+        match self {
+            Self::NewLink(link)
+            | Self::DelLink(link)
+            | Self::GetLink(link)
+            | Self::SetLink(link) => link.message().emit(buffer),
+            Self::Other(message) => buffer.copy_from_slice(message.bytes()),
+        }
+    }
+}
+
+impl NetlinkDeserializable for RouteLink {
+    type Error = RouteFault;
+
+    ghost Value = { TypedBody };
+
+    ghost value = { route_entry };
+
+    ghost reads = { reads_route };
+
+    ghost is_memory = { route_wants_memory };
+
+    ghost may_want_memory = { λ _ _. true };
+
+    ghost tells = { route_tells };
+
+    #[tactic(auto, using(crate::specs::RoundTrips::other_text), unfolding(link_capture_grammar::specs::Bodies::body_text))]
+    fn deserialize(
+        alloc: Global,
+        header: &NetlinkHeader,
+        payload: &[u8],
+    ) -> Result<Self, RouteFault> {
+        match header.message_type {
+            RTM_NEWLINK => Ok(Self::NewLink(ReadableLink::read(alloc, payload)?)),
+            RTM_DELLINK => Ok(Self::DelLink(ReadableLink::read(alloc, payload)?)),
+            RTM_GETLINK => Ok(Self::GetLink(ReadableLink::read(alloc, payload)?)),
+            RTM_SETLINK => Ok(Self::SetLink(ReadableLink::read(alloc, payload)?)),
+            message_type => match OtherMessage::from_slice(alloc, message_type, payload) {
+                Ok(message) => Ok(Self::Other(message)),
+                Err(_) => Err(RouteFault::Memory),
+            },
+        }
+    }
+}
+
+impl NetlinkProtocol for RouteLink {
+    ghost round_trip = { λ x _. round_trip x };
+
+    ghost inner = { route_inner };
+
+    ghost one_text = { λ x y e. e };
+}

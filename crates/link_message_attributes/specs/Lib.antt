@@ -1,0 +1,2 @@
+pub mod LinkAttributes
+pub mod Payloads

@@ -1,0 +1,548 @@
+//! The attributes of a link (if_link.h, IFLA_*), under the address family of the message's header.
+//! Numbers are little-endian.
+
+ghost use Rattle.std.specs.Prelude.{◌≡◌, ◌<◌, false, true, length, map, Some, IsTrue, IfOk, IfErr, IfSome, IfNone, OnOk};
+ghost use Rattle.std.specs.List.{All};
+ghost use Rattle.netlink_packet_core.specs.AttributeViews.{IsAttribute};
+ghost use Rattle.netlink_packet_core.specs.Errors.{is_memory};
+ghost use Rattle.netlink_packet_core.specs.Families.{attribute};
+ghost use Rattle.netlink_packet_core.specs.Lists.{text_by, all_fit_by};
+ghost use Rattle.netlink_packet_core.specs.NlaBuffers.{storage};
+ghost use Rattle.attribute_tables_grammar.specs.Lists.{any, rewrite, without_context};
+ghost use Rattle.attribute_tables_grammar.specs.LookUps.{has_no_row};
+ghost use Rattle.attribute_tables_grammar.specs.Readings.{reading_as};
+ghost use Rattle.attribute_tables.specs.Views.{is_accepted_by, fits_by, rewritten_by};
+ghost use Rattle.attribute_tables.specs.Written.{written_as};
+ghost use Rattle.link_message_grammar.specs.LinkMessage.{link_table};
+ghost use Rattle.link_message_grammar.specs.Body.{attribute_row, attributes_rule};
+ghost use Rattle.link_message_types.specs.AddressFamilies.{table_family};
+ghost use Rattle.link_message_attributes.specs.LinkAttributes.{link_attribute_entry, link_attribute_fits, link_attribute_names_row};
+ghost use Rattle.link_message_attributes.specs.LinkAttributes.{row_may_want_memory, link_attribute_may_want_memory};
+ghost use Rattle.link_message_attributes.specs.Payloads.{link_payload_bytes, link_payload_fits};
+
+use super::payload::{LinkPayload, parse_bytes, parse_extent_masks, parse_link_info};
+use attribute_tables::{Reader, parse_list, typed};
+use link_info::LinkInfo;
+use link_message_types::{AddressFamily, LinkEvent, LinkExtentMask, LinkMode, LinkPhysId, State};
+use netlink_packet_core::{
+    DecodeError, DefaultNla, Field, Nla, NlaBuffer, Parseable, parse_i32, parse_string, parse_u8,
+    parse_u32,
+};
+use std::alloc::Global;
+
+const IFLA_ADDRESS: u16 = 1;
+
+const IFLA_BROADCAST: u16 = 2;
+
+const IFLA_IFNAME: u16 = 3;
+
+const IFLA_MTU: u16 = 4;
+
+const IFLA_LINK: u16 = 5;
+
+const IFLA_QDISC: u16 = 6;
+
+const IFLA_MASTER: u16 = 10;
+
+const IFLA_TXQLEN: u16 = 13;
+
+const IFLA_OPERSTATE: u16 = 16;
+
+const IFLA_LINKMODE: u16 = 17;
+
+const IFLA_LINKINFO: u16 = 18;
+
+const IFLA_NET_NS_PID: u16 = 19;
+
+const IFLA_IFALIAS: u16 = 20;
+
+const IFLA_NUM_VF: u16 = 21;
+
+const IFLA_GROUP: u16 = 27;
+
+const IFLA_NET_NS_FD: u16 = 28;
+
+const IFLA_EXT_MASK: u16 = 29;
+
+const IFLA_PROMISCUITY: u16 = 30;
+
+const IFLA_NUM_TX_QUEUES: u16 = 31;
+
+const IFLA_NUM_RX_QUEUES: u16 = 32;
+
+const IFLA_CARRIER: u16 = 33;
+
+const IFLA_PHYS_PORT_ID: u16 = 34;
+
+const IFLA_CARRIER_CHANGES: u16 = 35;
+
+const IFLA_PHYS_SWITCH_ID: u16 = 36;
+
+const IFLA_LINK_NETNSID: u16 = 37;
+
+const IFLA_PHYS_PORT_NAME: u16 = 38;
+
+const IFLA_PROTO_DOWN: u16 = 39;
+
+const IFLA_GSO_MAX_SEGS: u16 = 40;
+
+const IFLA_GSO_MAX_SIZE: u16 = 41;
+
+const IFLA_EVENT: u16 = 44;
+
+const IFLA_NEW_NETNSID: u16 = 45;
+
+const IFLA_IF_NETNSID: u16 = 46;
+
+const IFLA_CARRIER_UP_COUNT: u16 = 47;
+
+const IFLA_CARRIER_DOWN_COUNT: u16 = 48;
+
+const IFLA_NEW_IFINDEX: u16 = 49;
+
+const IFLA_MIN_MTU: u16 = 50;
+
+const IFLA_MAX_MTU: u16 = 51;
+
+const IFLA_PERM_ADDRESS: u16 = 54;
+
+const IFLA_PARENT_DEV_NAME: u16 = 56;
+
+const IFLA_PARENT_DEV_BUS_NAME: u16 = 57;
+
+const IFLA_GRO_MAX_SIZE: u16 = 58;
+
+const IFLA_TSO_MAX_SIZE: u16 = 59;
+
+const IFLA_TSO_MAX_SEGS: u16 = 60;
+
+const IFLA_ALLMULTI: u16 = 61;
+
+const IFLA_GSO_IPV4_MAX_SIZE: u16 = 63;
+
+const IFLA_GRO_IPV4_MAX_SIZE: u16 = 64;
+
+/// An attribute of a link.
+#[derive(Debug, PartialEq, Eq, Drop)]
+pub enum LinkAttribute {
+    /// `IFLA_PHYS_PORT_ID`: the identity of the physical port; any bytes.
+    PhysPortId(LinkPhysId),
+    /// `IFLA_PHYS_SWITCH_ID`: the identity of the switch; any bytes.
+    PhysSwitchId(LinkPhysId),
+    /// `IFLA_EVENT`: what the message is sent for; 4 bytes.
+    Event(LinkEvent),
+    /// `IFLA_NEW_NETNSID`: the number of the network namespace that the link moved to; 4 bytes.
+    NewNetnsId(u32),
+    /// `IFLA_IF_NETNSID`: the number of the network namespace that the link is in; 4 bytes.
+    IfNetnsId(u32),
+    /// `IFLA_CARRIER_UP_COUNT`: how often the carrier came; 4 bytes.
+    CarrierUpCount(u32),
+    /// `IFLA_CARRIER_DOWN_COUNT`: how often the carrier went; 4 bytes.
+    CarrierDownCount(u32),
+    /// `IFLA_NEW_IFINDEX`: the index of the link in the network namespace that it moved to; 4
+    /// bytes.
+    NewIfIndex(u32),
+    /// `IFLA_LINKINFO`: what the link is; a list of attributes, of which there is one or more.
+    LinkInfo(Vec<LinkInfo>),
+    /// `IFLA_ADDRESS`: the hardware address; any bytes.
+    Address(Vec<u8>),
+    /// `IFLA_BROADCAST`: the hardware address that reaches all; any bytes.
+    Broadcast(Vec<u8>),
+    /// `IFLA_PERM_ADDRESS`: the hardware address that the device came with; any bytes.
+    PermAddress(Vec<u8>),
+    /// `IFLA_IFNAME`: the name; a text.
+    IfName(String),
+    /// `IFLA_QDISC`: the queueing discipline; a text.
+    Qdisc(String),
+    /// `IFLA_IFALIAS`: a further name, for people; a text.
+    IfAlias(String),
+    /// `IFLA_PHYS_PORT_NAME`: the name of the physical port; a text.
+    PhysPortName(String),
+    /// `IFLA_LINKMODE`: how the operational state follows the carrier; 1 byte.
+    Mode(LinkMode),
+    /// `IFLA_CARRIER`: whether there is a carrier; 1 byte.
+    Carrier(u8),
+    /// `IFLA_PROTO_DOWN`: whether a protocol keeps the link down; 1 byte.
+    ProtoDown(u8),
+    /// `IFLA_MTU`: the most bytes of a packet; 4 bytes.
+    Mtu(u32),
+    /// `IFLA_LINK`: the index of the link below; 4 bytes.
+    Link(u32),
+    /// `IFLA_MASTER`: the index of the link that this one is a port of; 4 bytes.
+    Controller(u32),
+    /// `IFLA_TXQLEN`: how many packets may wait to be sent; 4 bytes.
+    TxQueueLen(u32),
+    /// `IFLA_NET_NS_PID`: a process whose network namespace the link is moved to; 4 bytes.
+    NetNsPid(u32),
+    /// `IFLA_NUM_VF`: how many virtual functions there are; 4 bytes.
+    NumVf(u32),
+    /// `IFLA_GROUP`: the group of links that this one is in; 4 bytes.
+    Group(u32),
+    /// `IFLA_NET_NS_FD`: a descriptor of the network namespace that the link is moved to; 4
+    /// bytes, signed.
+    NetNsFd(i32),
+    /// `IFLA_EXT_MASK`: what an answer is to tell beside the rest; 4 bytes, whose set bits are
+    /// the list.
+    ExtMask(Vec<LinkExtentMask>),
+    /// `IFLA_PROMISCUITY`: how many want every packet; 4 bytes.
+    Promiscuity(u32),
+    /// `IFLA_NUM_TX_QUEUES`: how many queues there are to send from; 4 bytes.
+    NumTxQueues(u32),
+    /// `IFLA_NUM_RX_QUEUES`: how many queues there are to receive into; 4 bytes.
+    NumRxQueues(u32),
+    /// `IFLA_CARRIER_CHANGES`: how often the carrier came or went; 4 bytes.
+    CarrierChanges(u32),
+    /// `IFLA_GSO_MAX_SEGS`: the most segments of a packet that the device cuts up; 4 bytes.
+    GsoMaxSegs(u32),
+    /// `IFLA_GSO_MAX_SIZE`: the most bytes of a packet that is cut up later; 4 bytes.
+    GsoMaxSize(u32),
+    /// `IFLA_MIN_MTU`: the least `Mtu` that may be set; 4 bytes.
+    MinMtu(u32),
+    /// `IFLA_MAX_MTU`: the greatest `Mtu` that may be set; 4 bytes.
+    MaxMtu(u32),
+    /// `IFLA_LINK_NETNSID`: the number of the network namespace of the link below; 4 bytes.
+    LinkNetnsId(u32),
+    /// `IFLA_OPERSTATE`: the operational state; 1 byte.
+    OperState(State),
+    /// `IFLA_PARENT_DEV_NAME`: the name of the device that holds the link; a text.
+    ParentDevName(String),
+    /// `IFLA_PARENT_DEV_BUS_NAME`: the name of the bus of that device; a text.
+    ParentDevBusName(String),
+    /// `IFLA_GRO_MAX_SIZE`: the most bytes of a packet that is put together; 4 bytes.
+    GroMaxSize(u32),
+    /// `IFLA_TSO_MAX_SIZE`: the most bytes of a packet that the device itself cuts up; 4 bytes.
+    TsoMaxSize(u32),
+    /// `IFLA_TSO_MAX_SEGS`: the most segments of a packet that the device itself cuts up; 4
+    /// bytes.
+    TsoMaxSegs(u32),
+    /// `IFLA_ALLMULTI`: how many want every multicast packet; 4 bytes.
+    AllMulti(u32),
+    /// `IFLA_GSO_IPV4_MAX_SIZE`: as `GsoMaxSize`, of IPv4; 4 bytes.
+    GsoIpv4MaxSize(u32),
+    /// `IFLA_GRO_IPV4_MAX_SIZE`: as `GroMaxSize`, of IPv4; 4 bytes.
+    GroIpv4MaxSize(u32),
+    /// Any other kind, kept as it is.
+    Other(DefaultNla),
+}
+
+impl LinkAttribute {
+    // The kind and the payload.
+    fn payload(&self) -> (u16, LinkPayload<'_>)
+        ensures kind { result.0 ≡ (link_attribute_entry self.now).kind }
+        ensures payload { link_payload_bytes result.1 ≡ (link_attribute_entry self.now).payload }
+        ensures fits { link_payload_fits result.1 ≡ link_attribute_fits self.now }
+    {
+        match self {
+            Self::PhysPortId(id) => (
+                IFLA_PHYS_PORT_ID,
+                LinkPayload::Field(Field::Bytes(id.bytes.as_slice())),
+            ),
+            Self::PhysSwitchId(id) => (
+                IFLA_PHYS_SWITCH_ID,
+                LinkPayload::Field(Field::Bytes(id.bytes.as_slice())),
+            ),
+            Self::Event(event) => (
+                IFLA_EVENT,
+                LinkPayload::Field(Field::U32(u32::from(*event))),
+            ),
+            Self::NewNetnsId(number) => (IFLA_NEW_NETNSID, LinkPayload::Field(Field::U32(*number))),
+            Self::IfNetnsId(number) => (IFLA_IF_NETNSID, LinkPayload::Field(Field::U32(*number))),
+            Self::CarrierUpCount(number) => (
+                IFLA_CARRIER_UP_COUNT,
+                LinkPayload::Field(Field::U32(*number)),
+            ),
+            Self::CarrierDownCount(number) => (
+                IFLA_CARRIER_DOWN_COUNT,
+                LinkPayload::Field(Field::U32(*number)),
+            ),
+            Self::NewIfIndex(number) => (IFLA_NEW_IFINDEX, LinkPayload::Field(Field::U32(*number))),
+            Self::LinkInfo(list) => (IFLA_LINKINFO, LinkPayload::LinkInfo(list)),
+            Self::Address(bytes) => (IFLA_ADDRESS, LinkPayload::Field(Field::Bytes(bytes))),
+            Self::Broadcast(bytes) => (IFLA_BROADCAST, LinkPayload::Field(Field::Bytes(bytes))),
+            Self::PermAddress(bytes) => (
+                IFLA_PERM_ADDRESS,
+                LinkPayload::Field(Field::Bytes(bytes)),
+            ),
+            Self::IfName(text) => (IFLA_IFNAME, LinkPayload::Field(Field::Text(text))),
+            Self::Qdisc(text) => (IFLA_QDISC, LinkPayload::Field(Field::Text(text))),
+            Self::IfAlias(text) => (IFLA_IFALIAS, LinkPayload::Field(Field::Text(text))),
+            Self::PhysPortName(text) => (
+                IFLA_PHYS_PORT_NAME,
+                LinkPayload::Field(Field::Text(text)),
+            ),
+            Self::Mode(mode) => (
+                IFLA_LINKMODE,
+                LinkPayload::Field(Field::U8(u8::from(*mode))),
+            ),
+            Self::Carrier(number) => (IFLA_CARRIER, LinkPayload::Field(Field::U8(*number))),
+            Self::ProtoDown(number) => (IFLA_PROTO_DOWN, LinkPayload::Field(Field::U8(*number))),
+            Self::Mtu(number) => (IFLA_MTU, LinkPayload::Field(Field::U32(*number))),
+            Self::Link(number) => (IFLA_LINK, LinkPayload::Field(Field::U32(*number))),
+            Self::Controller(number) => (IFLA_MASTER, LinkPayload::Field(Field::U32(*number))),
+            Self::TxQueueLen(number) => (IFLA_TXQLEN, LinkPayload::Field(Field::U32(*number))),
+            Self::NetNsPid(number) => (IFLA_NET_NS_PID, LinkPayload::Field(Field::U32(*number))),
+            Self::NumVf(number) => (IFLA_NUM_VF, LinkPayload::Field(Field::U32(*number))),
+            Self::Group(number) => (IFLA_GROUP, LinkPayload::Field(Field::U32(*number))),
+            Self::NetNsFd(number) => (
+                IFLA_NET_NS_FD,
+                LinkPayload::Field(Field::U32(number.cast_unsigned())),
+            ),
+            Self::ExtMask(list) => (
+                IFLA_EXT_MASK,
+                LinkPayload::Field(Field::U32(LinkExtentMask::join(list))),
+            ),
+            Self::Promiscuity(number) => (
+                IFLA_PROMISCUITY,
+                LinkPayload::Field(Field::U32(*number)),
+            ),
+            Self::NumTxQueues(number) => (
+                IFLA_NUM_TX_QUEUES,
+                LinkPayload::Field(Field::U32(*number)),
+            ),
+            Self::NumRxQueues(number) => (
+                IFLA_NUM_RX_QUEUES,
+                LinkPayload::Field(Field::U32(*number)),
+            ),
+            Self::CarrierChanges(number) => (
+                IFLA_CARRIER_CHANGES,
+                LinkPayload::Field(Field::U32(*number)),
+            ),
+            Self::GsoMaxSegs(number) => (
+                IFLA_GSO_MAX_SEGS,
+                LinkPayload::Field(Field::U32(*number)),
+            ),
+            Self::GsoMaxSize(number) => (
+                IFLA_GSO_MAX_SIZE,
+                LinkPayload::Field(Field::U32(*number)),
+            ),
+            Self::MinMtu(number) => (IFLA_MIN_MTU, LinkPayload::Field(Field::U32(*number))),
+            Self::MaxMtu(number) => (IFLA_MAX_MTU, LinkPayload::Field(Field::U32(*number))),
+            Self::LinkNetnsId(number) => (
+                IFLA_LINK_NETNSID,
+                LinkPayload::Field(Field::U32(*number)),
+            ),
+            Self::OperState(state) => (
+                IFLA_OPERSTATE,
+                LinkPayload::Field(Field::U8(u8::from(*state))),
+            ),
+            Self::ParentDevName(text) => (
+                IFLA_PARENT_DEV_NAME,
+                LinkPayload::Field(Field::Text(text)),
+            ),
+            Self::ParentDevBusName(text) => (
+                IFLA_PARENT_DEV_BUS_NAME,
+                LinkPayload::Field(Field::Text(text)),
+            ),
+            Self::GroMaxSize(number) => (
+                IFLA_GRO_MAX_SIZE,
+                LinkPayload::Field(Field::U32(*number)),
+            ),
+            Self::TsoMaxSize(number) => (
+                IFLA_TSO_MAX_SIZE,
+                LinkPayload::Field(Field::U32(*number)),
+            ),
+            Self::TsoMaxSegs(number) => (
+                IFLA_TSO_MAX_SEGS,
+                LinkPayload::Field(Field::U32(*number)),
+            ),
+            Self::AllMulti(number) => (IFLA_ALLMULTI, LinkPayload::Field(Field::U32(*number))),
+            Self::GsoIpv4MaxSize(number) => (
+                IFLA_GSO_IPV4_MAX_SIZE,
+                LinkPayload::Field(Field::U32(*number)),
+            ),
+            Self::GroIpv4MaxSize(number) => (
+                IFLA_GRO_IPV4_MAX_SIZE,
+                LinkPayload::Field(Field::U32(*number)),
+            ),
+            Self::Other(nla) => (nla.kind(), LinkPayload::Field(Field::Bytes(nla.value()))),
+        }
+    }
+}
+
+impl Nla for LinkAttribute {
+    ghost entry = { link_attribute_entry };
+
+    ghost inside_fits = { link_attribute_fits };
+
+    fn value_len(&self) -> usize {
+        self.payload().1.len()
+    }
+
+    fn kind(&self) -> u16 {
+        self.payload().0
+    }
+
+    fn emit_value(&self, buffer: &mut [u8]) {
+        self.payload().1.fill(buffer);
+    }
+
+    fn contents_fit(&self) -> bool {
+        self.payload().1.fits()
+    }
+}
+
+impl LinkAttribute {
+    // Reads the payload of a kind without its flag bits; `None` where the kind has no row.
+    fn read_row(
+        alloc: Global,
+        family: AddressFamily,
+        kind: u16,
+        payload: &[u8],
+    ) -> Result<Option<Self>, DecodeError>
+        ensures ok { OnOk result
+            (IsTrue ((attribute_row (table_family family) kind).rule.accepted payload.now)) }
+        ensures none { IfOk result
+            (λ o. IfNone o (has_no_row (link_table (table_family family)) kind)) }
+        ensures typed { IfOk result
+            (λ o. IfSome o (λ _. (attribute_row (table_family family) kind).is_typed ≡ true)) }
+        ensures value { IfOk result
+            (λ o. IfSome o
+            (λ v. link_attribute_entry v
+            ≡ rewrite (attribute_row (table_family family) kind) (attribute kind payload.now))) }
+        ensures inside { IfOk result
+            (λ o. IfSome o
+            (λ v. link_attribute_fits v
+            ≡ (attribute_row (table_family family) kind).rule.fits payload.now)) }
+        ensures names_row { IfOk result
+            (λ o. IfSome o (λ v. link_attribute_names_row (table_family family) v)) }
+        ensures err { IfErr result
+            (λ e. is_memory e ≡ false
+            → (attribute_row (table_family family) kind).rule.accepted payload.now ≡ false) }
+        ensures memory { IfErr result
+            (λ e. is_memory e ≡ true
+            → row_may_want_memory (table_family family) kind payload.now ≡ true) }
+    {
+        match kind {
+            IFLA_ADDRESS => typed!(Address, parse_bytes(alloc, payload)),
+            IFLA_BROADCAST => typed!(Broadcast, parse_bytes(alloc, payload)),
+            IFLA_IFNAME => typed!(IfName, parse_string(alloc, payload)),
+            IFLA_MTU => typed!(Mtu, parse_u32(payload)),
+            IFLA_LINK => typed!(Link, parse_u32(payload)),
+            IFLA_QDISC => typed!(Qdisc, parse_string(alloc, payload)),
+            IFLA_MASTER => typed!(Controller, parse_u32(payload)),
+            IFLA_TXQLEN => typed!(TxQueueLen, parse_u32(payload)),
+            IFLA_OPERSTATE => typed!(OperState, parse_u8(payload), State),
+            IFLA_LINKMODE => typed!(Mode, parse_u8(payload), LinkMode),
+            IFLA_LINKINFO => typed!(LinkInfo, parse_link_info(alloc, payload)),
+            IFLA_NET_NS_PID => typed!(NetNsPid, parse_u32(payload)),
+            IFLA_IFALIAS => typed!(IfAlias, parse_string(alloc, payload)),
+            IFLA_NUM_VF => typed!(NumVf, parse_u32(payload)),
+            IFLA_GROUP => typed!(Group, parse_u32(payload)),
+            IFLA_NET_NS_FD => typed!(NetNsFd, parse_i32(payload)),
+            IFLA_EXT_MASK => typed!(ExtMask, parse_extent_masks(alloc, payload)),
+            IFLA_PROMISCUITY => typed!(Promiscuity, parse_u32(payload)),
+            IFLA_NUM_TX_QUEUES => typed!(NumTxQueues, parse_u32(payload)),
+            IFLA_NUM_RX_QUEUES => typed!(NumRxQueues, parse_u32(payload)),
+            IFLA_CARRIER => typed!(Carrier, parse_u8(payload)),
+            IFLA_PHYS_PORT_ID => typed!(PhysPortId, LinkPhysId::parse(alloc, payload)),
+            IFLA_CARRIER_CHANGES => typed!(CarrierChanges, parse_u32(payload)),
+            IFLA_PHYS_SWITCH_ID => typed!(PhysSwitchId, LinkPhysId::parse(alloc, payload)),
+            IFLA_LINK_NETNSID => typed!(LinkNetnsId, parse_u32(payload)),
+            IFLA_PHYS_PORT_NAME => typed!(PhysPortName, parse_string(alloc, payload)),
+            IFLA_PROTO_DOWN => typed!(ProtoDown, parse_u8(payload)),
+            IFLA_GSO_MAX_SEGS => typed!(GsoMaxSegs, parse_u32(payload)),
+            IFLA_GSO_MAX_SIZE => typed!(GsoMaxSize, parse_u32(payload)),
+            IFLA_EVENT => typed!(Event, parse_u32(payload), LinkEvent),
+            IFLA_NEW_NETNSID => typed!(NewNetnsId, parse_u32(payload)),
+            IFLA_IF_NETNSID => typed!(IfNetnsId, parse_u32(payload)),
+            IFLA_CARRIER_UP_COUNT => typed!(CarrierUpCount, parse_u32(payload)),
+            IFLA_CARRIER_DOWN_COUNT => typed!(CarrierDownCount, parse_u32(payload)),
+            IFLA_NEW_IFINDEX => typed!(NewIfIndex, parse_u32(payload)),
+            IFLA_MIN_MTU => typed!(MinMtu, parse_u32(payload)),
+            IFLA_MAX_MTU => typed!(MaxMtu, parse_u32(payload)),
+            IFLA_PERM_ADDRESS => typed!(PermAddress, parse_bytes(alloc, payload)),
+            IFLA_PARENT_DEV_NAME => typed!(ParentDevName, parse_string(alloc, payload)),
+            IFLA_PARENT_DEV_BUS_NAME => typed!(ParentDevBusName, parse_string(alloc, payload)),
+            IFLA_GRO_MAX_SIZE => typed!(GroMaxSize, parse_u32(payload)),
+            IFLA_TSO_MAX_SIZE => typed!(TsoMaxSize, parse_u32(payload)),
+            IFLA_TSO_MAX_SEGS => typed!(TsoMaxSegs, parse_u32(payload)),
+            IFLA_ALLMULTI => typed!(AllMulti, parse_u32(payload)),
+            IFLA_GSO_IPV4_MAX_SIZE => typed!(GsoIpv4MaxSize, parse_u32(payload)),
+            IFLA_GRO_IPV4_MAX_SIZE => typed!(GroIpv4MaxSize, parse_u32(payload)),
+            _ => Ok(None),
+        }
+    }
+
+    /// Reads one attribute under an address family, which counts by its variant. It succeeds
+    /// exactly where its row accepts it, memory aside.
+    #[tactic(auto, using(netlink_packet_core_attributes::proofs::Families::families))]
+    pub fn parse_with_param(
+        alloc: Global,
+        buf: &NlaBuffer<&[u8]>,
+        family: AddressFamily,
+    ) -> Result<LinkAttribute, DecodeError>
+        requires { IsAttribute (storage buf.now).now }
+        ensures ok { OnOk result
+            (IsTrue (is_accepted_by (attribute_row (table_family family)) (storage buf.now).now)) }
+        ensures value { IfOk result
+            (λ v. link_attribute_entry v
+            ≡ rewritten_by (attribute_row (table_family family)) (storage buf.now).now) }
+        ensures inside { IfOk result
+            (λ v. link_attribute_fits v
+            ≡ fits_by (attribute_row (table_family family)) (storage buf.now).now) }
+        ensures names_row { IfOk result
+            (λ v. link_attribute_names_row (table_family family) v) }
+        ensures err { IfErr result
+            (λ e. is_memory e ≡ false
+            → is_accepted_by (attribute_row (table_family family)) (storage buf.now).now ≡ false) }
+        ensures memory { IfErr result
+            (λ e. is_memory e ≡ true
+            → link_attribute_may_want_memory (table_family family) (storage buf.now).now ≡ true) }
+    {
+        match Self::read_row(alloc, family, buf.kind(), buf.value()) {
+            Ok(Some(value)) => Ok(value),
+            Ok(None) => Ok(Self::Other(DefaultNla::parse(alloc, buf)?)),
+            Err(error) => Err(error),
+        }
+    }
+
+    /// Reads the attributes of a link under an address family, which counts by its variant. It
+    /// succeeds exactly where the list is accepted, memory aside; a list of no bytes is never
+    /// refused.
+    #[tactic(auto, using(crate::proofs::Rules::attribute_rules))]
+    pub fn parse_list(
+        alloc: Global,
+        bytes: &[u8],
+        family: AddressFamily,
+    ) -> Result<Vec<LinkAttribute>, DecodeError>
+        ensures ok { OnOk result
+            (IsTrue ((attributes_rule (table_family family)).accepted bytes.now)) }
+        ensures read { IfOk result
+            (λ v. reading_as any (without_context (attribute_row (table_family family))) bytes.now
+            ≡ Some (map (written_as link_attribute_entry link_attribute_fits) v.items)) }
+        ensures text { IfOk result
+            (λ v. text_by link_attribute_entry v.items
+            ≡ (attributes_rule (table_family family)).canonical bytes.now) }
+        ensures fits { IfOk result
+            (λ v. all_fit_by link_attribute_entry link_attribute_fits v.items
+            ≡ (attributes_rule (table_family family)).fits bytes.now) }
+        ensures names_row { IfOk result
+            (λ v. All (link_attribute_names_row (table_family family)) v.items) }
+        ensures err { IfErr result
+            (λ e. is_memory e ≡ false
+            → (attributes_rule (table_family family)).accepted bytes.now ≡ false) }
+        ensures not_empty { IfErr result (λ _. 0 < length bytes.now) }
+    {
+        parse_list(alloc, &LinkAttributeReader { family }, bytes)
+    }
+}
+
+/// Reads the attributes of a link under an address family, which counts by its variant.
+#[derive(Drop)]
+struct LinkAttributeReader {
+    family: AddressFamily,
+}
+
+impl Reader for LinkAttributeReader {
+    type Value = LinkAttribute;
+
+    ghost row_of = { λ r. attribute_row (table_family r.family) };
+
+    ghost names_row = { λ r. link_attribute_names_row (table_family r.family) };
+
+    ghost may_want_memory = { λ r. link_attribute_may_want_memory (table_family r.family) };
+
+    fn read(&self, alloc: Global, buf: &NlaBuffer<&[u8]>) -> Result<LinkAttribute, DecodeError> {
+        LinkAttribute::parse_with_param(alloc, buf, self.family)
+    }
+}

@@ -1,0 +1,27 @@
+-- The rule of a body by its parts.
+use Rattle.std.proofs.Common.{◌≡◌, ℕ, ◌<◌, List, length, refl}
+use Rattle.attribute_tables_grammar.specs.LookUps.{link_info_of}
+use Rattle.attribute_tables_grammar.specs.Peers.{bytes_peer}
+use Rattle.attribute_tables_grammar.proofs.LookUps.{rule-rows}
+use Rattle.attribute_tables_grammar.specs.Lists.{any}
+use Rattle.attribute_tables_grammar.proofs.Readings.{non_empty_alike, non_empty_refuses}
+use Rattle.link_info_grammar.specs.LinkInfo.{info_grammar, info_grammar_under, info_rule_under}
+use Rattle.link_message_grammar.specs.LinkMessage.{link_table}
+use Rattle.link_message_grammar.specs.Body.{attributes_rule, body_rule, link_body}
+use Rattle.link_message_grammar.specs.Laws.{BodyParts, BodiesAreHeadersAndAttributes, AttributesAreLookedUp, InfoParts, InfoIsAListInside}
+
+pub bodies_are_headers_and_attributes : BodiesAreHeadersAndAttributes
+unfolding attributes_rule body_rule link_body
+bodies_are_headers_and_attributes b = record { accepted = refl; canonical = refl; fits = refl; empty_ports = refl }
+
+pub attributes_are_looked_up : AttributesAreLookedUp
+unfolding attributes_rule
+attributes_are_looked_up f = rule-rows bytes_peer any (link_table f)
+
+some_info : (b : List ℕ) → 0 < length b → InfoParts b
+unfolding link_info_of info_grammar_under info_rule_under
+some_info b l = let a = non_empty_alike info_grammar b l in record { accepted = a.accepted; canonical = a.canonical; fits = a.fits }
+
+pub info_is_a_list_inside : InfoIsAListInside
+unfolding link_info_of info_grammar_under
+info_is_a_list_inside = record { of_some_bytes = some_info; of_no_bytes = non_empty_refuses info_grammar }

@@ -1,0 +1,5 @@
+use Rattle.link_message_grammar.proofs.Parts.{attributes_are_looked_up}
+use Rattle.link_message_grammar.proofs.laws.attributes_are_looked_up.Goals as goal
+
+pub returns : goal.returns
+returns c = attributes_are_looked_up

@@ -1,9 +1,10 @@
 -- What a frame is read as, and how long that is.
-use Rattle.std.proofs.Common.{◌≡◌, ℕ, ◌+◌, ◌-◌, ◌≤◌, ltb, eqb, List, ◌++◌, length, take, drop, Ok, Some, refl, sym, ap, ◌∙◌, inl, inr, arith, length-append, length-drop, append_assoc, Result}
+use Rattle.std.proofs.Common.{◌≡◌, ℕ, ◌+◌, ◌-◌, ◌≤◌, ◌<◌, ◌^◌, ltb, eqb, List, ◌++◌, length, take, drop, Ok, Some, refl, sym, ap, ◌∙◌, inl, inr, arith, length-append, length-drop, append_assoc, Result}
 use Rattle.std.proofs.Common.{Bool, true, false, cond, ◌⊎◌}
-use Rattle.std.proofs.lemmas.Bool.{eqb-true}
+use Rattle.std.proofs.Math.Nat.{min-le_left, min-eq_left, min-eq_right}
+use Rattle.std.proofs.lemmas.Bool.{eqb-true, cases_lt}
 use Rattle.std.proofs.lemmas.List.{length-take-le}
-use Rattle.netlink_packet_core_grammar.specs.Numbers.{le2, le4}
+use Rattle.netlink_packet_core_grammar.specs.Numbers.{le2, le4, as_usize}
 use Rattle.netlink_packet_core_grammar.proofs.Sizes.{length-le4}
 use Rattle.netlink_packet_core.specs.Attributes.{nla_align, zeros}
 use Rattle.netlink_packet_core.specs.Frames.{frame_text}
@@ -82,3 +83,11 @@ padded c body h =
     ap (λ n. unpadded_text c body ++ zeros (nla_align n - n)) (length-unpadded_text c body h)
     ∙ append_assoc (le4 (16 + length body)) (take 12 (drop 4 c) ++ body) (zeros (nla_align (16 + length body) - (16 + length body)))
     ∙ ap (λ x. le4 (16 + length body) ++ x) (append_assoc (take 12 (drop 4 c)) body (zeros (nla_align (16 + length body) - (16 + length body))))
+
+-- a size that is at most 32 bits, as `buffer_len` tells it
+pub small_size : (n limit : ℕ) → limit < 2 ^ 32 → as_usize n ≤ limit → n ≤ limit
+small_size n limit small h =
+    elim (cases_lt 18446744073709551615 n) [
+      | inl k ↦ absurd (let e = min-eq_right {18446744073709551615} {n} (omega (arith, k)) in omega (arith, e, h, small))
+      | inr k ↦ (let e = min-eq_left k in omega (arith, e, h))
+    ]

@@ -1,7 +1,11 @@
 // Calls of link messages that the pages quote, and worked cases of link messages, as tests. The wanted values come from outside this project's code.
 #![tactic(auto)]
 
+#[cfg(test)]
+mod attributes;
 pub mod callers;
+#[cfg(test)]
+mod messages;
 #[cfg(test)]
 mod types;
 #[cfg(test)]

@@ -27,9 +27,12 @@ fn texts_name_values(rt: HostRuntime) -> Result<(), Fail> {
     assert!(rt; State::from_str("up").is_err());
     let layer = LinkLayerType::Sixlowpan;
     let mode = LinkMode::Other(9);
+    let state = State::LowerLayerDown;
+    let generated = In6AddrGenMode::StablePrivacy;
+    let binding = MctpPhysBinding::PcieVdm;
     assert_eq!(rt;
-        format!(in rt.alloc(); "{layer} {mode}")?.as_str(),
-        "sixlowpan 9"
+        format!(in rt.alloc(); "{layer} {mode} {state} {generated} {binding}")?.as_str(),
+        "sixlowpan 9 LOWERLAYERDOWN stable-privacy pcievdm"
     );
     Ok(())
 }

@@ -1,0 +1,215 @@
+//! Bodies of link messages: what they are read as, and written as.
+
+use crate::callers::written;
+use link_info::{InfoData, InfoKind, InfoVxlan, LinkInfo};
+use link_message::{
+    AddressFamily, LINK_HEADER_LEN, LinkAttribute, LinkExtentMask, LinkHeader, LinkMessage,
+};
+use netlink_packet_core::Emitable;
+use std::alloc::Global;
+use std::test::Fail;
+
+// A request for the link `lo`: with its virtual functions, and without its statistics.
+const REQUEST: &[u8] = b"\0\0\0\0\0\0\0\0\0\0\0\0\0\0\0\0\
+    \x08\0\x1d\0\x09\0\0\0\x07\0\x03\0lo\0\0";
+
+// A VXLAN: it learns, told by the byte 5, and has group policies, told with a byte.
+const VXLAN: &[u8] = b"\x24\0\x12\0\x0a\0\x01\0vxlan\0\0\0\
+    \x14\0\x02\0\x05\0\x07\0\x05\0\0\0\x05\0\x17\0\xaa\0\0\0";
+
+// The same as it is written.
+const VXLAN_TEXT: &[u8] = b"\x20\0\x12\0\x0a\0\x01\0vxlan\0\0\0\
+    \x10\0\x02\0\x05\0\x07\0\x01\0\0\0\x04\0\x17\0";
+
+// Attributes, and what they are written as.
+const REWRITTEN: [(&[u8], &[u8]); 10] = [
+    // flag bits and padding of a name
+    (b"\x07\0\x03\x80lo\0\xff", b"\x07\0\x03\0lo\0\0"),
+    // a name without a NUL, at the end of the body
+    (b"\x06\0\x03\0lo", b"\x07\0\x03\0lo\0\0"),
+    // no name
+    (b"\x04\0\x03\0", b"\x05\0\x03\0\0\0\0\0"),
+    // a NUL inside a name
+    (b"\x07\0\x03\0a\0b", b"\x08\0\x03\0a\0b\0"),
+    // a number with both flag bits
+    (b"\x08\0\x04\xc0\xdc\x05\0\0", b"\x08\0\x04\0\xdc\x05\0\0"),
+    // a kind that isn't listed keeps them
+    (b"\x05\0\x46\xc0\x01", b"\x05\0\x46\xc0\x01\0\0\0"),
+    // the name of a kind without a NUL
+    (
+        b"\x0c\0\x12\0\x08\0\x01\0pfcp",
+        b"\x10\0\x12\0\x09\0\x01\0pfcp\0\0\0\0",
+    ),
+    (VXLAN, VXLAN_TEXT),
+    (VXLAN_TEXT, VXLAN_TEXT),
+    // data of veth are their first attribute
+    (
+        b"\x20\0\x12\0\x09\0\x01\0veth\0\0\0\0\x0d\0\x02\0\x05\0\x02\0a\0\0\0\xff\0\0\0",
+        b"\x1c\0\x12\0\x09\0\x01\0veth\0\0\0\0\x0c\0\x02\0\x05\0\x02\0a\0\0\0",
+    ),
+];
+
+// Headers without attributes, and what they are written as.
+const HEADERS: [(&[u8], &[u8]); 2] = [
+    // a second byte that isn't 0, and a layer type without a name
+    (
+        b"\0\x05\x09\0\0\0\0\0\0\0\0\0\0\0\0\0",
+        b"\0\0\xff\xff\0\0\0\0\0\0\0\0\0\0\0\0",
+    ),
+    // each field, and a layer type for none
+    (
+        b"\0\0\xfe\xff\x10\0\0\0\x90\x10\0\0\0\0\0\0",
+        b"\0\0\xfe\xff\x10\0\0\0\x90\x10\0\0\0\0\0\0",
+    ),
+];
+
+// Bodies without a whole header.
+const SHORT: [&[u8]; 3] = [b"", b"\x11\0\0\0", b"\0\0\0\0\0\0\0\0\0\0\0\0\0\0\0"];
+
+// Attributes for which a body is refused.
+const REFUSED: [&[u8]; 6] = [
+    // link info without an attribute
+    b"\x04\0\x12\0",
+    // a kind is in force in its own link info alone
+    b"\x10\0\x12\0\x09\0\x01\0xfrm\0\0\0\0\x10\0\x12\0\x0c\0\x02\0\x08\0\x01\0\x02\0\0\0",
+    // data of a port without its kind
+    b"\x08\0\x12\0\x04\0\x05\0",
+    // data of veth without an attribute
+    b"\x14\0\x12\0\x09\0\x01\0veth\0\0\0\0\x04\0\x02\0",
+    // a name that isn't UTF-8
+    b"\x09\0\x03\0caf\xe9\0\0\0\0",
+    // a byte that is no attribute
+    b"\x08\0\x04\0\xdc\x05\0\0\xff",
+];
+
+/// A body of no family, about all links.
+fn body(alloc: Global, attributes: &[u8]) -> Result<Vec<u8>, Fail> {
+    let mut bytes = Vec::from_elem(alloc, 0u8, LINK_HEADER_LEN)?;
+    bytes.extend_from_slice(attributes)?;
+    Ok(bytes)
+}
+
+/// What a body is written as.
+fn rewritten(alloc: Global, bytes: &[u8]) -> Result<Vec<u8>, Fail> {
+    Ok(written(alloc, &LinkMessage::parse(alloc, bytes)?)?)
+}
+
+/// Whether a body is refused, and not for want of memory.
+fn is_refused(alloc: Global, bytes: &[u8]) -> bool {
+    match LinkMessage::parse(alloc, bytes) {
+        Ok(_) => false,
+        Err(error) => !error.is_memory(),
+    }
+}
+
+/// A message about all links, with this attribute.
+fn message_with(alloc: Global, attribute: LinkAttribute) -> Result<LinkMessage, Fail> {
+    Ok(LinkMessage {
+        header: LinkHeader::parse(&[0; LINK_HEADER_LEN])?,
+        attributes: vec![in alloc; attribute]?,
+    })
+}
+
+/// A name of so many bytes.
+fn name(alloc: Global, size: usize) -> Result<LinkAttribute, Fail> {
+    match String::from_utf8(Vec::from_elem(alloc, b'a', size)?) {
+        Ok(name) => Ok(LinkAttribute::IfName(name)),
+        Err(_) => Err(Fail::from("a name of ASCII")),
+    }
+}
+
+#[test]
+fn a_request_is_read(rt: HostRuntime) -> Result<(), Fail> {
+    let message = LinkMessage::parse(rt.alloc(), REQUEST)?;
+    assert_eq!(rt; message.buffer_len(), 32);
+    let [LinkAttribute::ExtMask(masks), LinkAttribute::IfName(name)] = message.attributes.as_slice()
+    else {
+        return Err(Fail::from("other values"));
+    };
+    let wanted = [LinkExtentMask::Vf, LinkExtentMask::SkipStats];
+    assert_eq!(rt; masks.as_slice(), wanted.as_slice());
+    assert_eq!(rt; name.as_str(), "lo");
+    assert!(rt; written(rt.alloc(), &message)?.as_slice() == REQUEST);
+    Ok(())
+}
+
+#[test]
+fn link_info_is_typed(rt: HostRuntime) -> Result<(), Fail> {
+    let message = LinkMessage::parse(rt.alloc(), &body(rt.alloc(), VXLAN)?)?;
+    let [LinkAttribute::LinkInfo(infos)] = message.attributes.as_slice() else {
+        return Err(Fail::from("other attributes"));
+    };
+    let [
+        LinkInfo::Kind(InfoKind::Vxlan),
+        LinkInfo::Data(InfoData::Vxlan(data)),
+    ] = infos.as_slice()
+    else {
+        return Err(Fail::from("other link info"));
+    };
+    assert_eq!(rt;
+        data.as_slice(),
+        [InfoVxlan::Learning(true), InfoVxlan::Gbp].as_slice()
+    );
+    Ok(())
+}
+
+#[test]
+fn attributes_are_rewritten(rt: HostRuntime) -> Result<(), Fail> {
+    for (attributes, wanted) in REWRITTEN {
+        let text = rewritten(rt.alloc(), &body(rt.alloc(), attributes)?)?;
+        assert!(rt; text == body(rt.alloc(), wanted)?);
+    }
+    Ok(())
+}
+
+#[test]
+fn headers_are_rewritten(rt: HostRuntime) -> Result<(), Fail> {
+    for (header, wanted) in HEADERS {
+        assert!(rt; rewritten(rt.alloc(), header)?.as_slice() == wanted);
+    }
+    Ok(())
+}
+
+#[test]
+fn other_bodies_are_refused(rt: HostRuntime) -> Result<(), Fail> {
+    for bytes in SHORT {
+        assert!(rt; is_refused(rt.alloc(), bytes));
+    }
+    for attributes in REFUSED {
+        assert!(rt; is_refused(rt.alloc(), &body(rt.alloc(), attributes)?));
+    }
+    Ok(())
+}
+
+/// With its NUL and its header the longer name has 65536 bytes.
+#[test]
+fn a_name_of_65530_bytes_fits(rt: HostRuntime) -> Result<(), Fail> {
+    let longest = message_with(rt.alloc(), name(rt.alloc(), 65530)?)?;
+    assert!(rt; longest.fits());
+    assert_eq!(rt; longest.buffer_len(), 65552);
+    let longer = message_with(rt.alloc(), name(rt.alloc(), 65531)?)?;
+    assert!(rt; !longer.fits());
+    Ok(())
+}
+
+/// The number of a bridge in `Other` is written as that number, which names a bridge.
+#[test]
+fn a_family_is_written_as_its_number(rt: HostRuntime) -> Result<(), Fail> {
+    let mut message = message_with(rt.alloc(), LinkAttribute::Mtu(1500))?;
+    message.header.interface_family = AddressFamily::Other(7);
+    let bytes = written(rt.alloc(), &message)?;
+    let again = LinkMessage::parse(rt.alloc(), &bytes)?;
+    assert_eq!(rt; again.header.interface_family, AddressFamily::Bridge);
+    assert!(rt; again.attributes == message.attributes);
+    Ok(())
+}
+
+/// Passes with each allocation refused in turn, too.
+#[test]
+fn want_of_memory_is_told_as_such(rt: HostRuntime) -> Result<(), Fail> {
+    match LinkMessage::parse(rt.alloc(), REQUEST) {
+        Ok(message) => assert_eq!(rt; message.attributes.len(), 2),
+        Err(error) => assert!(rt; error.is_memory()),
+    }
+    Ok(())
+}

@@ -1,12 +1,11 @@
 -- The judgement of the frame in front, from those of its header, its body and its text.
-use Rattle.std.proofs.Common.{◌≡◌, ℕ, ◌+◌, ◌<◌, ◌≤◌, List, length, Result, Ok, Err, cond, ap, ◌∙◌}
+use Rattle.std.proofs.Common.{◌≡◌, ℕ, ◌+◌, ◌<◌, ◌≤◌, List, length, Result, Ok, Err, cond, refl, ap, ◌∙◌}
 use Rattle.std.proofs.lemmas.Bool.{le-ltb, lt-ltb}
 use Rattle.netlink_packet_core.specs.Frames.{IsFrame, frame_length, frame_type, frame_body, frame_text}
 use Rattle.link_capture_grammar.specs.declared.fault.FaultKind.{FaultKind}
 use Rattle.link_capture_grammar.specs.declared.fault.FaultKind.TheVariants.{TextOverLimit}
 use Rattle.link_capture_grammar.specs.Bodies.{Refusal, body_text}
 use Rattle.link_capture_grammar.specs.Captures.{Judged, faulty, judged_text, tested, first_frame}
-use Rattle.link_capture_grammar.proofs.Normal.{tested_ok}
 
 -- a type and a body that are those of the frame in front
 pub same_body : {t : ℕ} {b : List ℕ} (c : List ℕ) → t ≡ frame_type c → b ≡ frame_body c → body_text t b ≡ body_text (frame_type c) (frame_body c)
@@ -19,7 +18,7 @@ header_fault limit c kind h = h (judged_text limit c (body_text (frame_type c) (
 
 whole : (limit : ℕ) (c : List ℕ) → IsFrame c → frame_length c ≤ limit → first_frame limit c ≡ judged_text limit c (body_text (frame_type c) (frame_body c))
 unfolding first_frame
-whole limit c f l = tested_ok limit (length c) (frame_length c) (judged_text limit c (body_text (frame_type c) (frame_body c))) f.has_header f.within f.covers_header l
+whole limit c f l = rw (le-ltb (length c) 16 f.has_header, le-ltb (frame_length c) 16 f.covers_header, le-ltb limit (frame_length c) l, le-ltb (length c) (frame_length c) f.within) refl
 
 faulty_text : (limit : ℕ) (c : List ℕ) (r : Result (List ℕ) Refusal) (kind : FaultKind) → faulty r ≡ Err kind → judged_text limit c r ≡ Err kind
 faulty_text limit c (Ok text) kind h = absurd cc

@@ -5,6 +5,7 @@ use Rattle.std.proofs.lemmas.Bool.{eqb-true}
 use Rattle.netlink_packet_core.specs.Frames.{IsFrame, frame_type, frame_body}
 use Rattle.netlink_packet_core.specs.Errors.{is_memory}
 use Rattle.netlink_packet_core.specs.Messages.{is_frame, read_message}
+use Rattle.netlink_packet_core.specs.ControlMessages.{read_done, read_error}
 use Rattle.netlink_packet_core.specs.Payloads.{read_payload}
 use Rattle.netlink_packet_core_messages.specs.declared.message.NetlinkMessage.{NetlinkMessage}
 use Rattle.netlink_packet_core_messages.specs.declared.payload.NetlinkPayload.{NetlinkPayload}
@@ -21,14 +22,14 @@ use Rattle.link_capture_messages.specs.Routes.{typed_text, reads_route, route_te
 use Rattle.link_capture_frames.specs.Texts.{kind_of}
 
 -- the chain of tests
-guard : {A : Type 0} (b : Bool) (x y z : A) → cond b x y ≡ z → ((b ≡ true) × (x ≡ z)) ⊎ ((b ≡ false) × (y ≡ z))
+pub guard : {A : Type 0} (b : Bool) (x y z : A) → cond b x y ≡ z → ((b ≡ true) × (x ≡ z)) ⊎ ((b ≡ false) × (y ≡ z))
 guard b x y z = elim b as (λ v. cond v x y ≡ z → ((v ≡ true) × (x ≡ z)) ⊎ ((v ≡ false) × (y ≡ z))) [ true ↦ (λ h. inl (refl, h)) | false ↦ (λ h. inr (refl, h)) ]
 
 -- OVERRUN is none of the types of links
-overrun : (t : ℕ) → eqb t 4 ≡ true → is_link_type t ≡ false
+pub overrun : (t : ℕ) → eqb t 4 ≡ true → is_link_type t ≡ false
 overrun t h = rw (eqb-true t 4 h) refl
 
-tells : (b : Bool) → (b ≡ true) ⊎ (b ≡ false)
+pub tells : (b : Bool) → (b ≡ true) ⊎ (b ≡ false)
 tells true = inl refl
 tells false = inr refl
 
@@ -63,14 +64,25 @@ either : (r : Result (List ℕ) Refusal) → ((text : List ℕ) × (r ≡ Ok tex
 either (Ok text) = inl (text, refl)
 either (Err why) = inr (why, refl)
 
+unread_option : {A B : Type 0} (f : A → B) (o : Option A) → option_map f o ≡ None → o ≡ None
+unread_option f None h = refl
+unread_option f (Some x) h = absurd cc
+
+none_read : {A B : Type 0} (f : A → B) (o : Option A) (v : B) → o ≡ None → option_map f o ≡ Some v → ⊥
+none_read f None v n h = cc
+none_read f (Some x) v n h = cc
+
+none_some : {B : Type 0} (v : B) → None ≡ Some v → ⊥
+none_some v h = cc
+
 -- a frame that is read has a body with a text
 pub read_text : (c : List ℕ) (v : NetlinkMessage TypedBody) → read_message reads_route c ≡ Some v → (text : List ℕ) × (body_text (frame_type c) (frame_body c) ≡ Ok text)
 read_text c v h =
     elim (either (body_text (frame_type c) (frame_body c))) [
       | inl w ↦ w
       | inr w ↦ elim (guard (is_frame c) _ _ _ h) [
-        | inl f ↦ (let e = sym (ap (λ o. option_map _ o) (unread (frame_type c) (frame_body c) w.0 w.1)) ∙ f.1 in absurd cc)
-        | inr f ↦ (let e = f.1 in absurd cc)
+        | inl f ↦ absurd (none_read _ (read_payload reads_route (frame_type c) (frame_body c)) v (unread (frame_type c) (frame_body c) w.0 w.1) f.1)
+        | inr f ↦ absurd (none_some v f.1)
       ]
     ]
 
@@ -80,15 +92,16 @@ unfolding body_text
 control zero b l u h = absurd (omega arith)
 control (suc zero) b l u h = absurd cc
 control (suc (suc zero)) b l u h =
-    elim (tells (ltb (length b) 4)) [
-      | inl n ↦ rw n refl
-      | inr n ↦ (let e = sym (ap (λ x. cond x None _) (sym n)) ∙ h in absurd cc)
+    elim (guard (ltb (length b) 4) _ _ _ (unread_option _ (read_error b) h)) [
+      | inl n ↦ rw n.0 refl
+      | inr n ↦ (let e = n.1 in absurd cc)
     ]
-control (suc (suc (suc zero))) b l u h = elim (tells (eqb (length b) 0)) [
-      | inl o ↦ absurd cc
-      | inr o ↦ elim (tells (ltb (length b) 4)) [
-        | inl n ↦ rw (o, n) refl
-        | inr n ↦ absurd cc
+control (suc (suc (suc zero))) b l u h =
+    elim (guard (eqb (length b) 0) _ _ _ (unread_option _ (read_done b) h)) [
+      | inl o ↦ (let e = o.1 in absurd cc)
+      | inr o ↦ elim (guard (ltb (length b) 4) _ _ _ o.1) [
+        | inl n ↦ rw (o.0, n.0) refl
+        | inr n ↦ (let e = n.1 in absurd cc)
       ]
     ]
 control (suc (suc (suc (suc zero)))) b l u h = absurd cc
@@ -96,12 +109,12 @@ control (suc (suc (suc (suc (suc t))))) b l u h = absurd (omega arith)
 
 -- ---- a frame that is refused
 
-unread_option : {A B : Type 0} (f : A → B) (o : Option A) → option_map f o ≡ None → o ≡ None
-unread_option f None h = refl
-unread_option f (Some x) h = absurd cc
-
 unread_message : (c : List ℕ) → is_frame c ≡ true → read_message reads_route c ≡ None → read_payload reads_route (frame_type c) (frame_body c) ≡ None
-unread_message c f h = unread_option _ (read_payload reads_route (frame_type c) (frame_body c)) (sym (ap (λ b. cond b _ None) f) ∙ h)
+unread_message c f h =
+    elim (guard (is_frame c) _ _ _ h) [
+      | inl k ↦ unread_option _ (read_payload reads_route (frame_type c) (frame_body c)) k.1
+      | inr k ↦ absurd (let e : true ≡ false = sym f ∙ k.0 in cc)
+    ]
 
 -- a frame error is want of memory, or the refusal of a control message
 frame_refused : (c : List ℕ) (m : Bool) → is_frame c ≡ true → (m ≡ false → read_message reads_route c ≡ None) → (m ≡ false → (1 ≤ frame_type c) × (frame_type c ≤ 4)) → (cond m FaultKind.Memory FaultKind.Refused ≡ FaultKind.Memory → ⊥) → faulty (body_text (frame_type c) (frame_body c)) ≡ Err (cond m FaultKind.Memory FaultKind.Refused)

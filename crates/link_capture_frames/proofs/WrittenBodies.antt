@@ -1,21 +1,25 @@
 -- What a frame is read as, and how long that is.
 use Rattle.std.proofs.Common.{◌≡◌, ℕ, ◌+◌, ◌-◌, ◌≤◌, ◌<◌, ◌^◌, ltb, eqb, List, ◌++◌, length, take, drop, Ok, Some, refl, sym, ap, ◌∙◌, inl, inr, arith, length-append, length-drop, append_assoc, Result}
 use Rattle.std.proofs.Common.{Bool, true, false, cond, ◌⊎◌}
+use Rattle.std.specs.Prelude.{⊤, min}
 use Rattle.std.proofs.Math.Nat.{min-le_left, min-eq_left, min-eq_right}
 use Rattle.std.proofs.lemmas.Bool.{eqb-true, cases_lt}
 use Rattle.std.proofs.lemmas.List.{length-take-le}
 use Rattle.netlink_packet_core_grammar.specs.Numbers.{le2, le4, as_usize}
-use Rattle.netlink_packet_core_grammar.proofs.Sizes.{length-le4}
 use Rattle.netlink_packet_core.specs.Attributes.{nla_align, zeros}
 use Rattle.netlink_packet_core.specs.Frames.{frame_text}
 use Rattle.netlink_packet_core.specs.Headers.{header_text}
-use Rattle.netlink_packet_core.specs.Messages.{unpadded_text, message_text, message_size}
-use Rattle.netlink_packet_core.specs.Payloads.{written_body, payload_entry}
+use Rattle.netlink_packet_core.specs.Messages.{unpadded_text, message_text, message_size, finalized}
+use Rattle.netlink_packet_core_messages.specs.declared.message.NetlinkMessage.{NetlinkMessage}
+use Rattle.netlink_packet_core_messages.specs.declared.payload.NetlinkPayload.{NetlinkPayload}
+use Rattle.link_capture_messages.specs.declared.route.RouteLink.{RouteLink}
+use Rattle.link_capture_messages.specs.Routes.{route_entry}
+use Rattle.netlink_packet_core.specs.Payloads.{written_body, payload_entry, OfInner}
 use Rattle.netlink_packet_core.specs.TypedBodies.{TypedBody}
 use Rattle.link_message_grammar.specs.Body.{link_body}
 use Rattle.link_capture_grammar.specs.Bodies.{Refusal, error_text, ruled_text, is_link_type, body_text}
 use Rattle.link_capture_frames.specs.Texts.{padded_text}
-use Rattle.link_capture_grammar.proofs.Frames.{guard}
+use Rattle.link_capture_frames.proofs.ReadBodies.{guard, tells, overrun}
 
 pub one_body : (x y : TypedBody) → Some x ≡ Some y → y ≡ x
 one_body x y e = cc
@@ -26,14 +30,6 @@ error_written b text h =
       | inl k ↦ (let f = k.1 in absurd (cc))
       | inr k ↦ (let f = k.1 in cc)
     ]
-
-tells : (b : Bool) → (b ≡ true) ⊎ (b ≡ false)
-tells true = inl refl
-tells false = inr refl
-
--- OVERRUN is none of the types of link messages
-overrun : (t : ℕ) → eqb t 4 ≡ true → is_link_type t ≡ false
-overrun t h = rw (eqb-true t 4 h) refl
 
 last_written : (t : ℕ) (b text : List ℕ) → cond (is_link_type t) (ruled_text link_body b) (Ok b) ≡ Ok text → cond (eqb t 4) b text ≡ text
 last_written t b text h =
@@ -59,6 +55,10 @@ body_written t b text h =
         ])
       ])
     ]
+
+length-le4 : (n : ℕ) → length (le4 n) ≡ 4
+unfolding le4
+length-le4 n = refl
 
 pub length-unpadded_text : (c body : List ℕ) → 16 ≤ length c → length (unpadded_text c body) ≡ 16 + length body
 length-unpadded_text c body h =
@@ -88,6 +88,18 @@ padded c body h =
 pub small_size : (n limit : ℕ) → limit < 2 ^ 32 → as_usize n ≤ limit → n ≤ limit
 small_size n limit small h =
     elim (cases_lt 18446744073709551615 n) [
-      | inl k ↦ absurd (let e = min-eq_right {18446744073709551615} {n} (omega (arith, k)) in omega (arith, e, h, small))
+      | inl k ↦ absurd (let e : min n 18446744073709551615 ≡ 18446744073709551615 = min-eq_right (omega (arith, k)) in omega (arith, e, h, small))
       | inr k ↦ (let e = min-eq_left k in omega (arith, e, h))
     ]
+
+-- the size of a message that is written as the text of a frame
+pub size_of_text : (c : List ℕ) (m : NetlinkMessage RouteLink) (body : List ℕ) → 16 ≤ length c → message_text route_entry (finalized route_entry m) ≡ unpadded_text c body → message_size route_entry m ≡ 16 + length body
+size_of_text c m body h e = sym (length-message_text route_entry (finalized route_entry m)) ∙ ap length e ∙ length-unpadded_text c body h
+
+-- every message of a route can be written
+pub inner_fits : (p : NetlinkPayload RouteLink) → OfInner (λ _. ⊤) p
+inner_fits (NetlinkPayload.Done m) = tt
+inner_fits (NetlinkPayload.Error m) = tt
+inner_fits NetlinkPayload.Noop = tt
+inner_fits (NetlinkPayload.Overrun b) = tt
+inner_fits (NetlinkPayload.InnerMessage x) = tt

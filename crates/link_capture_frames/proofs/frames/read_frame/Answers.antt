@@ -1,7 +1,11 @@
-use Rattle.std.proofs.Common.{sym, ap, ◌∙◌}
+use Rattle.std.proofs.Common.{◌≡◌, Err, sym, ap, ◌∙◌}
 use Rattle.netlink_packet_core.specs.Frames.{frame_type, frame_body}
 use Rattle.netlink_packet_core.specs.Messages.{unpadded_text}
+use Rattle.link_capture_grammar.specs.declared.fault.FaultKind.TheVariants.{Memory}
+use Rattle.link_capture_grammar.specs.Bodies.{body_text}
+use Rattle.link_capture_grammar.specs.Captures.{faulty}
 use Rattle.link_capture_messages.specs.Routes.{route_entry, typed_text}
+use Rattle.link_capture_frames.specs.Texts.{kind_of}
 use Rattle.link_capture_frames.proofs.ReadBodies.{read_text, refused_is}
 use Rattle.link_capture_frames.proofs.WrittenBodies.{one_body, body_written}
 use Rattle.link_capture_frames.proofs.frames.read_frame.Goals as goal
@@ -15,4 +19,6 @@ returns-in-Ok-clause-text c =
 
 pub returns-in-Err-clause-err : goal.returns-in-Err-clause-err
 returns-in-Err-clause-err c =
-    λ h. refused_is c.args.frame.now c.in-Err.field-0.0 c.requires (c.frames_are_tested.ensures.1 c.requires) c.in-Err.ensures.err c.in-Err.ensures.told h
+    let e = c.fault_kind.ensures in
+    let k : (kind_of c.in-Err.error ≡ Memory → ⊥) → faulty (body_text (frame_type c.args.frame.now) (frame_body c.args.frame.now)) ≡ Err (kind_of c.in-Err.error) = refused_is c.args.frame.now c.in-Err.error c.requires (c.frames_are_tested.ensures.1 c.requires) c.in-Err.ensures.err c.in-Err.ensures.told in
+    λ h. k (λ m. h (e ∙ m)) ∙ ap Err (sym e)

@@ -1,6 +1,6 @@
 //! Bodies of link messages: what they are read as, and written as.
 
-use crate::callers::written;
+use crate::callers::{request_by_name, with_mtu, written};
 use link_info::{InfoData, InfoKind, InfoVxlan, LinkInfo};
 use link_message::{
     AddressFamily, LINK_HEADER_LEN, LinkAttribute, LinkExtentMask, LinkHeader, LinkMessage,
@@ -130,6 +130,17 @@ fn a_request_is_read(rt: HostRuntime) -> Result<(), Fail> {
     assert_eq!(rt; masks.as_slice(), wanted.as_slice());
     assert_eq!(rt; name.as_str(), "lo");
     assert!(rt; written(rt.alloc(), &message)?.as_slice() == REQUEST);
+    Ok(())
+}
+
+#[test]
+fn requests_are_built(rt: HostRuntime) -> Result<(), Fail> {
+    let request = request_by_name(rt.alloc(), "lo")?;
+    let named = b"\x08\0\x1d\0\x08\0\0\0\x07\0\x03\0lo\0\0";
+    assert!(rt; request == body(rt.alloc(), named)?);
+    let larger = with_mtu(rt.alloc(), &request, 1500)?;
+    let changed = b"\x08\0\x1d\0\x08\0\0\0\x07\0\x03\0lo\0\0\x08\0\x04\0\xdc\x05\0\0";
+    assert!(rt; larger == body(rt.alloc(), changed)?);
     Ok(())
 }
 

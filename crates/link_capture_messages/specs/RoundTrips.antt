@@ -40,4 +40,3 @@ route_inner (RouteLink.DelLink link) h = omega arith
 route_inner (RouteLink.GetLink link) h = omega arith
 route_inner (RouteLink.SetLink link) h = omega arith
 route_inner (RouteLink.Other message) h = message.kept.no_control h
-

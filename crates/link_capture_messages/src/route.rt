@@ -56,20 +56,16 @@ impl NetlinkSerializable for RouteLink {
 
     fn buffer_len(&self) -> usize {
         match self {
-            Self::NewLink(link)
-            | Self::DelLink(link)
-            | Self::GetLink(link)
-            | Self::SetLink(link) => link.message().buffer_len(),
+            Self::NewLink(link) | Self::DelLink(link) | Self::GetLink(link) | Self::SetLink(link) =>
+                link.message().buffer_len(),
             Self::Other(message) => message.bytes().len(),
         }
     }
 
     fn serialize(&self, buffer: &mut [u8]) {
         match self {
-            Self::NewLink(link)
-            | Self::DelLink(link)
-            | Self::GetLink(link)
-            | Self::SetLink(link) => link.message().emit(buffer),
+            Self::NewLink(link) | Self::DelLink(link) | Self::GetLink(link) | Self::SetLink(link) =>
+                link.message().emit(buffer),
             Self::Other(message) => buffer.copy_from_slice(message.bytes()),
         }
     }

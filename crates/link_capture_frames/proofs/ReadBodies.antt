@@ -1,5 +1,5 @@
 -- What is read of a frame tells whether its body has a text.
-use Rattle.std.proofs.Common.{◌≡◌, ℕ, zero, suc, ◌+◌, ◌≤◌, eqb, ltb, Bool, true, false, cond, List, [], ◌∷◌, length, Option, None, Some, Result, Ok, Err, refl, sym, ap, ◌∙◌, inl, inr, arith}
+use Rattle.std.proofs.Common.{◌≡◌, ℕ, zero, suc, ◌≤◌, eqb, ltb, Bool, true, false, cond, List, length, Option, None, Some, Result, Ok, Err, refl, sym, ap, ◌∙◌, inl, inr, arith}
 use Rattle.std.specs.Prelude.{option_map, ◌⊎◌}
 use Rattle.std.proofs.lemmas.Bool.{eqb-true}
 use Rattle.netlink_packet_core.specs.Frames.{IsFrame, frame_type, frame_body}
@@ -8,11 +8,10 @@ use Rattle.netlink_packet_core.specs.Messages.{is_frame, read_message}
 use Rattle.netlink_packet_core.specs.ControlMessages.{read_done, read_error}
 use Rattle.netlink_packet_core.specs.Payloads.{read_payload}
 use Rattle.netlink_packet_core_messages.specs.declared.message.NetlinkMessage.{NetlinkMessage}
-use Rattle.netlink_packet_core_messages.specs.declared.payload.NetlinkPayload.{NetlinkPayload}
 use Rattle.netlink_packet_core_messages.specs.declared.payload.NetlinkPayload.TheVariants.{InnerMessage}
 use Rattle.netlink_packet_core.specs.TypedBodies.{TypedBody}
 use Rattle.link_message_grammar.specs.Body.{link_body}
-use Rattle.link_capture_grammar.specs.Bodies.{Refusal, refused, error_text, done_text, ruled_text, is_link_type, body_text}
+use Rattle.link_capture_grammar.specs.Bodies.{Refusal, refused, ruled_text, is_link_type, body_text}
 use Rattle.link_capture_grammar.specs.declared.fault.FaultKind.{FaultKind}
 use Rattle.link_capture_grammar.specs.Captures.{faulty}
 use Rattle.netlink_packet_core_messages.specs.declared.frame_error.FrameError.{FrameError}

@@ -1,9 +1,9 @@
 -- What a frame is read as, and how long that is.
 use Rattle.std.proofs.Common.{◌≡◌, ℕ, ◌+◌, ◌-◌, ◌≤◌, ◌<◌, ◌^◌, ltb, eqb, List, ◌++◌, length, take, drop, Ok, Some, refl, sym, ap, ◌∙◌, inl, inr, arith, length-append, length-drop, append_assoc, Result}
-use Rattle.std.proofs.Common.{Bool, true, false, cond, ◌⊎◌}
+use Rattle.std.proofs.Common.{cond}
 use Rattle.std.specs.Prelude.{⊤, min}
-use Rattle.std.proofs.Math.Nat.{min-le_left, min-eq_left, min-eq_right}
-use Rattle.std.proofs.lemmas.Bool.{eqb-true, cases_lt}
+use Rattle.std.proofs.Math.Nat.{min-eq_left, min-eq_right}
+use Rattle.std.proofs.lemmas.Bool.{cases_lt}
 use Rattle.std.proofs.lemmas.List.{length-take-le}
 use Rattle.netlink_packet_core_grammar.specs.Numbers.{le2, le4, as_usize}
 use Rattle.netlink_packet_core.specs.Attributes.{nla_align, zeros}

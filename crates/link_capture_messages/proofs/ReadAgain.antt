@@ -1,6 +1,6 @@
 -- A message that was read fits or doesn't, and is read again from what it is written as.
-use Rattle.std.proofs.Common.{◌≡◌, ℕ, ◌≤◌, List, [], ◌∷◌, ◌++◌, Ok, Err, Bool, true, false, cond, Result, refl, sym, ap, subst, ◌∙◌, arith, inl, inr}
-use Rattle.std.specs.Prelude.{nat_le, ◌&&◌, bytes_eq, slice_index, length}
+use Rattle.std.proofs.Common.{◌≡◌, ℕ, ◌≤◌, List, [], ◌∷◌, ◌++◌, Ok, Err, Bool, true, false, cond, refl, sym, ap, subst, ◌∙◌, arith}
+use Rattle.std.specs.Prelude.{◌&&◌, bytes_eq, slice_index, length}
 use Rattle.std.proofs.lemmas.Bool.{and_parts, and_from, leb-true}
 use Rattle.std.proofs.lemmas.Slice.Eq.{bytes_eq-Decides}
 use Rattle.std.proofs.lemmas.Grind.{merely}
@@ -10,9 +10,9 @@ use Rattle.link_message_types.specs.AddressFamilies.{address_family_of}
 use Rattle.link_message_messages.specs.declared.message.LinkMessage.{LinkMessage}
 use Rattle.link_message_messages.specs.LinkMessages.{link_message_text, link_message_fits, link_message_names_row}
 use Rattle.link_message_messages.specs.contracts.message.LinkMessageEq.TheImpl.Laws.{laws-law}
-use Rattle.link_capture_grammar.specs.Bodies.{Refusal, refused, empty_ports, unfit, ruled_text, body_text}
+use Rattle.link_capture_grammar.specs.Bodies.{refused, empty_ports, unfit, ruled_text, body_text}
 use Rattle.link_capture_grammar.specs.Laws.{BodiesAreNormal}
-use Rattle.link_capture_messages.specs.Readable.{IsReadFrom, IsReadable, ReadsAsAnother, equal_messages, says_the_same}
+use Rattle.link_capture_messages.specs.Readable.{IsReadFrom, IsReadable, equal_messages, says_the_same}
 
 -- ---- a body that is accepted
 

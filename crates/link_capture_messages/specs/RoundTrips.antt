@@ -1,10 +1,9 @@
 -- What is written of a message is read as the message.
-use Rattle.std.proofs.Common.{◌≡◌, ℕ, ◌≤◌, List, Ok, Err, Some, refl, ap, arith}
-use Rattle.std.specs.Prelude.{false, nat_eq, nat_le, ◌&&◌}
+use Rattle.std.proofs.Common.{◌≡◌, ℕ, List, Ok, Some, refl, ap, arith}
+use Rattle.std.specs.Prelude.{false, nat_eq}
 use Rattle.std.proofs.lemmas.Bool.Decides.{nat_tests}
 use Rattle.netlink_packet_core.specs.TypedBodies.{IsInner}
-use Rattle.link_message_grammar.specs.Body.{link_body}
-use Rattle.link_capture_grammar.specs.Bodies.{is_link_type, ruled_text, body_text}
+use Rattle.link_capture_grammar.specs.Bodies.{is_link_type, body_text}
 use Rattle.link_capture_messages.specs.declared.route.RouteLink.{RouteLink}
 use Rattle.link_capture_messages.specs.KeptTypes.{IsKeptType}
 use Rattle.link_capture_messages.specs.Routes.{route_entry, typed_text, reads_route}

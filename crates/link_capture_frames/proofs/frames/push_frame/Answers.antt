@@ -1,4 +1,4 @@
-use Rattle.std.proofs.Common.{◌≡◌, ◌+◌, ◌≤◌, ◌<◌, ◌^◌, ◌++◌, length, Ok, Err, sym, ap, ◌∙◌, arith, rules}
+use Rattle.std.proofs.Common.{◌≡◌, ◌≤◌, ◌++◌, length, Ok, Err, sym, ap, ◌∙◌, arith, rules}
 use Rattle.std.proofs.Math.Nat.{min-le_left}
 use Rattle.netlink_packet_core.specs.Frames.{frame_length, frame_text}
 use Rattle.netlink_packet_core.specs.Messages.{message_text, message_size}

@@ -5,7 +5,7 @@ use Rattle.std.proofs.lemmas.Bool.{and_parts, and_from, leb-true}
 use Rattle.std.proofs.lemmas.Slice.Eq.{bytes_eq-Decides}
 use Rattle.std.proofs.lemmas.Grind.{merely}
 use Rattle.link_message_grammar.specs.Body.{header_text, link_body}
-use Rattle.link_message_grammar.specs.Laws.{BodiesHaveNoEmptyPorts, BodiesAreHeadersAndAttributes}
+use Rattle.link_message_grammar.specs.Laws.{BodiesAreHeadersAndAttributes}
 use Rattle.link_message_types.specs.AddressFamilies.{address_family_of}
 use Rattle.link_message_messages.specs.declared.message.LinkMessage.{LinkMessage}
 use Rattle.link_message_messages.specs.LinkMessages.{link_message_text, link_message_fits, link_message_names_row}
@@ -16,14 +16,17 @@ use Rattle.link_capture_messages.specs.Readable.{IsReadFrom, IsReadable, equal_m
 
 -- ---- a body that is accepted
 
-pub ruled_ok : (b : List ℕ) → link_body.accepted b ≡ true → BodiesHaveNoEmptyPorts → link_body.fits b ≡ true → ruled_text link_body b ≡ Ok (link_body.canonical b)
-ruled_ok b a p f = rw (a, p b, f) refl
+pub ruled_ok : (b : List ℕ) → link_body.accepted b ≡ true → link_body.empty_ports b ≡ false → link_body.fits b ≡ true → ruled_text link_body b ≡ Ok (link_body.canonical b)
+ruled_ok b a p f = rw (a, p, f) refl
 
 pub ruled_refused : (b : List ℕ) → link_body.accepted b ≡ false → ruled_text link_body b ≡ Err refused
 ruled_refused b a = rw a refl
 
-pub ruled_unfit : (b : List ℕ) → link_body.accepted b ≡ true → BodiesHaveNoEmptyPorts → link_body.fits b ≡ false → ruled_text link_body b ≡ Err unfit
-ruled_unfit b a p f = rw (a, p b, f) refl
+pub ruled_empty : (b : List ℕ) → link_body.accepted b ≡ true → link_body.empty_ports b ≡ true → ruled_text link_body b ≡ Err empty_ports
+ruled_empty b a p = rw (a, p) refl
+
+pub ruled_unfit : (b : List ℕ) → link_body.accepted b ≡ true → link_body.empty_ports b ≡ false → link_body.fits b ≡ false → ruled_text link_body b ≡ Err unfit
+ruled_unfit b a p f = rw (a, p, f) refl
 
 -- a text that is its own
 pub record Own (t : List ℕ) : Type 0 where
@@ -57,8 +60,8 @@ normal_text : BodiesAreNormal → (b t : List ℕ) → ruled_text link_body b �
 unfolding body_text
 normal_text law b t h = law 16 b t h
 
-pub readable_from : BodiesAreNormal → BodiesHaveNoEmptyPorts → BodiesAreHeadersAndAttributes → (b : List ℕ) (m : LinkMessage) → IsReadFrom b m → link_message_fits m ≡ link_body.fits b → link_message_fits m ≡ true → IsReadable m
-readable_from law ports parts b m r s f =
+pub readable_from : BodiesAreNormal → BodiesAreHeadersAndAttributes → (b : List ℕ) (m : LinkMessage) → IsReadFrom b m → link_body.empty_ports b ≡ false → link_message_fits m ≡ link_body.fits b → link_message_fits m ≡ true → IsReadable m
+readable_from law parts b m r ports s f =
     let t = link_message_text m in
     let text : ruled_text link_body t ≡ Ok t = normal_text law b t (ruled_ok b r.accepted ports (sym s ∙ f) ∙ ap Ok (sym r.text)) in
     let o = own t text in
@@ -85,14 +88,14 @@ readable_from law ports parts b m r s f =
 pub read_from : (b t : List ℕ) (n : LinkMessage) → b ≡ t → link_body.accepted b ≡ true → n.header.interface_family ≡ address_family_of (slice_index b 0) → link_message_text n ≡ link_body.canonical b → link_message_names_row n → IsReadFrom t n
 read_from b t n e a f x r = subst (λ (y : List ℕ). IsReadFrom y n) e (record { accepted = a; family = f; text = x; names_row = r })
 
-pub readable_again : BodiesHaveNoEmptyPorts → (m n : LinkMessage) → link_message_fits m ≡ true → IsReadFrom (link_message_text m) n → link_message_fits n ≡ link_body.fits (link_message_text m) → says_the_same m n ≡ true → IsReadable m
-readable_again ports m n f r s e =
+pub readable_again : (m n : LinkMessage) → link_message_fits m ≡ true → IsReadFrom (link_message_text m) n → link_body.empty_ports (link_message_text m) ≡ false → link_message_fits n ≡ link_body.fits (link_message_text m) → says_the_same m n ≡ true → IsReadable m
+readable_again m n f r ports s e =
     let t = link_message_text m in
     let a = and_parts (equal_messages n m) (link_message_fits n && bytes_eq (link_message_text n) t) e in
     let b = and_parts (link_message_fits n) (bytes_eq (link_message_text n) t) a.1 in
     let same = (bytes_eq-Decides (link_message_text n) t).0 b.1 in
     record { fits = f; text = ruled_ok t r.accepted ports (sym s ∙ b.0) ∙ ap Ok (sym r.text ∙ same); again = merely (n, r, e) }
 
-pub ruleset readable = (ruled_ok, ruled_refused, ruled_unfit, readable_from)
+pub ruleset readable = (ruled_ok, ruled_refused, ruled_empty, ruled_unfit, readable_from)
 
 pub ruleset reads_back = (readable_again)

@@ -28,8 +28,9 @@ pub record IsReadable (m : LinkMessage) : Type 0 where
   pub text : ruled_text link_body (link_message_text m) ≡ Ok (link_message_text m)
   pub again : ∥ ((n : LinkMessage) × IsReadFrom (link_message_text m) n × (says_the_same m n ≡ true)) ∥₁
 
--- what it is written as is refused, or is read as a message that says something else
+-- what it is written as is refused, has ports of which nothing is kept, or is read as a message that says something else
 abbrev pub ReadsAsAnother : LinkMessage → Type 0
 ReadsAsAnother m =
     (link_body.accepted (link_message_text m) ≡ false)
+    ⊎ (link_body.empty_ports (link_message_text m) ≡ true)
     ⊎ ((n : LinkMessage) × IsReadFrom (link_message_text m) n × (says_the_same m n ≡ false))

@@ -11,8 +11,8 @@ ghost use Rattle.link_capture_messages.specs.Routes.{TellsOf};
 use super::fault::RouteFault;
 use super::types::ReadableLink;
 use link_capture_grammar::laws::bodies_are_normal;
-use link_message::LinkMessage;
-use link_message::laws::{bodies_are_headers_and_attributes, bodies_have_no_empty_ports};
+use link_message_grammar::laws::bodies_are_headers_and_attributes;
+use link_message_messages::LinkMessage;
 use netlink_packet_core::Emitable;
 use std::alloc::Global;
 
@@ -57,13 +57,15 @@ impl ReadableLink {
             → TellsOf fault (ruled_text link_body bytes.now)) }
     {
         bodies_are_normal();
-        bodies_have_no_empty_ports();
         bodies_are_headers_and_attributes();
         let message = match LinkMessage::parse(alloc, bytes) {
             Ok(message) => message,
             Err(error) if error.is_memory() => return Err(RouteFault::Memory),
             Err(_) => return Err(RouteFault::Refused),
         };
+        if message.has_empty_ports() {
+            return Err(RouteFault::EmptyPorts);
+        }
         if !message.fits() {
             return Err(RouteFault::Unfit);
         }
@@ -131,7 +133,6 @@ fn reads_back(alloc: Global, message: &LinkMessage) -> Result<(), NotReadable>
     ensures otherwise { IfErr result
         (λ why. why ≡ NotReadable.ReadsOtherwise → ReadsAsAnother message.now) }
 {
-    bodies_have_no_empty_ports();
     if !message.fits() {
         return Err(NotReadable::Unfit);
     }
@@ -141,6 +142,9 @@ fn reads_back(alloc: Global, message: &LinkMessage) -> Result<(), NotReadable>
         Err(error) if error.is_memory() => return Err(NotReadable::Memory),
         Err(_) => return Err(NotReadable::ReadsOtherwise),
     };
+    if again.has_empty_ports() {
+        return Err(NotReadable::ReadsOtherwise);
+    }
     if !says_the_same(alloc, text.as_slice(), message, &again)? {
         return Err(NotReadable::ReadsOtherwise);
     }

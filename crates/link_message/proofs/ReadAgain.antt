@@ -9,12 +9,12 @@ use Rattle.attribute_tables_grammar.specs.LookUps.{rows_rule}
 use Rattle.attribute_tables_grammar.specs.Peers.{bytes_peer}
 use Rattle.attribute_tables_grammar.specs.Readings.{Written, written_by, written_list, reading_as}
 use Rattle.attribute_tables_grammar.proofs.Attributes.{proper_kind-written, next_again, rewrite_again}
-use Rattle.attribute_tables_grammar.proofs.LookUps.{grammar-table}
 use Rattle.attribute_tables_grammar.proofs.Tables.{bytes_peer_lawful, table_lawful}
 use Rattle.attribute_tables_grammar.proofs.Together.{canonical_is_cut}
 use Rattle.link_message_grammar.specs.Body.{attribute_bytes, attribute_row, attributes_rule, family, header_text, link_body}
 use Rattle.link_message_grammar.specs.LinkMessage.{Family, link_table}
 use Rattle.link_message_grammar.proofs.Body.{WrittenHeader, written_header, family_again}
+use Rattle.link_message_grammar.proofs.Lines.{attributes-grammar}
 use Rattle.link_message_grammar.proofs.Parts.{attributes_are_looked_up, bodies_are_headers_and_attributes}
 use Rattle.link_message_grammar.proofs.Tables.{table_bounded}
 use Rattle.link_message.specs.Laws.{reading_of, IsReadAgain, CanonicalTextsAreReadAgain}
@@ -68,7 +68,7 @@ module _ (g : Grammar) (lawful : LawfulGrammar g) where
 -- ---- bodies
 
 rows_lawful : (f : Family) → LawfulGrammar (without_context (attribute_row f))
-rows_lawful f = subst LawfulGrammar (grammar-table bytes_peer (link_table f)) (table_lawful bytes_peer bytes_peer_lawful (link_table f) (table_bounded f))
+rows_lawful f = subst LawfulGrammar (attributes-grammar f) (table_lawful bytes_peer bytes_peer_lawful (link_table f) (table_bounded f))
 
 attributes_again : (f : Family) (r : Rule) → r ≡ rows_rule any (attribute_row f) → (b : List ℕ) → r.accepted b ≡ true → r.empty_ports b ≡ false → r.fits b ≡ true → reading_as any (without_context (attribute_row f)) (r.canonical b) ≡ reading_as any (without_context (attribute_row f)) b
 unfolding rows_rule

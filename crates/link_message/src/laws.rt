@@ -4,9 +4,9 @@ ghost use Rattle.link_message.specs.Laws.{CanonicalTextsAreReadAgain, NumbersAre
 
 pub use link_message_grammar::laws::{
     attributes_are_lawful, attributes_are_looked_up, bodies_are_headers_and_attributes,
-    bodies_are_lawful, bodies_are_small, bodies_have_no_empty_ports, bodies_keep_meanings,
-    bodies_tell_meanings, info_is_a_list_inside, kinds_rise, link_peers_are_lawful,
-    old_bodies_are_renewed,
+    bodies_are_lawful, bodies_are_small, bodies_keep_meanings, bodies_tell_meanings,
+    empty_ports_are_told, info_is_a_list_inside, kinds_are_looked_up, kinds_rise,
+    link_peers_are_lawful, old_bodies_are_renewed,
 };
 
 /// A legal body that fits, and in which no ports are left empty, is read from its canonical text

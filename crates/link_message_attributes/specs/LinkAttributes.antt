@@ -1,29 +1,47 @@
 -- The attributes of a link: the kind and the payload of each value, and the variant that its row names.
-use Rattle.std.specs.Prelude.{◌≡◌, ◌==◌, ◌&&◌, ◌||◌, ◌++◌, nat_lt, cond, ℕ, Bool, true, List, [], ◌∷◌, length, string_bytes}
+use Rattle.std.specs.Prelude.{◌≡◌, ◌==◌, ◌&&◌, ◌||◌, ◌++◌, nat_lt, cond, ℕ, Bool, true, false, Option, Some, None, List, [], ◌∷◌, length, string_bytes}
 use Rattle.std.specs.Int.{w32, cast_unsigned}
+use Rattle.std.specs.List.{All}
 use Rattle.netlink_packet_core.specs.Attributes.{Attribute, proper_kind}
 use Rattle.netlink_packet_core.specs.AttributeViews.{viewed_kind, viewed_payload}
 use Rattle.netlink_packet_core.specs.Families.{attribute}
 use Rattle.netlink_packet_core.specs.Lists.{text_by, all_fit_by}
 use Rattle.netlink_packet_core.specs.Numbers.{le4}
 use Rattle.attribute_tables_grammar.specs.Lists.{nothing}
-use Rattle.attribute_tables_grammar.specs.LookUps.{has_no_row, row_holds_bytes}
+use Rattle.attribute_tables_grammar.specs.LookUps.{Line, line_holds_bytes}
+use Rattle.attribute_tables_grammar.specs.Rows.{raw_bytes}
 use Rattle.attribute_tables_grammar.specs.Readings.{all_named}
+use Rattle.attribute_tables_grammar.specs.Tables.{Payload, Payload.list, Payload.link_info}
 use Rattle.link_info_grammar.specs.LinkInfo.{info_grammar}
 use Rattle.link_info.specs.LinkInfo.{link_info_entry, link_info_fits, link_info_names_row}
-use Rattle.link_message_grammar.specs.LinkMessage.{Family, link_table}
+use Rattle.link_message_grammar.specs.LinkMessage.{Family, unspec, bridge, inet_6, family_payload, has_no_link_row, link_line}
 use Rattle.link_message_grammar.specs.Body.{attribute_row}
+use Rattle.link_message_af_spec.specs.AddressFamilies.{af_spec_unspec_entry, af_spec_unspec_fits, af_spec_unspec_names_row}
+use Rattle.link_message_lists.specs.ProtocolInfos.{link_proto_info_inet_6_entry}
+use Rattle.link_message_lists.specs.Devlink.{devlink_port_entry, devlink_port_names_row}
+use Rattle.link_message_lists.specs.DownReasons.{link_protocol_down_reason_entry, link_protocol_down_reason_names_row}
+use Rattle.link_message_lists.specs.Dpll.{dpll_pin_entry, dpll_pin_names_row}
+use Rattle.link_message_lists.specs.Props.{prop_entry, prop_names_row}
+use Rattle.link_message_lists.specs.Xdp.{link_xdp_entry, link_xdp_names_row}
+use Rattle.link_message_records.specs.Maps.{map_bytes}
+use Rattle.link_message_records.specs.ValueRecords.{u32_values_bytes, u64_values_bytes}
 use Rattle.link_message_types.specs.Events.{link_event_number, link_event_of}
 use Rattle.link_message_types.specs.ExtentMasks.{joined_extent_masks, link_extent_masks_of}
 use Rattle.link_message_types.specs.LinkModes.{link_mode_number, link_mode_of}
 use Rattle.link_message_types.specs.LinkStates.{state_number, state_of}
 use Rattle.link_message_types.specs.PhysIds.{link_phys_id_bytes}
+use Rattle.link_message_virtual_functions.specs.VfInfos.{link_vf_info_entry, link_vf_info_fits, link_vf_info_names_row}
+use Rattle.link_message_virtual_functions.specs.VfPorts.{vf_port_entry, link_vf_port_entry, link_vf_port_fits}
 use Rattle.link_message_attributes.specs.declared.attributes.LinkAttribute.{LinkAttribute}
 use Rattle.link_message_attributes.specs.declared.attributes.LinkAttribute.TheVariants as Link
 
 abbrev pub link_attribute_entry : LinkAttribute → Attribute
+link_attribute_entry (Link.VfInfoList vs) = attribute 22 (text_by link_vf_info_entry vs.items)
+link_attribute_entry (Link.VfPorts vs) = attribute 24 (text_by link_vf_port_entry vs.items)
+link_attribute_entry (Link.PortSelf v) = attribute 25 (text_by vf_port_entry v.0.items)
 link_attribute_entry (Link.PhysPortId i) = attribute 34 (link_phys_id_bytes i)
 link_attribute_entry (Link.PhysSwitchId i) = attribute 36 (link_phys_id_bytes i)
+link_attribute_entry (Link.Xdp vs) = attribute 43 (text_by link_xdp_entry vs.items)
 link_attribute_entry (Link.Event e) = attribute 44 (le4 (link_event_number e))
 link_attribute_entry (Link.NewNetnsId n) = attribute 45 (le4 n)
 link_attribute_entry (Link.IfNetnsId n) = attribute 46 (le4 n)
@@ -31,6 +49,11 @@ link_attribute_entry (Link.CarrierUpCount n) = attribute 47 (le4 n)
 link_attribute_entry (Link.CarrierDownCount n) = attribute 48 (le4 n)
 link_attribute_entry (Link.NewIfIndex n) = attribute 49 (le4 n)
 link_attribute_entry (Link.LinkInfo vs) = attribute 18 (text_by link_info_entry vs.items)
+link_attribute_entry (Link.ProtoInfoBridge vs) = attribute 12 (text_by (λ a. a) vs.items)
+link_attribute_entry (Link.ProtoInfoInet6 vs) = attribute 12 (text_by link_proto_info_inet_6_entry vs.items)
+link_attribute_entry (Link.ProtoInfoUnknown a) = a
+link_attribute_entry (Link.PropList vs) = attribute 0x8034 (text_by prop_entry vs.items)
+link_attribute_entry (Link.ProtoDownReason vs) = attribute 0x8037 (text_by link_protocol_down_reason_entry vs.items)
 link_attribute_entry (Link.Address b) = attribute 1 b.items
 link_attribute_entry (Link.Broadcast b) = attribute 2 b.items
 link_attribute_entry (Link.PermAddress b) = attribute 54 b.items
@@ -60,35 +83,78 @@ link_attribute_entry (Link.MinMtu n) = attribute 50 (le4 n)
 link_attribute_entry (Link.MaxMtu n) = attribute 51 (le4 n)
 link_attribute_entry (Link.LinkNetnsId n) = attribute 37 (le4 n)
 link_attribute_entry (Link.OperState s) = attribute 16 (state_number s ∷ [])
+link_attribute_entry (Link.Stats r) = attribute 7 (u32_values_bytes r)
+link_attribute_entry (Link.Stats64 r) = attribute 23 (u64_values_bytes r)
+link_attribute_entry (Link.Map m) = attribute 14 (map_bytes m)
+link_attribute_entry (Link.AfSpecUnspec vs) = attribute 26 (text_by af_spec_unspec_entry vs.items)
+link_attribute_entry (Link.AfSpecBridge vs) = attribute 26 (text_by (λ a. a) vs.items)
+link_attribute_entry (Link.AfSpecUnknown b) = attribute 26 b.items
 link_attribute_entry (Link.ParentDevName s) = attribute 56 (string_bytes s ++ 0 ∷ [])
 link_attribute_entry (Link.ParentDevBusName s) = attribute 57 (string_bytes s ++ 0 ∷ [])
 link_attribute_entry (Link.GroMaxSize n) = attribute 58 (le4 n)
 link_attribute_entry (Link.TsoMaxSize n) = attribute 59 (le4 n)
 link_attribute_entry (Link.TsoMaxSegs n) = attribute 60 (le4 n)
 link_attribute_entry (Link.AllMulti n) = attribute 61 (le4 n)
+link_attribute_entry (Link.DevlinkPort vs) = attribute 0x803e (text_by devlink_port_entry vs.items)
 link_attribute_entry (Link.GsoIpv4MaxSize n) = attribute 63 (le4 n)
 link_attribute_entry (Link.GroIpv4MaxSize n) = attribute 64 (le4 n)
+link_attribute_entry (Link.DpllPin vs) = attribute 0x8041 (text_by dpll_pin_entry vs.items)
 link_attribute_entry (Link.Other a) = a
 
 -- each length inside fits the 2 bytes of its header
 abbrev pub link_attribute_fits : LinkAttribute → Bool
+link_attribute_fits (Link.VfInfoList vs) = all_fit_by link_vf_info_entry link_vf_info_fits vs.items
+link_attribute_fits (Link.VfPorts vs) = all_fit_by link_vf_port_entry link_vf_port_fits vs.items
+link_attribute_fits (Link.PortSelf v) = link_vf_port_fits v
+link_attribute_fits (Link.Xdp vs) = all_fit_by link_xdp_entry (λ _. true) vs.items
 link_attribute_fits (Link.LinkInfo vs) = all_fit_by link_info_entry link_info_fits vs.items
+link_attribute_fits (Link.ProtoInfoBridge vs) = all_fit_by (λ a. a) (λ _. true) vs.items
+link_attribute_fits (Link.ProtoInfoInet6 vs) = all_fit_by link_proto_info_inet_6_entry (λ _. true) vs.items
+link_attribute_fits (Link.PropList vs) = all_fit_by prop_entry (λ _. true) vs.items
+link_attribute_fits (Link.ProtoDownReason vs) = all_fit_by link_protocol_down_reason_entry (λ _. true) vs.items
+link_attribute_fits (Link.AfSpecUnspec vs) = all_fit_by af_spec_unspec_entry af_spec_unspec_fits vs.items
+link_attribute_fits (Link.AfSpecBridge vs) = all_fit_by (λ a. a) (λ _. true) vs.items
+link_attribute_fits (Link.DevlinkPort vs) = all_fit_by devlink_port_entry (λ _. true) vs.items
+link_attribute_fits (Link.DpllPin vs) = all_fit_by dpll_pin_entry (λ _. true) vs.items
 link_attribute_fits _ = true
 
--- a number that has a name is read as what it names, a mask as its bits in order, and no kind that has a row under the family as another attribute
+-- a number that has a name is read as what it names, a mask as its bits in order, and no kind that has a row under the family as another attribute;
+-- what goes by the family is the family's own variant
 abbrev pub link_attribute_names_row : Family → LinkAttribute → Type 0
+link_attribute_names_row f (Link.VfInfoList vs) = All link_vf_info_names_row vs.items
+link_attribute_names_row f (Link.Xdp vs) = All link_xdp_names_row vs.items
 link_attribute_names_row f (Link.Event e) = e ≡ link_event_of (link_event_number e)
 link_attribute_names_row f (Link.LinkInfo vs) = all_named info_grammar link_info_entry link_info_names_row nothing vs.items
+link_attribute_names_row f (Link.ProtoInfoBridge vs) = f ≡ bridge
+link_attribute_names_row f (Link.ProtoInfoInet6 vs) = f ≡ inet_6
+link_attribute_names_row f (Link.ProtoInfoUnknown a) = (proper_kind a.kind ≡ 12) × has_no_link_row f (proper_kind a.kind)
+link_attribute_names_row f (Link.PropList vs) = All prop_names_row vs.items
+link_attribute_names_row f (Link.ProtoDownReason vs) = All link_protocol_down_reason_names_row vs.items
 link_attribute_names_row f (Link.Mode m) = m ≡ link_mode_of (link_mode_number m)
 link_attribute_names_row f (Link.ExtMask ms) = ms.items ≡ link_extent_masks_of (joined_extent_masks ms.items)
 link_attribute_names_row f (Link.OperState s) = s ≡ state_of (state_number s)
-link_attribute_names_row f (Link.Other a) = has_no_row (link_table f) (proper_kind a.kind)
+link_attribute_names_row f (Link.AfSpecUnspec vs) = (f ≡ unspec) × All af_spec_unspec_names_row vs.items
+link_attribute_names_row f (Link.AfSpecBridge vs) = f ≡ bridge
+link_attribute_names_row f (Link.AfSpecUnknown b) = family_payload f ≡ raw_bytes
+link_attribute_names_row f (Link.DevlinkPort vs) = All devlink_port_names_row vs.items
+link_attribute_names_row f (Link.DpllPin vs) = All dpll_pin_names_row vs.items
+link_attribute_names_row f (Link.Other a) = ((proper_kind a.kind == 12) ≡ false) × has_no_link_row f (proper_kind a.kind)
 link_attribute_names_row f _ = Unit {0}
+
+-- a row whose payload is a list of attributes
+abbrev pub payload_holds_list : Payload → Bool
+payload_holds_list (list form t) = true
+payload_holds_list (link_info form data' port_data) = true
+payload_holds_list _ = false
+
+abbrev pub line_holds_list : Option Line → Bool
+line_holds_list None = false
+line_holds_list (Some l) = payload_holds_list l.payload
 
 -- reading a payload may want memory: a list of attributes where it isn't empty, and bytes, text and the bits of a mask where the row accepts them
 abbrev pub row_may_want_memory : Family → ℕ → List ℕ → Bool
 row_may_want_memory f k p =
-    cond (k == 18) (nat_lt 0 (length p)) ((k == 29 || row_holds_bytes (link_table f) k) && (attribute_row f k).rule.accepted p)
+    cond (line_holds_list (link_line f k)) (nat_lt 0 (length p)) ((k == 29 || line_holds_bytes (link_line f k)) && (attribute_row f k).rule.accepted p)
 
 -- the same of the attribute that the bytes begin with
 abbrev pub link_attribute_may_want_memory : Family → List ℕ → Bool

@@ -9,11 +9,10 @@ ghost use Rattle.netlink_packet_core.specs.Families.{attribute};
 ghost use Rattle.netlink_packet_core.specs.Lists.{text_by, all_fit_by};
 ghost use Rattle.netlink_packet_core.specs.NlaBuffers.{storage};
 ghost use Rattle.attribute_tables_grammar.specs.Lists.{any, rewrite, without_context};
-ghost use Rattle.attribute_tables_grammar.specs.LookUps.{has_no_row};
 ghost use Rattle.attribute_tables_grammar.specs.Readings.{reading_as};
 ghost use Rattle.attribute_tables.specs.Views.{is_accepted_by, fits_by, rewritten_by};
 ghost use Rattle.attribute_tables.specs.Written.{written_as};
-ghost use Rattle.link_message_grammar.specs.LinkMessage.{link_table};
+ghost use Rattle.link_message_grammar.specs.LinkMessage.{has_no_link_row};
 ghost use Rattle.link_message_grammar.specs.Body.{attribute_row, attributes_rule};
 ghost use Rattle.link_message_types.specs.AddressFamilies.{table_family};
 ghost use Rattle.link_message_attributes.specs.LinkAttributes.{link_attribute_entry, link_attribute_fits, link_attribute_names_row};
@@ -21,12 +20,18 @@ ghost use Rattle.link_message_attributes.specs.LinkAttributes.{row_may_want_memo
 ghost use Rattle.link_message_attributes.specs.Payloads.{link_payload_bytes, link_payload_fits};
 
 use super::payload::{LinkPayload, parse_bytes, parse_extent_masks, parse_link_info};
-use attribute_tables::{Reader, parse_list, typed};
+use attribute_tables::{Reader, parse_family, parse_list, typed};
 use link_info::LinkInfo;
+use link_message_af_spec::{AfSpecUnspec, parse_families};
+use link_message_lists::{
+    DevlinkPort, DpllPin, LinkProtoInfoInet6, LinkProtocolDownReason, LinkXdp, Prop, parse_raw,
+};
+use link_message_records::{FieldRecord, Map, Stats, Stats64, read_settings};
 use link_message_types::{AddressFamily, LinkEvent, LinkExtentMask, LinkMode, LinkPhysId, State};
+use link_message_virtual_functions::{LinkVfInfo, LinkVfPort, parse_vf_infos, parse_vf_ports};
 use netlink_packet_core::{
-    DecodeError, DefaultNla, Field, Nla, NlaBuffer, Parseable, parse_i32, parse_string, parse_u8,
-    parse_u32,
+    DecodeError, DefaultNla, Field, NLA_F_NESTED, Nla, NlaBuffer, Parseable, parse_i32,
+    parse_string, parse_u8, parse_u32,
 };
 use std::alloc::Global;
 
@@ -42,9 +47,15 @@ const IFLA_LINK: u16 = 5;
 
 const IFLA_QDISC: u16 = 6;
 
+const IFLA_STATS: u16 = 7;
+
 const IFLA_MASTER: u16 = 10;
 
+const IFLA_PROTINFO: u16 = 12;
+
 const IFLA_TXQLEN: u16 = 13;
+
+const IFLA_MAP: u16 = 14;
 
 const IFLA_OPERSTATE: u16 = 16;
 
@@ -57,6 +68,16 @@ const IFLA_NET_NS_PID: u16 = 19;
 const IFLA_IFALIAS: u16 = 20;
 
 const IFLA_NUM_VF: u16 = 21;
+
+const IFLA_VFINFO_LIST: u16 = 22;
+
+const IFLA_STATS64: u16 = 23;
+
+const IFLA_VF_PORTS: u16 = 24;
+
+const IFLA_PORT_SELF: u16 = 25;
+
+const IFLA_AF_SPEC: u16 = 26;
 
 const IFLA_GROUP: u16 = 27;
 
@@ -88,6 +109,8 @@ const IFLA_GSO_MAX_SEGS: u16 = 40;
 
 const IFLA_GSO_MAX_SIZE: u16 = 41;
 
+const IFLA_XDP: u16 = 43;
+
 const IFLA_EVENT: u16 = 44;
 
 const IFLA_NEW_NETNSID: u16 = 45;
@@ -104,7 +127,11 @@ const IFLA_MIN_MTU: u16 = 50;
 
 const IFLA_MAX_MTU: u16 = 51;
 
+const IFLA_PROP_LIST: u16 = 52;
+
 const IFLA_PERM_ADDRESS: u16 = 54;
+
+const IFLA_PROTO_DOWN_REASON: u16 = 55;
 
 const IFLA_PARENT_DEV_NAME: u16 = 56;
 
@@ -118,17 +145,33 @@ const IFLA_TSO_MAX_SEGS: u16 = 60;
 
 const IFLA_ALLMULTI: u16 = 61;
 
+const IFLA_DEVLINK_PORT: u16 = 62;
+
 const IFLA_GSO_IPV4_MAX_SIZE: u16 = 63;
 
 const IFLA_GRO_IPV4_MAX_SIZE: u16 = 64;
 
+const IFLA_DPLL_PIN: u16 = 65;
+
 /// An attribute of a link.
 #[derive(Debug, PartialEq, Eq, Drop)]
 pub enum LinkAttribute {
+    /// `IFLA_VFINFO_LIST`: virtual functions; a list of attributes, of which those of kind 1 are
+    /// kept.
+    VfInfoList(Vec<LinkVfInfo>),
+    /// `IFLA_VF_PORTS`: the ports of virtual functions; a list of attributes, of which those of
+    /// kind 1 are kept. A list without an attribute is refused, so where none is kept the list that
+    /// is written isn't read again.
+    VfPorts(Vec<LinkVfPort>),
+    /// `IFLA_PORT_SELF`: the port of the link itself; a list of attributes. It is written without a
+    /// header of its own.
+    PortSelf(LinkVfPort),
     /// `IFLA_PHYS_PORT_ID`: the identity of the physical port; any bytes.
     PhysPortId(LinkPhysId),
     /// `IFLA_PHYS_SWITCH_ID`: the identity of the switch; any bytes.
     PhysSwitchId(LinkPhysId),
+    /// `IFLA_XDP`: the programs of the express data path; a list of attributes.
+    Xdp(Vec<LinkXdp>),
     /// `IFLA_EVENT`: what the message is sent for; 4 bytes.
     Event(LinkEvent),
     /// `IFLA_NEW_NETNSID`: the number of the network namespace that the link moved to; 4 bytes.
@@ -144,6 +187,17 @@ pub enum LinkAttribute {
     NewIfIndex(u32),
     /// `IFLA_LINKINFO`: what the link is; a list of attributes, of which there is one or more.
     LinkInfo(Vec<LinkInfo>),
+    /// `IFLA_PROTINFO` of a bridge: what its protocol tells; a list of attributes.
+    ProtoInfoBridge(Vec<DefaultNla>),
+    /// `IFLA_PROTINFO` of IPv6: what the protocol tells; a list of attributes.
+    ProtoInfoInet6(Vec<LinkProtoInfoInet6>),
+    /// `IFLA_PROTINFO` of any other family, kept as it is.
+    ProtoInfoUnknown(DefaultNla),
+    /// `IFLA_PROP_LIST`: other names; a list of attributes, written with the nested bit.
+    PropList(Vec<Prop>),
+    /// `IFLA_PROTO_DOWN_REASON`: why a protocol holds the link down; a list of attributes, written
+    /// with the nested bit.
+    ProtoDownReason(Vec<LinkProtocolDownReason>),
     /// `IFLA_ADDRESS`: the hardware address; any bytes.
     Address(Vec<u8>),
     /// `IFLA_BROADCAST`: the hardware address that reaches all; any bytes.
@@ -204,6 +258,19 @@ pub enum LinkAttribute {
     LinkNetnsId(u32),
     /// `IFLA_OPERSTATE`: the operational state; 1 byte.
     OperState(State),
+    /// `IFLA_STATS`: statistics; 96 bytes, of which a reader asks for none.
+    Stats(Stats),
+    /// `IFLA_STATS64`: statistics; 200 bytes, of which a reader asks for none.
+    Stats64(Stats64),
+    /// `IFLA_MAP`: the memory of the device; 32 bytes, of which a reader asks for 28.
+    Map(Map),
+    /// `IFLA_AF_SPEC` where the family is none: what each address family tells; a list of
+    /// attributes.
+    AfSpecUnspec(Vec<AfSpecUnspec>),
+    /// `IFLA_AF_SPEC` of a bridge; a list of attributes.
+    AfSpecBridge(Vec<DefaultNla>),
+    /// `IFLA_AF_SPEC` of any other family; any bytes.
+    AfSpecUnknown(Vec<u8>),
     /// `IFLA_PARENT_DEV_NAME`: the name of the device that holds the link; a text.
     ParentDevName(String),
     /// `IFLA_PARENT_DEV_BUS_NAME`: the name of the bus of that device; a text.
@@ -217,10 +284,15 @@ pub enum LinkAttribute {
     TsoMaxSegs(u32),
     /// `IFLA_ALLMULTI`: how many want every multicast packet; 4 bytes.
     AllMulti(u32),
+    /// `IFLA_DEVLINK_PORT`: the port of devlink; a list of attributes, written with the nested bit.
+    DevlinkPort(Vec<DevlinkPort>),
     /// `IFLA_GSO_IPV4_MAX_SIZE`: as `GsoMaxSize`, of IPv4; 4 bytes.
     GsoIpv4MaxSize(u32),
     /// `IFLA_GRO_IPV4_MAX_SIZE`: as `GroMaxSize`, of IPv4; 4 bytes.
     GroIpv4MaxSize(u32),
+    /// `IFLA_DPLL_PIN`: the pin of a phase-locked loop; a list of attributes, written with the
+    /// nested bit.
+    DpllPin(Vec<DpllPin>),
     /// Any other kind, kept as it is.
     Other(DefaultNla),
 }
@@ -233,6 +305,9 @@ impl LinkAttribute {
         ensures fits { link_payload_fits result.1 ≡ link_attribute_fits self.now }
     {
         match self {
+            Self::VfInfoList(list) => (IFLA_VFINFO_LIST, LinkPayload::VfInfos(list)),
+            Self::VfPorts(list) => (IFLA_VF_PORTS, LinkPayload::VfPorts(list)),
+            Self::PortSelf(port) => (IFLA_PORT_SELF, LinkPayload::Port(&port.0)),
             Self::PhysPortId(id) => (
                 IFLA_PHYS_PORT_ID,
                 LinkPayload::Field(Field::Bytes(id.bytes.as_slice())),
@@ -241,6 +316,7 @@ impl LinkAttribute {
                 IFLA_PHYS_SWITCH_ID,
                 LinkPayload::Field(Field::Bytes(id.bytes.as_slice())),
             ),
+            Self::Xdp(list) => (IFLA_XDP, LinkPayload::Xdp(list)),
             Self::Event(event) => (
                 IFLA_EVENT,
                 LinkPayload::Field(Field::U32(u32::from(*event))),
@@ -257,6 +333,17 @@ impl LinkAttribute {
             ),
             Self::NewIfIndex(number) => (IFLA_NEW_IFINDEX, LinkPayload::Field(Field::U32(*number))),
             Self::LinkInfo(list) => (IFLA_LINKINFO, LinkPayload::LinkInfo(list)),
+            Self::ProtoInfoBridge(list) => (IFLA_PROTINFO, LinkPayload::Raw(list)),
+            Self::ProtoInfoInet6(list) => (IFLA_PROTINFO, LinkPayload::ProtocolInfos(list)),
+            Self::ProtoInfoUnknown(nla) => (
+                nla.kind(),
+                LinkPayload::Field(Field::Bytes(nla.value())),
+            ),
+            Self::PropList(list) => (IFLA_PROP_LIST | NLA_F_NESTED, LinkPayload::Props(list)),
+            Self::ProtoDownReason(list) => (
+                IFLA_PROTO_DOWN_REASON | NLA_F_NESTED,
+                LinkPayload::DownReasons(list),
+            ),
             Self::Address(bytes) => (IFLA_ADDRESS, LinkPayload::Field(Field::Bytes(bytes))),
             Self::Broadcast(bytes) => (IFLA_BROADCAST, LinkPayload::Field(Field::Bytes(bytes))),
             Self::PermAddress(bytes) => (
@@ -325,6 +412,12 @@ impl LinkAttribute {
                 IFLA_OPERSTATE,
                 LinkPayload::Field(Field::U8(u8::from(*state))),
             ),
+            Self::Stats(numbers) => (IFLA_STATS, LinkPayload::Stats(numbers)),
+            Self::Stats64(numbers) => (IFLA_STATS64, LinkPayload::Stats64(numbers)),
+            Self::Map(map) => (IFLA_MAP, LinkPayload::Map(map)),
+            Self::AfSpecUnspec(list) => (IFLA_AF_SPEC, LinkPayload::Families(list)),
+            Self::AfSpecBridge(list) => (IFLA_AF_SPEC, LinkPayload::Raw(list)),
+            Self::AfSpecUnknown(bytes) => (IFLA_AF_SPEC, LinkPayload::Field(Field::Bytes(bytes))),
             Self::ParentDevName(text) => (
                 IFLA_PARENT_DEV_NAME,
                 LinkPayload::Field(Field::Text(text)),
@@ -346,6 +439,10 @@ impl LinkAttribute {
                 LinkPayload::Field(Field::U32(*number)),
             ),
             Self::AllMulti(number) => (IFLA_ALLMULTI, LinkPayload::Field(Field::U32(*number))),
+            Self::DevlinkPort(list) => (
+                IFLA_DEVLINK_PORT | NLA_F_NESTED,
+                LinkPayload::DevlinkPort(list),
+            ),
             Self::GsoIpv4MaxSize(number) => (
                 IFLA_GSO_IPV4_MAX_SIZE,
                 LinkPayload::Field(Field::U32(*number)),
@@ -354,6 +451,7 @@ impl LinkAttribute {
                 IFLA_GRO_IPV4_MAX_SIZE,
                 LinkPayload::Field(Field::U32(*number)),
             ),
+            Self::DpllPin(list) => (IFLA_DPLL_PIN | NLA_F_NESTED, LinkPayload::DpllPin(list)),
             Self::Other(nla) => (nla.kind(), LinkPayload::Field(Field::Bytes(nla.value()))),
         }
     }
@@ -392,7 +490,7 @@ impl LinkAttribute {
         ensures ok { OnOk result
             (IsTrue ((attribute_row (table_family family) kind).rule.accepted payload.now)) }
         ensures none { IfOk result
-            (λ o. IfNone o (has_no_row (link_table (table_family family)) kind)) }
+            (λ o. IfNone o (has_no_link_row (table_family family) kind)) }
         ensures typed { IfOk result
             (λ o. IfSome o (λ _. (attribute_row (table_family family) kind).is_typed ≡ true)) }
         ensures value { IfOk result
@@ -419,14 +517,45 @@ impl LinkAttribute {
             IFLA_MTU => typed!(Mtu, parse_u32(payload)),
             IFLA_LINK => typed!(Link, parse_u32(payload)),
             IFLA_QDISC => typed!(Qdisc, parse_string(alloc, payload)),
+            IFLA_STATS => Ok(Some(Self::Stats(read_settings(payload)))),
             IFLA_MASTER => typed!(Controller, parse_u32(payload)),
             IFLA_TXQLEN => typed!(TxQueueLen, parse_u32(payload)),
+            IFLA_PROTINFO => match family {
+                AddressFamily::Bridge => typed!(ProtoInfoBridge, parse_raw(alloc, payload)),
+                AddressFamily::Inet6 => typed!(ProtoInfoInet6, parse_family(alloc, payload)),
+                AddressFamily::Unspec
+                | AddressFamily::Unix
+                | AddressFamily::Inet
+                | AddressFamily::Netlink
+                | AddressFamily::Packet
+                | AddressFamily::Mctp
+                | AddressFamily::Other(_) => Ok(None),
+            },
+            IFLA_MAP => typed!(Map, Map::parse(payload)),
             IFLA_OPERSTATE => typed!(OperState, parse_u8(payload), State),
             IFLA_LINKMODE => typed!(Mode, parse_u8(payload), LinkMode),
             IFLA_LINKINFO => typed!(LinkInfo, parse_link_info(alloc, payload)),
             IFLA_NET_NS_PID => typed!(NetNsPid, parse_u32(payload)),
             IFLA_IFALIAS => typed!(IfAlias, parse_string(alloc, payload)),
             IFLA_NUM_VF => typed!(NumVf, parse_u32(payload)),
+            IFLA_VFINFO_LIST => typed!(VfInfoList, parse_vf_infos(alloc, payload)),
+            IFLA_STATS64 => Ok(Some(Self::Stats64(read_settings(payload)))),
+            IFLA_VF_PORTS => typed!(VfPorts, parse_vf_ports(alloc, payload)),
+            IFLA_PORT_SELF => match parse_family(alloc, payload) {
+                Ok(list) => Ok(Some(Self::PortSelf(LinkVfPort(list)))),
+                Err(error) => Err(error),
+            },
+            IFLA_AF_SPEC => match family {
+                AddressFamily::Unspec => typed!(AfSpecUnspec, parse_families(alloc, payload)),
+                AddressFamily::Bridge => typed!(AfSpecBridge, parse_raw(alloc, payload)),
+                AddressFamily::Unix
+                | AddressFamily::Inet
+                | AddressFamily::Inet6
+                | AddressFamily::Netlink
+                | AddressFamily::Packet
+                | AddressFamily::Mctp
+                | AddressFamily::Other(_) => typed!(AfSpecUnknown, parse_bytes(alloc, payload)),
+            },
             IFLA_GROUP => typed!(Group, parse_u32(payload)),
             IFLA_NET_NS_FD => typed!(NetNsFd, parse_i32(payload)),
             IFLA_EXT_MASK => typed!(ExtMask, parse_extent_masks(alloc, payload)),
@@ -442,6 +571,7 @@ impl LinkAttribute {
             IFLA_PROTO_DOWN => typed!(ProtoDown, parse_u8(payload)),
             IFLA_GSO_MAX_SEGS => typed!(GsoMaxSegs, parse_u32(payload)),
             IFLA_GSO_MAX_SIZE => typed!(GsoMaxSize, parse_u32(payload)),
+            IFLA_XDP => typed!(Xdp, parse_family(alloc, payload)),
             IFLA_EVENT => typed!(Event, parse_u32(payload), LinkEvent),
             IFLA_NEW_NETNSID => typed!(NewNetnsId, parse_u32(payload)),
             IFLA_IF_NETNSID => typed!(IfNetnsId, parse_u32(payload)),
@@ -450,15 +580,19 @@ impl LinkAttribute {
             IFLA_NEW_IFINDEX => typed!(NewIfIndex, parse_u32(payload)),
             IFLA_MIN_MTU => typed!(MinMtu, parse_u32(payload)),
             IFLA_MAX_MTU => typed!(MaxMtu, parse_u32(payload)),
+            IFLA_PROP_LIST => typed!(PropList, parse_family(alloc, payload)),
             IFLA_PERM_ADDRESS => typed!(PermAddress, parse_bytes(alloc, payload)),
+            IFLA_PROTO_DOWN_REASON => typed!(ProtoDownReason, parse_family(alloc, payload)),
             IFLA_PARENT_DEV_NAME => typed!(ParentDevName, parse_string(alloc, payload)),
             IFLA_PARENT_DEV_BUS_NAME => typed!(ParentDevBusName, parse_string(alloc, payload)),
             IFLA_GRO_MAX_SIZE => typed!(GroMaxSize, parse_u32(payload)),
             IFLA_TSO_MAX_SIZE => typed!(TsoMaxSize, parse_u32(payload)),
             IFLA_TSO_MAX_SEGS => typed!(TsoMaxSegs, parse_u32(payload)),
             IFLA_ALLMULTI => typed!(AllMulti, parse_u32(payload)),
+            IFLA_DEVLINK_PORT => typed!(DevlinkPort, parse_family(alloc, payload)),
             IFLA_GSO_IPV4_MAX_SIZE => typed!(GsoIpv4MaxSize, parse_u32(payload)),
             IFLA_GRO_IPV4_MAX_SIZE => typed!(GroIpv4MaxSize, parse_u32(payload)),
+            IFLA_DPLL_PIN => typed!(DpllPin, parse_family(alloc, payload)),
             _ => Ok(None),
         }
     }
@@ -491,7 +625,10 @@ impl LinkAttribute {
     {
         match Self::read_row(alloc, family, buf.kind(), buf.value()) {
             Ok(Some(value)) => Ok(value),
-            Ok(None) => Ok(Self::Other(DefaultNla::parse(alloc, buf)?)),
+            Ok(None) => match buf.kind() {
+                IFLA_PROTINFO => Ok(Self::ProtoInfoUnknown(DefaultNla::parse(alloc, buf)?)),
+                _ => Ok(Self::Other(DefaultNla::parse(alloc, buf)?)),
+            },
             Err(error) => Err(error),
         }
     }

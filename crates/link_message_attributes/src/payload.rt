@@ -13,8 +13,16 @@ ghost use Rattle.link_message_types.specs.ExtentMasks.{joined_extent_masks, link
 ghost use Rattle.link_message_attributes.specs.Payloads.{link_payload_bytes, link_payload_fits};
 
 use link_info::LinkInfo;
+use link_message_af_spec::AfSpecUnspec;
+use link_message_lists::{
+    DevlinkPort, DpllPin, LinkProtoInfoInet6, LinkProtocolDownReason, LinkXdp, Prop,
+};
+use link_message_records::{Map, Stats, Stats64, emit_record};
 use link_message_types::LinkExtentMask;
-use netlink_packet_core::{DecodeError, Field, emit_all, fits_all, len_all, parse_u32};
+use link_message_virtual_functions::{LinkVfInfo, LinkVfPort, VfPort};
+use netlink_packet_core::{
+    DecodeError, DefaultNla, Emitable, Field, emit_all, fits_all, len_all, parse_u32,
+};
 use std::alloc::Global;
 
 /// What an attribute of a link holds: a payload without attributes, or a list of them.
@@ -22,8 +30,36 @@ use std::alloc::Global;
 pub(crate) enum LinkPayload<'a> {
     /// A number, a text or bytes.
     Field(Field<'a>),
+    /// Statistics, numbers of 4 bytes.
+    Stats(&'a Stats),
+    /// Statistics, numbers of 8 bytes.
+    Stats64(&'a Stats64),
+    /// The memory of the device.
+    Map(&'a Map),
     /// What the link is.
     LinkInfo(&'a [LinkInfo]),
+    /// Virtual functions.
+    VfInfos(&'a [LinkVfInfo]),
+    /// Ports of virtual functions.
+    VfPorts(&'a [LinkVfPort]),
+    /// What one port holds.
+    Port(&'a [VfPort]),
+    /// Programs of the express data path.
+    Xdp(&'a [LinkXdp]),
+    /// What the protocol of IPv6 tells.
+    ProtocolInfos(&'a [LinkProtoInfoInet6]),
+    /// What each address family tells.
+    Families(&'a [AfSpecUnspec]),
+    /// Attributes as they are.
+    Raw(&'a [DefaultNla]),
+    /// Other names.
+    Props(&'a [Prop]),
+    /// Why a protocol holds the link down.
+    DownReasons(&'a [LinkProtocolDownReason]),
+    /// A port of devlink.
+    DevlinkPort(&'a [DevlinkPort]),
+    /// A pin of a phase-locked loop.
+    DpllPin(&'a [DpllPin]),
 }
 
 impl<'a> LinkPayload<'a> {
@@ -34,7 +70,21 @@ impl<'a> LinkPayload<'a> {
     {
         match self {
             LinkPayload::Field(field) => field.len(),
+            LinkPayload::Stats(record) => record.buffer_len(),
+            LinkPayload::Stats64(record) => record.buffer_len(),
+            LinkPayload::Map(record) => record.buffer_len(),
             LinkPayload::LinkInfo(list) => len_all(list),
+            LinkPayload::VfInfos(list) => len_all(list),
+            LinkPayload::VfPorts(list) => len_all(list),
+            LinkPayload::Port(list) => len_all(list),
+            LinkPayload::Xdp(list) => len_all(list),
+            LinkPayload::ProtocolInfos(list) => len_all(list),
+            LinkPayload::Families(list) => len_all(list),
+            LinkPayload::Raw(list) => len_all(list),
+            LinkPayload::Props(list) => len_all(list),
+            LinkPayload::DownReasons(list) => len_all(list),
+            LinkPayload::DevlinkPort(list) => len_all(list),
+            LinkPayload::DpllPin(list) => len_all(list),
         }
     }
 
@@ -47,7 +97,21 @@ impl<'a> LinkPayload<'a> {
     {
         match self {
             LinkPayload::Field(field) => field.fill(buffer),
+            LinkPayload::Stats(record) => emit_record(record, buffer),
+            LinkPayload::Stats64(record) => emit_record(record, buffer),
+            LinkPayload::Map(record) => emit_record(record, buffer),
             LinkPayload::LinkInfo(list) => emit_all(list, buffer),
+            LinkPayload::VfInfos(list) => emit_all(list, buffer),
+            LinkPayload::VfPorts(list) => emit_all(list, buffer),
+            LinkPayload::Port(list) => emit_all(list, buffer),
+            LinkPayload::Xdp(list) => emit_all(list, buffer),
+            LinkPayload::ProtocolInfos(list) => emit_all(list, buffer),
+            LinkPayload::Families(list) => emit_all(list, buffer),
+            LinkPayload::Raw(list) => emit_all(list, buffer),
+            LinkPayload::Props(list) => emit_all(list, buffer),
+            LinkPayload::DownReasons(list) => emit_all(list, buffer),
+            LinkPayload::DevlinkPort(list) => emit_all(list, buffer),
+            LinkPayload::DpllPin(list) => emit_all(list, buffer),
         }
     }
 
@@ -57,7 +121,21 @@ impl<'a> LinkPayload<'a> {
     {
         match self {
             LinkPayload::Field(_) => true,
+            LinkPayload::Stats(_) => true,
+            LinkPayload::Stats64(_) => true,
+            LinkPayload::Map(_) => true,
             LinkPayload::LinkInfo(list) => fits_all(list),
+            LinkPayload::VfInfos(list) => fits_all(list),
+            LinkPayload::VfPorts(list) => fits_all(list),
+            LinkPayload::Port(list) => fits_all(list),
+            LinkPayload::Xdp(list) => fits_all(list),
+            LinkPayload::ProtocolInfos(list) => fits_all(list),
+            LinkPayload::Families(list) => fits_all(list),
+            LinkPayload::Raw(list) => fits_all(list),
+            LinkPayload::Props(list) => fits_all(list),
+            LinkPayload::DownReasons(list) => fits_all(list),
+            LinkPayload::DevlinkPort(list) => fits_all(list),
+            LinkPayload::DpllPin(list) => fits_all(list),
         }
     }
 }

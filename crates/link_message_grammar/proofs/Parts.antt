@@ -1,12 +1,10 @@
 -- The rule of a body by its parts.
-use Rattle.std.proofs.Common.{◌≡◌, ℕ, ◌<◌, List, length, refl}
-use Rattle.attribute_tables_grammar.specs.LookUps.{link_info_of}
-use Rattle.attribute_tables_grammar.specs.Peers.{bytes_peer}
-use Rattle.attribute_tables_grammar.proofs.LookUps.{rule-rows}
-use Rattle.attribute_tables_grammar.specs.Lists.{any}
+use Rattle.std.proofs.Common.{◌≡◌, ℕ, ◌<◌, List, length, refl, ap}
+use Rattle.attribute_tables_grammar.specs.LookUps.{link_info_of, rows_rule}
+use Rattle.attribute_tables_grammar.specs.Lists.{any, list_rule}
 use Rattle.attribute_tables_grammar.proofs.Readings.{non_empty_alike, non_empty_refuses}
 use Rattle.link_info_grammar.specs.LinkInfo.{info_grammar, info_grammar_under, info_rule_under}
-use Rattle.link_message_grammar.specs.LinkMessage.{link_table}
+use Rattle.link_message_grammar.proofs.Lines.{attributes-grammar}
 use Rattle.link_message_grammar.specs.Body.{attributes_rule, body_rule, link_body}
 use Rattle.link_message_grammar.specs.Laws.{BodyParts, BodiesAreHeadersAndAttributes, AttributesAreLookedUp, InfoParts, InfoIsAListInside}
 
@@ -15,8 +13,8 @@ unfolding attributes_rule body_rule link_body
 bodies_are_headers_and_attributes b = record { accepted = refl; canonical = refl; fits = refl; empty_ports = refl }
 
 pub attributes_are_looked_up : AttributesAreLookedUp
-unfolding attributes_rule
-attributes_are_looked_up f = rule-rows bytes_peer any (link_table f)
+unfolding attributes_rule rows_rule
+attributes_are_looked_up f = ap (list_rule any) (attributes-grammar f)
 
 some_info : (b : List ℕ) → 0 < length b → InfoParts b
 unfolding link_info_of info_grammar_under info_rule_under

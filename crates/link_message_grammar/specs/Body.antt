@@ -1,12 +1,13 @@
 -- The body of a link message: a header of 16 bytes and a list of attributes.
 use Rattle.std.specs.Prelude.{ℕ, ◌+◌, ◌*◌, ◌==◌, ◌&&◌, not, nat_le, Bool, cond, List, [], ◌∷◌, ◌++◌, length, take, drop, bytes_eq, slice_index}
 use Rattle.std.specs.List.{list_any}
+use Rattle.netlink_packet_core_grammar.specs.Attributes.{Attribute}
 use Rattle.attribute_tables_grammar.specs.Rules.{Rule}
 use Rattle.attribute_tables_grammar.specs.Lists.{Row, any}
-use Rattle.attribute_tables_grammar.specs.LookUps.{payload_rule, table_row}
+use Rattle.attribute_tables_grammar.specs.LookUps.{payload_rule, row_of_line}
 use Rattle.attribute_tables_grammar.specs.Peers.{Peer, bytes_peer}
 use Rattle.attribute_tables_grammar.specs.Tables.{Payload.list, rule}
-use Rattle.link_message_grammar.specs.LinkMessage.{Family, family_of, info, link_table}
+use Rattle.link_message_grammar.specs.LinkMessage.{Family, family_of, info, link_line, link_table}
 
 abbrev pub layer_types : List ℕ
 layer_types =
@@ -66,7 +67,7 @@ link_body = body_rule bytes_peer
 
 -- the row of a kind without its flag bits, under a family
 abbrev pub attribute_row : Family → ℕ → Row
-attribute_row f k = table_row bytes_peer (link_table f) k
+attribute_row f k = row_of_line bytes_peer (link_line f k)
 
 -- the attributes of a family
 unfoldable pub attributes_rule : Family → Rule
@@ -75,3 +76,7 @@ attributes_rule f = list_rule_of bytes_peer f
 -- link info in an attribute
 abbrev pub info_payload_rule : Rule
 info_payload_rule = payload_rule bytes_peer info
+
+-- an attribute is IFLA_VF_PORTS without an entry, which no payload of that kind is read as, save one of which no entry is kept
+abbrev pub is_emptied : Attribute → Bool
+is_emptied e = e.kind == 24 && length e.payload == 0

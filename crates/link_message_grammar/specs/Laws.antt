@@ -1,14 +1,16 @@
 -- The laws of the definitions, as the functions of `laws` state them.
-use Rattle.std.specs.Prelude.{◌≡◌, ℕ, ◌*◌, ◌≤◌, ◌<◌, ◌&&◌, ◌++◌, nat_le, true, false, List, length}
+use Rattle.std.specs.Prelude.{◌≡◌, ℕ, ◌*◌, ◌≤◌, ◌<◌, ◌&&◌, ◌++◌, nat_le, true, false, List, length, Some}
 use Rattle.attribute_tables_grammar.specs.Rules.{Lawful, Renews}
-use Rattle.attribute_tables_grammar.specs.Lists.{any}
-use Rattle.attribute_tables_grammar.specs.LookUps.{rows_rule}
+use Rattle.std.specs.List.{list_any}
+use Rattle.attribute_tables_grammar.specs.Lists.{any, without_context}
+use Rattle.attribute_tables_grammar.specs.Readings.{Written, reading_as}
+use Rattle.attribute_tables_grammar.specs.LookUps.{line_at, rows_rule}
 use Rattle.attribute_tables_grammar.specs.Peers.{Peer, LawfulPeer, bytes_peer}
 use Rattle.attribute_tables_grammar.specs.Tables.{Payload.list, rule, rising}
 use Rattle.attribute_tables_grammar.specs.Laws.{OneTextEach, KeepsMeaning}
 use Rattle.link_info_grammar.specs.LinkInfo.{info_rule}
-use Rattle.link_message_grammar.specs.LinkMessage.{Family, link_table}
-use Rattle.link_message_grammar.specs.Body.{attribute_bytes, attribute_row, attributes_rule, body_rule, family, header_text, info_payload_rule, link_body, link_peer}
+use Rattle.link_message_grammar.specs.LinkMessage.{Family, link_line, link_table}
+use Rattle.link_message_grammar.specs.Body.{attribute_bytes, attribute_row, attributes_rule, body_rule, family, header_text, info_payload_rule, is_emptied, link_body, link_peer}
 
 abbrev pub AttributesAreLawful : Type 0
 AttributesAreLawful = (p : Peer) → LawfulPeer p → (f : Family) → Lawful (rule p (list any (link_table f)))
@@ -48,9 +50,17 @@ pub record BodyParts (b : List ℕ) : Type 0 where
 abbrev pub BodiesAreHeadersAndAttributes : Type 0
 BodiesAreHeadersAndAttributes = (b : List ℕ) → BodyParts b
 
+-- what is looked up of a kind is what the table says of it
+abbrev pub KindsAreLookedUp : Type 0
+KindsAreLookedUp = (f : Family) (k : ℕ) → line_at (link_table f) k ≡ link_line f k
+
 -- the attributes of a family have the rule of the rows that a look-up of each kind finds
 abbrev pub AttributesAreLookedUp : Type 0
 AttributesAreLookedUp = (f : Family) → attributes_rule f ≡ rows_rule any (attribute_row f)
+
+-- attributes have a list of ports of which nothing is kept exactly where one of what they are read as is such a list without an entry
+abbrev pub EmptyPortsAreTold : Type 0
+EmptyPortsAreTold = (f : Family) (b : List ℕ) (ws : List Written) → reading_as any (without_context (attribute_row f)) b ≡ Some ws → (attributes_rule f).empty_ports b ≡ list_any (λ w. is_emptied w.entry) ws
 
 -- link info in an attribute is the list of link info, and is refused where there is no attribute in it
 pub record InfoParts (b : List ℕ) : Type 0 where
@@ -61,7 +71,3 @@ pub record InfoParts (b : List ℕ) : Type 0 where
 pub record InfoIsAListInside : Type 0 where
   pub of_some_bytes : (b : List ℕ) → 0 < length b → InfoParts b
   pub of_no_bytes : (b : List ℕ) → length b ≡ 0 → info_payload_rule.accepted b ≡ false
-
--- no table has a list of ports so far, so none is emptied
-abbrev pub BodiesHaveNoEmptyPorts : Type 0
-BodiesHaveNoEmptyPorts = (b : List ℕ) → link_body.empty_ports b ≡ false

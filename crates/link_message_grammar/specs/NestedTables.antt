@@ -10,7 +10,7 @@ abbrev pub record_of : ℕ → ℕ → Payload
 record_of m n = plain (fixed_record m n)
 
 -- a record of any number of bytes, cut or filled up to so many
-abbrev pub settings : ℕ → Payload
+unfoldable pub settings : ℕ → Payload
 settings n = plain (resized n)
 
 -- IFLA_XDP_*: descriptor, where it is attached, flags, five numbers of programs, the descriptor that is expected

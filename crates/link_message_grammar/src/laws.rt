@@ -2,7 +2,8 @@
 
 ghost use Rattle.link_message_grammar.specs.Laws.{AttributesAreLawful, KindsRise, BodiesAreLawful, BodiesAreSmall};
 ghost use Rattle.link_message_grammar.specs.Laws.{LinkPeersAreLawful, BodiesTellMeanings, BodiesKeepMeanings, OldBodiesAreRenewed};
-ghost use Rattle.link_message_grammar.specs.Laws.{BodiesAreHeadersAndAttributes, AttributesAreLookedUp, InfoIsAListInside, BodiesHaveNoEmptyPorts};
+ghost use Rattle.link_message_grammar.specs.Laws.{BodiesAreHeadersAndAttributes, KindsAreLookedUp, AttributesAreLookedUp, InfoIsAListInside};
+ghost use Rattle.link_message_grammar.specs.Laws.{EmptyPortsAreTold};
 
 /// Lists of link attributes are lawful, under each address family.
 pub fn attributes_are_lawful()
@@ -49,17 +50,22 @@ pub fn bodies_are_headers_and_attributes()
     ensures { BodiesAreHeadersAndAttributes }
 {}
 
+/// What is looked up of a kind is what the table of the family says of it.
+pub fn kinds_are_looked_up()
+    ensures { KindsAreLookedUp }
+{}
+
 /// The attributes of a family have the rule of the rows that a look-up of each kind finds.
 pub fn attributes_are_looked_up()
     ensures { AttributesAreLookedUp }
 {}
 
+/// What a list of attributes is read as tells whether it has a list of ports of which nothing is kept.
+pub fn empty_ports_are_told()
+    ensures { EmptyPortsAreTold }
+{}
+
 /// Link info in an attribute is the list of link info, and is refused where it is empty.
 pub fn info_is_a_list_inside()
     ensures { InfoIsAListInside }
-{}
-
-/// No table has a list of ports so far, so none is emptied.
-pub fn bodies_have_no_empty_ports()
-    ensures { BodiesHaveNoEmptyPorts }
 {}

@@ -7,6 +7,7 @@ mod dpll;
 mod mctp;
 mod prop;
 mod proto_info;
+mod raw;
 mod xdp;
 
 pub use devlink::DevlinkPort;
@@ -15,4 +16,5 @@ pub use dpll::DpllPin;
 pub use mctp::AfSpecMctp;
 pub use prop::Prop;
 pub use proto_info::LinkProtoInfoInet6;
+pub use raw::parse_raw;
 pub use xdp::LinkXdp;

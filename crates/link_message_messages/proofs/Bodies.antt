@@ -1,11 +1,20 @@
 -- What the rule of bodies says of bytes that hold a header.
-use Rattle.std.proofs.Common.{◌≡◌, ℕ, ◌≤◌, ◌<◌, Bool, true, false, List, ◌++◌, length, drop, refl, sym, ap, subst, ◌∙◌, arith}
-use Rattle.std.specs.Prelude.{◌&&◌, ◌==◌, nat_le, slice_index}
-use Rattle.std.proofs.lemmas.Bool.{leb-true, le-leb, eqb-true}
-use Rattle.link_message_grammar.specs.Body.{attribute_bytes, attributes_rule, family, header_text, link_body}
-use Rattle.link_message_grammar.specs.LinkMessage.{family_of}
+use Rattle.std.proofs.Common.{◌≡◌, ℕ, ◌≤◌, ◌<◌, Bool, true, false, List, [], ◌∷◌, ◌++◌, length, drop, Some, refl, sym, ap, subst, ◌∙◌, arith, inl, inr}
+use Rattle.std.specs.Prelude.{◌&&◌, ◌||◌, ◌==◌, nat_le, slice_index, map}
+use Rattle.std.specs.List.{list_any}
+use Rattle.std.proofs.Math.Nat.{min-eq_left, min-eq_right}
+use Rattle.std.proofs.lemmas.Bool.{leb-true, le-leb, eqb-true, ne_eqb, cases_lt}
+use Rattle.netlink_packet_core.specs.Numbers.{as_usize}
+use Rattle.attribute_tables_grammar.specs.Lists.{any, without_context}
+use Rattle.attribute_tables_grammar.specs.Readings.{reading_as}
+use Rattle.attribute_tables.specs.Written.{written_as}
+use Rattle.link_message_grammar.specs.Body.{attribute_bytes, attribute_row, attributes_rule, family, header_text, is_emptied, link_body}
+use Rattle.link_message_grammar.specs.Laws.{EmptyPortsAreTold}
+use Rattle.link_message_grammar.specs.LinkMessage.{Family, family_of}
 use Rattle.link_message_types.specs.AddressFamilies.{address_family_of, table_family}
 use Rattle.link_message_types.specs.declared.address_family.AddressFamily.{AddressFamily}
+use Rattle.link_message_attributes.specs.declared.attributes.LinkAttribute.{LinkAttribute}
+use Rattle.link_message_attributes.specs.LinkAttributes.{link_attribute_entry, link_attribute_fits}
 use Rattle.link_message_grammar.proofs.Parts.{bodies_are_headers_and_attributes}
 
 short : (n : ℕ) (t : Bool) → nat_le 16 n ≡ t → n < 16 → t ≡ false
@@ -23,6 +32,25 @@ body-canonical b = (bodies_are_headers_and_attributes b).canonical
 
 pub body-fits : (b : List ℕ) → link_body.fits b ≡ (attributes_rule (family b)).fits (attribute_bytes b)
 body-fits b = (bodies_are_headers_and_attributes b).fits
+
+-- what the attributes are read as tells whether they have ports of which nothing is kept
+read_empty : (vs : List LinkAttribute) → list_any (λ w. is_emptied w.entry) (map (written_as link_attribute_entry link_attribute_fits) vs) ≡ list_any (λ v. is_emptied (link_attribute_entry v)) vs
+read_empty [] = refl
+read_empty (v ∷ vs) = ap (λ t. is_emptied (link_attribute_entry v) || t) (read_empty vs)
+
+pub body-empty_ports : EmptyPortsAreTold → (b : List ℕ) (f : Family) → f ≡ family b → (vs : List LinkAttribute) → reading_as any (without_context (attribute_row f)) (attribute_bytes b) ≡ Some (map (written_as link_attribute_entry link_attribute_fits) vs) → list_any (λ v. is_emptied (link_attribute_entry v)) vs ≡ link_body.empty_ports b
+body-empty_ports law b f h vs r =
+    sym (read_empty vs) ∙ sym (law f (attribute_bytes b) _ r) ∙ ap (λ g. (attributes_rule g).empty_ports (attribute_bytes b)) h ∙ sym (bodies_are_headers_and_attributes b).empty_ports
+
+-- a size of which `buffer_len` and its like tell, is 0 where they tell 0
+size_told : (n : ℕ) → (as_usize n == 0) ≡ (n == 0)
+size_told n =
+    elim (cases_lt 18446744073709551615 n) [
+      | inl k ↦ ap (λ x. x == 0) (min-eq_right (omega (arith, k))) ∙ sym (ne_eqb n 0 (λ h. absurd (omega (arith, h, k))))
+      | inr k ↦ ap (λ x. x == 0) (min-eq_left k)
+    ]
+
+pub ruleset sizes = (size_told)
 
 -- ---- the table of the family that a header names
 
@@ -48,4 +76,4 @@ family-table n =
 pub body-family : (b : List ℕ) (a : AddressFamily) → a ≡ address_family_of (slice_index b 0) → table_family a ≡ family b
 body-family b a h = ap table_family h ∙ family-table (slice_index b 0)
 
-pub ruleset bodies = (body-short, body-accepted, body-canonical, body-fits, body-family)
+pub ruleset bodies = (body-short, body-accepted, body-canonical, body-fits, body-family, body-empty_ports)

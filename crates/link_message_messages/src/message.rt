@@ -8,11 +8,15 @@ ghost use Rattle.link_message_grammar.specs.Body.{attribute_bytes, attribute_row
 ghost use Rattle.link_message_types.specs.AddressFamilies.{address_family_of};
 ghost use Rattle.link_message_types.specs.Headers.{link_header_bytes};
 ghost use Rattle.link_message_messages.specs.LinkMessages.{link_message_text, link_message_fits, link_message_written, link_message_names_row};
+ghost use Rattle.link_message_messages.specs.LinkMessages.{link_message_empty_ports};
 
 use link_message_attributes::LinkAttribute;
+use link_message_grammar::laws::empty_ports_are_told;
 use link_message_types::{LINK_HEADER_LEN, LinkHeader};
-use netlink_packet_core::{DecodeError, Emitable, emit_all, fits_all, len_all};
+use netlink_packet_core::{DecodeError, Emitable, Nla, emit_all, fits_all, len_all};
 use std::alloc::Global;
+
+const IFLA_VF_PORTS: u16 = 24;
 
 /// A link message (rtnetlink.h, RTM_NEWLINK and its like): what follows the header of the frame.
 #[derive(Debug, PartialEq, Eq, Drop)]
@@ -39,15 +43,28 @@ impl LinkMessage {
             ≡ Some (link_message_written m)) }
         ensures text { IfOk result (λ m. link_message_text m ≡ link_body.canonical bytes.now) }
         ensures fits { IfOk result (λ m. link_message_fits m ≡ link_body.fits bytes.now) }
+        ensures empty_ports { IfOk result
+            (λ m. link_message_empty_ports m ≡ link_body.empty_ports bytes.now) }
         ensures names_row { IfOk result (λ m. link_message_names_row m) }
         ensures err { IfErr result
             (λ e. is_memory e ≡ false → link_body.accepted bytes.now ≡ false) }
         ensures not_empty { IfErr result (λ e. is_memory e ≡ true → 16 < length bytes.now) }
     {
+        empty_ports_are_told();
         let header = LinkHeader::parse(bytes)?;
         let (_, list) = bytes.split_at(LINK_HEADER_LEN);
         let attributes = LinkAttribute::parse_list(alloc, list, header.interface_family)?;
         Ok(LinkMessage { header, attributes })
+    }
+
+    /// Whether an attribute is written as a list of ports (IFLA_VF_PORTS) without an entry, which no
+    /// legal body has. A message that was read has one where the body held foreign entries alone.
+    #[tactic(auto, using(crate::proofs::Bodies::sizes))]
+    pub fn has_empty_ports(&self) -> bool
+        ensures { result ≡ link_message_empty_ports self.now }
+    {
+        self.attributes.iter().any(|attribute| attribute.kind() == IFLA_VF_PORTS
+            && attribute.value_len() == 0)
     }
 
     /// Whether each length inside fits its 2 bytes.

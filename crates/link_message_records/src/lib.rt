@@ -16,6 +16,7 @@ pub use record::{FieldRecord, emit_record};
 pub use values::{
     Icmp6Stats, Icmp6StatsBuffer, Inet6DevConf, Inet6DevConfBuffer, Inet6Stats, Inet6StatsBuffer,
     InetDevConf, InetDevConfBuffer, Number, Stats, Stats64, Stats64Buffer, StatsBuffer, Values,
+    read_settings,
 };
 pub use vf::{
     VfInfoBroadcast, VfInfoBroadcastBuffer, VfInfoLinkState, VfInfoLinkStateBuffer, VfInfoMac,

@@ -1,12 +1,15 @@
 //! Records of many numbers of one size.
 
-ghost use Rattle.std.specs.Prelude.{◌≡◌, ◌*◌, ◌≤◌, ◌++◌, ⊤, ℕ, length, take, drop, false, IsOk, IfOk, IfErr};
+ghost use Rattle.std.specs.Prelude.{◌≡◌, ◌*◌, ◌≤◌, ◌++◌, ⊤, ℕ, length, take, drop, true, false, IsOk, IfOk, IfErr};
 ghost use Rattle.std.specs.Int.{w32, cast_unsigned};
 ghost use Rattle.std.specs.List.{flat_map};
 ghost use Rattle.netlink_packet_core.specs.Attributes.{zeros};
 ghost use Rattle.netlink_packet_core.specs.Errors.{is_memory};
 ghost use Rattle.netlink_packet_core.specs.Numbers.{le4, le8, as_usize};
+ghost use Rattle.attribute_tables_grammar.specs.LookUps.{payload_rule};
+ghost use Rattle.attribute_tables_grammar.specs.Peers.{bytes_peer};
 ghost use Rattle.attribute_tables_grammar.specs.Shapes.{meaning, spelling, resized};
+ghost use Rattle.link_message_grammar.specs.NestedTables.{settings};
 ghost use Rattle.link_message_records.specs.Numbers.{le4_size, le8_size};
 
 use super::fields::Fields;
@@ -121,6 +124,20 @@ impl<T: Number, const N: usize> Values<T, N> {
             rest = after;
         }
         Ok(Values { values })
+    }
+}
+
+/// Reads numbers as a row of settings holds them: any bytes are accepted.
+#[tactic(auto, unfolding(link_message_grammar::specs::NestedTables::settings))]
+pub fn read_settings<T: Number, const N: usize>(payload: &[u8]) -> Values<T, N>
+    ensures accepted { (payload_rule bytes_peer (settings (T.size * N))).accepted payload.now ≡ true }
+    ensures text { flat_map T.bytes result.values
+        ≡ (payload_rule bytes_peer (settings (T.size * N))).canonical payload.now }
+    ensures fits { (payload_rule bytes_peer (settings (T.size * N))).fits payload.now ≡ true }
+{
+    match Values::parse(payload) {
+        Ok(values) => values,
+        Err(_) => unreachable!(),
     }
 }
 

@@ -7,6 +7,8 @@ pub mod callers;
 #[cfg(test)]
 mod messages;
 #[cfg(test)]
+mod nested;
+#[cfg(test)]
 mod types;
 #[cfg(test)]
 mod virtual_functions;

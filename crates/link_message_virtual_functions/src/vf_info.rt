@@ -1,18 +1,23 @@
 //! Settings of virtual functions (if_link.h, IFLA_VF_*). Numbers are little-endian.
 
-ghost use Rattle.std.specs.Prelude.{◌≡◌, true, false, Some};
+ghost use Rattle.std.specs.Prelude.{◌≡◌, ◌&&◌, ◌<◌, true, false, length, Some, IsTrue, IfOk, IfErr, OnOk};
+ghost use Rattle.std.specs.List.{All};
 ghost use Rattle.netlink_packet_core.specs.Attributes.{proper_kind};
-ghost use Rattle.netlink_packet_core.specs.AttributeViews.{viewed_kind};
-ghost use Rattle.attribute_tables_grammar.specs.Lists.{any};
-ghost use Rattle.attribute_tables_grammar.specs.LookUps.{row_of_line, table_row, row_holds_bytes};
+ghost use Rattle.netlink_packet_core.specs.AttributeViews.{viewed_attribute, viewed_kind, viewed_payload, IsAttribute};
+ghost use Rattle.netlink_packet_core.specs.Errors.{is_memory};
+ghost use Rattle.netlink_packet_core.specs.Lists.{text_by, all_fit_by};
+ghost use Rattle.netlink_packet_core.specs.NlaBuffers.{storage};
+ghost use Rattle.attribute_tables_grammar.specs.Lists.{any, is_of_kind_one, of_kind_one, rewrite};
+ghost use Rattle.attribute_tables_grammar.specs.LookUps.{list_of, row_of_line, table_row, row_holds_bytes};
 ghost use Rattle.attribute_tables_grammar.specs.Peers.{bytes_peer};
 ghost use Rattle.attribute_tables_grammar.specs.Tables.{Payload.list};
-ghost use Rattle.link_message_grammar.specs.NestedTables.{vf};
+ghost use Rattle.attribute_tables.specs.Views.{fits_by, is_accepted_by, rewritten_by};
+ghost use Rattle.link_message_grammar.specs.NestedTables.{vf, vf_infos};
 ghost use Rattle.link_message_virtual_functions.specs.VfInfos.{vf_info_entry, vf_info_fits, vf_info_names_row, link_vf_info_entry, link_vf_info_fits, link_vf_info_names_row};
 
 use super::vf_stats::VfStats;
 use super::vf_vlan::{VfVlan, VfVlanReader};
-use attribute_tables::{EntryReader, Reader, parse_family, parse_list};
+use attribute_tables::{EntryReader, Reader, parse_entries, parse_family, parse_list};
 use link_message_records::{
     FieldRecord, VfInfoBroadcast, VfInfoLinkState, VfInfoMac, VfInfoRate, VfInfoRssQueryEn,
     VfInfoSpoofCheck, VfInfoTrust, VfInfoTxRate, VfInfoVlan, emit_record,
@@ -174,6 +179,20 @@ impl Reader for VfInfoReader {
     }
 }
 
+impl<'a> Parseable<NlaBuffer<&'a [u8]>> for VfInfo {
+    ghost can_parse = { λ b. IsAttribute (storage b).now };
+
+    ghost accepts = { λ b. is_accepted_by (table_row bytes_peer vf) (storage b).now };
+
+    ghost may_want_memory = { λ b. row_holds_bytes vf (proper_kind (viewed_kind (storage b).now)) };
+
+    ghost gives = { λ b v. (vf_info_entry v ≡ rewritten_by (table_row bytes_peer vf) (storage b).now) × (vf_info_fits v ≡ fits_by (table_row bytes_peer vf) (storage b).now) × vf_info_names_row v };
+
+    fn parse(alloc: Global, buf: &NlaBuffer<&'a [u8]>) -> Result<Self, DecodeError> {
+        VfInfoReader.read(alloc, buf)
+    }
+}
+
 /// `IFLA_VF_INFO`: the settings of one virtual function.
 #[derive(Debug, PartialEq, Eq, Drop)]
 pub struct LinkVfInfo(pub Vec<VfInfo>);
@@ -215,5 +234,43 @@ impl EntryReader for LinkVfInfoReader {
     #[tactic(auto, using(crate::proofs::VfRules::vf_rules))]
     fn read(&self, alloc: Global, buf: &NlaBuffer<&[u8]>) -> Result<LinkVfInfo, DecodeError> {
         Ok(LinkVfInfo(parse_list(alloc, &VfInfoReader, buf.value())?))
+    }
+}
+
+/// Reads a list of virtual functions (`IFLA_VFINFO_LIST`), of which the attributes of kind 1 are
+/// kept. It succeeds exactly where the list is accepted, memory aside; a list of no bytes is never
+/// refused.
+#[tactic(auto, using(crate::proofs::VfRules::vf_rules))]
+pub fn parse_vf_infos(alloc: Global, bytes: &[u8]) -> Result<Vec<LinkVfInfo>, DecodeError>
+    ensures ok { OnOk result (IsTrue ((list_of bytes_peer of_kind_one vf_infos).accepted bytes.now)) }
+    ensures text { IfOk result
+        (λ v. text_by link_vf_info_entry v.items
+        ≡ (list_of bytes_peer of_kind_one vf_infos).canonical bytes.now) }
+    ensures fits { IfOk result
+        (λ v. all_fit_by link_vf_info_entry link_vf_info_fits v.items
+        ≡ (list_of bytes_peer of_kind_one vf_infos).fits bytes.now) }
+    ensures names_row { IfOk result (λ v. All link_vf_info_names_row v.items) }
+    ensures err { IfErr result
+        (λ e. is_memory e ≡ false
+        → (list_of bytes_peer of_kind_one vf_infos).accepted bytes.now ≡ false) }
+    ensures not_empty { IfErr result (λ _. 0 < length bytes.now) }
+{
+    parse_entries(alloc, &LinkVfInfoReader, bytes)
+}
+
+impl<'a> Parseable<NlaBuffer<&'a [u8]>> for LinkVfInfo {
+    ghost can_parse = { λ b. IsAttribute (storage b).now };
+
+    ghost accepts = { λ b. is_of_kind_one (viewed_attribute (storage b).now) && (row_of_line bytes_peer (Some (record { is_nested = false; payload = list any vf }))).rule.accepted (viewed_payload (storage b).now) };
+
+    ghost may_want_memory = { λ b. is_of_kind_one (viewed_attribute (storage b).now) };
+
+    ghost gives = { λ b v. (link_vf_info_entry v ≡ rewrite (row_of_line bytes_peer (Some (record { is_nested = false; payload = list any vf }))) (viewed_attribute (storage b).now)) × (link_vf_info_fits v ≡ (row_of_line bytes_peer (Some (record { is_nested = false; payload = list any vf }))).rule.fits (viewed_payload (storage b).now)) × link_vf_info_names_row v };
+
+    fn parse(alloc: Global, buf: &NlaBuffer<&'a [u8]>) -> Result<Self, DecodeError> {
+        if buf.kind() != IFLA_VF_INFO {
+            return Err(DecodeError::from("a virtual function of another kind than 1"));
+        }
+        LinkVfInfoReader.read(alloc, buf)
     }
 }

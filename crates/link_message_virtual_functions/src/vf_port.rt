@@ -1,15 +1,22 @@
 //! Ports of virtual functions (if_link.h, IFLA_PORT_*), each attribute as it is.
 
-ghost use Rattle.std.specs.Prelude.{⊤, false, Some, refl};
-ghost use Rattle.attribute_tables_grammar.specs.LookUps.{row_of_line};
+ghost use Rattle.std.specs.Prelude.{◌≡◌, ◌&&◌, ◌<◌, ⊤, true, false, length, Some, refl, IsTrue, IfOk, IfErr, OnOk};
+ghost use Rattle.netlink_packet_core.specs.AttributeViews.{viewed_attribute, viewed_payload, IsAttribute};
+ghost use Rattle.netlink_packet_core.specs.Errors.{is_memory};
+ghost use Rattle.netlink_packet_core.specs.Lists.{text_by, all_fit_by};
+ghost use Rattle.netlink_packet_core.specs.NlaBuffers.{storage};
+ghost use Rattle.attribute_tables_grammar.specs.Lists.{is_of_kind_one, ports, rewrite};
+ghost use Rattle.attribute_tables_grammar.specs.LookUps.{list_of, row_of_line};
 ghost use Rattle.attribute_tables_grammar.specs.Peers.{bytes_peer};
 ghost use Rattle.attribute_tables_grammar.specs.Rows.{raw_list};
 ghost use Rattle.attribute_tables_grammar.specs.Tables.{Table.end};
+ghost use Rattle.link_message_grammar.specs.NestedTables.{vf_ports};
 ghost use Rattle.link_message_virtual_functions.specs.VfPorts.{vf_port_entry, link_vf_port_entry, link_vf_port_fits};
 
-use attribute_tables::{EntryReader, parse_family};
+use attribute_tables::{EntryReader, parse_family, parse_ports};
 use netlink_packet_core::{
-    DecodeError, DefaultNla, Family, Field, FieldNla, Nla, NlaBuffer, emit_all, fits_all, len_all,
+    DecodeError, DefaultNla, Family, Field, FieldNla, Nla, NlaBuffer, Parseable, emit_all,
+    fits_all, len_all,
 };
 use std::alloc::Global;
 
@@ -88,5 +95,41 @@ impl EntryReader for LinkVfPortReader {
     #[tactic(auto, using(crate::proofs::VfRules::vf_rules))]
     fn read(&self, alloc: Global, buf: &NlaBuffer<&[u8]>) -> Result<LinkVfPort, DecodeError> {
         Ok(LinkVfPort(parse_family(alloc, buf.value())?))
+    }
+}
+
+/// Reads a list of ports (`IFLA_VF_PORTS`), of which the attributes of kind 1 are kept, and which
+/// has an attribute of any kind in it. It succeeds exactly where the list is accepted, memory aside.
+#[tactic(auto, using(crate::proofs::VfRules::vf_rules))]
+pub fn parse_vf_ports(alloc: Global, bytes: &[u8]) -> Result<Vec<LinkVfPort>, DecodeError>
+    ensures ok { OnOk result (IsTrue ((list_of bytes_peer ports vf_ports).accepted bytes.now)) }
+    ensures text { IfOk result
+        (λ v. text_by link_vf_port_entry v.items
+        ≡ (list_of bytes_peer ports vf_ports).canonical bytes.now) }
+    ensures fits { IfOk result
+        (λ v. all_fit_by link_vf_port_entry link_vf_port_fits v.items
+        ≡ (list_of bytes_peer ports vf_ports).fits bytes.now) }
+    ensures err { IfErr result
+        (λ e. is_memory e ≡ false
+        → (list_of bytes_peer ports vf_ports).accepted bytes.now ≡ false) }
+    ensures not_empty { IfErr result (λ e. is_memory e ≡ true → 0 < length bytes.now) }
+{
+    parse_ports(alloc, &LinkVfPortReader, bytes)
+}
+
+impl<'a> Parseable<NlaBuffer<&'a [u8]>> for LinkVfPort {
+    ghost can_parse = { λ b. IsAttribute (storage b).now };
+
+    ghost accepts = { λ b. is_of_kind_one (viewed_attribute (storage b).now) && (row_of_line bytes_peer (Some (record { is_nested = false; payload = raw_list }))).rule.accepted (viewed_payload (storage b).now) };
+
+    ghost may_want_memory = { λ b. is_of_kind_one (viewed_attribute (storage b).now) };
+
+    ghost gives = { λ b v. (link_vf_port_entry v ≡ rewrite (row_of_line bytes_peer (Some (record { is_nested = false; payload = raw_list }))) (viewed_attribute (storage b).now)) × (link_vf_port_fits v ≡ (row_of_line bytes_peer (Some (record { is_nested = false; payload = raw_list }))).rule.fits (viewed_payload (storage b).now)) };
+
+    fn parse(alloc: Global, buf: &NlaBuffer<&'a [u8]>) -> Result<Self, DecodeError> {
+        if buf.kind() != IFLA_VF_PORT {
+            return Err(DecodeError::from("a port of another kind than 1"));
+        }
+        LinkVfPortReader.read(alloc, buf)
     }
 }

@@ -1,10 +1,12 @@
 //! VLANs of virtual functions (if_link.h, IFLA_VF_VLAN_*).
 
-ghost use Rattle.std.specs.Prelude.{true};
+ghost use Rattle.std.specs.Prelude.{◌≡◌, true};
 ghost use Rattle.netlink_packet_core.specs.Attributes.{proper_kind};
-ghost use Rattle.netlink_packet_core.specs.AttributeViews.{viewed_kind};
+ghost use Rattle.netlink_packet_core.specs.AttributeViews.{viewed_kind, IsAttribute};
+ghost use Rattle.netlink_packet_core.specs.NlaBuffers.{storage};
 ghost use Rattle.attribute_tables_grammar.specs.LookUps.{table_row, row_holds_bytes};
 ghost use Rattle.attribute_tables_grammar.specs.Peers.{bytes_peer};
+ghost use Rattle.attribute_tables.specs.Views.{is_accepted_by, rewritten_by};
 ghost use Rattle.link_message_grammar.specs.NestedTables.{vf_vlans};
 ghost use Rattle.link_message_virtual_functions.specs.VfVlans.{vf_vlan_entry, vf_vlan_names_row};
 
@@ -74,5 +76,19 @@ impl Reader for VfVlanReader {
             IFLA_VF_VLAN_INFO => Ok(VfVlan::Info(VfVlanInfo::parse(payload)?)),
             _ => Ok(VfVlan::Other(DefaultNla::parse(alloc, buf)?)),
         }
+    }
+}
+
+impl<'a> Parseable<NlaBuffer<&'a [u8]>> for VfVlan {
+    ghost can_parse = { λ b. IsAttribute (storage b).now };
+
+    ghost accepts = { λ b. is_accepted_by (table_row bytes_peer vf_vlans) (storage b).now };
+
+    ghost may_want_memory = { λ b. row_holds_bytes vf_vlans (proper_kind (viewed_kind (storage b).now)) };
+
+    ghost gives = { λ b v. (vf_vlan_entry v ≡ rewritten_by (table_row bytes_peer vf_vlans) (storage b).now) × vf_vlan_names_row v };
+
+    fn parse(alloc: Global, buf: &NlaBuffer<&'a [u8]>) -> Result<Self, DecodeError> {
+        VfVlanReader.read(alloc, buf)
     }
 }

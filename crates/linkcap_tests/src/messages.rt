@@ -18,6 +18,11 @@ fn attribute(alloc: Global, case: usize) -> Result<LinkAttribute, Fail> {
             masks.push(LinkExtentMask::Vf)?;
             Ok(LinkAttribute::ExtMask(masks))
         }
+        4 => Ok(LinkAttribute::VfPorts(Vec::new(alloc))),
+        5 => {
+            let bytes = Vec::from_slice(alloc, &[4, 0, 7, 0])?;
+            Ok(LinkAttribute::Other(DefaultNla::new(24, bytes)))
+        }
         _ => {
             let bytes = Vec::from_slice(alloc, &[0x6c, 0x6f, 0])?;
             Ok(LinkAttribute::Other(DefaultNla::new(3, bytes)))
@@ -47,6 +52,8 @@ fn messages_are_readable_where_they_read_back(rt: HostRuntime) -> Result<(), Fai
     let wanted = [
         Some(NotReadable::Unfit),
         None,
+        Some(NotReadable::ReadsOtherwise),
+        Some(NotReadable::ReadsOtherwise),
         Some(NotReadable::ReadsOtherwise),
         Some(NotReadable::ReadsOtherwise),
         Some(NotReadable::ReadsOtherwise),

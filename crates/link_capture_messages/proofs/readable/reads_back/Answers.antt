@@ -1,4 +1,4 @@
-use Rattle.std.proofs.Common.{◌≡◌, false, sym, ap, ◌∙◌, inr}
+use Rattle.std.proofs.Common.{◌≡◌, false, sym, ap, ◌∙◌, inl, inr}
 use Rattle.link_message_grammar.specs.Body.{link_body}
 use Rattle.link_capture_messages.specs.Readable.{says_the_same}
 use Rattle.link_capture_messages.proofs.ReadAgain.{read_from, readable_again}
@@ -10,11 +10,17 @@ returns-then-not-branch-clause-otherwise c =
     let e = c.as_slice.ensures.value ∙ c.in_ok-text.ensures.ok in
     let r = read_from _ _ c.in-Ok.again e k.ok k.family k.text k.names_row in
     let same : says_the_same c.args.message.now c.in-Ok.again ≡ false = sym c.in_ok-says_the_same.ensures.ok ∙ c.if-not-branch.true in
-    λ _. inr (c.in-Ok.again, r, same)
+    λ _. inr (inr (c.in-Ok.again, r, same))
+
+pub returns-then-has_empty_ports-clause-otherwise : goal.returns-then-has_empty_ports-clause-otherwise
+returns-then-has_empty_ports-clause-otherwise c =
+    let k = c.in-Ok.ensures in
+    let e = c.as_slice.ensures.value ∙ c.in_ok-text.ensures.ok in
+    λ _. inr (inl (sym (k.empty_ports ∙ ap link_body.empty_ports e) ∙ sym c.has_empty_ports.ensures ∙ c.if-has_empty_ports.true))
 
 pub returns-clause-ok : goal.returns-clause-ok
 returns-clause-ok c =
     let k = c.in-Ok.ensures in
     let e = c.as_slice.ensures.value ∙ c.in_ok-text.ensures.ok in
     let r = read_from _ _ c.in-Ok.again e k.ok k.family k.text k.names_row in
-    readable_again c.bodies_have_no_empty_ports.ensures c.args.message.now c.in-Ok.again (sym c.if-not-fits.ensures) r (k.fits ∙ ap link_body.fits e) (sym c.in_ok-says_the_same.ensures.ok ∙ c.if-not-branch.false)
+    readable_again c.args.message.now c.in-Ok.again (sym c.if-not-fits.ensures) r (sym (k.empty_ports ∙ ap link_body.empty_ports e) ∙ sym c.has_empty_ports.ensures ∙ c.if-has_empty_ports.false) (k.fits ∙ ap link_body.fits e) (sym c.in_ok-says_the_same.ensures.ok ∙ c.if-not-branch.false)

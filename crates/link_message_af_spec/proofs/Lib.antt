@@ -1,0 +1,2 @@
+pub mod FamilyRules
+pub mod Requests

@@ -1,0 +1,3 @@
+pub mod InetSettings
+pub mod Inet6Settings
+pub mod AddressFamilies

@@ -1,0 +1,47 @@
+//! Lists of attributes that are kept as they are.
+
+ghost use Rattle.std.specs.Prelude.{◌≡◌, ◌<◌, ⊤, true, false, length, IsTrue, IfOk, IfErr, OnOk};
+ghost use Rattle.netlink_packet_core.specs.Errors.{is_memory};
+ghost use Rattle.netlink_packet_core.specs.Lists.{text_by, all_fit_by};
+ghost use Rattle.attribute_tables_grammar.specs.Lists.{any};
+ghost use Rattle.attribute_tables_grammar.specs.LookUps.{list_of, table_row};
+ghost use Rattle.attribute_tables_grammar.specs.Peers.{bytes_peer};
+ghost use Rattle.attribute_tables_grammar.specs.Tables.{Table.end};
+
+use attribute_tables::{Reader, parse_list};
+use netlink_packet_core::{DecodeError, DefaultNla, NlaBuffer, Parseable};
+use std::alloc::Global;
+
+/// Reads attributes of any kinds, each kept as it is.
+struct RawReader;
+
+impl Reader for RawReader {
+    type Value = DefaultNla;
+
+    ghost row_of = { λ _. table_row bytes_peer end };
+
+    ghost names_row = { λ _ _. ⊤ };
+
+    ghost may_want_memory = { λ _ _. true };
+
+    fn read(&self, alloc: Global, buf: &NlaBuffer<&[u8]>) -> Result<DefaultNla, DecodeError> {
+        DefaultNla::parse(alloc, buf)
+    }
+}
+
+/// Reads a list of attributes of any kinds, each kept as it is. It succeeds exactly where the bytes
+/// are a list, memory aside.
+#[tactic(auto, using(crate::proofs::RawRules::raw_rules))]
+pub fn parse_raw(alloc: Global, bytes: &[u8]) -> Result<Vec<DefaultNla>, DecodeError>
+    ensures ok { OnOk result (IsTrue ((list_of bytes_peer any end).accepted bytes.now)) }
+    ensures text { IfOk result
+        (λ v. text_by (λ a. a) v.items ≡ (list_of bytes_peer any end).canonical bytes.now) }
+    ensures fits { IfOk result
+        (λ v. all_fit_by (λ a. a)
+        (λ _. true) v.items ≡ (list_of bytes_peer any end).fits bytes.now) }
+    ensures err { IfErr result
+        (λ e. is_memory e ≡ false → (list_of bytes_peer any end).accepted bytes.now ≡ false) }
+    ensures not_empty { IfErr result (λ _. 0 < length bytes.now) }
+{
+    parse_list(alloc, &RawReader, bytes)
+}

@@ -1,0 +1,247 @@
+use attribute_tables::parse_family;
+use link_message::{AddressFamily, LinkAttribute};
+use link_message_af_spec::{AfSpecInet, AfSpecInet6, AfSpecUnspec, parse_families};
+use link_message_lists::{
+    AfSpecMctp, DevlinkPort, DpllPin, LinkProtoInfoInet6, LinkProtocolDownReason, LinkXdp, Prop,
+    parse_raw,
+};
+use link_message_records::{Map, Values, VfVlanInfo};
+use link_message_types::{
+    Flags, In6AddrGenMode, Inet6IfaceFlags, MctpPhysBinding, VlanProtocol, XdpAttached,
+};
+use link_message_virtual_functions::{LinkVfInfo, LinkVfPort, VfInfo, VfPort, VfVlan};
+use netlink_packet_core::{DefaultNla, Family, Nla, emit_all, fits_all, len_all};
+use std::alloc::Global;
+use std::net::Ipv6Addr;
+use std::test::Fail;
+
+/// Whether values are written as these bytes, 64 at most.
+fn are_written_as<N: Nla>(values: &[N], bytes: &[u8]) -> bool {
+    let mut text = [0xffu8; 64];
+    let size = len_all(values);
+    if !fits_all(values) || size > text.len() {
+        return false;
+    }
+    emit_all(values, &mut text);
+    &text[..size] == bytes
+}
+
+/// Whether a list is read as these values, and written from them again.
+fn is_list_of<F>(alloc: Global, bytes: &[u8], values: &[F]) -> Result<bool, Fail>
+where
+    F: Family + PartialEq + Drop,
+{
+    let list: Vec<F> = parse_family(alloc, bytes)?;
+    Ok(list.as_slice() == values && are_written_as(&list, bytes))
+}
+
+#[test]
+fn other_names(rt: HostRuntime) -> Result<(), Fail> {
+    let name = String::from_str(rt.alloc(), "lo")?;
+    let bytes = &[7, 0, 53, 0, b'l', b'o', 0, 0];
+    assert!(rt; is_list_of(rt.alloc(), bytes, &[Prop::AltIfName(name)])?);
+    Ok(())
+}
+
+#[test]
+fn ports_of_devlink(rt: HostRuntime) -> Result<(), Fail> {
+    let bus = String::from_str(rt.alloc(), "pci")?;
+    let device = String::from_str(rt.alloc(), "0:1")?;
+    let values = &[
+        DevlinkPort::BusName(bus),
+        DevlinkPort::DevName(device),
+        DevlinkPort::PortIndex(5),
+    ];
+    let bytes = b"\x08\0\x01\0pci\0\x08\0\x02\x000:1\0\x08\0\x03\0\x05\0\0\0";
+    assert!(rt; is_list_of(rt.alloc(), bytes, values)?);
+    Ok(())
+}
+
+#[test]
+fn reasons_pins_and_programs(rt: HostRuntime) -> Result<(), Fail> {
+    let reasons = &[
+        LinkProtocolDownReason::Mask(3),
+        LinkProtocolDownReason::Value(1),
+    ];
+    let bytes = &[8, 0, 1, 0, 3, 0, 0, 0, 8, 0, 2, 0, 1, 0, 0, 0];
+    assert!(rt; is_list_of(rt.alloc(), bytes, reasons)?);
+    let pins = &[DpllPin::PinId(42)];
+    assert!(rt; is_list_of(rt.alloc(), &[8, 0, 1, 0, 42, 0, 0, 0], pins)?);
+    let programs = &[
+        LinkXdp::Fd(-1),
+        LinkXdp::Attached(XdpAttached::Driver),
+        LinkXdp::ExpectedFd(7),
+    ];
+    let bytes = &[
+        8, 0, 1, 0, 255, 255, 255, 255, 5, 0, 2, 0, 1, 0, 0, 0, 8, 0, 8, 0, 7, 0, 0, 0,
+    ];
+    assert!(rt; is_list_of(rt.alloc(), bytes, programs)?);
+    Ok(())
+}
+
+#[test]
+fn raw_lists(rt: HostRuntime) -> Result<(), Fail> {
+    let bytes = &[5, 0, 1, 0x80, 7, 0, 0, 0];
+    let kept = DefaultNla::new(0x8001, [7u8].to_vec(rt.alloc())?);
+    let list = parse_raw(rt.alloc(), bytes)?;
+    assert!(rt; list.as_slice() == [kept].as_slice());
+    let kept = DefaultNla::new(0x8001, [7u8].to_vec(rt.alloc())?);
+    let values = &[LinkProtoInfoInet6::Other(kept)];
+    assert!(rt; is_list_of(rt.alloc(), bytes, values)?);
+    assert!(rt; parse_raw(rt.alloc(), &[3]).is_err());
+    Ok(())
+}
+
+#[test]
+fn what_families_tell(rt: HostRuntime) -> Result<(), Fail> {
+    let bytes = &[
+        12, 0, 45, 0, 5, 0, 2, 0, 3, 0, 0, 0, 48, 0, 10, 0, 8, 0, 1, 0, 0x10, 0, 0, 0x80, 20, 0, 7,
+        0, 0, 0, 0, 0, 0, 0, 0, 0, 0, 0, 0, 0, 0, 0, 0, 1, 8, 0, 9, 0, 0xdc, 5, 0, 0, 5, 0, 8, 0,
+        2, 0, 0, 0,
+    ];
+    let flags = Inet6IfaceFlags::RsSent.union(Inet6IfaceFlags::Ready);
+    let protocol = vec![in rt.alloc(); AfSpecMctp::PhysBinding(MctpPhysBinding::Usb)]?;
+    let inet6 = vec![in rt.alloc();
+        AfSpecInet6::Flags(flags),
+        AfSpecInet6::Token(Ipv6Addr::LOCALHOST),
+        AfSpecInet6::RaMtu(1500),
+        AfSpecInet6::AddrGenMode(In6AddrGenMode::StablePrivacy),
+    ]?;
+    let values = &[AfSpecUnspec::Mctp(protocol), AfSpecUnspec::Inet6(inet6)];
+    let list = parse_families(rt.alloc(), bytes)?;
+    assert!(rt; list.as_slice() == values.as_slice());
+    assert!(rt; are_written_as(&list, bytes));
+    Ok(())
+}
+
+#[test]
+fn settings_are_requested(rt: HostRuntime) {
+    let mut values = [0; 33];
+    values[0] = 1;
+    values[2] = 2;
+    let request = &[AfSpecInet::DevConfRequest(Values { values })];
+    let bytes = &[
+        20, 0, 1, 0x80, 8, 0, 1, 0, 1, 0, 0, 0, 8, 0, 3, 0, 2, 0, 0, 0,
+    ];
+    assert!(rt; are_written_as(request, bytes));
+}
+
+/// Whether each attribute is read under its family as this value, and written from it again.
+fn are_attributes(
+    alloc: Global,
+    cases: &[(AddressFamily, &[u8], LinkAttribute)],
+) -> Result<bool, Fail> {
+    for (family, bytes, value) in cases {
+        let list = LinkAttribute::parse_list(alloc, bytes, *family)?;
+        let [read] = list.as_slice() else {
+            return Ok(false);
+        };
+        if read != value || !are_written_as(&list, bytes) {
+            return Ok(false);
+        }
+    }
+    Ok(true)
+}
+
+/// A list of one attribute that is kept as it is: kind 0x8001, and a byte 7.
+fn kept(alloc: Global) -> Result<Vec<DefaultNla>, Fail> {
+    let nla = DefaultNla::new(0x8001, [7u8].to_vec(alloc)?);
+    Ok(vec![in alloc; nla]?)
+}
+
+#[test]
+fn rows_go_by_the_family(rt: HostRuntime) -> Result<(), Fail> {
+    let protocol = vec![in rt.alloc(); AfSpecMctp::PhysBinding(MctpPhysBinding::Usb)]?;
+    let families = vec![in rt.alloc(); AfSpecUnspec::Mctp(protocol)]?;
+    let bridge = LinkAttribute::ProtoInfoBridge(kept(rt.alloc())?);
+    let inet6 = LinkAttribute::ProtoInfoInet6(Vec::new(rt.alloc()));
+    let unknown = DefaultNla::new(0xc00c, Vec::new(rt.alloc()));
+    let bytes = [255u8].to_vec(rt.alloc())?;
+    let specific = LinkAttribute::AfSpecBridge(kept(rt.alloc())?);
+    let cases: &[(AddressFamily, &[u8], LinkAttribute)] = &[
+        (
+            AddressFamily::Bridge,
+            &[12, 0, 12, 0, 5, 0, 1, 0x80, 7, 0, 0, 0],
+            bridge,
+        ),
+        (AddressFamily::Inet6, &[4, 0, 12, 0], inet6),
+        (
+            AddressFamily::Inet,
+            &[4, 0, 12, 0xc0],
+            LinkAttribute::ProtoInfoUnknown(unknown),
+        ),
+        (
+            AddressFamily::Unspec,
+            &[16, 0, 26, 0, 12, 0, 45, 0, 5, 0, 2, 0, 3, 0, 0, 0],
+            LinkAttribute::AfSpecUnspec(families),
+        ),
+        (
+            AddressFamily::Bridge,
+            &[12, 0, 26, 0, 5, 0, 1, 0x80, 7, 0, 0, 0],
+            specific,
+        ),
+        (
+            AddressFamily::Inet6,
+            &[5, 0, 26, 0, 255, 0, 0, 0],
+            LinkAttribute::AfSpecUnknown(bytes),
+        ),
+    ];
+    assert!(rt; are_attributes(rt.alloc(), cases)?);
+    Ok(())
+}
+
+#[test]
+fn records_and_lists_of_links(rt: HostRuntime) -> Result<(), Fail> {
+    let vlan = VfVlanInfo::new(0, 100, 0, VlanProtocol::Ieee8021Q);
+    let vlans = vec![in rt.alloc(); VfVlan::Info(vlan)]?;
+    let function = LinkVfInfo(vec![in rt.alloc(); VfInfo::VlanList(vlans)]?);
+    let functions = vec![in rt.alloc(); function]?;
+    let nla = DefaultNla::new(7, Vec::new(rt.alloc()));
+    let ports = vec![in rt.alloc(); LinkVfPort(vec![in rt.alloc(); VfPort::Other(nla)]?)]?;
+    let nla = DefaultNla::new(7, Vec::new(rt.alloc()));
+    let port = LinkVfPort(vec![in rt.alloc(); VfPort::Other(nla)]?);
+    let pins = vec![in rt.alloc(); DpllPin::PinId(42)]?;
+    let map = Map {
+        memory_start: 1,
+        memory_end: 2,
+        base_address: 3,
+        irq: 4,
+        dma: 5,
+        port: 6,
+    };
+    let cases: &[(AddressFamily, &[u8], LinkAttribute)] = &[
+        (
+            AddressFamily::Unspec,
+            &[
+                32, 0, 22, 0, 28, 0, 1, 0, 24, 0, 12, 0, 20, 0, 1, 0, 0, 0, 0, 0, 100, 0, 0, 0, 0,
+                0, 0, 0, 129, 0, 0, 0,
+            ],
+            LinkAttribute::VfInfoList(functions),
+        ),
+        (
+            AddressFamily::Unspec,
+            &[12, 0, 24, 0, 8, 0, 1, 0, 4, 0, 7, 0],
+            LinkAttribute::VfPorts(ports),
+        ),
+        (
+            AddressFamily::Unspec,
+            &[8, 0, 25, 0, 4, 0, 7, 0],
+            LinkAttribute::PortSelf(port),
+        ),
+        (
+            AddressFamily::Unspec,
+            &[12, 0, 65, 0x80, 8, 0, 1, 0, 42, 0, 0, 0],
+            LinkAttribute::DpllPin(pins),
+        ),
+        (
+            AddressFamily::Unspec,
+            &[
+                36, 0, 14, 0, 1, 0, 0, 0, 0, 0, 0, 0, 2, 0, 0, 0, 0, 0, 0, 0, 3, 0, 0, 0, 0, 0, 0,
+                0, 4, 0, 5, 6, 0, 0, 0, 0,
+            ],
+            LinkAttribute::Map(map),
+        ),
+    ];
+    assert!(rt; are_attributes(rt.alloc(), cases)?);
+    Ok(())
+}

@@ -1,5 +1,5 @@
 -- What the rule of bodies says of bytes that hold a header.
-use Rattle.std.proofs.Common.{◌≡◌, ℕ, ◌≤◌, ◌<◌, Bool, true, false, List, [], ◌∷◌, ◌++◌, length, drop, Some, refl, sym, ap, subst, ◌∙◌, arith, inl, inr}
+use Rattle.std.proofs.Common.{◌≡◌, ℕ, ◌≤◌, ◌<◌, Bool, true, false, List, [], ◌∷◌, ◌++◌, length, Some, refl, sym, ap, subst, ◌∙◌, arith, inl, inr}
 use Rattle.std.specs.Prelude.{◌&&◌, ◌||◌, ◌==◌, nat_le, slice_index, map}
 use Rattle.std.specs.List.{list_any}
 use Rattle.std.proofs.Math.Nat.{min-eq_left, min-eq_right}
@@ -43,7 +43,7 @@ body-empty_ports law b f h vs r =
     sym (read_empty vs) ∙ sym (law f (attribute_bytes b) _ r) ∙ ap (λ g. (attributes_rule g).empty_ports (attribute_bytes b)) h ∙ sym (bodies_are_headers_and_attributes b).empty_ports
 
 -- a size of which `buffer_len` and its like tell, is 0 where they tell 0
-size_told : (n : ℕ) → (as_usize n == 0) ≡ (n == 0)
+pub size_told : (n : ℕ) → (as_usize n == 0) ≡ (n == 0)
 size_told n =
     elim (cases_lt 18446744073709551615 n) [
       | inl k ↦ ap (λ x. x == 0) (min-eq_right (omega (arith, k))) ∙ sym (ne_eqb n 0 (λ h. absurd (omega (arith, h, k))))

@@ -57,6 +57,24 @@ fn masks_are_listed(rt: HostRuntime) -> Result<(), Fail> {
 }
 
 #[test]
+fn flags_are_displayed_by_name(rt: HostRuntime) -> Result<(), Fail> {
+    let texts = [
+        (0, ""),
+        (0x1, "Up"),
+        (0x40000, "Echo"),
+        (0x1043, "Up | Broadcast | Running | Multicast"),
+        (0x80000, "0x80000"),
+        (0x80000001, "Up | 0x80000000"),
+        (0xc0110009, "Up | Loopback | LowerUp | 0xc0100000"),
+    ];
+    for (bits, text) in texts {
+        let flags = LinkFlags::from_bits_retain(bits);
+        assert_eq!(rt; format!(in rt.alloc(); "{flags}")?.as_str(), text);
+    }
+    Ok(())
+}
+
+#[test]
 fn identifiers_are_bytes(rt: HostRuntime) -> Result<(), Fail> {
     let id = LinkPhysId::parse(rt.alloc(), &[1, 2, 3])?;
     assert!(rt; id.bytes.as_slice() == [1, 2, 3].as_slice());

@@ -1,3 +1,4 @@
 pub mod LayerTypes
 pub mod HeaderBytes
 pub mod Masks
+pub mod FlagTexts

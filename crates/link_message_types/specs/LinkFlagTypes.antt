@@ -1,5 +1,9 @@
 -- The flags of links.
-use Rattle.std.specs.Prelude.{ℕ, List, [], ◌∷◌, codes}
+use Rattle.std.specs.Prelude.{ℕ, List, [], ◌∷◌, ◌++◌, ◌==◌, codes, false, filter, if◌then◌else◌, map}
+use Rattle.std.specs.Fmt.{digits}
+use Rattle.std.specs.Int.RustNames.{bit_and}
+use Rattle.std.specs.List.{join_by}
+use Rattle.bitflags.specs.Sets.{known_bits, without}
 use Rattle.link_message_types.specs.declared.link_flag.LinkFlags.{LinkFlags}
 
 -- the bits of a set of flags
@@ -29,3 +33,17 @@ link_flags_table =
     (codes "Dormant", 0x20000) ∷
     (codes "Echo", 0x40000) ∷
     []
+
+-- the names of the flags of a table that a number has
+abbrev pub flag_names : List (List ℕ × ℕ) → ℕ → List (List ℕ)
+flag_names table n = map (λ row. row.0) (filter (λ row. bit_and n row.1 == row.1) table)
+
+-- the bits that have no name as one number in hexadecimal; no text where there are none
+abbrev pub unnamed_text : ℕ → List (List ℕ)
+unnamed_text n = if n == 0 then [] else (codes "0x" ++ digits 16 false n) ∷ []
+
+-- what a set of flags is written as: the names of its flags, and then its bits that have no name, with ` | ` between each two
+unfoldable pub link_flags_text : LinkFlags → List ℕ
+link_flags_text f =
+    let unnamed = without 32 f.0 (known_bits link_flags_table) in
+    join_by (λ text. text) (codes " | ") (flag_names link_flags_table f.0 ++ unnamed_text unnamed)

@@ -1,9 +1,10 @@
 //! Flags of links.
 
-ghost use Rattle.std.specs.Prelude.{◌≡◌, ⊤};
-ghost use Rattle.link_message_types.specs.LinkFlagTypes.{link_flags_bits, link_flags_table};
+ghost use Rattle.std.specs.Prelude.{◌≡◌, ⊤, Some};
+ghost use Rattle.link_message_types.specs.LinkFlagTypes.{link_flags_bits, link_flags_table, link_flags_text};
 
 use bitflags::{Flag, Flags};
+use std::fmt;
 
 /// What a link is and does, `IFF_*` of `linux/if.h`. On the wire 4 bytes in native order; all bits
 /// are kept.
@@ -149,5 +150,27 @@ impl Flags for LinkFlags {
 
     fn from_bits_retain(bits: u32) -> LinkFlags {
         LinkFlags(bits)
+    }
+}
+
+/// The names of the flags that are set, in the order of their bits, and then all bits that have no
+/// name, if any, as one number in hexadecimal, with ` | ` between each two:
+/// `Up | Broadcast | 0x80000`. Nothing is written where no bit is set.
+impl fmt::Display for LinkFlags {
+    ghost output = { λ v. Some (link_flags_text v) };
+
+    fn fmt<W: fmt::Write>(&self, f: &mut fmt::Formatter<W>) -> fmt::Result {
+        let mut separator = "";
+        for flag in Self::flags() {
+            if self.contains(flag.value) {
+                write!(f, "{separator}{}", flag.name)?;
+                separator = " | ";
+            }
+        }
+        let unnamed = self.difference(Self::all());
+        if !unnamed.is_empty() {
+            write!(f, "{separator}0x{:x}", unnamed.0)?;
+        }
+        Ok(())
     }
 }

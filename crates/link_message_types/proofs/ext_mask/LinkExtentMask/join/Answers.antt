@@ -1,4 +1,4 @@
-use Rattle.std.proofs.Common.{◌≡◌, ◌∙◌, sym}
+use Rattle.std.proofs.Common.{◌∙◌, sym}
 use Rattle.link_message_types.proofs.Masks.{join_step, join_end}
 use Rattle.link_message_types.proofs.ext_mask.LinkExtentMask.join.Goals as goal
 

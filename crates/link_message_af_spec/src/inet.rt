@@ -28,7 +28,7 @@ const SETTINGS: usize = 33;
 /// An attribute of the settings of IPv4 on a link.
 #[derive(Debug, PartialEq, Eq, Drop)]
 pub enum AfSpecInet {
-    /// `IFLA_INET_CONF`: all settings; 132 bytes, of which a reader asks for none.
+    /// `IFLA_INET_CONF`: all settings, written as 132 bytes and read from any number of bytes.
     DevConf(InetDevConf),
     /// `IFLA_INET_CONF` as a request to change settings: a list of attributes with the nested bit,
     /// one of 4 bytes for each setting that isn't 0, whose kind is the setting's place from 1 on. It

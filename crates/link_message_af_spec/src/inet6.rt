@@ -45,11 +45,12 @@ pub enum AfSpecInet6 {
     Flags(Inet6IfaceFlags),
     /// `IFLA_INET6_CACHEINFO`: times; 16 bytes, and a reader drops what follows them.
     CacheInfo(Inet6CacheInfo),
-    /// `IFLA_INET6_CONF`: all settings; 236 bytes, of which a reader asks for none.
+    /// `IFLA_INET6_CONF`: all settings, written as 236 bytes and read from any number of bytes.
     DevConf(Inet6DevConf),
-    /// `IFLA_INET6_STATS`: statistics; 304 bytes, of which a reader asks for none.
+    /// `IFLA_INET6_STATS`: statistics, written as 304 bytes and read from any number of bytes.
     Stats(Inet6Stats),
-    /// `IFLA_INET6_ICMP6STATS`: statistics of ICMPv6; 56 bytes, of which a reader asks for none.
+    /// `IFLA_INET6_ICMP6STATS`: statistics of ICMPv6, written as 56 bytes and read from any number of
+    /// bytes.
     Icmp6Stats(Icmp6Stats),
     /// `IFLA_INET6_TOKEN`: the end of the addresses that the link makes; 16 bytes.
     Token(Ipv6Addr),

@@ -258,11 +258,11 @@ pub enum LinkAttribute {
     LinkNetnsId(u32),
     /// `IFLA_OPERSTATE`: the operational state; 1 byte.
     OperState(State),
-    /// `IFLA_STATS`: statistics; 96 bytes, of which a reader asks for none.
+    /// `IFLA_STATS`: statistics, written as 96 bytes and read from any number of bytes.
     Stats(Stats),
-    /// `IFLA_STATS64`: statistics; 200 bytes, of which a reader asks for none.
+    /// `IFLA_STATS64`: statistics, written as 200 bytes and read from any number of bytes.
     Stats64(Stats64),
-    /// `IFLA_MAP`: the memory of the device; 32 bytes, of which a reader asks for 28.
+    /// `IFLA_MAP`: the memory of the device, written as 32 bytes and read from at least 28.
     Map(Map),
     /// `IFLA_AF_SPEC` where the family is none: what each address family tells; a list of
     /// attributes.

@@ -20,7 +20,7 @@ const IFLA_VF_VLAN_INFO: u16 = 1;
 /// A VLAN of a virtual function.
 #[derive(Debug, PartialEq, Eq, Drop)]
 pub enum VfVlan {
-    /// `IFLA_VF_VLAN_INFO`: the VLAN; 16 bytes, of which a reader asks for 14.
+    /// `IFLA_VF_VLAN_INFO`: the VLAN, written as 16 bytes and read from at least 14.
     Info(VfVlanInfo),
     /// Any other kind, kept as it is.
     Other(DefaultNla),

@@ -83,6 +83,8 @@ pub fn parse_first<F: Family + Drop>(alloc: Global, bytes: &[u8]) -> Result<F, D
     ensures err { IfErr result
         (λ e. (list_of bytes_peer first_alone F.rows).accepted bytes.now ≡ is_memory e) }
     ensures not_empty { IfErr result (λ e. is_memory e ≡ true → 0 < length bytes.now) }
+    ensures memory { IfErr result
+        (λ e. is_memory e ≡ true → begins_accepted (family_row F.rows) bytes.now ≡ true) }
 {
     let buf = NlaBuffer::new_checked(bytes)?;
     let value = read_attribute(alloc, &buf)?;

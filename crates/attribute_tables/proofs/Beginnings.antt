@@ -1,5 +1,5 @@
 -- What a list begins with, as its readers know it.
-use Rattle.std.proofs.Common.{◌≡◌, ℕ, zero, suc, ◌≤◌, Bool, true, false, cond, List, [], ◌∷◌, length, Option, Some, None, refl, sym, ap, ◌∙◌, arith}
+use Rattle.std.proofs.Common.{◌≡◌, ℕ, zero, suc, ◌≤◌, Bool, true, false, cond, List, [], ◌∷◌, length, Option, Some, None, refl, ap, ◌∙◌, arith}
 use Rattle.std.specs.Prelude.{◌&&◌, ◌||◌, is_some}
 use Rattle.netlink_packet_core_grammar.specs.Attributes.{Attribute, first_attribute, if_some}
 use Rattle.netlink_packet_core_grammar.specs.AttributeViews.{IsAttribute, viewed_attribute, viewed_payload, after_first}

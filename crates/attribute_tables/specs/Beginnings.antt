@@ -27,6 +27,7 @@ payload_may_want_memory None p = true
 payload_may_want_memory (Some (list form t)) p = begins_accepted (family_row t) p
 payload_may_want_memory (Some s) p = payload_holds_bytes s && (payload_rule bytes_peer s).accepted p
 
+-- a kind without a row is kept as bytes
 abbrev pub line_may_want_memory : Option Line → List ℕ → Bool
 line_may_want_memory None p = true
 line_may_want_memory (Some l) p = payload_may_want_memory (Some l.payload) p

@@ -192,8 +192,8 @@ impl LinkInfo {
             ≡ false) }
         ensures memory { IfErr result
             (λ e. is_memory e ≡ true
-            → may_want_memory_in (context_of force.entry.kind force.entry.port_kind) (storage buf.now).now
-            ≡ true) }
+            → may_want_memory_in (context_of force.entry.kind force.entry.port_kind)
+            (storage buf.now).now ≡ true) }
     {
         let payload = buf.value();
         match buf.kind() {
@@ -220,7 +220,8 @@ impl LinkInfo {
     }
 
     /// Reads link info. It succeeds exactly where the list is legal, memory aside; a list of no
-    /// bytes is never refused. It answers want of memory only where its first attribute is accepted.
+    /// bytes is never refused. It answers want of memory only where its first attribute is
+    /// accepted.
     pub fn parse_list(alloc: Global, bytes: &[u8]) -> Result<Vec<LinkInfo>, DecodeError>
         ensures ok { OnOk result (IsTrue (info_rule.accepted bytes.now)) }
         ensures read { IfOk result

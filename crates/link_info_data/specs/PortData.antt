@@ -1,7 +1,6 @@
 -- The data of a kind of ports: the rule of each port kind, and what each value is written as.
 use Rattle.std.specs.Prelude.{ℕ, Bool, true, ⊤, List, Option, None}
 use Rattle.std.specs.List.{All}
-use Rattle.std.specs.Option.{is_none}
 use Rattle.netlink_packet_core.specs.Attributes.{Attribute}
 use Rattle.netlink_packet_core.specs.Lists.{text_by, all_fit_by}
 use Rattle.attribute_tables_grammar.specs.LookUps.{payload_at, rule_or_raw}
@@ -29,9 +28,6 @@ port_data_rule_of_under p k = rule_or_raw p (port_data_payload_of k)
 
 abbrev pub port_data_rule_of : InfoPortKind → Rule
 port_data_rule_of = port_data_rule_of_under bytes_peer
-
-abbrev pub port_keeps_bytes : InfoPortKind → Bool
-port_keeps_bytes k = is_none (port_data_payload_of k)
 
 -- bytes may want memory, and so may a list where its first attribute is accepted
 abbrev pub port_data_may_want_memory : InfoPortKind → List ℕ → Bool

@@ -7,7 +7,7 @@ use Rattle.attribute_tables_grammar.specs.Lists.{nothing, rewrite}
 use Rattle.attribute_tables_grammar.specs.Tables.{info_next}
 use Rattle.link_info_grammar.specs.LinkInfo.{info_rule, link_info_row}
 use Rattle.link_info.specs.LinkInfo.{context_of, info_begins_accepted, is_accepted_in, may_want_memory_in, link_info_entry, link_info_fits}
-use Rattle.link_info.proofs.InfoReading.{State, Done, Begun, at_start, past_first, begun_wanting, begun_accepted, state_start, state_more, state_refused, state_stopped, state_done}
+use Rattle.link_info.proofs.InfoReading.{State, Done, at_start, past_first, begun_wanting, begun_accepted, state_start, state_more, state_refused, state_stopped, state_done}
 use Rattle.link_info.proofs.infos.LinkInfo.parse_list.Goals as goal
 
 pub loop-force-init : goal.loop-force-init

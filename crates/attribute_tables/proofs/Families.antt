@@ -1,16 +1,16 @@
 -- The rule of a family's list is the rule of its rows, and what holds no attributes fits.
-use Rattle.std.proofs.Common.{◌≡◌, ℕ, List, true, refl}
-use Rattle.std.specs.Prelude.{Option, Some, None}
+use Rattle.std.proofs.Common.{◌≡◌, ℕ, List, true}
 use Rattle.attribute_tables_grammar.specs.Lists.{any}
 use Rattle.attribute_tables_grammar.specs.LookUps.{list_of, rows_rule, table_row, holds_no_lists}
 use Rattle.attribute_tables_grammar.specs.Peers.{bytes_peer}
 use Rattle.attribute_tables_grammar.specs.Tables.{Table}
 use Rattle.attribute_tables_grammar.proofs.LookUps.{list-rows, fits-without_lists}
+use Rattle.attribute_tables.proofs.Beginnings.{family-begins}
 
 pub family-list : (t : Table) → list_of bytes_peer any t ≡ rows_rule any (table_row bytes_peer t)
 family-list t = list-rows bytes_peer any t
 
-pub ruleset family_lists = (family-list)
+pub ruleset family_lists = (family-list, family-begins)
 
 -- what an attribute of a table without lists holds fits
 pub family-fits : (t : Table) → holds_no_lists t ≡ true → (k : ℕ) (bytes : List ℕ) → (table_row bytes_peer t k).rule.fits bytes ≡ true

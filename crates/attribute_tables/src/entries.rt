@@ -9,6 +9,7 @@ ghost use Rattle.netlink_packet_core.specs.Lists.{text_by, all_fit_by};
 ghost use Rattle.attribute_tables_grammar.specs.Lists.{Row, rewrite, of_kind_one, ports, is_of_kind_one, without_context};
 ghost use Rattle.attribute_tables_grammar.specs.LookUps.{rows_rule, only_one};
 ghost use Rattle.attribute_tables_grammar.specs.Readings.{reading_as};
+ghost use Rattle.attribute_tables.specs.Beginnings.{entries_begin_readable};
 ghost use Rattle.attribute_tables.specs.Written.{written_as};
 
 use netlink_packet_core::{DecodeError, Nla, NlaBuffer, skip_first};
@@ -27,6 +28,9 @@ pub trait EntryReader {
     /// The value is the one that its row names.
     ghost names_row: { Self → Self.Value → Type 0 };
 
+    /// Whether reading the payload of an entry may take memory.
+    ghost may_want_memory: { Self → List ℕ → Bool };
+
     /// Reads one entry.
     fn read(&self, alloc: Global, buf: &NlaBuffer<&[u8]>) -> Result<Self::Value, DecodeError>
         requires whole { IsAttribute (storage buf.now).now }
@@ -38,12 +42,16 @@ pub trait EntryReader {
             (λ v. Self.Value.inside_fits v ≡ (entry_row self.now).rule.fits (viewed_payload (storage buf.now).now)) }
         ensures names_row { IfOk result (λ v. names_row self.now v) }
         ensures err { IfErr result
-            (λ e. is_memory e ≡ false → (entry_row self.now).rule.accepted (viewed_payload (storage buf.now).now) ≡ false) };
+            (λ e. is_memory e ≡ false → (entry_row self.now).rule.accepted (viewed_payload (storage buf.now).now) ≡ false) }
+        ensures memory { IfErr result
+            (λ e. is_memory e ≡ true
+            → may_want_memory self.now (viewed_payload (storage buf.now).now) ≡ true) };
 }
 
 /// Reads a list of which the attributes of kind 1 are kept; every other attribute may hold any
 /// bytes, and is dropped. It succeeds exactly where the list is accepted, memory aside; a list of
-/// no bytes is never refused.
+/// no bytes is never refused. It answers want of memory only where the first attribute of kind 1
+/// is accepted, or where reading that one may want memory.
 pub fn parse_entries<R: EntryReader>(
     alloc: Global,
     reader: &R,
@@ -63,6 +71,10 @@ pub fn parse_entries<R: EntryReader>(
         (λ e. is_memory e ≡ false
         → (rows_rule of_kind_one (only_one (R.entry_row reader.now))).accepted bytes.now ≡ false) }
     ensures not_empty { IfErr result (λ _. 0 < length bytes.now) }
+    ensures memory { IfErr result
+        (λ e. is_memory e ≡ true
+        → entries_begin_readable (R.entry_row reader.now) (R.may_want_memory reader.now) bytes.now
+        ≡ true) }
 {
     let mut list = Vec::new(alloc);
     let mut rest = bytes;
@@ -100,6 +112,10 @@ pub fn parse_ports<R: EntryReader>(
         (λ e. is_memory e ≡ false
         → (rows_rule ports (only_one (R.entry_row reader.now))).accepted bytes.now ≡ false) }
     ensures not_empty { IfErr result (λ e. is_memory e ≡ true → 0 < length bytes.now) }
+    ensures memory { IfErr result
+        (λ e. is_memory e ≡ true
+        → entries_begin_readable (R.entry_row reader.now) (R.may_want_memory reader.now) bytes.now
+        ≡ true) }
 {
     if bytes.is_empty() {
         return Err(DecodeError::from("a list of ports without an attribute"));

@@ -11,6 +11,7 @@ ghost use Rattle.attribute_tables_grammar.specs.Lists.{any, first_alone, without
 ghost use Rattle.attribute_tables_grammar.specs.LookUps.{list_of};
 ghost use Rattle.attribute_tables_grammar.specs.Peers.{bytes_peer};
 ghost use Rattle.attribute_tables_grammar.specs.Readings.{reading_as};
+ghost use Rattle.attribute_tables.specs.Beginnings.{begins_accepted};
 ghost use Rattle.attribute_tables.specs.Written.{written_as};
 
 use super::reader::{Reader, parse_list};
@@ -45,7 +46,8 @@ impl<F: Family + Drop> Reader for FamilyReader<F> {
 }
 
 /// Reads a list of attributes of a family. It succeeds exactly where the list is accepted, memory
-/// aside; a list of no bytes is never refused.
+/// aside; a list of no bytes is never refused. It answers want of memory only where its first
+/// attribute is accepted.
 #[tactic(auto, using(crate::proofs::Families::family_lists))]
 pub fn parse_family<F: Family + Drop>(alloc: Global, bytes: &[u8]) -> Result<Vec<F>, DecodeError>
     ensures ok { OnOk result (IsTrue ((list_of bytes_peer any F.rows).accepted bytes.now)) }
@@ -61,6 +63,8 @@ pub fn parse_family<F: Family + Drop>(alloc: Global, bytes: &[u8]) -> Result<Vec
     ensures err { IfErr result
         (λ e. is_memory e ≡ false → (list_of bytes_peer any F.rows).accepted bytes.now ≡ false) }
     ensures not_empty { IfErr result (λ _. 0 < length bytes.now) }
+    ensures memory { IfErr result
+        (λ e. is_memory e ≡ true → begins_accepted (family_row F.rows) bytes.now ≡ true) }
 {
     parse_list(alloc, &FamilyReader::<F>::new(), bytes)
 }
@@ -79,6 +83,8 @@ pub fn parse_first<F: Family + Drop>(alloc: Global, bytes: &[u8]) -> Result<F, D
     ensures err { IfErr result
         (λ e. (list_of bytes_peer first_alone F.rows).accepted bytes.now ≡ is_memory e) }
     ensures not_empty { IfErr result (λ e. is_memory e ≡ true → 0 < length bytes.now) }
+    ensures memory { IfErr result
+        (λ e. is_memory e ≡ true → begins_accepted (family_row F.rows) bytes.now ≡ true) }
 {
     let buf = NlaBuffer::new_checked(bytes)?;
     let value = read_attribute(alloc, &buf)?;

@@ -10,6 +10,7 @@ ghost use Rattle.attribute_tables_grammar.specs.Lists.{Row, any, without_context
 ghost use Rattle.attribute_tables_grammar.specs.LookUps.{rows_rule};
 ghost use Rattle.attribute_tables_grammar.specs.Readings.{reading_as};
 ghost use Rattle.attribute_tables.specs.Views.{fits_by, is_accepted_by, rewritten_by};
+ghost use Rattle.attribute_tables.specs.Beginnings.{begins_readable};
 ghost use Rattle.attribute_tables.specs.Written.{written_as};
 
 use netlink_packet_core::{DecodeError, Nla, NlaBuffer, skip_first};
@@ -45,7 +46,8 @@ pub trait Reader {
 }
 
 /// Reads a list of attributes of one table. It succeeds exactly where the list is accepted, memory
-/// aside; a list of no bytes is never refused.
+/// aside; a list of no bytes is never refused. It answers want of memory only where its first
+/// attribute is accepted, or where reading that one may want memory.
 pub fn parse_list<R: Reader>(
     alloc: Global,
     reader: &R,
@@ -66,6 +68,9 @@ pub fn parse_list<R: Reader>(
         (λ e. is_memory e ≡ false → (rows_rule any (R.row_of reader.now)).accepted bytes.now
         ≡ false) }
     ensures not_empty { IfErr result (λ _. 0 < length bytes.now) }
+    ensures memory { IfErr result
+        (λ e. is_memory e ≡ true
+        → begins_readable (R.row_of reader.now) (R.may_want_memory reader.now) bytes.now ≡ true) }
 {
     let mut list = Vec::new(alloc);
     let mut rest = bytes;

@@ -1,12 +1,12 @@
 -- What is written of a message is read as the message.
 use Rattle.std.proofs.Common.{◌≡◌, ℕ, List, Ok, Some, refl, ap, arith}
-use Rattle.std.specs.Prelude.{false, nat_eq}
+use Rattle.std.specs.Prelude.{false, true, nat_eq}
 use Rattle.std.proofs.lemmas.Bool.Decides.{nat_tests}
 use Rattle.netlink_packet_core.specs.TypedBodies.{IsInner}
 use Rattle.link_capture_grammar.specs.Bodies.{is_link_type, body_text}
 use Rattle.link_capture_messages.specs.declared.route.RouteLink.{RouteLink}
 use Rattle.link_capture_messages.specs.KeptTypes.{IsKeptType}
-use Rattle.link_capture_messages.specs.Routes.{route_entry, typed_text, reads_route}
+use Rattle.link_capture_messages.specs.Routes.{route_entry, route_may_want_memory, typed_text, reads_route}
 
 record NotListed (t : ℕ) : Type 0 where
   noop : nat_eq t 1 ≡ false
@@ -24,6 +24,10 @@ not_listed t k =
 pub other_text : (t : ℕ) (b : List ℕ) → IsKeptType t → body_text t b ≡ Ok b
 unfolding body_text
 other_text t b k = let n = not_listed t k in rw (n.noop, n.error, n.done, n.link) refl
+
+-- keeping one may want memory
+pub other_wants : (t : ℕ) (b : List ℕ) → IsKeptType t → route_may_want_memory t b ≡ true
+other_wants t b k = let n = not_listed t k in rw n.link refl
 
 pub round_trip : (x : RouteLink) → reads_route (route_entry x).0 (route_entry x).1 ≡ Some (route_entry x)
 unfolding body_text

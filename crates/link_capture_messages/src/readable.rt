@@ -3,7 +3,7 @@
 ghost use Rattle.std.specs.Prelude.{◌≡◌, ◌≢◌, ◌↔◌, Ok, true, false, IfOk, IfErr, OnOk};
 ghost use Rattle.link_capture_grammar.specs.Bodies.{ruled_text};
 ghost use Rattle.link_message_grammar.specs.Body.{link_body};
-ghost use Rattle.link_message_messages.specs.LinkMessages.{link_message_text, link_message_fits};
+ghost use Rattle.link_message_messages.specs.LinkMessages.{body_begins_readable, link_message_text, link_message_fits};
 ghost use Rattle.link_capture_messages.specs.Readable.{IsReadFrom, IsReadable, ReadsAsAnother, says_the_same};
 ghost use Rattle.link_capture_messages.specs.Views.{readable_message, readable_text};
 ghost use Rattle.link_capture_messages.specs.Routes.{TellsOf};
@@ -55,6 +55,8 @@ impl ReadableLink {
         ensures message { IfOk result (λ r. IsReadFrom bytes.now (readable_message r)) }
         ensures err { IfErr result (λ fault. fault ≢ RouteFault.Memory
             → TellsOf fault (ruled_text link_body bytes.now)) }
+        ensures memory { IfErr result (λ fault. fault ≡ RouteFault.Memory
+            → body_begins_readable bytes.now ≡ true) }
     {
         bodies_are_normal();
         bodies_are_headers_and_attributes();

@@ -1,8 +1,8 @@
 //! The messages of a capture, for the core's `NetlinkMessage`.
 
-ghost use Rattle.std.specs.Prelude.{⊤, true};
+ghost use Rattle.std.specs.Prelude.{⊤};
 ghost use Rattle.netlink_packet_core.specs.TypedBodies.{TypedBody};
-ghost use Rattle.link_capture_messages.specs.Routes.{route_entry, reads_route, route_tells, route_wants_memory};
+ghost use Rattle.link_capture_messages.specs.Routes.{route_entry, reads_route, route_may_want_memory, route_tells, route_wants_memory};
 ghost use Rattle.link_capture_messages.specs.RoundTrips.{round_trip, route_inner};
 
 use super::fault::RouteFault;
@@ -82,11 +82,11 @@ impl NetlinkDeserializable for RouteLink {
 
     ghost is_memory = { route_wants_memory };
 
-    ghost may_want_memory = { λ _ _. true };
+    ghost may_want_memory = { route_may_want_memory };
 
     ghost tells = { route_tells };
 
-    #[tactic(auto, using(crate::specs::RoundTrips::other_text), unfolding(link_capture_grammar::specs::Bodies::body_text))]
+    #[tactic(auto, using(crate::specs::RoundTrips::other_text, crate::specs::RoundTrips::other_wants), unfolding(link_capture_grammar::specs::Bodies::body_text))]
     fn deserialize(
         alloc: Global,
         header: &NetlinkHeader,

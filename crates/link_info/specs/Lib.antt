@@ -9,6 +9,7 @@ pub use Rattle.attribute_tables_grammar.specs.Rows
 pub use Rattle.attribute_tables_grammar.specs.Rules
 pub use Rattle.attribute_tables_grammar.specs.Shapes
 pub use Rattle.attribute_tables_grammar.specs.Tables
+pub use Rattle.attribute_tables.specs.Beginnings
 pub use Rattle.attribute_tables.specs.Views
 pub use Rattle.attribute_tables.specs.Written
 pub use Rattle.link_info_grammar.specs.Families

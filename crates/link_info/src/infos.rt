@@ -15,6 +15,7 @@ ghost use Rattle.link_info_data.specs.Data.{info_data_fits, info_data_payload};
 ghost use Rattle.link_info_data.specs.PortData.{info_port_data_fits, info_port_data_payload};
 ghost use Rattle.link_info.specs.LinkInfo.{data_names_row, port_data_names_row};
 ghost use Rattle.link_info.specs.LinkInfo.{context_of, context_after_first, is_accepted_in, fits_in, written_in};
+ghost use Rattle.link_info.specs.LinkInfo.{info_begins_accepted, may_want_memory_in};
 ghost use Rattle.link_info.specs.LinkInfo.{link_info_entry, link_info_fits, link_info_names_row};
 
 use link_info_data::{InfoData, InfoPortData, LinkXstats};
@@ -189,6 +190,10 @@ impl LinkInfo {
             (λ e. is_memory e ≡ false
             → is_accepted_in (context_of force.entry.kind force.entry.port_kind) (storage buf.now).now
             ≡ false) }
+        ensures memory { IfErr result
+            (λ e. is_memory e ≡ true
+            → may_want_memory_in (context_of force.entry.kind force.entry.port_kind)
+            (storage buf.now).now ≡ true) }
     {
         let payload = buf.value();
         match buf.kind() {
@@ -215,7 +220,8 @@ impl LinkInfo {
     }
 
     /// Reads link info. It succeeds exactly where the list is legal, memory aside; a list of no
-    /// bytes is never refused.
+    /// bytes is never refused. It answers want of memory only where its first attribute is
+    /// accepted.
     pub fn parse_list(alloc: Global, bytes: &[u8]) -> Result<Vec<LinkInfo>, DecodeError>
         ensures ok { OnOk result (IsTrue (info_rule.accepted bytes.now)) }
         ensures read { IfOk result
@@ -230,6 +236,8 @@ impl LinkInfo {
         ensures err { IfErr result
             (λ e. is_memory e ≡ false → info_rule.accepted bytes.now ≡ false) }
         ensures not_empty { IfErr result (λ _. 0 < length bytes.now) }
+        ensures memory { IfErr result
+            (λ e. is_memory e ≡ true → info_begins_accepted bytes.now ≡ true) }
     {
         let mut list = Vec::new(alloc);
         let mut force = InForce {

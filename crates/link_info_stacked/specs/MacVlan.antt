@@ -1,5 +1,5 @@
 -- The data of macvlan and of macvtap: the kind and the payload of each value.
-use Rattle.std.specs.Prelude.{◌≡◌, ◌++◌, ◌&&◌, ◌==◌, nat_lt, cond, ℕ, Bool, true, List, [], length}
+use Rattle.std.specs.Prelude.{◌≡◌, ◌++◌, ◌&&◌, ◌==◌, cond, ℕ, Bool, true, List, []}
 use Rattle.std.specs.List.{All}
 use Rattle.std.specs.Int.{w32, cast_unsigned}
 use Rattle.netlink_packet_core.specs.Attributes.{Attribute, proper_kind, attribute_text}
@@ -10,6 +10,7 @@ use Rattle.link_info_grammar.specs.Families.{macvlan, macvlan_address}
 use Rattle.attribute_tables_grammar.specs.Lists.{row_at}
 use Rattle.attribute_tables_grammar.specs.LookUps.{has_no_row}
 use Rattle.attribute_tables_grammar.specs.Tables.{Table}
+use Rattle.attribute_tables.specs.Beginnings.{begins_accepted}
 use Rattle.netlink_packet_core.specs.AttributeViews.{viewed_attribute, viewed_kind, viewed_payload}
 use Rattle.netlink_packet_core.specs.Families.{Gives, attribute, family_row, may_want_memory}
 use Rattle.link_info_stacked.specs.declared.mac_vlan.InfoMacVlan.{InfoMacVlan, Row_of-InfoMacVlan, end_of-InfoMacVlan, more_of-InfoMacVlan, items-the_row-InfoMacVlan, Mode, Flags, MacAddrMode, MacAddr, MacAddrData', MacAddrCount, BcQueueLen, BcQueueLenUsed, BcCutoff, Other}
@@ -57,9 +58,9 @@ mac_vlan_address_names_row = mac_vlan_named_by macvlan_address (λ _. ⊥)
 abbrev pub mac_vlan_names_row : InfoMacVlan → Type 0
 mac_vlan_names_row = mac_vlan_named_by macvlan (All mac_vlan_address_names_row)
 
--- reading an attribute may want memory: the list where it isn't empty, another one where its row holds bytes and accepts it
+-- reading an attribute may want memory: the list where its first attribute is accepted, another one where its row holds bytes and accepts it
 abbrev pub mac_vlan_may_want_memory : List ℕ → Bool
-mac_vlan_may_want_memory b = cond (proper_kind (viewed_kind b) == 5) (nat_lt 0 (length (viewed_payload b))) (may_want_memory macvlan b)
+mac_vlan_may_want_memory b = cond (proper_kind (viewed_kind b) == 5) (begins_accepted (family_row macvlan_address) (viewed_payload b)) (may_want_memory macvlan b)
 
 -- it is the value of the attribute that the bytes begin with
 pub record MacVlanGives (b : List ℕ) (v : InfoMacVlan) : Type 0 where

@@ -12,6 +12,7 @@ ghost use Rattle.attribute_tables_grammar.specs.Lists.{any, rewrite, without_con
 ghost use Rattle.attribute_tables_grammar.specs.LookUps.{has_no_row, list_of, row_holds_bytes};
 ghost use Rattle.attribute_tables_grammar.specs.Peers.{bytes_peer};
 ghost use Rattle.attribute_tables_grammar.specs.Readings.{reading_as};
+ghost use Rattle.attribute_tables.specs.Beginnings.{begins_accepted, begins_readable};
 ghost use Rattle.attribute_tables.specs.Written.{written_as};
 ghost use Rattle.link_info_grammar.specs.Families.{macvlan, macvlan_address};
 ghost use Rattle.link_info_stacked.specs.MacVlan.{mac_vlan_entry, mac_vlan_fits, mac_vlan_names_row, mac_vlan_address_names_row, mac_vlan_may_want_memory, MacVlanGives};
@@ -259,6 +260,8 @@ fn parse_addresses(alloc: Global, bytes: &[u8]) -> Result<Vec<InfoMacVlan>, Deco
         (λ e. is_memory e ≡ false
         → (list_of bytes_peer any macvlan_address).accepted bytes.now ≡ false) }
     ensures not_empty { IfErr result (λ _. 0 < length bytes.now) }
+    ensures memory { IfErr result
+        (λ e. is_memory e ≡ true → begins_accepted (family_row macvlan_address) bytes.now ≡ true) }
 {
     parse_list(alloc, &AddressReader, bytes)
 }
@@ -320,6 +323,9 @@ pub fn parse_mac_vlan(alloc: Global, bytes: &[u8]) -> Result<Vec<InfoMacVlan>, D
     ensures err { IfErr result
         (λ e. is_memory e ≡ false → (list_of bytes_peer any macvlan).accepted bytes.now ≡ false) }
     ensures not_empty { IfErr result (λ _. 0 < length bytes.now) }
+    ensures memory { IfErr result
+        (λ e. is_memory e ≡ true
+        → begins_readable (family_row macvlan) mac_vlan_may_want_memory bytes.now ≡ true) }
 {
     parse_list(alloc, &MacVlanReader, bytes)
 }

@@ -1,9 +1,9 @@
 -- The data of ipip, ip6tnl and sit: the kind and the payload of each value, and what each kind of links tells of its flags.
-use Rattle.std.specs.Prelude.{◌≡◌, ◌∷◌, []}
+use Rattle.std.specs.Prelude.{◌≡◌, ◌∷◌, [], ℕ, Bool, List}
 use Rattle.std.specs.Net.Addr.{ipv4_octets, ipv6_octets}
 use Rattle.netlink_packet_core.specs.Addresses.{ip_octets}
 use Rattle.netlink_packet_core.specs.Attributes.{Attribute, proper_kind}
-use Rattle.netlink_packet_core.specs.Families.{attribute}
+use Rattle.netlink_packet_core.specs.Families.{attribute, family_row}
 use Rattle.netlink_packet_core.specs.Numbers.{be2, be4, le2, le4}
 use Rattle.netlink_packet_core.specs.Truths.{truth_byte}
 use Rattle.attribute_tables_grammar.specs.Lists.{any}
@@ -12,6 +12,7 @@ use Rattle.attribute_tables_grammar.specs.Peers.{bytes_peer}
 use Rattle.attribute_tables_grammar.specs.Rules.{Rule}
 use Rattle.attribute_tables_grammar.specs.Shapes.{Shape, exact, never}
 use Rattle.attribute_tables_grammar.specs.Tables.{Table}
+use Rattle.attribute_tables.specs.Beginnings.{begins_accepted}
 use Rattle.link_info_grammar.specs.Families.{ip_tunnel}
 use Rattle.link_info_kinds.specs.declared.info_kind.InfoKind.{InfoKind}
 use Rattle.link_info_kinds.specs.declared.info_kind.InfoKind.TheVariants as Kind
@@ -34,6 +35,10 @@ ip_tunnel_of k = ip_tunnel (tunnel_flags k)
 -- the rule of a list of them
 abbrev pub ip_tunnel_rule : InfoKind → Rule
 ip_tunnel_rule k = list_of bytes_peer any (ip_tunnel (tunnel_flags k))
+
+-- the first attribute of a list of them is accepted
+abbrev pub ip_tunnel_begins_accepted : InfoKind → List ℕ → Bool
+ip_tunnel_begins_accepted k b = begins_accepted (family_row (ip_tunnel (tunnel_flags k))) b
 
 abbrev pub ip_tunnel_entry : InfoIpTunnel → Attribute
 ip_tunnel_entry (Link n) = attribute 1 (le4 n)

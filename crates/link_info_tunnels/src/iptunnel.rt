@@ -13,7 +13,7 @@ ghost use Rattle.attribute_tables.specs.Written.{written_as};
 ghost use Rattle.attribute_tables_grammar.specs.Lists.{any, without_context};
 ghost use Rattle.attribute_tables_grammar.specs.LookUps.{has_no_row};
 ghost use Rattle.attribute_tables_grammar.specs.Readings.{reading_as};
-ghost use Rattle.link_info_tunnels.specs.IpTunnel.{ip_tunnel_entry, ip_tunnel_names_row, ip_tunnel_of, ip_tunnel_rule};
+ghost use Rattle.link_info_tunnels.specs.IpTunnel.{ip_tunnel_entry, ip_tunnel_names_row, ip_tunnel_of, ip_tunnel_begins_accepted, ip_tunnel_rule};
 
 use attribute_tables::{Reader, parse_list, typed};
 use link_info_kinds::InfoKind;
@@ -293,6 +293,9 @@ pub fn parse_ip_tunnel(
     ensures err { IfErr result
         (λ e. is_memory e ≡ false → (ip_tunnel_rule kind.now).accepted bytes.now ≡ false) }
     ensures not_empty { IfErr result (λ _. 0 < length bytes.now) }
+    ensures memory { IfErr result
+        (λ e. is_memory e ≡ true
+        → ip_tunnel_begins_accepted kind.now bytes.now ≡ true) }
 {
     parse_list(alloc, &InfoIpTunnelReader { kind }, bytes)
 }

@@ -2,10 +2,10 @@
 
 ghost use Rattle.std.specs.Prelude.{◌≡◌, ◌<◌, ◌≤◌, ◌+◌, ◌++◌, true, length, map, take};
 ghost use Rattle.std.specs.Int.{w32, cast_unsigned};
-ghost use Rattle.netlink_packet_core.specs.Attributes.{proper_kind};
-ghost use Rattle.netlink_packet_core.specs.AttributeViews.{viewed_kind, IsAttribute};
+ghost use Rattle.netlink_packet_core.specs.AttributeViews.{IsAttribute};
+ghost use Rattle.netlink_packet_core.specs.Families.{may_want_memory};
 ghost use Rattle.netlink_packet_core.specs.NlaBuffers.{storage};
-ghost use Rattle.attribute_tables_grammar.specs.LookUps.{table_row, row_holds_bytes};
+ghost use Rattle.attribute_tables_grammar.specs.LookUps.{table_row};
 ghost use Rattle.attribute_tables_grammar.specs.Peers.{bytes_peer};
 ghost use Rattle.attribute_tables.specs.Views.{is_accepted_by, rewritten_by};
 ghost use Rattle.link_message_grammar.specs.NestedTables.{inet};
@@ -145,7 +145,7 @@ impl Reader for AfSpecInetReader {
 
     ghost names_row = { λ _. af_spec_inet_names_row };
 
-    ghost may_want_memory = { λ _ b. row_holds_bytes inet (proper_kind (viewed_kind b)) };
+    ghost may_want_memory = { λ _. may_want_memory inet };
 
     fn read(&self, alloc: Global, buf: &NlaBuffer<&[u8]>) -> Result<AfSpecInet, DecodeError> {
         match buf.kind() {
@@ -160,7 +160,7 @@ impl<'a> Parseable<NlaBuffer<&'a [u8]>> for AfSpecInet {
 
     ghost accepts = { λ b. is_accepted_by (table_row bytes_peer inet) (storage b).now };
 
-    ghost may_want_memory = { λ b. row_holds_bytes inet (proper_kind (viewed_kind (storage b).now)) };
+    ghost may_want_memory = { λ b. may_want_memory inet (storage b).now };
 
     ghost gives = { λ b v. (af_spec_inet_entry v ≡ rewritten_by (table_row bytes_peer inet) (storage b).now) × af_spec_inet_names_row v };
 

@@ -1,10 +1,10 @@
 //! What IPv6 tells of a link (if_link.h, IFLA_INET6_*). Numbers are little-endian.
 
 ghost use Rattle.std.specs.Prelude.{◌≡◌, true};
-ghost use Rattle.netlink_packet_core.specs.Attributes.{proper_kind};
-ghost use Rattle.netlink_packet_core.specs.AttributeViews.{viewed_kind, IsAttribute};
+ghost use Rattle.netlink_packet_core.specs.AttributeViews.{IsAttribute};
+ghost use Rattle.netlink_packet_core.specs.Families.{may_want_memory};
 ghost use Rattle.netlink_packet_core.specs.NlaBuffers.{storage};
-ghost use Rattle.attribute_tables_grammar.specs.LookUps.{table_row, row_holds_bytes};
+ghost use Rattle.attribute_tables_grammar.specs.LookUps.{table_row};
 ghost use Rattle.attribute_tables_grammar.specs.Peers.{bytes_peer};
 ghost use Rattle.attribute_tables.specs.Views.{is_accepted_by, rewritten_by};
 ghost use Rattle.link_message_grammar.specs.NestedTables.{inet6};
@@ -125,7 +125,7 @@ impl Reader for AfSpecInet6Reader {
 
     ghost names_row = { λ _. af_spec_inet_6_names_row };
 
-    ghost may_want_memory = { λ _ b. row_holds_bytes inet6 (proper_kind (viewed_kind b)) };
+    ghost may_want_memory = { λ _. may_want_memory inet6 };
 
     fn read(&self, alloc: Global, buf: &NlaBuffer<&[u8]>) -> Result<AfSpecInet6, DecodeError> {
         let payload = buf.value();
@@ -152,7 +152,7 @@ impl<'a> Parseable<NlaBuffer<&'a [u8]>> for AfSpecInet6 {
 
     ghost accepts = { λ b. is_accepted_by (table_row bytes_peer inet6) (storage b).now };
 
-    ghost may_want_memory = { λ b. row_holds_bytes inet6 (proper_kind (viewed_kind (storage b).now)) };
+    ghost may_want_memory = { λ b. may_want_memory inet6 (storage b).now };
 
     ghost gives = { λ b v. (af_spec_inet_6_entry v ≡ rewritten_by (table_row bytes_peer inet6) (storage b).now) × af_spec_inet_6_names_row v };
 

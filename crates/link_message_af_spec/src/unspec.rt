@@ -3,15 +3,16 @@
 
 ghost use Rattle.std.specs.Prelude.{◌≡◌, ◌<◌, true, false, length, IsTrue, IfOk, IfErr, OnOk};
 ghost use Rattle.std.specs.List.{All};
-ghost use Rattle.netlink_packet_core.specs.Attributes.{proper_kind};
-ghost use Rattle.netlink_packet_core.specs.AttributeViews.{viewed_kind, IsAttribute};
+ghost use Rattle.netlink_packet_core.specs.AttributeViews.{IsAttribute};
 ghost use Rattle.netlink_packet_core.specs.Errors.{is_memory};
+ghost use Rattle.netlink_packet_core.specs.Families.{family_row};
 ghost use Rattle.netlink_packet_core.specs.Lists.{text_by, all_fit_by};
 ghost use Rattle.netlink_packet_core.specs.NlaBuffers.{storage};
 ghost use Rattle.attribute_tables_grammar.specs.Lists.{any};
-ghost use Rattle.attribute_tables_grammar.specs.LookUps.{list_of, table_row, row_holds_bytes};
+ghost use Rattle.attribute_tables_grammar.specs.LookUps.{list_of, table_row};
 ghost use Rattle.attribute_tables_grammar.specs.Peers.{bytes_peer};
 ghost use Rattle.attribute_tables.specs.Views.{fits_by, is_accepted_by, rewritten_by};
+ghost use Rattle.attribute_tables.specs.Beginnings.{begins_readable, table_may_want_memory};
 ghost use Rattle.link_message_grammar.specs.NestedTables.{specific};
 ghost use Rattle.link_message_af_spec.specs.AddressFamilies.{af_spec_unspec_entry, af_spec_unspec_fits, af_spec_unspec_names_row};
 
@@ -97,9 +98,9 @@ impl Reader for AfSpecUnspecReader {
 
     ghost names_row = { λ _. af_spec_unspec_names_row };
 
-    ghost may_want_memory = { λ _ b. row_holds_bytes specific (proper_kind (viewed_kind b)) };
+    ghost may_want_memory = { λ _. table_may_want_memory specific };
 
-    #[tactic(auto, using(crate::proofs::FamilyRules::family_rules))]
+    #[tactic(auto, using(crate::proofs::FamilyRules::family_rules, attribute_tables::proofs::Families::family_lists))]
     fn read(&self, alloc: Global, buf: &NlaBuffer<&[u8]>) -> Result<AfSpecUnspec, DecodeError> {
         let payload = buf.value();
         match buf.kind() {
@@ -116,7 +117,7 @@ impl<'a> Parseable<NlaBuffer<&'a [u8]>> for AfSpecUnspec {
 
     ghost accepts = { λ b. is_accepted_by (table_row bytes_peer specific) (storage b).now };
 
-    ghost may_want_memory = { λ b. row_holds_bytes specific (proper_kind (viewed_kind (storage b).now)) };
+    ghost may_want_memory = { λ b. table_may_want_memory specific (storage b).now };
 
     ghost gives = { λ b v. (af_spec_unspec_entry v ≡ rewritten_by (table_row bytes_peer specific) (storage b).now) × (af_spec_unspec_fits v ≡ fits_by (table_row bytes_peer specific) (storage b).now) × af_spec_unspec_names_row v };
 
@@ -140,6 +141,9 @@ pub fn parse_families(alloc: Global, bytes: &[u8]) -> Result<Vec<AfSpecUnspec>, 
     ensures err { IfErr result
         (λ e. is_memory e ≡ false → (list_of bytes_peer any specific).accepted bytes.now ≡ false) }
     ensures not_empty { IfErr result (λ _. 0 < length bytes.now) }
+    ensures memory { IfErr result
+        (λ e. is_memory e ≡ true
+        → begins_readable (family_row specific) (table_may_want_memory specific) bytes.now ≡ true) }
 {
     parse_list(alloc, &AfSpecUnspecReader, bytes)
 }

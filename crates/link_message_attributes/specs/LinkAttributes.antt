@@ -1,10 +1,10 @@
 -- The attributes of a link: the kind and the payload of each value, and the variant that its row names.
-use Rattle.std.specs.Prelude.{◌≡◌, ◌==◌, ◌&&◌, ◌||◌, ◌++◌, nat_lt, cond, ℕ, Bool, true, false, Option, Some, None, List, [], ◌∷◌, length, string_bytes}
+use Rattle.std.specs.Prelude.{◌≡◌, ◌==◌, ◌&&◌, ◌||◌, ◌++◌, cond, ℕ, Bool, true, false, Option, Some, None, List, [], ◌∷◌, length, string_bytes}
 use Rattle.std.specs.Int.{w32, cast_unsigned}
 use Rattle.std.specs.List.{All}
 use Rattle.netlink_packet_core.specs.Attributes.{Attribute, proper_kind}
 use Rattle.netlink_packet_core.specs.AttributeViews.{viewed_kind, viewed_payload}
-use Rattle.netlink_packet_core.specs.Families.{attribute}
+use Rattle.netlink_packet_core.specs.Families.{attribute, family_row}
 use Rattle.netlink_packet_core.specs.Lists.{text_by, all_fit_by}
 use Rattle.netlink_packet_core.specs.Numbers.{le4}
 use Rattle.attribute_tables_grammar.specs.Lists.{nothing}
@@ -12,10 +12,12 @@ use Rattle.attribute_tables_grammar.specs.LookUps.{Line, line_holds_bytes}
 use Rattle.attribute_tables_grammar.specs.Rows.{raw_bytes}
 use Rattle.attribute_tables_grammar.specs.Readings.{all_named}
 use Rattle.attribute_tables_grammar.specs.Tables.{Payload, Payload.list, Payload.link_info}
+use Rattle.attribute_tables.specs.Beginnings.{begins_readable, line_may_want_memory, table_may_want_memory}
 use Rattle.link_info_grammar.specs.LinkInfo.{info_grammar}
-use Rattle.link_info.specs.LinkInfo.{link_info_entry, link_info_fits, link_info_names_row}
+use Rattle.link_info.specs.LinkInfo.{info_begins_accepted, link_info_entry, link_info_fits, link_info_names_row}
 use Rattle.link_message_grammar.specs.LinkMessage.{Family, unspec, bridge, inet_6, family_payload, has_no_link_row, link_line}
 use Rattle.link_message_grammar.specs.Body.{attribute_row}
+use Rattle.link_message_grammar.specs.NestedTables.{specific}
 use Rattle.link_message_af_spec.specs.AddressFamilies.{af_spec_unspec_entry, af_spec_unspec_fits, af_spec_unspec_names_row}
 use Rattle.link_message_lists.specs.ProtocolInfos.{link_proto_info_inet_6_entry}
 use Rattle.link_message_lists.specs.Devlink.{devlink_port_entry, devlink_port_names_row}
@@ -30,8 +32,8 @@ use Rattle.link_message_types.specs.ExtentMasks.{joined_extent_masks, link_exten
 use Rattle.link_message_types.specs.LinkModes.{link_mode_number, link_mode_of}
 use Rattle.link_message_types.specs.LinkStates.{state_number, state_of}
 use Rattle.link_message_types.specs.PhysIds.{link_phys_id_bytes}
-use Rattle.link_message_virtual_functions.specs.VfInfos.{link_vf_info_entry, link_vf_info_fits, link_vf_info_names_row}
-use Rattle.link_message_virtual_functions.specs.VfPorts.{vf_port_entry, link_vf_port_entry, link_vf_port_fits}
+use Rattle.link_message_virtual_functions.specs.VfInfos.{link_vf_info_entry, link_vf_info_fits, link_vf_info_names_row, vf_infos_begin_readable}
+use Rattle.link_message_virtual_functions.specs.VfPorts.{vf_port_entry, link_vf_port_entry, link_vf_port_fits, vf_ports_begin_readable}
 use Rattle.link_message_attributes.specs.declared.attributes.LinkAttribute.{LinkAttribute}
 use Rattle.link_message_attributes.specs.declared.attributes.LinkAttribute.TheVariants as Link
 
@@ -151,10 +153,24 @@ abbrev pub line_holds_list : Option Line → Bool
 line_holds_list None = false
 line_holds_list (Some l) = payload_holds_list l.payload
 
--- reading a payload may want memory: a list of attributes where it isn't empty, and bytes, text and the bits of a mask where the row accepts them
+-- what each address family tells may want memory, where a row holds a list of it
+abbrev pub families_may_want_memory : Family → List ℕ → Bool
+families_may_want_memory unspec p = begins_readable (family_row specific) (table_may_want_memory specific) p
+families_may_want_memory f p = line_may_want_memory (link_line f 26) p
+
+-- a list of attributes may want memory where its first attribute is accepted, or is itself a list that may want it
+abbrev pub list_may_want_memory : Family → ℕ → List ℕ → Bool
+list_may_want_memory f k p =
+    cond (k == 18) (info_begins_accepted p)
+    (cond (k == 22) (vf_infos_begin_readable p)
+    (cond (k == 24) (vf_ports_begin_readable p)
+    (cond (k == 26) (families_may_want_memory f p)
+    (line_may_want_memory (link_line f k) p))))
+
+-- reading a payload may want memory: a list of attributes by what it begins with, and bytes, text and the bits of a mask where the row accepts them
 abbrev pub row_may_want_memory : Family → ℕ → List ℕ → Bool
 row_may_want_memory f k p =
-    cond (line_holds_list (link_line f k)) (nat_lt 0 (length p)) ((k == 29 || line_holds_bytes (link_line f k)) && (attribute_row f k).rule.accepted p)
+    cond (line_holds_list (link_line f k)) (list_may_want_memory f k p) ((k == 29 || line_holds_bytes (link_line f k)) && (attribute_row f k).rule.accepted p)
 
 -- the same of the attribute that the bytes begin with
 abbrev pub link_attribute_may_want_memory : Family → List ℕ → Bool

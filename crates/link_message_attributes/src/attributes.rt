@@ -11,6 +11,7 @@ ghost use Rattle.netlink_packet_core.specs.NlaBuffers.{storage};
 ghost use Rattle.attribute_tables_grammar.specs.Lists.{any, rewrite, without_context};
 ghost use Rattle.attribute_tables_grammar.specs.Readings.{reading_as};
 ghost use Rattle.attribute_tables.specs.Views.{is_accepted_by, fits_by, rewritten_by};
+ghost use Rattle.attribute_tables.specs.Beginnings.{begins_readable};
 ghost use Rattle.attribute_tables.specs.Written.{written_as};
 ghost use Rattle.link_message_grammar.specs.LinkMessage.{has_no_link_row};
 ghost use Rattle.link_message_grammar.specs.Body.{attribute_row, attributes_rule};
@@ -635,7 +636,8 @@ impl LinkAttribute {
 
     /// Reads the attributes of a link under an address family, which counts by its variant. It
     /// succeeds exactly where the list is accepted, memory aside; a list of no bytes is never
-    /// refused.
+    /// refused. It answers want of memory only where its first attribute is accepted, or where
+    /// reading that one may want memory.
     #[tactic(auto, using(crate::proofs::Rules::attribute_rules))]
     pub fn parse_list(
         alloc: Global,
@@ -659,6 +661,10 @@ impl LinkAttribute {
             (λ e. is_memory e ≡ false
             → (attributes_rule (table_family family)).accepted bytes.now ≡ false) }
         ensures not_empty { IfErr result (λ _. 0 < length bytes.now) }
+        ensures memory { IfErr result
+            (λ e. is_memory e ≡ true
+            → begins_readable (attribute_row (table_family family))
+            (link_attribute_may_want_memory (table_family family)) bytes.now ≡ true) }
     {
         parse_list(alloc, &LinkAttributeReader { family }, bytes)
     }

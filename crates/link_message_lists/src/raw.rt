@@ -2,11 +2,13 @@
 
 ghost use Rattle.std.specs.Prelude.{◌≡◌, ◌<◌, ⊤, true, false, length, IsTrue, IfOk, IfErr, OnOk};
 ghost use Rattle.netlink_packet_core.specs.Errors.{is_memory};
+ghost use Rattle.netlink_packet_core.specs.Families.{family_row, may_want_memory};
 ghost use Rattle.netlink_packet_core.specs.Lists.{text_by, all_fit_by};
 ghost use Rattle.attribute_tables_grammar.specs.Lists.{any};
 ghost use Rattle.attribute_tables_grammar.specs.LookUps.{list_of, table_row};
 ghost use Rattle.attribute_tables_grammar.specs.Peers.{bytes_peer};
 ghost use Rattle.attribute_tables_grammar.specs.Tables.{Table.end};
+ghost use Rattle.attribute_tables.specs.Beginnings.{begins_accepted};
 
 use attribute_tables::{Reader, parse_list};
 use netlink_packet_core::{DecodeError, DefaultNla, NlaBuffer, Parseable};
@@ -22,7 +24,7 @@ impl Reader for RawReader {
 
     ghost names_row = { λ _ _. ⊤ };
 
-    ghost may_want_memory = { λ _ _. true };
+    ghost may_want_memory = { λ _. may_want_memory end };
 
     fn read(&self, alloc: Global, buf: &NlaBuffer<&[u8]>) -> Result<DefaultNla, DecodeError> {
         DefaultNla::parse(alloc, buf)
@@ -31,7 +33,7 @@ impl Reader for RawReader {
 
 /// Reads a list of attributes of any kinds, each kept as it is. It succeeds exactly where the bytes
 /// are a list, memory aside.
-#[tactic(auto, using(crate::proofs::RawRules::raw_rules))]
+#[tactic(auto, using(crate::proofs::RawRules::raw_rules, attribute_tables::proofs::Families::family_lists))]
 pub fn parse_raw(alloc: Global, bytes: &[u8]) -> Result<Vec<DefaultNla>, DecodeError>
     ensures ok { OnOk result (IsTrue ((list_of bytes_peer any end).accepted bytes.now)) }
     ensures text { IfOk result
@@ -42,6 +44,8 @@ pub fn parse_raw(alloc: Global, bytes: &[u8]) -> Result<Vec<DefaultNla>, DecodeE
     ensures err { IfErr result
         (λ e. is_memory e ≡ false → (list_of bytes_peer any end).accepted bytes.now ≡ false) }
     ensures not_empty { IfErr result (λ _. 0 < length bytes.now) }
+    ensures memory { IfErr result
+        (λ e. is_memory e ≡ true → begins_accepted (family_row end) bytes.now ≡ true) }
 {
     parse_list(alloc, &RawReader, bytes)
 }

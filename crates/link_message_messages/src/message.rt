@@ -8,7 +8,7 @@ ghost use Rattle.link_message_grammar.specs.Body.{attribute_bytes, attribute_row
 ghost use Rattle.link_message_types.specs.AddressFamilies.{address_family_of};
 ghost use Rattle.link_message_types.specs.Headers.{link_header_bytes};
 ghost use Rattle.link_message_messages.specs.LinkMessages.{link_message_text, link_message_fits, link_message_written, link_message_names_row};
-ghost use Rattle.link_message_messages.specs.LinkMessages.{link_message_empty_ports};
+ghost use Rattle.link_message_messages.specs.LinkMessages.{body_begins_readable, link_message_empty_ports};
 
 use link_message_attributes::LinkAttribute;
 use link_message_grammar::laws::empty_ports_are_told;
@@ -30,7 +30,8 @@ pub struct LinkMessage {
 impl LinkMessage {
     /// Reads a message. It succeeds exactly where the body is legal, memory aside: where there are
     /// 16 bytes of header, and then a list of attributes, each accepted by its row under the
-    /// family of the header.
+    /// family of the header. It answers want of memory only where the first attribute is accepted,
+    /// or where reading that one may want memory.
     #[tactic(auto, using(crate::proofs::Bodies::bodies))]
     pub fn parse(alloc: Global, bytes: &[u8]) -> Result<LinkMessage, DecodeError>
         ensures ok { OnOk result (IsTrue (link_body.accepted bytes.now)) }
@@ -49,6 +50,8 @@ impl LinkMessage {
         ensures err { IfErr result
             (λ e. is_memory e ≡ false → link_body.accepted bytes.now ≡ false) }
         ensures not_empty { IfErr result (λ e. is_memory e ≡ true → 16 < length bytes.now) }
+        ensures memory { IfErr result
+            (λ e. is_memory e ≡ true → body_begins_readable bytes.now ≡ true) }
     {
         empty_ports_are_told();
         let header = LinkHeader::parse(bytes)?;

@@ -1,10 +1,14 @@
 -- Settings of virtual functions: the kind and the payload of each value.
-use Rattle.std.specs.Prelude.{◌≡◌, Bool, true}
+use Rattle.std.specs.Prelude.{◌≡◌, ℕ, Bool, true, false, List, Some}
 use Rattle.std.specs.List.{All}
 use Rattle.netlink_packet_core.specs.Attributes.{Attribute, proper_kind}
-use Rattle.netlink_packet_core.specs.Families.{attribute}
+use Rattle.netlink_packet_core.specs.Families.{attribute, family_row}
 use Rattle.netlink_packet_core.specs.Lists.{text_by, all_fit_by}
-use Rattle.attribute_tables_grammar.specs.LookUps.{has_no_row}
+use Rattle.attribute_tables_grammar.specs.Lists.{any}
+use Rattle.attribute_tables_grammar.specs.LookUps.{has_no_row, row_of_line}
+use Rattle.attribute_tables_grammar.specs.Peers.{bytes_peer}
+use Rattle.attribute_tables_grammar.specs.Tables.{Payload.list}
+use Rattle.attribute_tables.specs.Beginnings.{begins_readable, entries_begin_readable, table_may_want_memory}
 use Rattle.link_message_grammar.specs.NestedTables.{vf}
 use Rattle.link_message_types.specs.VfTypes.{vf_link_state_number, vf_link_state_of}
 use Rattle.link_message_records.specs.VfRecords.{vf_info_mac_bytes, vf_info_vlan_bytes, vf_info_tx_rate_bytes, vf_info_link_state_bytes, vf_info_rate_bytes, vf_info_broadcast_bytes}
@@ -50,3 +54,13 @@ link_vf_info_fits v = all_fit_by vf_info_entry vf_info_fits v.0.items
 
 abbrev pub link_vf_info_names_row : LinkVfInfo → Type 0
 link_vf_info_names_row v = All vf_info_names_row v.0.items
+
+-- ---- want of memory
+
+-- the settings of one virtual function begin so
+abbrev pub vf_info_begins_readable : List ℕ → Bool
+vf_info_begins_readable p = begins_readable (family_row vf) (table_may_want_memory vf) p
+
+-- the first virtual function of a list is accepted, or its settings begin so
+unfoldable pub vf_infos_begin_readable : List ℕ → Bool
+vf_infos_begin_readable b = entries_begin_readable (row_of_line bytes_peer (Some (record { is_nested = false; payload = list any vf }))) vf_info_begins_readable b

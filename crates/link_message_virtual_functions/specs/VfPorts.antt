@@ -1,8 +1,13 @@
 -- Ports of virtual functions: each value is the attribute that it keeps.
-use Rattle.std.specs.Prelude.{Bool, true}
+use Rattle.std.specs.Prelude.{ℕ, Bool, true, false, List, Some}
 use Rattle.netlink_packet_core.specs.Attributes.{Attribute}
-use Rattle.netlink_packet_core.specs.Families.{attribute}
+use Rattle.netlink_packet_core.specs.Families.{attribute, family_row}
 use Rattle.netlink_packet_core.specs.Lists.{text_by, all_fit_by}
+use Rattle.attribute_tables_grammar.specs.LookUps.{row_of_line}
+use Rattle.attribute_tables_grammar.specs.Peers.{bytes_peer}
+use Rattle.attribute_tables_grammar.specs.Rows.{raw_list}
+use Rattle.attribute_tables_grammar.specs.Tables.{Table.end}
+use Rattle.attribute_tables.specs.Beginnings.{begins_accepted, entries_begin_readable}
 use Rattle.link_message_virtual_functions.specs.declared.vf_port.VfPort.{VfPort}
 use Rattle.link_message_virtual_functions.specs.declared.vf_port.LinkVfPort.{LinkVfPort}
 use Rattle.link_message_virtual_functions.specs.declared.vf_port.VfPort.TheVariants.{Other}
@@ -15,3 +20,7 @@ link_vf_port_entry v = attribute 1 (text_by vf_port_entry v.0.items)
 
 abbrev pub link_vf_port_fits : LinkVfPort → Bool
 link_vf_port_fits v = all_fit_by vf_port_entry (λ _. true) v.0.items
+
+-- the first port of a list is accepted, or its first attribute is
+unfoldable pub vf_ports_begin_readable : List ℕ → Bool
+vf_ports_begin_readable b = entries_begin_readable (row_of_line bytes_peer (Some (record { is_nested = false; payload = raw_list }))) (begins_accepted (family_row end)) b

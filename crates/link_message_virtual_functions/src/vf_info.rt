@@ -2,18 +2,19 @@
 
 ghost use Rattle.std.specs.Prelude.{◌≡◌, ◌&&◌, ◌<◌, true, false, length, Some, IsTrue, IfOk, IfErr, OnOk};
 ghost use Rattle.std.specs.List.{All};
-ghost use Rattle.netlink_packet_core.specs.Attributes.{proper_kind};
-ghost use Rattle.netlink_packet_core.specs.AttributeViews.{viewed_attribute, viewed_kind, viewed_payload, IsAttribute};
+ghost use Rattle.netlink_packet_core.specs.AttributeViews.{viewed_attribute, viewed_payload, IsAttribute};
 ghost use Rattle.netlink_packet_core.specs.Errors.{is_memory};
 ghost use Rattle.netlink_packet_core.specs.Lists.{text_by, all_fit_by};
 ghost use Rattle.netlink_packet_core.specs.NlaBuffers.{storage};
 ghost use Rattle.attribute_tables_grammar.specs.Lists.{any, is_of_kind_one, of_kind_one, rewrite};
-ghost use Rattle.attribute_tables_grammar.specs.LookUps.{list_of, row_of_line, table_row, row_holds_bytes};
+ghost use Rattle.attribute_tables_grammar.specs.LookUps.{list_of, row_of_line, table_row};
 ghost use Rattle.attribute_tables_grammar.specs.Peers.{bytes_peer};
 ghost use Rattle.attribute_tables_grammar.specs.Tables.{Payload.list};
 ghost use Rattle.attribute_tables.specs.Views.{fits_by, is_accepted_by, rewritten_by};
+ghost use Rattle.attribute_tables.specs.Beginnings.{table_may_want_memory};
 ghost use Rattle.link_message_grammar.specs.NestedTables.{vf, vf_infos};
 ghost use Rattle.link_message_virtual_functions.specs.VfInfos.{vf_info_entry, vf_info_fits, vf_info_names_row, link_vf_info_entry, link_vf_info_fits, link_vf_info_names_row};
+ghost use Rattle.link_message_virtual_functions.specs.VfInfos.{vf_info_begins_readable, vf_infos_begin_readable};
 
 use super::vf_stats::VfStats;
 use super::vf_vlan::{VfVlan, VfVlanReader};
@@ -157,9 +158,9 @@ impl Reader for VfInfoReader {
 
     ghost names_row = { λ _. vf_info_names_row };
 
-    ghost may_want_memory = { λ _ b. row_holds_bytes vf (proper_kind (viewed_kind b)) };
+    ghost may_want_memory = { λ _. table_may_want_memory vf };
 
-    #[tactic(auto, using(crate::proofs::VfRules::vf_rules))]
+    #[tactic(auto, using(crate::proofs::VfRules::vf_rules, attribute_tables::proofs::Families::family_lists))]
     fn read(&self, alloc: Global, buf: &NlaBuffer<&[u8]>) -> Result<VfInfo, DecodeError> {
         let payload = buf.value();
         match buf.kind() {
@@ -184,7 +185,7 @@ impl<'a> Parseable<NlaBuffer<&'a [u8]>> for VfInfo {
 
     ghost accepts = { λ b. is_accepted_by (table_row bytes_peer vf) (storage b).now };
 
-    ghost may_want_memory = { λ b. row_holds_bytes vf (proper_kind (viewed_kind (storage b).now)) };
+    ghost may_want_memory = { λ b. table_may_want_memory vf (storage b).now };
 
     ghost gives = { λ b v. (vf_info_entry v ≡ rewritten_by (table_row bytes_peer vf) (storage b).now) × (vf_info_fits v ≡ fits_by (table_row bytes_peer vf) (storage b).now) × vf_info_names_row v };
 
@@ -231,6 +232,8 @@ impl EntryReader for LinkVfInfoReader {
 
     ghost names_row = { λ _. link_vf_info_names_row };
 
+    ghost may_want_memory = { λ _. vf_info_begins_readable };
+
     #[tactic(auto, using(crate::proofs::VfRules::vf_rules))]
     fn read(&self, alloc: Global, buf: &NlaBuffer<&[u8]>) -> Result<LinkVfInfo, DecodeError> {
         Ok(LinkVfInfo(parse_list(alloc, &VfInfoReader, buf.value())?))
@@ -240,7 +243,7 @@ impl EntryReader for LinkVfInfoReader {
 /// Reads a list of virtual functions (`IFLA_VFINFO_LIST`), of which the attributes of kind 1 are
 /// kept. It succeeds exactly where the list is accepted, memory aside; a list of no bytes is never
 /// refused.
-#[tactic(auto, using(crate::proofs::VfRules::vf_rules))]
+#[tactic(auto, using(crate::proofs::VfRules::vf_rules), unfolding(crate::specs::VfInfos::vf_infos_begin_readable))]
 pub fn parse_vf_infos(alloc: Global, bytes: &[u8]) -> Result<Vec<LinkVfInfo>, DecodeError>
     ensures ok { OnOk result (IsTrue ((list_of bytes_peer of_kind_one vf_infos).accepted bytes.now)) }
     ensures text { IfOk result
@@ -254,6 +257,9 @@ pub fn parse_vf_infos(alloc: Global, bytes: &[u8]) -> Result<Vec<LinkVfInfo>, De
         (λ e. is_memory e ≡ false
         → (list_of bytes_peer of_kind_one vf_infos).accepted bytes.now ≡ false) }
     ensures not_empty { IfErr result (λ _. 0 < length bytes.now) }
+    ensures memory { IfErr result
+        (λ e. is_memory e ≡ true
+        → vf_infos_begin_readable bytes.now ≡ true) }
 {
     parse_entries(alloc, &LinkVfInfoReader, bytes)
 }
@@ -263,7 +269,8 @@ impl<'a> Parseable<NlaBuffer<&'a [u8]>> for LinkVfInfo {
 
     ghost accepts = { λ b. is_of_kind_one (viewed_attribute (storage b).now) && (row_of_line bytes_peer (Some (record { is_nested = false; payload = list any vf }))).rule.accepted (viewed_payload (storage b).now) };
 
-    ghost may_want_memory = { λ b. is_of_kind_one (viewed_attribute (storage b).now) };
+    ghost may_want_memory = { λ b. is_of_kind_one (viewed_attribute (storage b).now)
+        && vf_info_begins_readable (viewed_payload (storage b).now) };
 
     ghost gives = { λ b v. (link_vf_info_entry v ≡ rewrite (row_of_line bytes_peer (Some (record { is_nested = false; payload = list any vf }))) (viewed_attribute (storage b).now)) × (link_vf_info_fits v ≡ (row_of_line bytes_peer (Some (record { is_nested = false; payload = list any vf }))).rule.fits (viewed_payload (storage b).now)) × link_vf_info_names_row v };
 

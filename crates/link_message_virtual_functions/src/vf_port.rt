@@ -3,6 +3,7 @@
 ghost use Rattle.std.specs.Prelude.{◌≡◌, ◌&&◌, ◌<◌, ⊤, true, false, length, Some, refl, IsTrue, IfOk, IfErr, OnOk};
 ghost use Rattle.netlink_packet_core.specs.AttributeViews.{viewed_attribute, viewed_payload, IsAttribute};
 ghost use Rattle.netlink_packet_core.specs.Errors.{is_memory};
+ghost use Rattle.netlink_packet_core.specs.Families.{family_row};
 ghost use Rattle.netlink_packet_core.specs.Lists.{text_by, all_fit_by};
 ghost use Rattle.netlink_packet_core.specs.NlaBuffers.{storage};
 ghost use Rattle.attribute_tables_grammar.specs.Lists.{is_of_kind_one, ports, rewrite};
@@ -10,8 +11,9 @@ ghost use Rattle.attribute_tables_grammar.specs.LookUps.{list_of, row_of_line};
 ghost use Rattle.attribute_tables_grammar.specs.Peers.{bytes_peer};
 ghost use Rattle.attribute_tables_grammar.specs.Rows.{raw_list};
 ghost use Rattle.attribute_tables_grammar.specs.Tables.{Table.end};
+ghost use Rattle.attribute_tables.specs.Beginnings.{begins_accepted};
 ghost use Rattle.link_message_grammar.specs.NestedTables.{vf_ports};
-ghost use Rattle.link_message_virtual_functions.specs.VfPorts.{vf_port_entry, link_vf_port_entry, link_vf_port_fits};
+ghost use Rattle.link_message_virtual_functions.specs.VfPorts.{vf_port_entry, link_vf_port_entry, link_vf_port_fits, vf_ports_begin_readable};
 
 use attribute_tables::{EntryReader, parse_family, parse_ports};
 use netlink_packet_core::{
@@ -92,6 +94,8 @@ impl EntryReader for LinkVfPortReader {
 
     ghost names_row = { λ _ _. ⊤ };
 
+    ghost may_want_memory = { λ _. begins_accepted (family_row end) };
+
     #[tactic(auto, using(crate::proofs::VfRules::vf_rules))]
     fn read(&self, alloc: Global, buf: &NlaBuffer<&[u8]>) -> Result<LinkVfPort, DecodeError> {
         Ok(LinkVfPort(parse_family(alloc, buf.value())?))
@@ -100,7 +104,7 @@ impl EntryReader for LinkVfPortReader {
 
 /// Reads a list of ports (`IFLA_VF_PORTS`), of which the attributes of kind 1 are kept, and which
 /// has an attribute of any kind in it. It succeeds exactly where the list is accepted, memory aside.
-#[tactic(auto, using(crate::proofs::VfRules::vf_rules))]
+#[tactic(auto, using(crate::proofs::VfRules::vf_rules), unfolding(crate::specs::VfPorts::vf_ports_begin_readable))]
 pub fn parse_vf_ports(alloc: Global, bytes: &[u8]) -> Result<Vec<LinkVfPort>, DecodeError>
     ensures ok { OnOk result (IsTrue ((list_of bytes_peer ports vf_ports).accepted bytes.now)) }
     ensures text { IfOk result
@@ -113,6 +117,9 @@ pub fn parse_vf_ports(alloc: Global, bytes: &[u8]) -> Result<Vec<LinkVfPort>, De
         (λ e. is_memory e ≡ false
         → (list_of bytes_peer ports vf_ports).accepted bytes.now ≡ false) }
     ensures not_empty { IfErr result (λ e. is_memory e ≡ true → 0 < length bytes.now) }
+    ensures memory { IfErr result
+        (λ e. is_memory e ≡ true
+        → vf_ports_begin_readable bytes.now ≡ true) }
 {
     parse_ports(alloc, &LinkVfPortReader, bytes)
 }
@@ -122,7 +129,8 @@ impl<'a> Parseable<NlaBuffer<&'a [u8]>> for LinkVfPort {
 
     ghost accepts = { λ b. is_of_kind_one (viewed_attribute (storage b).now) && (row_of_line bytes_peer (Some (record { is_nested = false; payload = raw_list }))).rule.accepted (viewed_payload (storage b).now) };
 
-    ghost may_want_memory = { λ b. is_of_kind_one (viewed_attribute (storage b).now) };
+    ghost may_want_memory = { λ b. is_of_kind_one (viewed_attribute (storage b).now)
+        && begins_accepted (family_row end) (viewed_payload (storage b).now) };
 
     ghost gives = { λ b v. (link_vf_port_entry v ≡ rewrite (row_of_line bytes_peer (Some (record { is_nested = false; payload = raw_list }))) (viewed_attribute (storage b).now)) × (link_vf_port_fits v ≡ (row_of_line bytes_peer (Some (record { is_nested = false; payload = raw_list }))).rule.fits (viewed_payload (storage b).now)) };
 

@@ -1,10 +1,10 @@
 //! VLANs of virtual functions (if_link.h, IFLA_VF_VLAN_*).
 
 ghost use Rattle.std.specs.Prelude.{◌≡◌, true};
-ghost use Rattle.netlink_packet_core.specs.Attributes.{proper_kind};
-ghost use Rattle.netlink_packet_core.specs.AttributeViews.{viewed_kind, IsAttribute};
+ghost use Rattle.netlink_packet_core.specs.AttributeViews.{IsAttribute};
 ghost use Rattle.netlink_packet_core.specs.NlaBuffers.{storage};
-ghost use Rattle.attribute_tables_grammar.specs.LookUps.{table_row, row_holds_bytes};
+ghost use Rattle.netlink_packet_core.specs.Families.{may_want_memory};
+ghost use Rattle.attribute_tables_grammar.specs.LookUps.{table_row};
 ghost use Rattle.attribute_tables_grammar.specs.Peers.{bytes_peer};
 ghost use Rattle.attribute_tables.specs.Views.{is_accepted_by, rewritten_by};
 ghost use Rattle.link_message_grammar.specs.NestedTables.{vf_vlans};
@@ -67,7 +67,7 @@ impl Reader for VfVlanReader {
 
     ghost names_row = { λ _. vf_vlan_names_row };
 
-    ghost may_want_memory = { λ _ b. row_holds_bytes vf_vlans (proper_kind (viewed_kind b)) };
+    ghost may_want_memory = { λ _. may_want_memory vf_vlans };
 
     #[tactic(auto, using(crate::proofs::VfRules::vf_rules))]
     fn read(&self, alloc: Global, buf: &NlaBuffer<&[u8]>) -> Result<VfVlan, DecodeError> {
@@ -84,7 +84,7 @@ impl<'a> Parseable<NlaBuffer<&'a [u8]>> for VfVlan {
 
     ghost accepts = { λ b. is_accepted_by (table_row bytes_peer vf_vlans) (storage b).now };
 
-    ghost may_want_memory = { λ b. row_holds_bytes vf_vlans (proper_kind (viewed_kind (storage b).now)) };
+    ghost may_want_memory = { λ b. may_want_memory vf_vlans (storage b).now };
 
     ghost gives = { λ b v. (vf_vlan_entry v ≡ rewritten_by (table_row bytes_peer vf_vlans) (storage b).now) × vf_vlan_names_row v };
 

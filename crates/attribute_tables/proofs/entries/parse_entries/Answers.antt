@@ -7,6 +7,8 @@ use Rattle.netlink_packet_core_grammar.specs.AttributeViews.{IsAttribute, viewed
 use Rattle.netlink_packet_core.specs.Errors.{is_memory}
 use Rattle.attribute_tables_grammar.specs.Lists.{of_kind_one, is_of_kind_one, rewrite}
 use Rattle.attribute_tables_grammar.specs.LookUps.{rows_rule, only_one}
+use Rattle.attribute_tables.specs.Beginnings.{entries_begin_readable}
+use Rattle.attribute_tables.proofs.Beginnings.{entries-accepted, entries-wanting, entries-past}
 use Rattle.attribute_tables.proofs.KeptEntries.{Entries, EntriesDone, entries_start, entries_more, entries_past, entries_refused, entries_stopped, entries_done}
 use Rattle.attribute_tables.proofs.entries.parse_entries.Goals.{then-kind-eq-ENTRY+in_ok-read+in_ok-push, else-kind-eq-ENTRY}
 use Rattle.attribute_tables.proofs.entries.parse_entries.Given.{Over}
@@ -17,6 +19,7 @@ loop-rest-init g c = record {
   so_far = subst (λ vs. Entries (g.R.EntryReader.entry_row c.args.reader.now) g.R.Value.Nla.entry g.R.Value.Nla.inside_fits c.args.bytes.now vs c.args.bytes.now) (sym c.new-list.ensures.items) (entries_start _ _ _ _);
   names_row = grind (arith, elements);
   within = omega arith;
+  begun = λ e. e;
 }
 
 pub returns-in_err-buf-clause-err : goal.returns-in_err-buf-clause-err
@@ -38,10 +41,35 @@ returns-in_err-read-clause-err g c =
     entries_refused r _ _ _ _ b h one was c.loop-rest.invariant.so_far in
     search rules
 
+pub returns-in_err-read-clause-memory : goal.returns-in_err-read-clause-memory
+returns-in_err-read-clause-memory g c =
+    let b = c.loop-rest.rest.now in
+    let r = g.R.EntryReader.entry_row c.args.reader.now in
+    let may = g.R.EntryReader.may_want_memory c.args.reader.now in
+    let h : IsAttribute b = c.in_ok-buf.ensures.whole.0 refl in
+    let one : is_of_kind_one (viewed_attribute b) ≡ true = search rules in
+    let k : is_memory c.in_err-read.field-0.0 ≡ true → entries_begin_readable r may c.args.bytes.now ≡ true =
+    λ m.
+    let wanted : may (viewed_payload b) ≡ true = rw c.in_ok-buf.ensures.ok at c.in_err-read.ensures.memory m in
+    c.loop-rest.invariant.begun (entries-wanting r may b h one wanted) in
+    search rules
+
+pub returns-in_err-push-clause-memory : goal.returns-in_err-push-clause-memory
+returns-in_err-push-clause-memory g c =
+    let b = c.loop-rest.rest.now in
+    let r = g.R.EntryReader.entry_row c.args.reader.now in
+    let may = g.R.EntryReader.may_want_memory c.args.reader.now in
+    let h : IsAttribute b = c.in_ok-buf.ensures.whole.0 refl in
+    let one : is_of_kind_one (viewed_attribute b) ≡ true = search rules in
+    let was : r.rule.accepted (viewed_payload b) ≡ true = rw c.in_ok-buf.ensures.ok at c.in_ok-read.ensures.ok in
+    let k = c.loop-rest.invariant.begun (entries-accepted r may b h one was) in
+    search rules
+
 pub loop-rest-preserved : goal.loop-rest-preserved
 loop-rest-preserved g c =
     let b = c.loop-rest.rest.now in
     let r = g.R.EntryReader.entry_row c.args.reader.now in
+    let may = g.R.EntryReader.may_want_memory c.args.reader.now in
     let h : IsAttribute b = c.in_ok-buf.ensures.whole.0 refl in
     let rest : length c.skip_first-rest.result.now ≡ length (after_first b) = ap length c.skip_first-rest.ensures in
     let within : length c.skip_first-rest.result.now ≤ length c.args.bytes.now = omega (arith, rest, length-drop (nla_align (viewed_length b)) b, c.loop-rest.invariant.within) in
@@ -59,6 +87,7 @@ loop-rest-preserved g c =
                 (subst (λ vs. Entries r g.R.Value.Nla.entry g.R.Value.Nla.inside_fits c.args.bytes.now vs (after_first b)) (sym items) s);
             names_row = subst (λ vs. All (g.R.EntryReader.names_row c.args.reader.now) vs) (sym items) (grind (arith, elements));
             within = within;
+            begun = λ _. c.loop-rest.invariant.begun (entries-accepted r may b h one was);
           }
       | else-kind-eq-ENTRY w ↦
           let other : is_of_kind_one (viewed_attribute b) ≡ false = search rules in
@@ -69,6 +98,7 @@ loop-rest-preserved g c =
                 (subst (λ vs. Entries r g.R.Value.Nla.entry g.R.Value.Nla.inside_fits c.args.bytes.now vs (after_first b)) (sym items) s);
             names_row = subst (λ vs. All (g.R.EntryReader.names_row c.args.reader.now) vs) (sym items) c.loop-rest.invariant.names_row;
             within = within;
+            begun = λ e. c.loop-rest.invariant.begun (entries-past r may b h other (ap (entries_begin_readable r may) (sym c.skip_first-rest.ensures) ∙ e));
           }
     ]
 

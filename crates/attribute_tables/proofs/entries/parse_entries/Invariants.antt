@@ -1,6 +1,7 @@
--- What was read, followed by the reading of the rest, is the reading of the whole.
-use Rattle.std.proofs.Common.{◌≤◌, length}
+-- What was read, followed by the reading of the rest, is the reading of the whole. Where the rest begins readable, the whole does.
+use Rattle.std.proofs.Common.{◌≡◌, ◌≤◌, true, length}
 use Rattle.std.specs.List.{All}
+use Rattle.attribute_tables.specs.Beginnings.{entries_begin_readable}
 use Rattle.attribute_tables.proofs.KeptEntries.{Entries}
 use Rattle.attribute_tables.proofs.entries.parse_entries.Given as goal
 
@@ -9,6 +10,7 @@ invariant-loop-rest g l = record {
   so_far : Entries (g.R.EntryReader.entry_row l.reader) g.R.Value.Nla.entry g.R.Value.Nla.inside_fits l.bytes l.list.items l.rest;
   names_row : All (g.R.EntryReader.names_row l.reader) l.list.items;
   within : length l.rest ≤ length l.bytes;
+  begun : entries_begin_readable (g.R.EntryReader.entry_row l.reader) (g.R.EntryReader.may_want_memory l.reader) l.rest ≡ true → entries_begin_readable (g.R.EntryReader.entry_row l.reader) (g.R.EntryReader.may_want_memory l.reader) l.bytes ≡ true;
 }
 
 abbrev pub decreases-loop-rest : goal.decreases-loop-rest

@@ -1,10 +1,12 @@
 use Rattle.std.proofs.Common.{◌≡◌, true, false, refl, ◌∙◌, rules}
 use Rattle.netlink_packet_core_grammar.specs.AttributeViews.{IsAttribute}
-use Rattle.netlink_packet_core.specs.Families.{Gives, accepts}
+use Rattle.netlink_packet_core.specs.Families.{Gives, accepts, family_row}
 use Rattle.attribute_tables_grammar.specs.Lists.{first_alone}
 use Rattle.attribute_tables_grammar.specs.LookUps.{list_of}
 use Rattle.attribute_tables_grammar.specs.Peers.{bytes_peer}
 use Rattle.netlink_packet_core.specs.Errors.{is_memory}
+use Rattle.attribute_tables.specs.Beginnings.{begins_accepted}
+use Rattle.attribute_tables.proofs.Beginnings.{accepted-begins}
 use Rattle.attribute_tables.proofs.First.{first_of, first_none, accepted_first}
 use Rattle.attribute_tables.proofs.family.parse_first.Goals as goal
 
@@ -19,6 +21,14 @@ returns-in_err-value-clause-err g c =
     let h : IsAttribute b = c.in_ok-buf.ensures.whole.0 refl in
     let e : accepts g.F.Family.rows b ≡ is_memory c.in_err-value.field-0.0 = rw c.in_ok-buf.ensures.ok at c.in_err-value.ensures.err in
     let k : (list_of bytes_peer first_alone g.F.Family.rows).accepted b ≡ is_memory c.in_err-value.field-0.0 = accepted_first g.F.Family.rows b g.met.F.Family.plain h ∙ e in
+    search rules
+
+pub returns-in_err-value-clause-memory : goal.returns-in_err-value-clause-memory
+returns-in_err-value-clause-memory g c =
+    let b = c.args.bytes.now in
+    let h : IsAttribute b = c.in_ok-buf.ensures.whole.0 refl in
+    let e : accepts g.F.Family.rows b ≡ is_memory c.in_err-value.field-0.0 = rw c.in_ok-buf.ensures.ok at c.in_err-value.ensures.err in
+    let k : is_memory c.in_err-value.field-0.0 ≡ true → begins_accepted (family_row g.F.Family.rows) b ≡ true = λ m. accepted-begins (family_row g.F.Family.rows) b h (e ∙ m) in
     search rules
 
 pub returns-clause-ok : goal.returns-clause-ok

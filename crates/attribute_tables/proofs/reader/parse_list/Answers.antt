@@ -12,6 +12,9 @@ use Rattle.netlink_packet_core.specs.Errors.{is_memory}
 use Rattle.attribute_tables.specs.Written.{written_as}
 use Rattle.netlink_packet_core_grammar.proofs.FirstAttribute.{first_attribute_is, first_attribute_none}
 use Rattle.attribute_tables.proofs.Lists.{all_written, entries_written}
+use Rattle.attribute_tables.specs.Views.{is_accepted_by}
+use Rattle.attribute_tables.specs.Beginnings.{begins_readable}
+use Rattle.attribute_tables.proofs.Beginnings.{begins-accepted, begins-wanting}
 use Rattle.attribute_tables.proofs.reader.parse_list.Goals as goal
 
 pub returns-in_err-buf-clause-err : goal.returns-in_err-buf-clause-err
@@ -33,6 +36,24 @@ returns-in_err-read-clause-err g c =
     denies_rows any (g.R.Reader.row_of c.args.reader.now) c.args.bytes.now (as_any _ _ ∙ refused any rows _ _ nothing b (viewed_attribute b) (after_first b) (first_attribute_is b h) refl was c.loop-rest.invariant.so_far) in
     search rules
 
+pub returns-in_err-read-clause-memory : goal.returns-in_err-read-clause-memory
+returns-in_err-read-clause-memory g c =
+    let b = c.loop-rest.rest.now in
+    let h : IsAttribute b = c.in_ok-buf.ensures.whole.0 refl in
+    let k : is_memory c.in_err-read.field-0.0 ≡ true → begins_readable (g.R.Reader.row_of c.args.reader.now) (g.R.Reader.may_want_memory c.args.reader.now) c.args.bytes.now ≡ true =
+    λ m.
+    let wanted : g.R.Reader.may_want_memory c.args.reader.now b ≡ true = rw c.in_ok-buf.ensures.ok at c.in_err-read.ensures.memory m in
+    c.loop-rest.invariant.begun (begins-wanting (g.R.Reader.row_of c.args.reader.now) (g.R.Reader.may_want_memory c.args.reader.now) b h wanted) in
+    search rules
+
+pub returns-in_err-push-clause-memory : goal.returns-in_err-push-clause-memory
+returns-in_err-push-clause-memory g c =
+    let b = c.loop-rest.rest.now in
+    let h : IsAttribute b = c.in_ok-buf.ensures.whole.0 refl in
+    let was : is_accepted_by (g.R.Reader.row_of c.args.reader.now) b ≡ true = rw c.in_ok-buf.ensures.ok at c.in_ok-read.ensures.ok in
+    let k = c.loop-rest.invariant.begun (begins-accepted (g.R.Reader.row_of c.args.reader.now) (g.R.Reader.may_want_memory c.args.reader.now) b h was) in
+    search rules
+
 pub loop-rest-preserved : goal.loop-rest-preserved
 loop-rest-preserved g c =
     let b = c.loop-rest.rest.now in
@@ -52,6 +73,7 @@ loop-rest-preserved g c =
       so_far = subst (λ us. SoFar any rows c.args.bytes.now us nothing c.skip_first-rest.result.now) (sym items) (subst (λ r. SoFar any rows c.args.bytes.now (ws ++ w v ∷ []) nothing r) (sym c.skip_first-rest.ensures) so_far);
       names_row = grind (arith, elements);
       within = omega (arith, rest, length-drop (nla_align (viewed_length b)) b, c.loop-rest.invariant.within);
+      begun = λ _. c.loop-rest.invariant.begun (begins-accepted (g.R.Reader.row_of c.args.reader.now) (g.R.Reader.may_want_memory c.args.reader.now) b h was);
     }
 
 pub returns-clause-read : goal.returns-clause-read

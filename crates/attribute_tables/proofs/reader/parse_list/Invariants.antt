@@ -1,9 +1,10 @@
--- What was read, followed by the reading of the rest, is the reading of the whole.
-use Rattle.std.proofs.Common.{◌≤◌, length, map}
+-- What was read, followed by the reading of the rest, is the reading of the whole. Where the rest begins readable, the whole does.
+use Rattle.std.proofs.Common.{◌≡◌, ◌≤◌, true, length, map}
 use Rattle.std.specs.List.{All}
 use Rattle.attribute_tables_grammar.specs.Lists.{nothing}
 use Rattle.attribute_tables_grammar.specs.Lists.{any, without_context}
 use Rattle.attribute_tables_grammar.proofs.Readings.{SoFar}
+use Rattle.attribute_tables.specs.Beginnings.{begins_readable}
 use Rattle.attribute_tables.specs.Written.{written_as}
 use Rattle.attribute_tables.proofs.reader.parse_list.Given as goal
 
@@ -12,6 +13,7 @@ invariant-loop-rest g l = record {
   so_far : SoFar any (without_context (g.R.Reader.row_of l.reader)) l.bytes (map (written_as g.R.Value.Nla.entry g.R.Value.Nla.inside_fits) l.list.items) nothing l.rest;
   names_row : All (g.R.Reader.names_row l.reader) l.list.items;
   within : length l.rest ≤ length l.bytes;
+  begun : begins_readable (g.R.Reader.row_of l.reader) (g.R.Reader.may_want_memory l.reader) l.rest ≡ true → begins_readable (g.R.Reader.row_of l.reader) (g.R.Reader.may_want_memory l.reader) l.bytes ≡ true;
 }
 
 abbrev pub decreases-loop-rest : goal.decreases-loop-rest

@@ -1,5 +1,5 @@
 -- A payload that begins with one attribute of a family, and holds any bytes after it.
-use Rattle.std.proofs.Common.{◌≡◌, ℕ, Bool, true, false, List, [], ◌∷◌, length, Some, refl, sym, ap, ◌∙◌, append-nil}
+use Rattle.std.proofs.Common.{◌≡◌, ℕ, Bool, true, false, List, [], ◌∷◌, refl, sym, ap, ◌∙◌, append-nil}
 use Rattle.std.specs.Prelude.{◌&&◌}
 use Rattle.netlink_packet_core_grammar.specs.Attributes.{Attribute, attribute_text, list_text, proper_kind}
 use Rattle.netlink_packet_core_grammar.specs.AttributeViews.{IsAttribute, viewed_attribute, after_first}
@@ -7,7 +7,7 @@ use Rattle.netlink_packet_core_grammar.specs.Fits.{attribute_fits}
 use Rattle.netlink_packet_core_grammar.proofs.FirstAttribute.{first_attribute_is, first_attribute_none}
 use Rattle.netlink_packet_core.specs.Families.{Gives, accepts}
 use Rattle.attribute_tables_grammar.specs.Lists.{first_alone, without_context, rewrite, row_at}
-use Rattle.attribute_tables_grammar.specs.LookUps.{list_of, rows_rule, table_row, holds_no_lists}
+use Rattle.attribute_tables_grammar.specs.LookUps.{list_of, table_row, holds_no_lists}
 use Rattle.attribute_tables_grammar.specs.Peers.{bytes_peer}
 use Rattle.attribute_tables_grammar.specs.Readings.{Written, all_written_fit}
 use Rattle.attribute_tables_grammar.specs.Tables.{Table}

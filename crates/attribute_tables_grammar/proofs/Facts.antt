@@ -1,5 +1,5 @@
 -- Worked facts: on these payloads the definitions compute what an independent reading of the rules gives.
-use Rattle.std.proofs.Common.{◌≡◌, ℕ, true, false, List, [], ◌∷◌, refl}
+use Rattle.std.proofs.Common.{◌≡◌, ℕ, true, false, [], ◌∷◌, refl}
 use Rattle.std.specs.Str.{is_utf8, chars}
 use lib.Utf8.{encode}
 use Rattle.netlink_packet_core_grammar.specs.Attributes.{attribute_text, list_text, first_attribute, attributes_within}

@@ -3,12 +3,12 @@ use Rattle.std.proofs.Common.{◌≡◌, ℕ, zero, suc, Bool, true, false, List
 use Rattle.std.specs.Prelude.{bytes_eq, ◌==◌}
 use Rattle.std.proofs.lemmas.Bool.{and_parts}
 use Rattle.std.proofs.lemmas.Slice.Eq.{bytes_eq-Decides}
-use Rattle.netlink_packet_core_grammar.specs.Attributes.{Attribute, proper_kind}
+use Rattle.netlink_packet_core_grammar.specs.Attributes.{proper_kind}
 use Rattle.netlink_packet_core_grammar.specs.Texts.{without_nul}
 use Rattle.netlink_packet_core_grammar.proofs.Texts.{without_nul-end}
 use Rattle.attribute_tables_grammar.specs.Shapes.{text, raw, never}
 use Rattle.attribute_tables_grammar.specs.Rules.{Rule, Lawful, shape_rule}
-use Rattle.attribute_tables_grammar.specs.Lists.{Context, Row, Grammar, LawfulGrammar}
+use Rattle.attribute_tables_grammar.specs.Lists.{Context, Row, LawfulGrammar}
 use Rattle.attribute_tables_grammar.specs.Peers.{Peer, LawfulPeer, bytes_peer, peer_rule}
 use Rattle.attribute_tables_grammar.specs.Tables.{Payload, Payload.plain, Payload.peer, Payload.list, Payload.link_info, Table, Table.end, Table.row, Names, Names.others, Names.name, row_in_force, info_row, info_next, names_grammar, rule, row_in, named, grammar, payload_bounded, rows_bounded, names_bounded}
 use Rattle.attribute_tables_grammar.proofs.Shapes.{shape_lawful}

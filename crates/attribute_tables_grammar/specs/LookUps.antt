@@ -1,6 +1,6 @@
 -- The row of a kind in a table, under a rule of peers.
 use Rattle.std.specs.Prelude.{◌≡◌, ℕ, ◌==◌, cond, Bool, true, false, List, Option, Some, None, bytes_eq}
-use Rattle.attribute_tables_grammar.specs.Shapes.{Shape, text, raw}
+use Rattle.attribute_tables_grammar.specs.Shapes.{text, raw}
 use Rattle.attribute_tables_grammar.specs.Rules.{Rule, shape_rule, raw_rule}
 use Rattle.attribute_tables_grammar.specs.Lists.{Row, raw_row, ListForm, without_context, list_rule}
 use Rattle.attribute_tables_grammar.specs.Peers.{Peer, peer_rule}

@@ -1,6 +1,6 @@
 -- Tables of rows, and the rules that they make.
 use Rattle.std.specs.Prelude.{ℕ, zero, suc, ◌==◌, ◌&&◌, not, nat_lt, Bool, true, false, List, Option, Some, None, bytes_eq}
-use Rattle.netlink_packet_core_grammar.specs.Attributes.{Attribute, proper_kind}
+use Rattle.netlink_packet_core_grammar.specs.Attributes.{proper_kind}
 use Rattle.netlink_packet_core_grammar.specs.Texts.{without_nul}
 use Rattle.attribute_tables_grammar.specs.Shapes.{Shape, text, raw, never, shape_bounded}
 use Rattle.attribute_tables_grammar.specs.Rules.{Rule, shape_rule}

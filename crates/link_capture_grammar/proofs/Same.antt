@@ -1,5 +1,5 @@
 -- A legal capture and its normal text mean the same; captures that mean the same are legal, and have one normal text.
-use Rattle.std.proofs.Common.{◌≡◌, ℕ, zero, suc, ◌+◌, ◌-◌, ◌^◌, ◌<◌, ◌≤◌, eqb, ltb, Bool, true, false, cond, Result, List, [], ◌∷◌, ◌++◌, length, take, drop, Option, None, Some, Ok, Err, refl, sym, ap, subst, ◌∙◌, inl, inr, arith}
+use Rattle.std.proofs.Common.{◌≡◌, ℕ, zero, suc, ◌-◌, ◌^◌, ◌<◌, ◌≤◌, eqb, ltb, true, false, cond, List, [], ◌∷◌, ◌++◌, length, drop, Option, None, Some, Ok, refl, sym, ap, subst, ◌∙◌, inl, inr, arith}
 use Rattle.std.specs.Prelude.{bytes_eq}
 use Rattle.std.proofs.lemmas.Bool.{eqb-true}
 use Rattle.std.proofs.lemmas.Slice.Eq.{bytes_eq-Decides}
@@ -11,12 +11,12 @@ use Rattle.attribute_tables_grammar.specs.Laws.{KeepsMeaning}
 use Rattle.link_message_grammar.specs.Body.{link_body}
 use Rattle.link_message_grammar.proofs.Together.{bodies_keep_meanings}
 use Rattle.link_capture_grammar.specs.declared.fault.CaptureFault.{CaptureFault}
-use Rattle.link_capture_grammar.specs.Bodies.{Refusal, error_text, done_text, ruled_text, is_link_type, body_text}
-use Rattle.link_capture_grammar.specs.Captures.{first_frame, raised, fault_after, texts_after, first_fault, texts, IsLegal}
+use Rattle.link_capture_grammar.specs.Bodies.{error_text, done_text, ruled_text, is_link_type, body_text}
+use Rattle.link_capture_grammar.specs.Captures.{first_frame, raised, fault_after, texts_after, first_fault, IsLegal}
 use Rattle.link_capture_grammar.specs.Same.{done_body, same_body, SameFrame, SameFrames, SameCapture}
 use Rattle.link_capture_grammar.specs.Laws.{TextsMeanTheSame, SameAreLegal}
-use Rattle.link_capture_grammar.proofs.Frames.{accepted, guard, seen, fault_skip, fault_step, fault_stop, texts_skip, step_texts, fault_nil}
-use Rattle.link_capture_grammar.proofs.Normal.{ruled, link_body_lawful, texted, text_header, text_body, first_frame_again}
+use Rattle.link_capture_grammar.proofs.Frames.{accepted, guard, seen, fault_skip, fault_step, fault_stop, step_texts, fault_nil}
+use Rattle.link_capture_grammar.proofs.Normal.{ruled, texted, text_header, text_body, first_frame_again}
 
 -- ---- a body and its text
 

@@ -1,6 +1,6 @@
 -- The rule under a name in force is the rule of the kind that the name names.
 use Rattle.std.proofs.Common.{◌≡◌, ℕ, true, List, refl, sym, ap, ◌∙◌}
-use Rattle.std.specs.Prelude.{string_bytes, Some}
+use Rattle.std.specs.Prelude.{string_bytes}
 use Rattle.attribute_tables_grammar.specs.LookUps.{payload_at, rule_or_raw}
 use Rattle.attribute_tables_grammar.specs.Peers.{Peer, bytes_peer}
 use Rattle.attribute_tables_grammar.proofs.LookUps.{named-payload}

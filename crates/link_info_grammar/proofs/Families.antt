@@ -1,13 +1,10 @@
 -- The tables pass the tests, and are lawful.
-use Rattle.std.proofs.Common.{◌≡◌, true, refl}
-use Rattle.attribute_tables_grammar.specs.Rules.{Lawful}
-use Rattle.attribute_tables_grammar.specs.Lists.{any, LawfulGrammar}
+use Rattle.std.proofs.Common.{refl}
+use Rattle.attribute_tables_grammar.specs.Lists.{any}
 use Rattle.attribute_tables_grammar.specs.LookUps.{link_info_of}
-use Rattle.attribute_tables_grammar.specs.Peers.{Peer, LawfulPeer}
-use Rattle.attribute_tables_grammar.specs.Tables.{Payload.link_info, names_bounded}
+use Rattle.attribute_tables_grammar.specs.Tables.{Payload.link_info}
 use Rattle.attribute_tables_grammar.proofs.Tables.{lawful, info_lawful}
 use Rattle.link_info_grammar.specs.Families.{kinds, port_kinds}
-use Rattle.link_info_grammar.specs.KindNames.{kind_names, port_kind_names, are_listed}
 use Rattle.link_info_grammar.specs.LinkInfo.{info_grammar_under, info_rule_under}
 use Rattle.link_info_grammar.specs.Laws.{TablesPass, InfoIsLawful, InfoGrammarIsLawful, TablesAreListed, InfoIsAPayload}
 

@@ -1,5 +1,5 @@
 -- The laws of the tables of link info, as the functions of `laws` state them.
-use Rattle.std.specs.Prelude.{◌≡◌, ℕ, ◌<◌, true, List, length}
+use Rattle.std.specs.Prelude.{◌≡◌, true}
 use Rattle.attribute_tables_grammar.specs.Rules.{Lawful}
 use Rattle.attribute_tables_grammar.specs.Lists.{ListForm, any, LawfulGrammar}
 use Rattle.attribute_tables_grammar.specs.Peers.{Peer, LawfulPeer}

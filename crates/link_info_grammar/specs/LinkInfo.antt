@@ -1,7 +1,7 @@
 -- Link info (if_link.h, IFLA_LINKINFO), under a rule of peers.
 use Rattle.std.specs.Prelude.{ℕ, List}
 use Rattle.attribute_tables_grammar.specs.Rules.{Rule}
-use Rattle.attribute_tables_grammar.specs.Lists.{Context, Row, Grammar, ListForm, any, list_rule}
+use Rattle.attribute_tables_grammar.specs.Lists.{Context, Row, Grammar, any, list_rule}
 use Rattle.attribute_tables_grammar.specs.Peers.{Peer, bytes_peer}
 use Rattle.attribute_tables_grammar.specs.Tables.{named, names_grammar, info_row}
 use Rattle.link_info_grammar.specs.Families.{kinds, port_kinds}

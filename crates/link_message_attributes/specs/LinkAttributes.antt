@@ -1,5 +1,5 @@
 -- The attributes of a link: the kind and the payload of each value, and the variant that its row names.
-use Rattle.std.specs.Prelude.{◌≡◌, ◌==◌, ◌&&◌, ◌||◌, ◌++◌, cond, ℕ, Bool, true, false, Option, Some, None, List, [], ◌∷◌, length, string_bytes}
+use Rattle.std.specs.Prelude.{◌≡◌, ◌==◌, ◌&&◌, ◌||◌, ◌++◌, cond, ℕ, Bool, true, false, Option, Some, None, List, [], ◌∷◌, string_bytes}
 use Rattle.std.specs.Int.{w32, cast_unsigned}
 use Rattle.std.specs.List.{All}
 use Rattle.netlink_packet_core.specs.Attributes.{Attribute, proper_kind}

@@ -1,9 +1,9 @@
 -- The look-up of a kind finds what the table of the family says.
-use Rattle.std.proofs.Common.{◌≡◌, ℕ, Bool, true, false, cond, Option, Some, None, refl, sym, ap, subst, ◌∙◌}
+use Rattle.std.proofs.Common.{◌≡◌, ℕ, Bool, true, false, cond, refl, sym, ap, subst, ◌∙◌}
 use Rattle.std.specs.Prelude.{◌==◌}
 use Rattle.std.proofs.lemmas.Bool.{eqb-true}
 use Rattle.attribute_tables_grammar.specs.Lists.{without_context}
-use Rattle.attribute_tables_grammar.specs.LookUps.{Line, line_at, row_of_line}
+use Rattle.attribute_tables_grammar.specs.LookUps.{line_at, row_of_line}
 use Rattle.attribute_tables_grammar.specs.Peers.{bytes_peer}
 use Rattle.attribute_tables_grammar.specs.Tables.{Table, grammar}
 use Rattle.attribute_tables_grammar.proofs.LookUps.{grammar-table}

@@ -1,12 +1,12 @@
 -- The rule of a body by its parts.
-use Rattle.std.proofs.Common.{◌≡◌, ℕ, ◌<◌, List, length, refl, ap}
+use Rattle.std.proofs.Common.{ℕ, ◌<◌, List, length, refl, ap}
 use Rattle.attribute_tables_grammar.specs.LookUps.{link_info_of, rows_rule}
 use Rattle.attribute_tables_grammar.specs.Lists.{any, list_rule}
 use Rattle.attribute_tables_grammar.proofs.Readings.{non_empty_alike, non_empty_refuses}
 use Rattle.link_info_grammar.specs.LinkInfo.{info_grammar, info_grammar_under, info_rule_under}
 use Rattle.link_message_grammar.proofs.Lines.{attributes-grammar}
 use Rattle.link_message_grammar.specs.Body.{attributes_rule, body_rule, link_body}
-use Rattle.link_message_grammar.specs.Laws.{BodyParts, BodiesAreHeadersAndAttributes, AttributesAreLookedUp, InfoParts, InfoIsAListInside}
+use Rattle.link_message_grammar.specs.Laws.{BodiesAreHeadersAndAttributes, AttributesAreLookedUp, InfoParts, InfoIsAListInside}
 
 pub bodies_are_headers_and_attributes : BodiesAreHeadersAndAttributes
 unfolding attributes_rule body_rule link_body

@@ -1,6 +1,6 @@
 -- The tables of the lists inside attributes of link messages: a kind and what its payload holds.
 use Rattle.std.specs.Prelude.{ℕ}
-use Rattle.attribute_tables_grammar.specs.Shapes.{Shape, fixed_record, id_and_truth, resized}
+use Rattle.attribute_tables_grammar.specs.Shapes.{fixed_record, id_and_truth, resized}
 use Rattle.attribute_tables_grammar.specs.Lists.{any}
 use Rattle.attribute_tables_grammar.specs.Tables.{Payload, Payload.plain, Payload.list, Table, Table.end}
 use Rattle.attribute_tables_grammar.specs.Rows.{◌↪◌, ◌⸴◌, octets, string, raw_list}

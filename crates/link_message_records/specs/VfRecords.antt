@@ -1,5 +1,5 @@
 -- Records of virtual functions (if_link.h, struct ifla_vf_*).
-use Rattle.std.specs.Prelude.{ℕ, List, [], ◌∷◌, ◌++◌}
+use Rattle.std.specs.Prelude.{ℕ, List, ◌++◌}
 use Rattle.netlink_packet_core.specs.Attributes.{zeros}
 use Rattle.netlink_packet_core.specs.Numbers.{le4, be2}
 use Rattle.link_message_types.specs.VfTypes.{vf_link_state_number}

@@ -1,5 +1,5 @@
 -- A typed row writes an attribute with its kind alone, whatever flag bits it had.
-use Rattle.std.proofs.Common.{◌≡◌, ℕ, ◌+◌, Bool, true, false, cond, List, refl, ap, arith}
+use Rattle.std.proofs.Common.{◌≡◌, ℕ, ◌+◌, Bool, true, false, cond, ap, arith}
 use Rattle.netlink_packet_core_grammar.specs.Attributes.{Attribute, proper_kind}
 use Rattle.attribute_tables_grammar.specs.Lists.{Row, rewrite}
 

@@ -5,7 +5,6 @@ use Rattle.netlink_packet_core_grammar.specs.Numbers.{le2, le4, le8, be2, be4, b
 use Rattle.netlink_packet_core_grammar.specs.Truths.{truth_byte}
 use Rattle.netlink_packet_core_numbers.specs.Addresses.{ip_octets}
 use Rattle.netlink_packet_core_attributes.specs.declared.payload.Field.{Field}
-use Rattle.netlink_packet_core_attributes.specs.declared.payload.Field.TheVariants as Field
 
 abbrev pub field_bytes : Field → List ℕ
 field_bytes Field.Empty = []

@@ -1,4 +1,4 @@
-use Rattle.std.proofs.Common.{◌≡◌, ◌++◌, ◌∙◌, ap, sym}
+use Rattle.std.proofs.Common.{◌++◌, ◌∙◌, ap, sym}
 use Rattle.netlink_packet_core.specs.Attributes.{zeros}
 use Rattle.link_message_records.proofs.Pairs.{padded}
 use Rattle.link_message_records.proofs.record.write_record.Goals as goal

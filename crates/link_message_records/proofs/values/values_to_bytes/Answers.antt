@@ -1,4 +1,4 @@
-use Rattle.std.proofs.Common.{ℕ, ◌≡◌, ◌≤◌, ◌*◌, ◌++◌, ◌∙◌, ap, sym, arith, length, drop, replicate, rules}
+use Rattle.std.proofs.Common.{ℕ, ◌≡◌, ◌*◌, ◌++◌, ◌∙◌, ap, sym, arith, length, drop, replicate, rules}
 use Rattle.std.specs.List.{flat_map}
 use Rattle.std.proofs.lemmas.List.{length-replicate}
 use Rattle.link_message_records.proofs.Filled.{length_flat}

@@ -1,4 +1,4 @@
-use Rattle.std.proofs.Common.{◌≡◌, ◌*◌, ◌∙◌, ap, sym, length}
+use Rattle.std.proofs.Common.{◌*◌, ◌∙◌, ap, sym, length}
 use Rattle.netlink_packet_core.specs.Numbers.{as_usize}
 use Rattle.link_message_records.proofs.Filled.{length_flat}
 use Rattle.link_message_records.proofs.values.ValuesEmitable.buffer_len.Goals as goal

@@ -35,14 +35,18 @@ pub trait EntryReader {
     fn read(&self, alloc: Global, buf: &NlaBuffer<&[u8]>) -> Result<Self::Value, DecodeError>
         requires whole { IsAttribute (storage buf.now).now }
         requires one { is_of_kind_one (viewed_attribute (storage buf.now).now) ≡ true }
-        ensures ok { OnOk result (IsTrue ((entry_row self.now).rule.accepted (viewed_payload (storage buf.now).now))) }
+        ensures ok { OnOk result
+            (IsTrue ((entry_row self.now).rule.accepted (viewed_payload (storage buf.now).now))) }
         ensures value { IfOk result
-            (λ v. Self.Value.entry v ≡ rewrite (entry_row self.now) (viewed_attribute (storage buf.now).now)) }
+            (λ v. Self.Value.entry v
+            ≡ rewrite (entry_row self.now) (viewed_attribute (storage buf.now).now)) }
         ensures inside { IfOk result
-            (λ v. Self.Value.inside_fits v ≡ (entry_row self.now).rule.fits (viewed_payload (storage buf.now).now)) }
+            (λ v. Self.Value.inside_fits v
+            ≡ (entry_row self.now).rule.fits (viewed_payload (storage buf.now).now)) }
         ensures names_row { IfOk result (λ v. names_row self.now v) }
         ensures err { IfErr result
-            (λ e. is_memory e ≡ false → (entry_row self.now).rule.accepted (viewed_payload (storage buf.now).now) ≡ false) }
+            (λ e. is_memory e ≡ false
+            → (entry_row self.now).rule.accepted (viewed_payload (storage buf.now).now) ≡ false) }
         ensures memory { IfErr result
             (λ e. is_memory e ≡ true
             → may_want_memory self.now (viewed_payload (storage buf.now).now) ≡ true) };
@@ -57,12 +61,14 @@ pub fn parse_entries<R: EntryReader>(
     reader: &R,
     bytes: &[u8],
 ) -> Result<Vec<R::Value>, DecodeError>
-    ensures ok { OnOk result (IsTrue ((rows_rule of_kind_one (only_one (R.entry_row reader.now))).accepted bytes.now)) }
+    ensures ok { OnOk result
+        (IsTrue ((rows_rule of_kind_one (only_one (R.entry_row reader.now))).accepted bytes.now)) }
     ensures read { IfOk result
         (λ v. reading_as of_kind_one (without_context (only_one (R.entry_row reader.now))) bytes.now
         ≡ Some (map (written_as R.Value.entry R.Value.inside_fits) v.items)) }
     ensures text { IfOk result
-        (λ v. text_by R.Value.entry v.items ≡ (rows_rule of_kind_one (only_one (R.entry_row reader.now))).canonical bytes.now) }
+        (λ v. text_by R.Value.entry v.items
+        ≡ (rows_rule of_kind_one (only_one (R.entry_row reader.now))).canonical bytes.now) }
     ensures fits { IfOk result
         (λ v. all_fit_by R.Value.entry R.Value.inside_fits v.items
         ≡ (rows_rule of_kind_one (only_one (R.entry_row reader.now))).fits bytes.now) }

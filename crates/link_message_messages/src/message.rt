@@ -40,7 +40,8 @@ impl LinkMessage {
         ensures family { IfOk result
             (λ m. m.header.interface_family ≡ address_family_of (slice_index bytes.now 0)) }
         ensures read { IfOk result
-            (λ m. reading_as any (without_context (attribute_row (family bytes.now))) (attribute_bytes bytes.now)
+            (λ m. reading_as any (without_context (attribute_row (family bytes.now)))
+            (attribute_bytes bytes.now)
             ≡ Some (link_message_written m)) }
         ensures text { IfOk result (λ m. link_message_text m ≡ link_body.canonical bytes.now) }
         ensures fits { IfOk result (λ m. link_message_fits m ≡ link_body.fits bytes.now) }

@@ -1,10 +1,11 @@
 -- Settings of virtual functions: the kind and the payload of each value.
-use Rattle.std.specs.Prelude.{◌≡◌, ℕ, Bool, true, false, List, Some}
+use Rattle.std.specs.Prelude.{◌≡◌, ◌&&◌, ℕ, Bool, true, false, List, Some}
 use Rattle.std.specs.List.{All}
 use Rattle.netlink_packet_core.specs.Attributes.{Attribute, proper_kind}
+use Rattle.netlink_packet_core.specs.AttributeViews.{viewed_attribute, viewed_payload}
 use Rattle.netlink_packet_core.specs.Families.{attribute, family_row}
 use Rattle.netlink_packet_core.specs.Lists.{text_by, all_fit_by}
-use Rattle.attribute_tables_grammar.specs.Lists.{any}
+use Rattle.attribute_tables_grammar.specs.Lists.{Row, any, is_of_kind_one, rewrite}
 use Rattle.attribute_tables_grammar.specs.LookUps.{has_no_row, row_of_line}
 use Rattle.attribute_tables_grammar.specs.Peers.{bytes_peer}
 use Rattle.attribute_tables_grammar.specs.Tables.{Payload.list}
@@ -55,6 +56,23 @@ link_vf_info_fits v = all_fit_by vf_info_entry vf_info_fits v.0.items
 abbrev pub link_vf_info_names_row : LinkVfInfo → Type 0
 link_vf_info_names_row v = All vf_info_names_row v.0.items
 
+-- ---- one virtual function in the list of all
+
+-- its row: a list of settings
+abbrev pub vf_info_row : Row
+vf_info_row = row_of_line bytes_peer (Some (record { is_nested = false; payload = list any vf }))
+
+-- the bytes begin with one: an attribute of kind 1 whose settings are accepted
+abbrev pub is_vf_info : List ℕ → Bool
+is_vf_info b = is_of_kind_one (viewed_attribute b) && vf_info_row.rule.accepted (viewed_payload b)
+
+-- the value is what the attribute that the bytes begin with is read as
+abbrev pub IsVfInfoOf : List ℕ → LinkVfInfo → Type 0
+IsVfInfoOf b v =
+    (link_vf_info_entry v ≡ rewrite vf_info_row (viewed_attribute b))
+    × (link_vf_info_fits v ≡ vf_info_row.rule.fits (viewed_payload b))
+    × link_vf_info_names_row v
+
 -- ---- want of memory
 
 -- the settings of one virtual function begin so
@@ -63,4 +81,4 @@ vf_info_begins_readable p = begins_readable (family_row vf) (table_may_want_memo
 
 -- the first virtual function of a list is accepted, or its settings begin so
 unfoldable pub vf_infos_begin_readable : List ℕ → Bool
-vf_infos_begin_readable b = entries_begin_readable (row_of_line bytes_peer (Some (record { is_nested = false; payload = list any vf }))) vf_info_begins_readable b
+vf_infos_begin_readable b = entries_begin_readable vf_info_row vf_info_begins_readable b

@@ -1,20 +1,19 @@
 //! Settings of virtual functions (if_link.h, IFLA_VF_*). Numbers are little-endian.
 
-ghost use Rattle.std.specs.Prelude.{◌≡◌, ◌&&◌, ◌<◌, true, false, length, Some, IsTrue, IfOk, IfErr, OnOk};
+ghost use Rattle.std.specs.Prelude.{◌≡◌, ◌&&◌, ◌<◌, true, false, length, IsTrue, IfOk, IfErr, OnOk};
 ghost use Rattle.std.specs.List.{All};
 ghost use Rattle.netlink_packet_core.specs.AttributeViews.{viewed_attribute, viewed_payload, IsAttribute};
 ghost use Rattle.netlink_packet_core.specs.Errors.{is_memory};
 ghost use Rattle.netlink_packet_core.specs.Lists.{text_by, all_fit_by};
 ghost use Rattle.netlink_packet_core.specs.NlaBuffers.{storage};
-ghost use Rattle.attribute_tables_grammar.specs.Lists.{any, is_of_kind_one, of_kind_one, rewrite};
-ghost use Rattle.attribute_tables_grammar.specs.LookUps.{list_of, row_of_line, table_row};
+ghost use Rattle.attribute_tables_grammar.specs.Lists.{is_of_kind_one, of_kind_one};
+ghost use Rattle.attribute_tables_grammar.specs.LookUps.{list_of, table_row};
 ghost use Rattle.attribute_tables_grammar.specs.Peers.{bytes_peer};
-ghost use Rattle.attribute_tables_grammar.specs.Tables.{Payload.list};
 ghost use Rattle.attribute_tables.specs.Views.{fits_by, is_accepted_by, rewritten_by};
 ghost use Rattle.attribute_tables.specs.Beginnings.{table_may_want_memory};
 ghost use Rattle.link_message_grammar.specs.NestedTables.{vf, vf_infos};
 ghost use Rattle.link_message_virtual_functions.specs.VfInfos.{vf_info_entry, vf_info_fits, vf_info_names_row, link_vf_info_entry, link_vf_info_fits, link_vf_info_names_row};
-ghost use Rattle.link_message_virtual_functions.specs.VfInfos.{vf_info_begins_readable, vf_infos_begin_readable};
+ghost use Rattle.link_message_virtual_functions.specs.VfInfos.{vf_info_row, is_vf_info, IsVfInfoOf, vf_info_begins_readable, vf_infos_begin_readable};
 
 use super::vf_stats::VfStats;
 use super::vf_vlan::{VfVlan, VfVlanReader};
@@ -228,7 +227,7 @@ pub struct LinkVfInfoReader;
 impl EntryReader for LinkVfInfoReader {
     type Value = LinkVfInfo;
 
-    ghost entry_row = { λ _. row_of_line bytes_peer (Some (record { is_nested = false; payload = list any vf })) };
+    ghost entry_row = { λ _. vf_info_row };
 
     ghost names_row = { λ _. link_vf_info_names_row };
 
@@ -245,7 +244,8 @@ impl EntryReader for LinkVfInfoReader {
 /// refused.
 #[tactic(auto, using(crate::proofs::VfRules::vf_rules), unfolding(crate::specs::VfInfos::vf_infos_begin_readable))]
 pub fn parse_vf_infos(alloc: Global, bytes: &[u8]) -> Result<Vec<LinkVfInfo>, DecodeError>
-    ensures ok { OnOk result (IsTrue ((list_of bytes_peer of_kind_one vf_infos).accepted bytes.now)) }
+    ensures ok { OnOk result
+        (IsTrue ((list_of bytes_peer of_kind_one vf_infos).accepted bytes.now)) }
     ensures text { IfOk result
         (λ v. text_by link_vf_info_entry v.items
         ≡ (list_of bytes_peer of_kind_one vf_infos).canonical bytes.now) }
@@ -267,12 +267,12 @@ pub fn parse_vf_infos(alloc: Global, bytes: &[u8]) -> Result<Vec<LinkVfInfo>, De
 impl<'a> Parseable<NlaBuffer<&'a [u8]>> for LinkVfInfo {
     ghost can_parse = { λ b. IsAttribute (storage b).now };
 
-    ghost accepts = { λ b. is_of_kind_one (viewed_attribute (storage b).now) && (row_of_line bytes_peer (Some (record { is_nested = false; payload = list any vf }))).rule.accepted (viewed_payload (storage b).now) };
+    ghost accepts = { λ b. is_vf_info (storage b).now };
 
     ghost may_want_memory = { λ b. is_of_kind_one (viewed_attribute (storage b).now)
         && vf_info_begins_readable (viewed_payload (storage b).now) };
 
-    ghost gives = { λ b v. (link_vf_info_entry v ≡ rewrite (row_of_line bytes_peer (Some (record { is_nested = false; payload = list any vf }))) (viewed_attribute (storage b).now)) × (link_vf_info_fits v ≡ (row_of_line bytes_peer (Some (record { is_nested = false; payload = list any vf }))).rule.fits (viewed_payload (storage b).now)) × link_vf_info_names_row v };
+    ghost gives = { λ b v. IsVfInfoOf (storage b).now v };
 
     fn parse(alloc: Global, buf: &NlaBuffer<&'a [u8]>) -> Result<Self, DecodeError> {
         if buf.kind() != IFLA_VF_INFO {

@@ -1,19 +1,18 @@
 //! Ports of virtual functions (if_link.h, IFLA_PORT_*), each attribute as it is.
 
-ghost use Rattle.std.specs.Prelude.{◌≡◌, ◌&&◌, ◌<◌, ⊤, true, false, length, Some, refl, IsTrue, IfOk, IfErr, OnOk};
+ghost use Rattle.std.specs.Prelude.{◌≡◌, ◌&&◌, ◌<◌, ⊤, true, false, length, refl, IsTrue, IfOk, IfErr, OnOk};
 ghost use Rattle.netlink_packet_core.specs.AttributeViews.{viewed_attribute, viewed_payload, IsAttribute};
 ghost use Rattle.netlink_packet_core.specs.Errors.{is_memory};
 ghost use Rattle.netlink_packet_core.specs.Families.{family_row};
 ghost use Rattle.netlink_packet_core.specs.Lists.{text_by, all_fit_by};
 ghost use Rattle.netlink_packet_core.specs.NlaBuffers.{storage};
-ghost use Rattle.attribute_tables_grammar.specs.Lists.{is_of_kind_one, ports, rewrite};
-ghost use Rattle.attribute_tables_grammar.specs.LookUps.{list_of, row_of_line};
+ghost use Rattle.attribute_tables_grammar.specs.Lists.{is_of_kind_one, ports};
+ghost use Rattle.attribute_tables_grammar.specs.LookUps.{list_of};
 ghost use Rattle.attribute_tables_grammar.specs.Peers.{bytes_peer};
-ghost use Rattle.attribute_tables_grammar.specs.Rows.{raw_list};
 ghost use Rattle.attribute_tables_grammar.specs.Tables.{Table.end};
 ghost use Rattle.attribute_tables.specs.Beginnings.{begins_accepted};
 ghost use Rattle.link_message_grammar.specs.NestedTables.{vf_ports};
-ghost use Rattle.link_message_virtual_functions.specs.VfPorts.{vf_port_entry, link_vf_port_entry, link_vf_port_fits, vf_ports_begin_readable};
+ghost use Rattle.link_message_virtual_functions.specs.VfPorts.{vf_port_entry, link_vf_port_entry, link_vf_port_fits, vf_port_row, is_vf_port, IsVfPortOf, vf_ports_begin_readable};
 
 use attribute_tables::{EntryReader, parse_family, parse_ports};
 use netlink_packet_core::{
@@ -90,7 +89,7 @@ pub struct LinkVfPortReader;
 impl EntryReader for LinkVfPortReader {
     type Value = LinkVfPort;
 
-    ghost entry_row = { λ _. row_of_line bytes_peer (Some (record { is_nested = false; payload = raw_list })) };
+    ghost entry_row = { λ _. vf_port_row };
 
     ghost names_row = { λ _ _. ⊤ };
 
@@ -127,12 +126,12 @@ pub fn parse_vf_ports(alloc: Global, bytes: &[u8]) -> Result<Vec<LinkVfPort>, De
 impl<'a> Parseable<NlaBuffer<&'a [u8]>> for LinkVfPort {
     ghost can_parse = { λ b. IsAttribute (storage b).now };
 
-    ghost accepts = { λ b. is_of_kind_one (viewed_attribute (storage b).now) && (row_of_line bytes_peer (Some (record { is_nested = false; payload = raw_list }))).rule.accepted (viewed_payload (storage b).now) };
+    ghost accepts = { λ b. is_vf_port (storage b).now };
 
     ghost may_want_memory = { λ b. is_of_kind_one (viewed_attribute (storage b).now)
         && begins_accepted (family_row end) (viewed_payload (storage b).now) };
 
-    ghost gives = { λ b v. (link_vf_port_entry v ≡ rewrite (row_of_line bytes_peer (Some (record { is_nested = false; payload = raw_list }))) (viewed_attribute (storage b).now)) × (link_vf_port_fits v ≡ (row_of_line bytes_peer (Some (record { is_nested = false; payload = raw_list }))).rule.fits (viewed_payload (storage b).now)) };
+    ghost gives = { λ b v. IsVfPortOf (storage b).now v };
 
     fn parse(alloc: Global, buf: &NlaBuffer<&'a [u8]>) -> Result<Self, DecodeError> {
         if buf.kind() != IFLA_VF_PORT {

@@ -5,3 +5,4 @@ pub mod Parts
 pub mod EmptyPorts
 pub mod Together
 pub mod Cases
+pub mod NestedCases

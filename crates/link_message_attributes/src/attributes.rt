@@ -481,6 +481,42 @@ impl Nla for LinkAttribute {
 }
 
 impl LinkAttribute {
+    // Reads IFLA_AF_SPEC, whose payload goes by the address family.
+    fn parse_af_spec(
+        alloc: Global,
+        family: AddressFamily,
+        payload: &[u8],
+    ) -> Result<Self, DecodeError>
+        ensures ok { OnOk result
+            (IsTrue ((attribute_row (table_family family) 26).rule.accepted payload.now)) }
+        ensures value { IfOk result
+            (λ v. link_attribute_entry v
+            ≡ rewrite (attribute_row (table_family family) 26) (attribute 26 payload.now)) }
+        ensures inside { IfOk result
+            (λ v. link_attribute_fits v
+            ≡ (attribute_row (table_family family) 26).rule.fits payload.now) }
+        ensures names_row { IfOk result
+            (λ v. link_attribute_names_row (table_family family) v) }
+        ensures err { IfErr result
+            (λ e. is_memory e ≡ false
+            → (attribute_row (table_family family) 26).rule.accepted payload.now ≡ false) }
+        ensures memory { IfErr result
+            (λ e. is_memory e ≡ true
+            → row_may_want_memory (table_family family) 26 payload.now ≡ true) }
+    {
+        match family {
+            AddressFamily::Unspec => Ok(Self::AfSpecUnspec(parse_families(alloc, payload)?)),
+            AddressFamily::Bridge => Ok(Self::AfSpecBridge(parse_raw(alloc, payload)?)),
+            AddressFamily::Unix
+            | AddressFamily::Inet
+            | AddressFamily::Inet6
+            | AddressFamily::Netlink
+            | AddressFamily::Packet
+            | AddressFamily::Mctp
+            | AddressFamily::Other(_) => Ok(Self::AfSpecUnknown(parse_bytes(alloc, payload)?)),
+        }
+    }
+
     // Reads the payload of a kind without its flag bits; `None` where the kind has no row.
     fn read_row(
         alloc: Global,
@@ -546,16 +582,9 @@ impl LinkAttribute {
                 Ok(list) => Ok(Some(Self::PortSelf(LinkVfPort(list)))),
                 Err(error) => Err(error),
             },
-            IFLA_AF_SPEC => match family {
-                AddressFamily::Unspec => typed!(AfSpecUnspec, parse_families(alloc, payload)),
-                AddressFamily::Bridge => typed!(AfSpecBridge, parse_raw(alloc, payload)),
-                AddressFamily::Unix
-                | AddressFamily::Inet
-                | AddressFamily::Inet6
-                | AddressFamily::Netlink
-                | AddressFamily::Packet
-                | AddressFamily::Mctp
-                | AddressFamily::Other(_) => typed!(AfSpecUnknown, parse_bytes(alloc, payload)),
+            IFLA_AF_SPEC => match Self::parse_af_spec(alloc, family, payload) {
+                Ok(value) => Ok(Some(value)),
+                Err(error) => Err(error),
             },
             IFLA_GROUP => typed!(Group, parse_u32(payload)),
             IFLA_NET_NS_FD => typed!(NetNsFd, parse_i32(payload)),

@@ -175,3 +175,11 @@ row_may_want_memory f k p =
 -- the same of the attribute that the bytes begin with
 abbrev pub link_attribute_may_want_memory : Family → List ℕ → Bool
 link_attribute_may_want_memory f b = row_may_want_memory f (proper_kind (viewed_kind b)) (viewed_payload b)
+
+-- none of the kinds whose payload isn't one number
+abbrev pub IsReadAsNumber : ℕ → Type 0
+IsReadAsNumber k =
+    ((k == 1) ≡ false) × ((k == 2) ≡ false) × ((k == 3) ≡ false) × ((k == 6) ≡ false) × ((k == 7) ≡ false) × ((k == 12) ≡ false) × ((k == 14) ≡ false)
+    × ((k == 18) ≡ false) × ((k == 20) ≡ false) × ((k == 22) ≡ false) × ((k == 23) ≡ false) × ((k == 24) ≡ false) × ((k == 25) ≡ false) × ((k == 26) ≡ false)
+    × ((k == 29) ≡ false) × ((k == 34) ≡ false) × ((k == 36) ≡ false) × ((k == 38) ≡ false) × ((k == 43) ≡ false) × ((k == 52) ≡ false) × ((k == 54) ≡ false)
+    × ((k == 55) ≡ false) × ((k == 56) ≡ false) × ((k == 57) ≡ false) × ((k == 62) ≡ false) × ((k == 65) ≡ false)

@@ -16,8 +16,8 @@ ghost use Rattle.attribute_tables.specs.Written.{written_as};
 ghost use Rattle.link_message_grammar.specs.LinkMessage.{has_no_link_row};
 ghost use Rattle.link_message_grammar.specs.Body.{attribute_row, attributes_rule};
 ghost use Rattle.link_message_types.specs.AddressFamilies.{table_family};
-ghost use Rattle.link_message_attributes.specs.LinkAttributes.{link_attribute_entry, link_attribute_fits, link_attribute_names_row};
-ghost use Rattle.link_message_attributes.specs.LinkAttributes.{row_may_want_memory, link_attribute_may_want_memory};
+ghost use Rattle.link_message_attributes.specs.LinkAttributes.{IsReadAsNumber, link_attribute_entry, link_attribute_fits, link_attribute_names_row};
+ghost use Rattle.link_message_attributes.specs.LinkAttributes.{IsReadAsNumber, row_may_want_memory, link_attribute_may_want_memory};
 ghost use Rattle.link_message_attributes.specs.Payloads.{link_payload_bytes, link_payload_fits};
 
 use super::payload::{LinkPayload, parse_bytes, parse_extent_masks, parse_link_info};
@@ -517,6 +517,75 @@ impl LinkAttribute {
         }
     }
 
+    // Reads the payload of a kind that isn't read otherwise, as a number; `None` where the kind has
+    // no row.
+    fn read_number(
+        family: AddressFamily,
+        kind: u16,
+        payload: &[u8],
+    ) -> Result<Option<Self>, DecodeError>
+        requires { IsReadAsNumber kind }
+        ensures ok { OnOk result
+            (IsTrue ((attribute_row (table_family family) kind).rule.accepted payload.now)) }
+        ensures none { IfOk result
+            (λ o. IfNone o (has_no_link_row (table_family family) kind)) }
+        ensures typed { IfOk result
+            (λ o. IfSome o (λ _. (attribute_row (table_family family) kind).is_typed ≡ true)) }
+        ensures value { IfOk result
+            (λ o. IfSome o
+            (λ v. link_attribute_entry v
+            ≡ rewrite (attribute_row (table_family family) kind) (attribute kind payload.now))) }
+        ensures inside { IfOk result
+            (λ o. IfSome o
+            (λ v. link_attribute_fits v
+            ≡ (attribute_row (table_family family) kind).rule.fits payload.now)) }
+        ensures names_row { IfOk result
+            (λ o. IfSome o (λ v. link_attribute_names_row (table_family family) v)) }
+        ensures err { IfErr result
+            (λ e. is_memory e ≡ false
+            → (attribute_row (table_family family) kind).rule.accepted payload.now ≡ false) }
+        ensures memory { IfErr result
+            (λ e. is_memory e ≡ true
+            → row_may_want_memory (table_family family) kind payload.now ≡ true) }
+    {
+        match kind {
+            IFLA_MTU => typed!(Mtu, parse_u32(payload)),
+            IFLA_LINK => typed!(Link, parse_u32(payload)),
+            IFLA_MASTER => typed!(Controller, parse_u32(payload)),
+            IFLA_TXQLEN => typed!(TxQueueLen, parse_u32(payload)),
+            IFLA_OPERSTATE => typed!(OperState, parse_u8(payload), State),
+            IFLA_LINKMODE => typed!(Mode, parse_u8(payload), LinkMode),
+            IFLA_NET_NS_PID => typed!(NetNsPid, parse_u32(payload)),
+            IFLA_NUM_VF => typed!(NumVf, parse_u32(payload)),
+            IFLA_GROUP => typed!(Group, parse_u32(payload)),
+            IFLA_NET_NS_FD => typed!(NetNsFd, parse_i32(payload)),
+            IFLA_PROMISCUITY => typed!(Promiscuity, parse_u32(payload)),
+            IFLA_NUM_TX_QUEUES => typed!(NumTxQueues, parse_u32(payload)),
+            IFLA_NUM_RX_QUEUES => typed!(NumRxQueues, parse_u32(payload)),
+            IFLA_CARRIER => typed!(Carrier, parse_u8(payload)),
+            IFLA_CARRIER_CHANGES => typed!(CarrierChanges, parse_u32(payload)),
+            IFLA_LINK_NETNSID => typed!(LinkNetnsId, parse_u32(payload)),
+            IFLA_PROTO_DOWN => typed!(ProtoDown, parse_u8(payload)),
+            IFLA_GSO_MAX_SEGS => typed!(GsoMaxSegs, parse_u32(payload)),
+            IFLA_GSO_MAX_SIZE => typed!(GsoMaxSize, parse_u32(payload)),
+            IFLA_EVENT => typed!(Event, parse_u32(payload), LinkEvent),
+            IFLA_NEW_NETNSID => typed!(NewNetnsId, parse_u32(payload)),
+            IFLA_IF_NETNSID => typed!(IfNetnsId, parse_u32(payload)),
+            IFLA_CARRIER_UP_COUNT => typed!(CarrierUpCount, parse_u32(payload)),
+            IFLA_CARRIER_DOWN_COUNT => typed!(CarrierDownCount, parse_u32(payload)),
+            IFLA_NEW_IFINDEX => typed!(NewIfIndex, parse_u32(payload)),
+            IFLA_MIN_MTU => typed!(MinMtu, parse_u32(payload)),
+            IFLA_MAX_MTU => typed!(MaxMtu, parse_u32(payload)),
+            IFLA_GRO_MAX_SIZE => typed!(GroMaxSize, parse_u32(payload)),
+            IFLA_TSO_MAX_SIZE => typed!(TsoMaxSize, parse_u32(payload)),
+            IFLA_TSO_MAX_SEGS => typed!(TsoMaxSegs, parse_u32(payload)),
+            IFLA_ALLMULTI => typed!(AllMulti, parse_u32(payload)),
+            IFLA_GSO_IPV4_MAX_SIZE => typed!(GsoIpv4MaxSize, parse_u32(payload)),
+            IFLA_GRO_IPV4_MAX_SIZE => typed!(GroIpv4MaxSize, parse_u32(payload)),
+            _ => Ok(None),
+        }
+    }
+
     // Reads the payload of a kind without its flag bits; `None` where the kind has no row.
     fn read_row(
         alloc: Global,
@@ -551,12 +620,8 @@ impl LinkAttribute {
             IFLA_ADDRESS => typed!(Address, parse_bytes(alloc, payload)),
             IFLA_BROADCAST => typed!(Broadcast, parse_bytes(alloc, payload)),
             IFLA_IFNAME => typed!(IfName, parse_string(alloc, payload)),
-            IFLA_MTU => typed!(Mtu, parse_u32(payload)),
-            IFLA_LINK => typed!(Link, parse_u32(payload)),
             IFLA_QDISC => typed!(Qdisc, parse_string(alloc, payload)),
             IFLA_STATS => Ok(Some(Self::Stats(read_settings(payload)))),
-            IFLA_MASTER => typed!(Controller, parse_u32(payload)),
-            IFLA_TXQLEN => typed!(TxQueueLen, parse_u32(payload)),
             IFLA_PROTINFO => match family {
                 AddressFamily::Bridge => typed!(ProtoInfoBridge, parse_raw(alloc, payload)),
                 AddressFamily::Inet6 => typed!(ProtoInfoInet6, parse_family(alloc, payload)),
@@ -569,12 +634,8 @@ impl LinkAttribute {
                 | AddressFamily::Other(_) => Ok(None),
             },
             IFLA_MAP => typed!(Map, Map::parse(payload)),
-            IFLA_OPERSTATE => typed!(OperState, parse_u8(payload), State),
-            IFLA_LINKMODE => typed!(Mode, parse_u8(payload), LinkMode),
             IFLA_LINKINFO => typed!(LinkInfo, parse_link_info(alloc, payload)),
-            IFLA_NET_NS_PID => typed!(NetNsPid, parse_u32(payload)),
             IFLA_IFALIAS => typed!(IfAlias, parse_string(alloc, payload)),
-            IFLA_NUM_VF => typed!(NumVf, parse_u32(payload)),
             IFLA_VFINFO_LIST => typed!(VfInfoList, parse_vf_infos(alloc, payload)),
             IFLA_STATS64 => Ok(Some(Self::Stats64(read_settings(payload)))),
             IFLA_VF_PORTS => typed!(VfPorts, parse_vf_ports(alloc, payload)),
@@ -586,44 +647,19 @@ impl LinkAttribute {
                 Ok(value) => Ok(Some(value)),
                 Err(error) => Err(error),
             },
-            IFLA_GROUP => typed!(Group, parse_u32(payload)),
-            IFLA_NET_NS_FD => typed!(NetNsFd, parse_i32(payload)),
             IFLA_EXT_MASK => typed!(ExtMask, parse_extent_masks(alloc, payload)),
-            IFLA_PROMISCUITY => typed!(Promiscuity, parse_u32(payload)),
-            IFLA_NUM_TX_QUEUES => typed!(NumTxQueues, parse_u32(payload)),
-            IFLA_NUM_RX_QUEUES => typed!(NumRxQueues, parse_u32(payload)),
-            IFLA_CARRIER => typed!(Carrier, parse_u8(payload)),
             IFLA_PHYS_PORT_ID => typed!(PhysPortId, LinkPhysId::parse(alloc, payload)),
-            IFLA_CARRIER_CHANGES => typed!(CarrierChanges, parse_u32(payload)),
             IFLA_PHYS_SWITCH_ID => typed!(PhysSwitchId, LinkPhysId::parse(alloc, payload)),
-            IFLA_LINK_NETNSID => typed!(LinkNetnsId, parse_u32(payload)),
             IFLA_PHYS_PORT_NAME => typed!(PhysPortName, parse_string(alloc, payload)),
-            IFLA_PROTO_DOWN => typed!(ProtoDown, parse_u8(payload)),
-            IFLA_GSO_MAX_SEGS => typed!(GsoMaxSegs, parse_u32(payload)),
-            IFLA_GSO_MAX_SIZE => typed!(GsoMaxSize, parse_u32(payload)),
             IFLA_XDP => typed!(Xdp, parse_family(alloc, payload)),
-            IFLA_EVENT => typed!(Event, parse_u32(payload), LinkEvent),
-            IFLA_NEW_NETNSID => typed!(NewNetnsId, parse_u32(payload)),
-            IFLA_IF_NETNSID => typed!(IfNetnsId, parse_u32(payload)),
-            IFLA_CARRIER_UP_COUNT => typed!(CarrierUpCount, parse_u32(payload)),
-            IFLA_CARRIER_DOWN_COUNT => typed!(CarrierDownCount, parse_u32(payload)),
-            IFLA_NEW_IFINDEX => typed!(NewIfIndex, parse_u32(payload)),
-            IFLA_MIN_MTU => typed!(MinMtu, parse_u32(payload)),
-            IFLA_MAX_MTU => typed!(MaxMtu, parse_u32(payload)),
             IFLA_PROP_LIST => typed!(PropList, parse_family(alloc, payload)),
             IFLA_PERM_ADDRESS => typed!(PermAddress, parse_bytes(alloc, payload)),
             IFLA_PROTO_DOWN_REASON => typed!(ProtoDownReason, parse_family(alloc, payload)),
             IFLA_PARENT_DEV_NAME => typed!(ParentDevName, parse_string(alloc, payload)),
             IFLA_PARENT_DEV_BUS_NAME => typed!(ParentDevBusName, parse_string(alloc, payload)),
-            IFLA_GRO_MAX_SIZE => typed!(GroMaxSize, parse_u32(payload)),
-            IFLA_TSO_MAX_SIZE => typed!(TsoMaxSize, parse_u32(payload)),
-            IFLA_TSO_MAX_SEGS => typed!(TsoMaxSegs, parse_u32(payload)),
-            IFLA_ALLMULTI => typed!(AllMulti, parse_u32(payload)),
             IFLA_DEVLINK_PORT => typed!(DevlinkPort, parse_family(alloc, payload)),
-            IFLA_GSO_IPV4_MAX_SIZE => typed!(GsoIpv4MaxSize, parse_u32(payload)),
-            IFLA_GRO_IPV4_MAX_SIZE => typed!(GroIpv4MaxSize, parse_u32(payload)),
             IFLA_DPLL_PIN => typed!(DpllPin, parse_family(alloc, payload)),
-            _ => Ok(None),
+            _ => Self::read_number(family, kind, payload),
         }
     }
 

@@ -24,8 +24,10 @@ use std::marker::PhantomData;
 pub struct FamilyReader<F>(PhantomData<F>);
 
 impl<F> FamilyReader<F> {
-    /// The reader of the family.
-    pub const fn new() -> Self {
+    /// The reader of the family. It holds nothing: there is no other.
+    pub const fn new() -> Self
+        ensures { (r : FamilyReader F) → r ≡ result }
+    {
         FamilyReader(PhantomData)
     }
 }

@@ -1,6 +1,6 @@
 -- The steps of a walk over a table, as a loop takes them.
-use Rattle.std.proofs.Common.{◌≡◌, ℕ, ◌+◌, ◌*◌, ◌≤◌, ◌<◌, Bool, true, false, List, length, Option, Some, None, refl, sym, ap, ◌∙◌, arith}
-use Rattle.std.specs.Prelude.{◌&&◌, ◌||◌}
+use Rattle.std.proofs.Common.{◌≡◌, ℕ, ◌+◌, ◌*◌, ◌≤◌, ◌<◌, true, false, List, length, Option, Some, None, refl, sym, ap, ◌∙◌, arith}
+use Rattle.std.proofs.Math.Bool.{and-true, or-false}
 use Rattle.std.proofs.Math.Nat.{add-zero, zero-add}
 use Rattle.netlink_packet_core_grammar.specs.Attributes.{nla_align, Attribute, proper_kind, first_attribute}
 use Rattle.netlink_packet_core_grammar.proofs.Attributes.{sized}
@@ -14,20 +14,12 @@ use Rattle.attribute_tables_grammar.proofs.LookUps.{row-table}
 use Rattle.attribute_tables_grammar.proofs.Tables.{rows_lawful}
 use Rattle.attribute_tables_grammar.proofs.Walks.{walk_any, walk_end, walk_stop, walk_more, walk_past, walk_refused, measured_small}
 
-and_true : (b : Bool) → (b && true) ≡ b
-and_true true = refl
-and_true false = refl
-
-or_false : (b : Bool) → (b || false) ≡ b
-or_false true = refl
-or_false false = refl
-
 both_start : (o : Option Measure) → both (Some none_yet) o ≡ o
 both_start None = refl
 both_start (Some m) = λ i. Some (record { size = zero-add m.size i; attributes = zero-add m.attributes i; fits = m.fits; empty_ports = m.empty_ports })
 
 plus_end : (m : Measure) → plus m none_yet ≡ m
-plus_end m = λ i. record { size = add-zero m.size i; attributes = add-zero m.attributes i; fits = and_true m.fits i; empty_ports = or_false m.empty_ports i }
+plus_end m = λ i. record { size = add-zero m.size i; attributes = add-zero m.attributes i; fits = and-true m.fits i; empty_ports = or-false m.empty_ports i }
 
 -- what is known in the loop: the whole is what was met so far and the rest
 unfoldable pub SoFar : Peer → ListForm → Table → List ℕ → Measure → List ℕ → Type 0

@@ -1,5 +1,6 @@
 -- A walk tells what the rule of a list tells, and goes on by steps.
 use Rattle.std.proofs.Common.{◌≡◌, ℕ, suc, ◌+◌, ◌*◌, ◌<◌, ◌≤◌, Bool, true, false, cond, List, [], ◌∷◌, length, Option, Some, None, refl, sym, ap, ◌∙◌, arith, add_assoc}
+use Rattle.std.proofs.Math.Bool.{and_assoc, or_assoc}
 use Rattle.std.proofs.Math.Nat.{zero-add}
 use Rattle.std.specs.Prelude.{◌&&◌, ◌||◌, nat_le, option_map}
 use Rattle.netlink_packet_core_grammar.specs.Attributes.{nla_align, Attribute, list_text, list_size, first_attribute, if_some, attributes_within, attributes_of}
@@ -11,14 +12,6 @@ use Rattle.attribute_tables_grammar.specs.Walks.{Measure, measure, plus, none_ye
 use Rattle.attribute_tables_grammar.proofs.Kept.{kept_more, kept_past, kept_none}
 
 -- ---- sums
-
-and_assoc : (a b c : Bool) → ((a && b) && c) ≡ (a && (b && c))
-and_assoc true b c = refl
-and_assoc false b c = refl
-
-or_assoc : (a b c : Bool) → ((a || b) || c) ≡ (a || (b || c))
-or_assoc true b c = refl
-or_assoc false b c = refl
 
 plus_assoc : (l m n : Measure) → plus (plus l m) n ≡ plus l (plus m n)
 plus_assoc l m n = λ i. record {

@@ -1,7 +1,7 @@
 -- What is read of a frame tells whether its body has a text.
 use Rattle.std.proofs.Common.{◌≡◌, ℕ, zero, suc, ◌≤◌, eqb, ltb, Bool, true, false, cond, List, length, Option, None, Some, Result, Ok, Err, refl, sym, ap, ◌∙◌, inl, inr, arith}
 use Rattle.std.specs.Prelude.{option_map, ◌⊎◌}
-use Rattle.std.proofs.lemmas.Bool.{eqb-true}
+use Rattle.std.proofs.lemmas.Bool.{cases_Bool, eqb-true}
 use Rattle.netlink_packet_core.specs.Frames.{IsFrame, frame_type, frame_body}
 use Rattle.netlink_packet_core.specs.Errors.{is_memory}
 use Rattle.netlink_packet_core.specs.Messages.{is_frame, read_message}
@@ -28,10 +28,6 @@ guard b x y z = elim b as (λ v. cond v x y ≡ z → ((v ≡ true) × (x ≡ z)
 pub overrun : (t : ℕ) → eqb t 4 ≡ true → is_link_type t ≡ false
 overrun t h = rw (eqb-true t 4 h) refl
 
-pub tells : (b : Bool) → (b ≡ true) ⊎ (b ≡ false)
-tells true = inl refl
-tells false = inr refl
-
 -- a body without a text is not read
 unread : (t : ℕ) (b : List ℕ) (why : Refusal) → body_text t b ≡ Err why → read_payload reads_route t b ≡ None
 unfolding body_text
@@ -51,7 +47,7 @@ unread t b why h =
               | inr p ↦ (let e = p.1 in absurd cc)
             ]
           ]
-          | inr n ↦ elim (tells (eqb t 4)) [
+          | inr n ↦ elim (cases_Bool (eqb t 4)) [
             | inl o ↦ (let e : Ok b ≡ Err why = ap (λ c. cond c (ruled_text link_body b) (Ok b)) (sym (overrun t o)) ∙ n.1 in absurd cc)
             | inr o ↦ rw (k.0, m.0, n.0, o) (ap (λ r. option_map InnerMessage (typed_text t r)) n.1)
           ]

@@ -3,7 +3,7 @@ use Rattle.std.proofs.Common.{◌≡◌, ℕ, ◌+◌, ◌-◌, ◌≤◌, ◌<�
 use Rattle.std.proofs.Common.{cond}
 use Rattle.std.specs.Prelude.{⊤, min}
 use Rattle.std.proofs.Math.Nat.{min-eq_left, min-eq_right}
-use Rattle.std.proofs.lemmas.Bool.{cases_lt}
+use Rattle.std.proofs.lemmas.Bool.{cases_Bool, cases_lt}
 use Rattle.std.proofs.lemmas.List.{length-take-le}
 use Rattle.netlink_packet_core_grammar.specs.Numbers.{le2, le4, as_usize}
 use Rattle.netlink_packet_core.specs.Attributes.{nla_align, zeros}
@@ -19,7 +19,7 @@ use Rattle.netlink_packet_core.specs.TypedBodies.{TypedBody}
 use Rattle.link_message_grammar.specs.Body.{link_body}
 use Rattle.link_capture_grammar.specs.Bodies.{Refusal, error_text, ruled_text, is_link_type, body_text}
 use Rattle.link_capture_frames.specs.Texts.{padded_text}
-use Rattle.link_capture_frames.proofs.ReadBodies.{guard, tells, overrun}
+use Rattle.link_capture_frames.proofs.ReadBodies.{guard, overrun}
 
 pub one_body : (x y : TypedBody) → Some x ≡ Some y → y ≡ x
 one_body x y e = cc
@@ -33,7 +33,7 @@ error_written b text h =
 
 last_written : (t : ℕ) (b text : List ℕ) → cond (is_link_type t) (ruled_text link_body b) (Ok b) ≡ Ok text → cond (eqb t 4) b text ≡ text
 last_written t b text h =
-    elim (tells (eqb t 4)) [
+    elim (cases_Bool (eqb t 4)) [
       | inl k ↦ (let e : b ≡ text = (let f = ap (λ c. cond c (ruled_text link_body b) (Ok b)) (sym (overrun t k)) ∙ h in cc) in rw k e)
       | inr k ↦ rw k refl
     ]

@@ -1,6 +1,7 @@
 -- The steps of a list of link info, as the loop takes them.
 use Rattle.std.proofs.Common.{◌≡◌, ℕ, ◌<◌, Bool, true, false, List, [], ◌∷◌, ◌++◌, length, map, Some, refl, sym, ap, subst, ◌∙◌}
 use Rattle.std.specs.Prelude.{◌||◌, is_some}
+use Rattle.std.proofs.lemmas.Bool.{or_left}
 use Rattle.std.proofs.lemmas.List.{map-append}
 use Rattle.netlink_packet_core_grammar.specs.Attributes.{proper_kind, list_text}
 use Rattle.netlink_packet_core_grammar.specs.AttributeViews.{IsAttribute, viewed_attribute, viewed_kind, viewed_payload, after_first}
@@ -98,10 +99,6 @@ begun_wanting bytes c rest h m (at_start is none) =
     let first : may_want_memory_in nothing bytes ≡ true = subst (λ b. may_want_memory_in nothing b ≡ true) is (subst (λ d. may_want_memory_in d rest ≡ true) none m) in
     begun_first bytes (subst IsAttribute is h) (nothing_in_force (is_accepted_in nothing bytes) first)
 begun_wanting bytes c rest h m (past_first e) = e
-
-or_left : (a b : Bool) → a ≡ true → (a || b) ≡ true
-or_left true b h = refl
-or_left false b h = absurd cc
 
 pub begun_accepted : (bytes : List ℕ) (c : Context) (rest : List ℕ) → IsAttribute rest → is_accepted_in c rest ≡ true → Begun bytes c rest → info_begins_accepted bytes ≡ true
 begun_accepted bytes c rest h a s = begun_wanting bytes c rest h (or_left (is_accepted_in c rest) (is_some c.kind || is_some c.port_kind) a) s

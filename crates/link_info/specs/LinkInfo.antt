@@ -16,6 +16,7 @@ use Rattle.link_info_data.specs.PortData.{info_port_data_entry, info_port_data_f
 use Rattle.link_info_data.specs.Xstats.{xstats_bytes}
 use Rattle.link_info_data.specs.declared.info_data.InfoData.{InfoData}
 use Rattle.link_info_data.specs.declared.info_port.InfoPortData.{InfoPortData}
+use Rattle.link_info.specs.declared.infos.InForce.{InForce}
 use Rattle.link_info.specs.declared.infos.LinkInfo.{LinkInfo}
 use Rattle.link_info.specs.declared.infos.LinkInfo.TheVariants as Info
 
@@ -39,6 +40,10 @@ link_info_fits _ = true
 -- the context of a kind's and a port kind's name, where they lie in the list
 abbrev pub context_of : Option (Bor (List ℕ)) → Option (Bor (List ℕ)) → Context
 context_of kind port_kind = record { kind = option_map (λ b. b.now) kind; port_kind = option_map (λ b. b.now) port_kind }
+
+-- the same, of the names that a reader of the list holds
+abbrev pub in_force : InForce → Context
+in_force f = context_of f.kind f.port_kind
 
 -- ---- the attribute that the bytes begin with, where these kinds are in force
 

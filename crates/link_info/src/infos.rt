@@ -14,7 +14,7 @@ ghost use Rattle.link_info_grammar.specs.LinkInfo.{data_rule, port_data_rule, in
 ghost use Rattle.link_info_data.specs.Data.{info_data_fits, info_data_payload};
 ghost use Rattle.link_info_data.specs.PortData.{info_port_data_fits, info_port_data_payload};
 ghost use Rattle.link_info.specs.LinkInfo.{data_names_row, port_data_names_row};
-ghost use Rattle.link_info.specs.LinkInfo.{context_of, context_after_first, is_accepted_in, fits_in, written_in};
+ghost use Rattle.link_info.specs.LinkInfo.{context_after_first, in_force, is_accepted_in, fits_in, written_in};
 ghost use Rattle.link_info.specs.LinkInfo.{info_begins_accepted, may_want_memory_in};
 ghost use Rattle.link_info.specs.LinkInfo.{link_info_entry, link_info_fits, link_info_names_row};
 
@@ -112,12 +112,10 @@ fn next_in_force<'a>(
     buf: &NlaBuffer<&'a [u8]>,
 ) -> Result<InForce<'a>, DecodeError>
     requires { IsAttribute (storage buf.now).now }
-    ensures next { IfOk result (λ f. context_of f.kind f.port_kind
-        ≡ context_after_first (context_of force.entry.kind force.entry.port_kind)
-        (storage buf.now).now) }
-    ensures err { IfErr result (λ e.
-        is_accepted_in (context_of force.entry.kind force.entry.port_kind) (storage buf.now).now
-        ≡ false) }
+    ensures next { IfOk result
+        (λ f. in_force f ≡ context_after_first (in_force force.entry) (storage buf.now).now) }
+    ensures err { IfErr result
+        (λ e. is_accepted_in (in_force force.entry) (storage buf.now).now ≡ false) }
 {
     match buf.kind() {
         IFLA_INFO_KIND => Ok(InForce {
@@ -176,24 +174,19 @@ impl LinkInfo {
     ) -> Result<LinkInfo, DecodeError>
         requires { IsAttribute (storage buf.now).now }
         ensures ok { OnOk result
-            (IsTrue (is_accepted_in (context_of force.entry.kind force.entry.port_kind) (storage buf.now).now)) }
+            (IsTrue (is_accepted_in (in_force force.entry) (storage buf.now).now)) }
         ensures value { IfOk result
-            (λ v. link_info_entry v
-            ≡ written_in (context_of force.entry.kind force.entry.port_kind)
-            (storage buf.now).now) }
+            (λ v. link_info_entry v ≡ written_in (in_force force.entry) (storage buf.now).now) }
         ensures inside { IfOk result
-            (λ v. link_info_fits v
-            ≡ fits_in (context_of force.entry.kind force.entry.port_kind) (storage buf.now).now) }
+            (λ v. link_info_fits v ≡ fits_in (in_force force.entry) (storage buf.now).now) }
         ensures names_row { IfOk result
-            (λ v. link_info_names_row (context_of force.entry.kind force.entry.port_kind) v) }
+            (λ v. link_info_names_row (in_force force.entry) v) }
         ensures err { IfErr result
             (λ e. is_memory e ≡ false
-            → is_accepted_in (context_of force.entry.kind force.entry.port_kind) (storage buf.now).now
-            ≡ false) }
+            → is_accepted_in (in_force force.entry) (storage buf.now).now ≡ false) }
         ensures memory { IfErr result
             (λ e. is_memory e ≡ true
-            → may_want_memory_in (context_of force.entry.kind force.entry.port_kind)
-            (storage buf.now).now ≡ true) }
+            → may_want_memory_in (in_force force.entry) (storage buf.now).now ≡ true) }
     {
         let payload = buf.value();
         match buf.kind() {

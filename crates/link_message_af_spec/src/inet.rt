@@ -3,11 +3,10 @@
 ghost use Rattle.std.specs.Prelude.{◌≡◌, ◌<◌, ◌≤◌, ◌+◌, ◌++◌, true, length, map, take};
 ghost use Rattle.std.specs.Int.{w32, cast_unsigned};
 ghost use Rattle.netlink_packet_core.specs.AttributeViews.{IsAttribute};
-ghost use Rattle.netlink_packet_core.specs.Families.{may_want_memory};
+ghost use Rattle.netlink_packet_core.specs.Families.{Gives, accepts, may_want_memory};
 ghost use Rattle.netlink_packet_core.specs.NlaBuffers.{storage};
 ghost use Rattle.attribute_tables_grammar.specs.LookUps.{table_row};
 ghost use Rattle.attribute_tables_grammar.specs.Peers.{bytes_peer};
-ghost use Rattle.attribute_tables.specs.Views.{is_accepted_by, rewritten_by};
 ghost use Rattle.link_message_grammar.specs.NestedTables.{inet};
 ghost use Rattle.link_message_af_spec.specs.InetSettings.{af_spec_inet_entry, af_spec_inet_names_row};
 ghost use Rattle.link_message_af_spec.specs.InetSettings.{requested_entry, requested_setting, requested_from, requested_so_far};
@@ -158,11 +157,12 @@ impl Reader for AfSpecInetReader {
 impl<'a> Parseable<NlaBuffer<&'a [u8]>> for AfSpecInet {
     ghost can_parse = { λ b. IsAttribute (storage b).now };
 
-    ghost accepts = { λ b. is_accepted_by (table_row bytes_peer inet) (storage b).now };
+    ghost accepts = { λ b. accepts inet (storage b).now };
 
     ghost may_want_memory = { λ b. may_want_memory inet (storage b).now };
 
-    ghost gives = { λ b v. (af_spec_inet_entry v ≡ rewritten_by (table_row bytes_peer inet) (storage b).now) × af_spec_inet_names_row v };
+    ghost gives = { λ b v. Gives inet (storage b).now (af_spec_inet_entry v)
+        × af_spec_inet_names_row v };
 
     fn parse(alloc: Global, buf: &NlaBuffer<&'a [u8]>) -> Result<Self, DecodeError> {
         AfSpecInetReader.read(alloc, buf)

@@ -2,11 +2,10 @@
 
 ghost use Rattle.std.specs.Prelude.{◌≡◌, true};
 ghost use Rattle.netlink_packet_core.specs.AttributeViews.{IsAttribute};
-ghost use Rattle.netlink_packet_core.specs.Families.{may_want_memory};
+ghost use Rattle.netlink_packet_core.specs.Families.{Gives, accepts, may_want_memory};
 ghost use Rattle.netlink_packet_core.specs.NlaBuffers.{storage};
 ghost use Rattle.attribute_tables_grammar.specs.LookUps.{table_row};
 ghost use Rattle.attribute_tables_grammar.specs.Peers.{bytes_peer};
-ghost use Rattle.attribute_tables.specs.Views.{is_accepted_by, rewritten_by};
 ghost use Rattle.link_message_grammar.specs.NestedTables.{inet6};
 ghost use Rattle.link_message_af_spec.specs.Inet6Settings.{af_spec_inet_6_entry, af_spec_inet_6_names_row};
 
@@ -150,11 +149,12 @@ impl Reader for AfSpecInet6Reader {
 impl<'a> Parseable<NlaBuffer<&'a [u8]>> for AfSpecInet6 {
     ghost can_parse = { λ b. IsAttribute (storage b).now };
 
-    ghost accepts = { λ b. is_accepted_by (table_row bytes_peer inet6) (storage b).now };
+    ghost accepts = { λ b. accepts inet6 (storage b).now };
 
     ghost may_want_memory = { λ b. may_want_memory inet6 (storage b).now };
 
-    ghost gives = { λ b v. (af_spec_inet_6_entry v ≡ rewritten_by (table_row bytes_peer inet6) (storage b).now) × af_spec_inet_6_names_row v };
+    ghost gives = { λ b v. Gives inet6 (storage b).now (af_spec_inet_6_entry v)
+        × af_spec_inet_6_names_row v };
 
     fn parse(alloc: Global, buf: &NlaBuffer<&'a [u8]>) -> Result<Self, DecodeError> {
         AfSpecInet6Reader.read(alloc, buf)

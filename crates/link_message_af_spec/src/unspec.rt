@@ -5,13 +5,13 @@ ghost use Rattle.std.specs.Prelude.{◌≡◌, ◌<◌, true, false, length, IsT
 ghost use Rattle.std.specs.List.{All};
 ghost use Rattle.netlink_packet_core.specs.AttributeViews.{IsAttribute};
 ghost use Rattle.netlink_packet_core.specs.Errors.{is_memory};
-ghost use Rattle.netlink_packet_core.specs.Families.{family_row};
+ghost use Rattle.netlink_packet_core.specs.Families.{Gives, accepts, family_row};
 ghost use Rattle.netlink_packet_core.specs.Lists.{text_by, all_fit_by};
 ghost use Rattle.netlink_packet_core.specs.NlaBuffers.{storage};
 ghost use Rattle.attribute_tables_grammar.specs.Lists.{any};
 ghost use Rattle.attribute_tables_grammar.specs.LookUps.{list_of, table_row};
 ghost use Rattle.attribute_tables_grammar.specs.Peers.{bytes_peer};
-ghost use Rattle.attribute_tables.specs.Views.{fits_by, is_accepted_by, rewritten_by};
+ghost use Rattle.attribute_tables.specs.Views.{fits_by};
 ghost use Rattle.attribute_tables.specs.Beginnings.{begins_readable, table_may_want_memory};
 ghost use Rattle.link_message_grammar.specs.NestedTables.{specific};
 ghost use Rattle.link_message_af_spec.specs.AddressFamilies.{af_spec_unspec_entry, af_spec_unspec_fits, af_spec_unspec_names_row};
@@ -115,11 +115,13 @@ impl Reader for AfSpecUnspecReader {
 impl<'a> Parseable<NlaBuffer<&'a [u8]>> for AfSpecUnspec {
     ghost can_parse = { λ b. IsAttribute (storage b).now };
 
-    ghost accepts = { λ b. is_accepted_by (table_row bytes_peer specific) (storage b).now };
+    ghost accepts = { λ b. accepts specific (storage b).now };
 
     ghost may_want_memory = { λ b. table_may_want_memory specific (storage b).now };
 
-    ghost gives = { λ b v. (af_spec_unspec_entry v ≡ rewritten_by (table_row bytes_peer specific) (storage b).now) × (af_spec_unspec_fits v ≡ fits_by (table_row bytes_peer specific) (storage b).now) × af_spec_unspec_names_row v };
+    ghost gives = { λ b v. Gives specific (storage b).now (af_spec_unspec_entry v)
+        × (af_spec_unspec_fits v ≡ fits_by (family_row specific) (storage b).now)
+        × af_spec_unspec_names_row v };
 
     fn parse(alloc: Global, buf: &NlaBuffer<&'a [u8]>) -> Result<Self, DecodeError> {
         AfSpecUnspecReader.read(alloc, buf)

@@ -1,9 +1,11 @@
 -- A list of ports of which nothing is kept is told by what it is written as.
-use Rattle.std.proofs.Common.{◌≡◌, ℕ, zero, suc, ◌+◌, Bool, true, false, cond, List, [], ◌∷◌, length, Option, Some, None, refl, sym, ap, subst, ◌∙◌, arith, inl, inr}
-use Rattle.std.specs.Prelude.{◌==◌, ◌&&◌, ◌||◌, ◌⊎◌, bytes_eq, option_map}
+use Rattle.std.proofs.Common.{◌≡◌, ℕ, zero, suc, ◌+◌, Bool, true, false, cond, List, [], ◌∷◌, length, Option, Some, None, refl, sym, ap, ap₂, subst, ◌∙◌, arith, inl, inr}
+use Rattle.std.specs.Prelude.{◌==◌, ◌&&◌, ◌||◌, ◌⊎◌, bytes_eq}
 use Rattle.std.specs.List.{list_any}
-use Rattle.std.proofs.lemmas.Bool.{and_parts, or_from, eqb-true, eqb-false, ne_eqb}
+use Rattle.std.proofs.lemmas.Bool.{and_left, and_parts, or_from, eqb-true, eqb-false, ne_eqb}
+use Rattle.std.proofs.lemmas.Option.{none-some}
 use Rattle.netlink_packet_core_grammar.specs.Attributes.{Attribute, proper_kind, attribute_text, list_text, if_some, attributes_of}
+use Rattle.netlink_packet_core_grammar.proofs.Attributes.{option_map-got}
 use Rattle.attribute_tables_grammar.specs.Rules.{Rule}
 use Rattle.attribute_tables_grammar.specs.Lists.{Context, nothing, Row, Grammar, row_of, written_kind, rewrite, rewritten, all_accepted, some_empty_ports, ListForm, any, non_empty, of_kind_one, ports, first_alone, read_as, kept, is_empty_ports, if_read, list_rule, without_context}
 use Rattle.attribute_tables_grammar.specs.LookUps.{Line, list_of, link_info_of, payload_rule, line_at, row_of_line, rows_rule}
@@ -206,10 +208,6 @@ kind_kept true true k d = ne_eqb (proper_kind k + 0x8000) 24 (λ h. absurd (omeg
 kind_kept true false k d = ne_eqb (proper_kind k + 0) 24 (λ h. eqb-false (proper_kind k) 24 d (omega (arith, h)))
 kind_kept false n k d = ne_eqb k 24 (λ h. eqb-false (proper_kind k) 24 d (ap proper_kind h))
 
-first_false : (a b : Bool) → a ≡ false → (a && b) ≡ false
-first_false true b h = absurd cc
-first_false false b h = refl
-
 at_ports_row : (f : Family) (k : ℕ) (e : Attribute) → proper_kind e.kind ≡ k → k ≡ 24 → (attribute_row f k).rule.accepted e.payload ≡ true →
     (attribute_row f k).rule.empty_ports e.payload ≡ is_emptied (rewrite (attribute_row f k) e)
 at_ports_row f k e p q a =
@@ -222,7 +220,7 @@ by_row : (f : Family) (k : ℕ) (e : Attribute) → proper_kind e.kind ≡ k →
     (attribute_row f k).rule.empty_ports e.payload ≡ is_emptied (rewrite (attribute_row f k) e)
 by_row f k e p false d a =
     other_full f k d e.payload
-    ∙ sym (first_false (written_kind (attribute_row f k) e.kind == 24) (length ((attribute_row f k).rule.canonical e.payload) == 0) (kind_kept (attribute_row f k).is_typed (attribute_row f k).is_nested e.kind (ap (λ x. x == 24) p ∙ d)))
+    ∙ sym (and_left (written_kind (attribute_row f k) e.kind == 24) (length ((attribute_row f k).rule.canonical e.payload) == 0) (kind_kept (attribute_row f k).is_typed (attribute_row f k).is_nested e.kind (ap (λ x. x == 24) p ∙ d)))
 by_row f k e p true d a = at_ports_row f k e p (eqb-true k 24 d) a
 
 -- ---- a list of attributes
@@ -233,33 +231,23 @@ rows f = without_context (attribute_row f)
 guard : {A : Type 0} (b : Bool) (x y z : A) → cond b x y ≡ z → ((b ≡ true) × (x ≡ z)) ⊎ ((b ≡ false) × (y ≡ z))
 guard b x y z = elim b as (λ v. cond v x y ≡ z → ((v ≡ true) × (x ≡ z)) ⊎ ((v ≡ false) × (y ≡ z))) [ true ↦ (λ h. inl (refl, h)) | false ↦ (λ h. inr (refl, h)) ]
 
-none_some : {A : Type 0} (y : A) → None ≡ Some y → ⊥
-none_some y h = cc
-
-mapped : {A B : Type 0} (f : A → B) (o : Option A) (y : B) → option_map f o ≡ Some y → (x : A) × (o ≡ Some x) × (f x ≡ y)
-mapped f None y h = absurd (none_some y h)
-mapped f (Some x) y h = (x, refl, (let e : f x ≡ y = cc in e))
-
-same_or : {a b c d : Bool} → a ≡ b → c ≡ d → (a || c) ≡ (b || d)
-same_or {b = b} {c = c} p q = ap (λ x. x || c) p ∙ ap (λ x. b || x) q
-
 list_told : (f : Family) (c : Context) (es : List Attribute) (ws : List Written) → written_list (rows f) c es ≡ Some ws → some_empty_ports (rows f) c es ≡ list_any (λ w. is_emptied w.entry) ws
 unfolding written_list some_empty_ports
 list_told f c [] ws h = let e : [] ≡ ws = cc in ap (list_any (λ w. is_emptied w.entry)) e
 list_told f c (e ∷ es) ws h =
     elim (guard ((row_of (rows f) c e).rule.accepted e.payload) _ _ _ h) [
       | inl a ↦
-          let k = mapped _ (written_list (rows f) c es) ws a.1 in
-          same_or (by_row f (proper_kind e.kind) e refl (proper_kind e.kind == 24) refl a.0) (list_told f c es k.0 k.1)
+          let k = option_map-got _ (written_list (rows f) c es) ws a.1 in
+          ap₂ (λ x y. x || y) (by_row f (proper_kind e.kind) e refl (proper_kind e.kind == 24) refl a.0) (list_told f c es k.0 k.1)
           ∙ ap (list_any (λ w. is_emptied w.entry)) k.2
-      | inr a ↦ absurd (none_some ws a.1)
+      | inr a ↦ absurd (none-some ws a.1)
     ]
 
 -- ---- the attributes of a body
 
 at_bytes : (f : Family) (o : Option (List Attribute)) (ws : List Written) → if_some o (λ es. written_list (rows f) nothing (kept any es)) ≡ Some ws →
     if_read false (λ es. is_empty_ports any (kept any es) || some_empty_ports (rows f) nothing (kept any es)) o ≡ list_any (λ w. is_emptied w.entry) ws
-at_bytes f None ws h = absurd (none_some ws h)
+at_bytes f None ws h = absurd (none-some ws h)
 at_bytes f (Some es) ws h = list_told f nothing es ws h
 
 pub empty_ports_are_told : EmptyPortsAreTold

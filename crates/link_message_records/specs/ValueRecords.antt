@@ -3,6 +3,10 @@ use Rattle.std.specs.Prelude.{ℕ, ℤ, List}
 use Rattle.std.specs.Int.{w32, cast_unsigned}
 use Rattle.std.specs.List.{flat_map}
 use Rattle.netlink_packet_core.specs.Numbers.{le4, le8}
+use Rattle.attribute_tables_grammar.specs.LookUps.{payload_rule}
+use Rattle.attribute_tables_grammar.specs.Peers.{bytes_peer}
+use Rattle.attribute_tables_grammar.specs.Rules.{Rule}
+use Rattle.link_message_grammar.specs.NestedTables.{settings}
 use Rattle.link_message_records.specs.declared.values.Values.{Values}
 
 -- numbers of 4 and of 8 bytes
@@ -15,3 +19,7 @@ u64_values_bytes v = flat_map le8 v.values
 -- signed numbers of 4 bytes
 abbrev pub i32_values_bytes : {n : ℕ} → Values ℤ n → List ℕ
 i32_values_bytes v = flat_map (λ z. le4 (cast_unsigned w32 z)) v.values
+
+-- the rule of a row of settings, of so many bytes
+abbrev pub settings_rule : ℕ → Rule
+settings_rule n = payload_rule bytes_peer (settings n)

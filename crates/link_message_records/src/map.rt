@@ -51,7 +51,8 @@ impl Record<32> for Map {
 impl FieldRecord<32> for Map {
     type Fields = (u64, (u64, (u64, (u16, (u8, u8)))));
 
-    ghost fields_of = { λ v. (v.memory_start, (v.memory_end, (v.base_address, (v.irq, (v.dma, v.port))))) };
+    ghost fields_of = { λ v.
+        (v.memory_start, (v.memory_end, (v.base_address, (v.irq, (v.dma, v.port))))) };
 
     ghost padding = { 4 };
 

@@ -36,7 +36,8 @@ pub trait FieldRecord<const N: usize>: Sized {
 
     /// Reads the record that a payload begins with; what follows it is dropped.
     fn parse(payload: &[u8]) -> Result<Self, DecodeError>
-        ensures size { IsOk result ↔ (accepts (fixed_record Self.Fields.size N) payload.now ≡ true) }
+        ensures size { IsOk result
+            ↔ (accepts (fixed_record Self.Fields.size N) payload.now ≡ true) }
         ensures text { IfOk result
             (λ v. record_text v
             ≡ spelling (fixed_record Self.Fields.size N)
@@ -54,37 +55,38 @@ pub trait FieldRecord<const N: usize>: Sized {
     ghost has_room: { Self.Fields.size + padding ≡ N };
 
     /// The bytes of a record are those of its fields' and the zeros.
-    ghost is_text: { (v : Self) → record_text v ≡ Self.Fields.bytes (fields_of v) ++ zeros padding };
+    ghost is_text: { (v : Self)
+        → record_text v ≡ Self.Fields.bytes (fields_of v) ++ zeros padding };
 }
 
 /// Writes a record into the front of a buffer, and leaves the rest of the buffer alone.
-pub(crate) fn write_record<R: FieldRecord<N>, const N: usize>(record: &R, buffer: &mut [u8])
+pub(crate) fn write_record<R: FieldRecord<N>, const N: usize>(value: &R, buffer: &mut [u8])
     requires { N ≤ length buffer.old }
-    ensures { buffer.new ≡ R.record_text record.now ++ drop N buffer.old }
+    ensures { buffer.new ≡ R.record_text value.now ++ drop N buffer.old }
 {
     let (front, _) = buffer.split_at_mut(N);
-    let size = record.fields().write_front(front);
+    let size = value.fields().write_front(front);
     let (_, rest) = front.split_at_mut(size);
     fill_zeros(rest);
 }
 
 /// The bytes that a record is written as.
-pub(crate) fn bytes_of<R: FieldRecord<N>, const N: usize>(record: &R) -> [u8; N]
-    ensures { result ≡ R.record_text record.now }
+pub(crate) fn bytes_of<R: FieldRecord<N>, const N: usize>(value: &R) -> [u8; N]
+    ensures { result ≡ R.record_text value.now }
 {
     let mut bytes = [0; N];
-    write_record(record, &mut bytes);
+    write_record(value, &mut bytes);
     bytes
 }
 
 /// Writes a value into a buffer of its size.
 #[tactic(auto, using(crate::proofs::Pairs::whole_texts))]
-pub fn emit_record<R: Emitable>(record: &R, buffer: &mut [u8])
-    requires ready { R.can_emit record.now }
-    requires room { length buffer.old ≡ length (R.text record.now) }
-    ensures { buffer.new ≡ R.text record.now }
+pub fn emit_record<R: Emitable>(value: &R, buffer: &mut [u8])
+    requires ready { R.can_emit value.now }
+    requires room { length buffer.old ≡ length (R.text value.now) }
+    ensures { buffer.new ≡ R.text value.now }
 {
-    record.emit(buffer);
+    value.emit(buffer);
 }
 
 /// Writes zeros all over a buffer.

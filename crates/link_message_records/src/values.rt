@@ -6,11 +6,9 @@ ghost use Rattle.std.specs.List.{flat_map};
 ghost use Rattle.netlink_packet_core.specs.Attributes.{zeros};
 ghost use Rattle.netlink_packet_core.specs.Errors.{is_memory};
 ghost use Rattle.netlink_packet_core.specs.Numbers.{le4, le8, as_usize};
-ghost use Rattle.attribute_tables_grammar.specs.LookUps.{payload_rule};
-ghost use Rattle.attribute_tables_grammar.specs.Peers.{bytes_peer};
 ghost use Rattle.attribute_tables_grammar.specs.Shapes.{meaning, spelling, resized};
-ghost use Rattle.link_message_grammar.specs.NestedTables.{settings};
 ghost use Rattle.link_message_records.specs.Numbers.{le4_size, le8_size};
+ghost use Rattle.link_message_records.specs.ValueRecords.{settings_rule};
 
 use super::fields::Fields;
 use super::vf::filled;
@@ -130,10 +128,10 @@ impl<T: Number, const N: usize> Values<T, N> {
 /// Reads numbers as a row of settings holds them: any bytes are accepted.
 #[tactic(auto, unfolding(link_message_grammar::specs::NestedTables::settings))]
 pub fn read_settings<T: Number, const N: usize>(payload: &[u8]) -> Values<T, N>
-    ensures accepted { (payload_rule bytes_peer (settings (T.size * N))).accepted payload.now ≡ true }
+    ensures accepted { (settings_rule (T.size * N)).accepted payload.now ≡ true }
     ensures text { flat_map T.bytes result.values
-        ≡ (payload_rule bytes_peer (settings (T.size * N))).canonical payload.now }
-    ensures fits { (payload_rule bytes_peer (settings (T.size * N))).fits payload.now ≡ true }
+        ≡ (settings_rule (T.size * N)).canonical payload.now }
+    ensures fits { (settings_rule (T.size * N)).fits payload.now ≡ true }
 {
     match Values::parse(payload) {
         Ok(values) => values,
@@ -170,12 +168,12 @@ fn write_values<T: Number>(values: &[T], buffer: &mut [u8])
 }
 
 /// The bytes that numbers are written as.
-fn values_to_bytes<T: Number, const N: usize, const M: usize>(record: &Values<T, N>) -> [u8; M]
+fn values_to_bytes<T: Number, const N: usize, const M: usize>(numbers: &Values<T, N>) -> [u8; M]
     requires { T.size * N ≡ M }
-    ensures { result ≡ flat_map T.bytes record.now.values }
+    ensures { result ≡ flat_map T.bytes numbers.now.values }
 {
     let mut bytes = [0; M];
-    write_values(record.values.as_slice(), &mut bytes);
+    write_values(numbers.values.as_slice(), &mut bytes);
     bytes
 }
 

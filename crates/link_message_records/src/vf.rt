@@ -510,7 +510,8 @@ impl Record<16> for VfVlanInfo {
 impl FieldRecord<16> for VfVlanInfo {
     type Fields = (u32, (u32, (u32, [u8; 2])));
 
-    ghost fields_of = { λ v. (v.vf_id, (v.vlan_id, (v.qos, be2 (vlan_protocol_number v.protocol)))) };
+    ghost fields_of = { λ v.
+        (v.vf_id, (v.vlan_id, (v.qos, be2 (vlan_protocol_number v.protocol)))) };
 
     ghost padding = { 2 };
 

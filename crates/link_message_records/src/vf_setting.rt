@@ -4,12 +4,11 @@ ghost use Rattle.std.specs.Prelude.{◌≡◌, ◌↔◌, ◌++◌, ⊤, true, f
 ghost use Rattle.netlink_packet_core.specs.Attributes.{zeros};
 ghost use Rattle.netlink_packet_core.specs.Errors.{is_memory};
 ghost use Rattle.netlink_packet_core.specs.Truths.{truth_byte};
-ghost use Rattle.netlink_packet_core.specs.Numbers.{le4};
 ghost use Rattle.attribute_tables_grammar.specs.Shapes.{accepts, meaning, spelling, id_and_truth, number_truth};
 ghost use Rattle.link_message_records.specs.VfSettings.{vf_info_setting_bytes};
 
 use link_message_types::{Record, RecordBuffer};
-use netlink_packet_core::{DecodeError, Emitable, fill_bool, fill_u32};
+use netlink_packet_core::{DecodeError, Emitable, fill_bool, fill_u32, parse_u32};
 
 /// How many bytes a setting has.
 const VF_INFO_SETTING_LEN: usize = 8;
@@ -66,21 +65,9 @@ impl<const KIND: u16> VfInfoSetting<KIND> {
         let (vf_id, rest) = payload.split_at(4);
         let (truth, _) = rest.split_at(4);
         Ok(Self {
-            vf_id: number_u32(vf_id),
+            vf_id: parse_u32(vf_id)?,
             enabled: is_true(truth),
         })
-    }
-}
-
-/// The number of 4 bytes, the lowest first.
-#[tactic(auto, using(std::proofs::lemmas::Nat::le_bytes_4), unfolding(netlink_packet_core_grammar::specs::Numbers::le4))]
-fn number_u32(bytes: &[u8]) -> u32
-    requires { length bytes.now ≡ 4 }
-    ensures { le4 result ≡ bytes.now }
-{
-    match bytes {
-        [a, b, c, d] => u32::from_le_bytes([*a, *b, *c, *d]),
-        _ => unreachable!(),
     }
 }
 

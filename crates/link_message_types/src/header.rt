@@ -15,7 +15,7 @@ use super::link_flag::LinkFlags;
 use super::link_layer_type::LinkLayerType;
 use super::record_buffer::{Record, RecordBuffer};
 use bitflags::Flags;
-use netlink_packet_core::{DecodeError, Emitable, fill_u16, fill_u32};
+use netlink_packet_core::{DecodeError, Emitable, fill_u16, fill_u32, parse_u16, parse_u32};
 
 /// How many bytes a header has.
 pub const LINK_HEADER_LEN: usize = 16;
@@ -58,35 +58,11 @@ impl LinkHeader {
         }
         Ok(LinkHeader {
             interface_family: AddressFamily::from(bytes[0]),
-            link_layer_type: LinkLayerType::from(number_u16(&bytes[2..4])),
-            index: number_u32(&bytes[4..8]),
-            flags: LinkFlags::from_bits_retain(number_u32(&bytes[8..12])),
-            change_mask: LinkFlags::from_bits_retain(number_u32(&bytes[12..LINK_HEADER_LEN])),
+            link_layer_type: LinkLayerType::from(parse_u16(&bytes[2..4])?),
+            index: parse_u32(&bytes[4..8])?,
+            flags: LinkFlags::from_bits_retain(parse_u32(&bytes[8..12])?),
+            change_mask: LinkFlags::from_bits_retain(parse_u32(&bytes[12..LINK_HEADER_LEN])?),
         })
-    }
-}
-
-/// The number of 2 bytes, the lowest first.
-#[tactic(auto, using(std::proofs::lemmas::Nat::le_bytes_2), unfolding(netlink_packet_core_grammar::specs::Numbers::le2))]
-fn number_u16(bytes: &[u8]) -> u16
-    requires { length bytes.now ≡ 2 }
-    ensures { le2 result ≡ bytes.now }
-{
-    match bytes {
-        [a, b] => u16::from_le_bytes([*a, *b]),
-        _ => unreachable!(),
-    }
-}
-
-/// The number of 4 bytes, the lowest first.
-#[tactic(auto, using(std::proofs::lemmas::Nat::le_bytes_4), unfolding(netlink_packet_core_grammar::specs::Numbers::le4))]
-fn number_u32(bytes: &[u8]) -> u32
-    requires { length bytes.now ≡ 4 }
-    ensures { le4 result ≡ bytes.now }
-{
-    match bytes {
-        [a, b, c, d] => u32::from_le_bytes([*a, *b, *c, *d]),
-        _ => unreachable!(),
     }
 }
 

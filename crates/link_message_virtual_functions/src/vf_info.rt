@@ -4,12 +4,13 @@ ghost use Rattle.std.specs.Prelude.{◌≡◌, ◌&&◌, ◌<◌, true, false, l
 ghost use Rattle.std.specs.List.{All};
 ghost use Rattle.netlink_packet_core.specs.AttributeViews.{viewed_attribute, viewed_payload, IsAttribute};
 ghost use Rattle.netlink_packet_core.specs.Errors.{is_memory};
+ghost use Rattle.netlink_packet_core.specs.Families.{Gives, accepts, family_row};
 ghost use Rattle.netlink_packet_core.specs.Lists.{text_by, all_fit_by};
 ghost use Rattle.netlink_packet_core.specs.NlaBuffers.{storage};
 ghost use Rattle.attribute_tables_grammar.specs.Lists.{is_of_kind_one, of_kind_one};
 ghost use Rattle.attribute_tables_grammar.specs.LookUps.{list_of, table_row};
 ghost use Rattle.attribute_tables_grammar.specs.Peers.{bytes_peer};
-ghost use Rattle.attribute_tables.specs.Views.{fits_by, is_accepted_by, rewritten_by};
+ghost use Rattle.attribute_tables.specs.Views.{fits_by};
 ghost use Rattle.attribute_tables.specs.Beginnings.{table_may_want_memory};
 ghost use Rattle.link_message_grammar.specs.NestedTables.{vf, vf_infos};
 ghost use Rattle.link_message_virtual_functions.specs.VfInfos.{vf_info_entry, vf_info_fits, vf_info_names_row, link_vf_info_entry, link_vf_info_fits, link_vf_info_names_row};
@@ -182,11 +183,13 @@ impl Reader for VfInfoReader {
 impl<'a> Parseable<NlaBuffer<&'a [u8]>> for VfInfo {
     ghost can_parse = { λ b. IsAttribute (storage b).now };
 
-    ghost accepts = { λ b. is_accepted_by (table_row bytes_peer vf) (storage b).now };
+    ghost accepts = { λ b. accepts vf (storage b).now };
 
     ghost may_want_memory = { λ b. table_may_want_memory vf (storage b).now };
 
-    ghost gives = { λ b v. (vf_info_entry v ≡ rewritten_by (table_row bytes_peer vf) (storage b).now) × (vf_info_fits v ≡ fits_by (table_row bytes_peer vf) (storage b).now) × vf_info_names_row v };
+    ghost gives = { λ b v. Gives vf (storage b).now (vf_info_entry v)
+        × (vf_info_fits v ≡ fits_by (family_row vf) (storage b).now)
+        × vf_info_names_row v };
 
     fn parse(alloc: Global, buf: &NlaBuffer<&'a [u8]>) -> Result<Self, DecodeError> {
         VfInfoReader.read(alloc, buf)

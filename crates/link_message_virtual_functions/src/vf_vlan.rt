@@ -3,10 +3,9 @@
 ghost use Rattle.std.specs.Prelude.{◌≡◌, true};
 ghost use Rattle.netlink_packet_core.specs.AttributeViews.{IsAttribute};
 ghost use Rattle.netlink_packet_core.specs.NlaBuffers.{storage};
-ghost use Rattle.netlink_packet_core.specs.Families.{may_want_memory};
+ghost use Rattle.netlink_packet_core.specs.Families.{Gives, accepts, may_want_memory};
 ghost use Rattle.attribute_tables_grammar.specs.LookUps.{table_row};
 ghost use Rattle.attribute_tables_grammar.specs.Peers.{bytes_peer};
-ghost use Rattle.attribute_tables.specs.Views.{is_accepted_by, rewritten_by};
 ghost use Rattle.link_message_grammar.specs.NestedTables.{vf_vlans};
 ghost use Rattle.link_message_virtual_functions.specs.VfVlans.{vf_vlan_entry, vf_vlan_names_row};
 
@@ -82,11 +81,11 @@ impl Reader for VfVlanReader {
 impl<'a> Parseable<NlaBuffer<&'a [u8]>> for VfVlan {
     ghost can_parse = { λ b. IsAttribute (storage b).now };
 
-    ghost accepts = { λ b. is_accepted_by (table_row bytes_peer vf_vlans) (storage b).now };
+    ghost accepts = { λ b. accepts vf_vlans (storage b).now };
 
     ghost may_want_memory = { λ b. may_want_memory vf_vlans (storage b).now };
 
-    ghost gives = { λ b v. (vf_vlan_entry v ≡ rewritten_by (table_row bytes_peer vf_vlans) (storage b).now) × vf_vlan_names_row v };
+    ghost gives = { λ b v. Gives vf_vlans (storage b).now (vf_vlan_entry v) × vf_vlan_names_row v };
 
     fn parse(alloc: Global, buf: &NlaBuffer<&'a [u8]>) -> Result<Self, DecodeError> {
         VfVlanReader.read(alloc, buf)

@@ -1,6 +1,8 @@
 -- The two flags of an attribute's kind (netlink.h).
-use Rattle.std.specs.Prelude.{ℕ, ◌+◌, ◌/◌, ◌%◌, Bool, ◌==◌}
+use Rattle.std.specs.Prelude.{ℕ, ◌+◌, ◌/◌, ◌%◌, Bool, ◌==◌, List}
 use Rattle.netlink_packet_core_grammar.specs.Attributes.{proper_kind}
+use Rattle.netlink_packet_core_grammar.specs.Bytes.{put_at}
+use Rattle.netlink_packet_core_grammar.specs.Numbers.{le2}
 
 -- the nested flag, the highest bit
 abbrev pub has_nested_flag : ℕ → Bool
@@ -16,3 +18,7 @@ with_nested_flag k = 0x8000 + proper_kind k
 
 abbrev pub with_byte_order_flag : ℕ → ℕ
 with_byte_order_flag k = 0x4000 + proper_kind k
+
+-- the bytes of an attribute with this kind in their header
+abbrev pub with_kind : ℕ → List ℕ → List ℕ
+with_kind k b = put_at 2 (le2 k) b

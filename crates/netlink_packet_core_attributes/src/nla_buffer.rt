@@ -5,7 +5,7 @@ ghost use Rattle.netlink_packet_core_grammar.specs.AttributeViews.{viewed_length
 ghost use Rattle.netlink_packet_core_grammar.specs.Bytes.{put_at};
 ghost use Rattle.netlink_packet_core_grammar.specs.Numbers.{le2};
 ghost use Rattle.netlink_packet_core_numbers.specs.Errors.{is_memory};
-ghost use Rattle.netlink_packet_core_attributes.specs.Kinds.{has_nested_flag, has_byte_order_flag, with_nested_flag, with_byte_order_flag};
+ghost use Rattle.netlink_packet_core_attributes.specs.Kinds.{has_nested_flag, has_byte_order_flag, with_nested_flag, with_byte_order_flag, with_kind};
 ghost use Rattle.netlink_packet_core_attributes.specs.NlaBuffers.{storage, view_of, with_value};
 
 use super::nla::{NLA_F_NESTED, NLA_F_NET_BYTEORDER, NLA_HEADER_SIZE, NLA_TYPE_MASK};
@@ -183,7 +183,7 @@ impl<T: ByteViewMut> NlaBuffer<T> {
     pub fn set_kind(&mut self, kind: u16)
         requires { 4 ≤ length (T.ByteView.bytes (storage self.old)) }
         ensures bytes { T.ByteView.bytes (storage self.new)
-            ≡ put_at 2 (le2 (proper_kind kind)) (T.ByteView.bytes (storage self.old)) }
+            ≡ with_kind (proper_kind kind) (T.ByteView.bytes (storage self.old)) }
         ensures same { T.same_storage (storage self.old) (storage self.new) }
     {
         write_u16(&mut self.buffer, 2, kind & NLA_TYPE_MASK);
@@ -193,7 +193,7 @@ impl<T: ByteViewMut> NlaBuffer<T> {
     pub fn set_nested_flag(&mut self)
         requires { 4 ≤ length (T.ByteView.bytes (storage self.old)) }
         ensures bytes { T.ByteView.bytes (storage self.new)
-            ≡ put_at 2 (le2 (with_nested_flag (viewed_kind (T.ByteView.bytes (storage self.old)))))
+            ≡ with_kind (with_nested_flag (viewed_kind (T.ByteView.bytes (storage self.old))))
             (T.ByteView.bytes (storage self.old)) }
         ensures same { T.same_storage (storage self.old) (storage self.new) }
     {
@@ -205,7 +205,7 @@ impl<T: ByteViewMut> NlaBuffer<T> {
     pub fn set_network_byte_order_flag(&mut self)
         requires { 4 ≤ length (T.ByteView.bytes (storage self.old)) }
         ensures bytes { T.ByteView.bytes (storage self.new)
-            ≡ put_at 2 (le2 (with_byte_order_flag (viewed_kind (T.ByteView.bytes (storage self.old)))))
+            ≡ with_kind (with_byte_order_flag (viewed_kind (T.ByteView.bytes (storage self.old))))
             (T.ByteView.bytes (storage self.old)) }
         ensures same { T.same_storage (storage self.old) (storage self.new) }
     {

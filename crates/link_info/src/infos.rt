@@ -18,11 +18,17 @@ ghost use Rattle.link_info.specs.LinkInfo.{context_of, context_after_first, is_a
 ghost use Rattle.link_info.specs.LinkInfo.{info_begins_accepted, may_want_memory_in};
 ghost use Rattle.link_info.specs.LinkInfo.{link_info_entry, link_info_fits, link_info_names_row};
 
+use attribute_tables_grammar::laws::{
+    contexts_go_by_steps, peers_that_are_bytes_are_lawful, readings_go_by_steps,
+    readings_tell_rules,
+};
 use link_info_data::{InfoData, InfoPortData, LinkXstats};
+use link_info_grammar::laws::info_grammar_is_lawful;
 use link_info_kinds::{InfoKind, InfoPortKind};
 use netlink_packet_core::{
     DecodeError, DefaultNla, Emitable, Nla, NlaBuffer, Parseable, parse_str, skip_first,
 };
+use netlink_packet_core_grammar::laws::first_attributes_are_viewed;
 use std::alloc::Global;
 
 const IFLA_INFO_KIND: u16 = 1;
@@ -239,6 +245,12 @@ impl LinkInfo {
         ensures memory { IfErr result
             (λ e. is_memory e ≡ true → info_begins_accepted bytes.now ≡ true) }
     {
+        readings_go_by_steps();
+        readings_tell_rules();
+        contexts_go_by_steps();
+        info_grammar_is_lawful();
+        peers_that_are_bytes_are_lawful();
+        first_attributes_are_viewed();
         let mut list = Vec::new(alloc);
         let mut force = InForce {
             kind: None,

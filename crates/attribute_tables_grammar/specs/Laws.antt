@@ -5,8 +5,8 @@ use Rattle.netlink_packet_core_grammar.specs.AttributeViews.{IsAttribute, viewed
 use Rattle.attribute_tables_grammar.specs.Rules.{Rule, Lawful, Renews}
 use Rattle.attribute_tables_grammar.specs.Lists.{Grammar, Context, Row, nothing, rewrite, rewritten, row_of, without_context, ListForm, any, of_kind_one, ports, first_alone, read_as, is_kept, kept, list_rule, all_accepted, all_same, context_after, LawfulGrammar}
 use Rattle.attribute_tables_grammar.specs.Peers.{Peer, LawfulPeer, bytes_peer}
-use Rattle.attribute_tables_grammar.specs.Tables.{Payload, Payload.list, Table, Table.end, Table.row, rule, grammar, payload_bounded, rows_bounded}
-use Rattle.attribute_tables_grammar.specs.LookUps.{list_of, row_of_line, rows_rule, table_row, only_one}
+use Rattle.attribute_tables_grammar.specs.Tables.{Payload, Payload.list, Table, Table.end, Table.row, Names, rule, named, grammar, payload_bounded, rows_bounded}
+use Rattle.attribute_tables_grammar.specs.LookUps.{list_of, row_of_line, rows_rule, table_row, only_one, payload_at, rule_or_raw}
 use Rattle.attribute_tables_grammar.specs.Readings.{Written, written_by, reading, reading_as, SoFar, Tells}
 
 -- a canonical text is cut into the written kinds and canonical payloads of what was kept
@@ -52,6 +52,10 @@ pub record RowsAreLookedUp : Type 0 where
   pub payload : (p : Peer) (form : ListForm) (t : Table) → rule p (list form t) ≡ rows_rule form (table_row p t)
   pub named : (p : Peer) (form : ListForm) (t : Table) → list_of p form t ≡ rows_rule form (table_row p t)
   pub of_one : (p : Peer) (form : ListForm) (n : Bool) (s : Payload) → list_of p form (row 1 n s end) ≡ rows_rule form (only_one (row_of_line p (Some (record { is_nested = n; payload = s }))))
+
+-- the rule under a name is that of the payload that a look-up of the name finds, and of raw bytes where it finds none
+abbrev pub NamesAreLookedUp : Type 0
+NamesAreLookedUp = (p : Peer) (names : Names) (n : List ℕ) → named p names n ≡ rule_or_raw p (payload_at names n)
 
 -- what a list is read as is found by steps: an attribute that is kept adds what its row makes of it, and one that the form drops adds nothing;
 -- a kept one that its row refuses, or bytes that begin with no attribute, leave nothing read; and once nothing is left, what was read is the whole

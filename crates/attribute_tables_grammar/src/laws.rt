@@ -2,7 +2,7 @@
 
 ghost use Rattle.attribute_tables_grammar.specs.Laws.{CanonicalIsCut, TablesAreLawful, BytesAreLawful, TextsTellMeanings};
 ghost use Rattle.attribute_tables_grammar.specs.Laws.{TextsKeepMeanings, OldTextsAreRenewed, OneContext};
-ghost use Rattle.attribute_tables_grammar.specs.Laws.{TableGrammarsAreLawful, RowsAreLookedUp};
+ghost use Rattle.attribute_tables_grammar.specs.Laws.{TableGrammarsAreLawful, RowsAreLookedUp, NamesAreLookedUp};
 ghost use Rattle.attribute_tables_grammar.specs.Laws.{ReadingsGoBySteps, ReadingsTellRules, FirstAloneIsRead, PortsAreEntries};
 ghost use Rattle.attribute_tables_grammar.specs.Laws.{ContextsGoBySteps};
 
@@ -49,6 +49,12 @@ pub fn table_grammars_are_lawful()
 /// A list of a table's rows has the rule of the rows that a look-up of each kind finds.
 pub fn rows_are_looked_up()
     ensures { RowsAreLookedUp }
+{}
+
+/// The rule under a name is that of the payload that a look-up of the name finds, and that of raw
+/// bytes where it finds none.
+pub fn names_are_looked_up()
+    ensures { NamesAreLookedUp }
 {}
 
 /// What a list is read as is found by steps: each kept attribute adds what its row makes of it,

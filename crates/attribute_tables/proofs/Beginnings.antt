@@ -3,8 +3,7 @@ use Rattle.std.proofs.Common.{◌≡◌, ℕ, zero, suc, ◌≤◌, Bool, true, 
 use Rattle.std.specs.Prelude.{◌&&◌, ◌||◌, is_some}
 use Rattle.netlink_packet_core_grammar.specs.Attributes.{Attribute, first_attribute, if_some}
 use Rattle.netlink_packet_core_grammar.specs.AttributeViews.{IsAttribute, viewed_attribute, viewed_payload, after_first}
-use Rattle.netlink_packet_core_grammar.proofs.Attributes.{sized}
-use Rattle.netlink_packet_core_grammar.proofs.FirstAttribute.{first_attribute_is}
+use Rattle.netlink_packet_core_grammar.specs.Laws.{FirstIsViewed, FirstIsWithin}
 use Rattle.netlink_packet_core.specs.Families.{family_row, may_want_memory, accepts}
 use Rattle.attribute_tables_grammar.specs.Lists.{Row, is_of_kind_one}
 use Rattle.attribute_tables_grammar.specs.Tables.{Table}
@@ -21,23 +20,24 @@ either_accepted true false true e = e
 either_accepted true false false e = e
 either_accepted false a h e = e
 
-begun : (b : List ℕ) → IsAttribute b → begins_with_attribute b ≡ true
-begun b h = ap is_some (first_attribute_is b h)
+module _ (first : FirstIsViewed) where
+  begun : (b : List ℕ) → IsAttribute b → begins_with_attribute b ≡ true
+  begun b h = ap is_some (first.whole b h)
 
--- the first attribute is accepted
-pub begins-accepted : (rows : ℕ → Row) (may : List ℕ → Bool) (b : List ℕ) → IsAttribute b → is_accepted_by rows b ≡ true → begins_readable rows may b ≡ true
-unfolding begins_readable
-begins-accepted rows may b h a = ap (λ w. w && (is_accepted_by rows b || may b)) (begun b h) ∙ ap (λ x. x || may b) a
+  -- the first attribute is accepted
+  pub begins-accepted : (rows : ℕ → Row) (may : List ℕ → Bool) (b : List ℕ) → IsAttribute b → is_accepted_by rows b ≡ true → begins_readable rows may b ≡ true
+  unfolding begins_readable
+  begins-accepted rows may b h a = ap (λ w. w && (is_accepted_by rows b || may b)) (begun b h) ∙ ap (λ x. x || may b) a
 
--- reading the first attribute may want memory
-pub begins-wanting : (rows : ℕ → Row) (may : List ℕ → Bool) (b : List ℕ) → IsAttribute b → may b ≡ true → begins_readable rows may b ≡ true
-unfolding begins_readable
-begins-wanting rows may b h m = ap (λ w. w && (is_accepted_by rows b || may b)) (begun b h) ∙ or_right (is_accepted_by rows b) (may b) m
+  -- reading the first attribute may want memory
+  pub begins-wanting : (rows : ℕ → Row) (may : List ℕ → Bool) (b : List ℕ) → IsAttribute b → may b ≡ true → begins_readable rows may b ≡ true
+  unfolding begins_readable
+  begins-wanting rows may b h m = ap (λ w. w && (is_accepted_by rows b || may b)) (begun b h) ∙ or_right (is_accepted_by rows b) (may b) m
 
--- what is accepted is told apart from what may want memory
-pub accepted-begins : (rows : ℕ → Row) (b : List ℕ) → IsAttribute b → is_accepted_by rows b ≡ true → begins_accepted rows b ≡ true
-unfolding begins_accepted
-accepted-begins rows b h a = ap (λ w. w && is_accepted_by rows b) (begun b h) ∙ a
+  -- what is accepted is told apart from what may want memory
+  pub accepted-begins : (rows : ℕ → Row) (b : List ℕ) → IsAttribute b → is_accepted_by rows b ≡ true → begins_accepted rows b ≡ true
+  unfolding begins_accepted
+  accepted-begins rows b h a = ap (λ w. w && is_accepted_by rows b) (begun b h) ∙ a
 
 -- a family's attribute wants memory only where it is accepted
 pub family-begins : (t : Table) (b : List ℕ) → begins_readable (family_row t) (may_want_memory t) b ≡ true → begins_accepted (family_row t) b ≡ true
@@ -52,40 +52,44 @@ after_cut : (m n : ℕ) (o : Option (Attribute × List ℕ)) → ((x : Attribute
 after_cut m n None h = refl
 after_cut m n (Some x) h = ap (λ r. cond (is_of_kind_one x.0) (Some x.0) r) (h x refl)
 
--- as many steps as there are bytes are enough
-enough : (m n : ℕ) (b : List ℕ) → length b ≤ m → length b ≤ n → first_entry_within m b ≡ first_entry_within n b
-unfolding first_entry_within first_attribute
-enough zero zero b k l = refl
-enough zero (suc n) [] k l = refl
-enough (suc m) zero [] k l = refl
-enough zero (suc n) (a ∷ b) k l = absurd (omega arith)
-enough (suc m) zero (a ∷ b) k l = absurd (omega arith)
-enough (suc m) (suc n) b k l =
-    after_cut m n (first_attribute b) (λ x e.
-    let s = sized b x.0 x.1 e in
-    enough m n x.1 (omega (arith, s.within, s.rest_length, k)) (omega (arith, s.within, s.rest_length, l)))
+module _ (within : FirstIsWithin) where
+  -- as many steps as there are bytes are enough
+  enough : (m n : ℕ) (b : List ℕ) → length b ≤ m → length b ≤ n → first_entry_within m b ≡ first_entry_within n b
+  unfolding first_entry_within first_attribute
+  enough zero zero b k l = refl
+  enough zero (suc n) [] k l = refl
+  enough (suc m) zero [] k l = refl
+  enough zero (suc n) (a ∷ b) k l = absurd (omega arith)
+  enough (suc m) zero (a ∷ b) k l = absurd (omega arith)
+  enough (suc m) (suc n) b k l =
+      after_cut m n (first_attribute b) (λ x e.
+      let w = within.within b x.0 x.1 e in
+      let r = within.rest_length b x.0 x.1 e in
+      enough m n x.1 (omega (arith, w, r, k)) (omega (arith, w, r, l)))
 
-entry_step : (b : List ℕ) → IsAttribute b → first_entry b ≡ cond (is_of_kind_one (viewed_attribute b)) (Some (viewed_attribute b)) (first_entry (after_first b))
-unfolding first_entry_within
-entry_step b h =
-    let f = first_attribute_is b h in
-    let s = sized b (viewed_attribute b) (after_first b) f in
-    enough (length b) (suc (length b)) b (omega arith) (omega arith)
-    ∙ ap (λ o. if_some o (λ x. cond (is_of_kind_one x.0) (Some x.0) (first_entry_within (length b) x.1))) f
-    ∙ ap (λ r. cond (is_of_kind_one (viewed_attribute b)) (Some (viewed_attribute b)) r) (enough (length b) (length (after_first b)) (after_first b) (omega (arith, s.within, s.rest_length)) (omega arith))
+  module _ (first : FirstIsViewed) where
+    entry_step : (b : List ℕ) → IsAttribute b → first_entry b ≡ cond (is_of_kind_one (viewed_attribute b)) (Some (viewed_attribute b)) (first_entry (after_first b))
+    unfolding first_entry_within
+    entry_step b h =
+        let f = first.whole b h in
+        let w = within.within b (viewed_attribute b) (after_first b) f in
+        let r = within.rest_length b (viewed_attribute b) (after_first b) f in
+        enough (length b) (suc (length b)) b (omega arith) (omega arith)
+        ∙ ap (λ o. if_some o (λ x. cond (is_of_kind_one x.0) (Some x.0) (first_entry_within (length b) x.1))) f
+        ∙ ap (λ r. cond (is_of_kind_one (viewed_attribute b)) (Some (viewed_attribute b)) r) (enough (length b) (length (after_first b)) (after_first b) (omega (arith, w, r)) (omega arith))
 
--- an entry stands in front
-pub entries-here : (r : Row) (may : List ℕ → Bool) (b : List ℕ) → IsAttribute b → is_of_kind_one (viewed_attribute b) ≡ true → (r.rule.accepted (viewed_payload b) || may (viewed_payload b)) ≡ true → entries_begin_readable r may b ≡ true
-unfolding entries_begin_readable
-entries-here r may b h one e = ap (is_readable_entry r may) (entry_step b h ∙ ap (λ t. cond t (Some (viewed_attribute b)) (first_entry (after_first b))) one) ∙ e
+    -- an entry stands in front
+    pub entries-here : (r : Row) (may : List ℕ → Bool) (b : List ℕ) → IsAttribute b → is_of_kind_one (viewed_attribute b) ≡ true → (r.rule.accepted (viewed_payload b) || may (viewed_payload b)) ≡ true → entries_begin_readable r may b ≡ true
+    unfolding entries_begin_readable
+    entries-here r may b h one e = ap (is_readable_entry r may) (entry_step b h ∙ ap (λ t. cond t (Some (viewed_attribute b)) (first_entry (after_first b))) one) ∙ e
 
-pub entries-accepted : (r : Row) (may : List ℕ → Bool) (b : List ℕ) → IsAttribute b → is_of_kind_one (viewed_attribute b) ≡ true → r.rule.accepted (viewed_payload b) ≡ true → entries_begin_readable r may b ≡ true
-entries-accepted r may b h one a = entries-here r may b h one (ap (λ x. x || may (viewed_payload b)) a)
+    pub entries-accepted : (r : Row) (may : List ℕ → Bool) (b : List ℕ) → IsAttribute b → is_of_kind_one (viewed_attribute b) ≡ true → r.rule.accepted (viewed_payload b) ≡ true → entries_begin_readable r may b ≡ true
+    entries-accepted r may b h one a = entries-here r may b h one (ap (λ x. x || may (viewed_payload b)) a)
 
-pub entries-wanting : (r : Row) (may : List ℕ → Bool) (b : List ℕ) → IsAttribute b → is_of_kind_one (viewed_attribute b) ≡ true → may (viewed_payload b) ≡ true → entries_begin_readable r may b ≡ true
-entries-wanting r may b h one m = entries-here r may b h one (or_right (r.rule.accepted (viewed_payload b)) (may (viewed_payload b)) m)
+    pub entries-wanting : (r : Row) (may : List ℕ → Bool) (b : List ℕ) → IsAttribute b → is_of_kind_one (viewed_attribute b) ≡ true → may (viewed_payload b) ≡ true → entries_begin_readable r may b ≡ true
+    entries-wanting r may b h one m = entries-here r may b h one (or_right (r.rule.accepted (viewed_payload b)) (may (viewed_payload b)) m)
 
--- another attribute stands in front
-pub entries-past : (r : Row) (may : List ℕ → Bool) (b : List ℕ) → IsAttribute b → is_of_kind_one (viewed_attribute b) ≡ false → entries_begin_readable r may (after_first b) ≡ true → entries_begin_readable r may b ≡ true
-unfolding entries_begin_readable
-entries-past r may b h other e = ap (is_readable_entry r may) (entry_step b h ∙ ap (λ t. cond t (Some (viewed_attribute b)) (first_entry (after_first b))) other) ∙ e
+    -- another attribute stands in front
+    pub entries-past : (r : Row) (may : List ℕ → Bool) (b : List ℕ) → IsAttribute b → is_of_kind_one (viewed_attribute b) ≡ false → entries_begin_readable r may (after_first b) ≡ true → entries_begin_readable r may b ≡ true
+    unfolding entries_begin_readable
+    entries-past r may b h other e = ap (is_readable_entry r may) (entry_step b h ∙ ap (λ t. cond t (Some (viewed_attribute b)) (first_entry (after_first b))) other) ∙ e

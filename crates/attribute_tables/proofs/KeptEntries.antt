@@ -3,12 +3,11 @@ use Rattle.std.proofs.Common.{◌≡◌, ℕ, ◌<◌, Bool, true, false, cond, 
 use Rattle.std.proofs.lemmas.List.{map-append}
 use Rattle.netlink_packet_core_grammar.specs.Attributes.{Attribute, list_text}
 use Rattle.netlink_packet_core_grammar.specs.AttributeViews.{IsAttribute, viewed_attribute, viewed_payload, after_first}
-use Rattle.netlink_packet_core_grammar.proofs.FirstAttribute.{first_attribute_is, first_attribute_none}
 use Rattle.netlink_packet_core.specs.Lists.{text_by, all_fit_by}
 use Rattle.attribute_tables_grammar.specs.Lists.{nothing, Row, raw_row, of_kind_one, is_of_kind_one, row_of, rewrite, without_context}
 use Rattle.attribute_tables_grammar.specs.LookUps.{rows_rule, only_one}
-use Rattle.attribute_tables_grammar.specs.Readings.{written_by, reading_as}
-use Rattle.attribute_tables_grammar.proofs.Readings.{SoFar, start, more, past, refused, stopped, done, as_of_kind_one, tells_rows, denies_rows}
+use Rattle.attribute_tables_grammar.specs.Readings.{written_by, reading_as, SoFar}
+use Rattle.attribute_tables_grammar.specs.Laws.{ReadingsGoBySteps, ReadingsTellRules}
 use Rattle.attribute_tables.specs.Written.{written_as}
 use Rattle.attribute_tables.proofs.Lists.{all_written, entries_written}
 
@@ -26,9 +25,9 @@ pub record EntriesDone {V : Type 0} (r : Row) (entry : V → Attribute) (inside 
   pub canonical : text_by entry vs ≡ (rows_rule of_kind_one (only_one r)).canonical bytes
   pub fits : all_fit_by entry inside vs ≡ (rows_rule of_kind_one (only_one r)).fits bytes
 
-module _ {V : Type 0} (r : Row) (entry : V → Attribute) (inside : V → Bool) (bytes : List ℕ) where
+module _ (steps : ReadingsGoBySteps) {V : Type 0} (r : Row) (entry : V → Attribute) (inside : V → Bool) (bytes : List ℕ) where
   pub entries_start : Entries r entry inside bytes [] bytes
-  entries_start = record { so_far = start of_kind_one (without_context (only_one r)) bytes }
+  entries_start = record { so_far = steps.start of_kind_one (without_context (only_one r)) bytes }
 
   pub entries_more : (vs : List V) (rest : List ℕ) (v : V) → IsAttribute rest → is_of_kind_one (viewed_attribute rest) ≡ true →
       r.rule.accepted (viewed_payload rest) ≡ true → entry v ≡ rewrite r (viewed_attribute rest) → inside v ≡ r.rule.fits (viewed_payload rest) →
@@ -41,34 +40,36 @@ module _ {V : Type 0} (r : Row) (entry : V → Attribute) (inside : V → Bool) 
       let wrote : w v ≡ written_by r e = λ i. record { entry = is i; inside_fits = fits i } in
       record {
         so_far = subst (λ ws. SoFar of_kind_one g bytes ws nothing (after_first rest)) (sym (map-append w vs (v ∷ [])))
-            (more of_kind_one g bytes (map w vs) nothing rest e (after_first rest) (w v) (first_attribute_is rest h) one
+            (steps.more of_kind_one g bytes (map w vs) nothing rest (w v) h one
             (ap (λ (x : Row). x.rule.accepted e.payload) (sym row) ∙ a) (wrote ∙ ap (λ x. written_by x e) row) s.so_far);
       }
 
   pub entries_past : (vs : List V) (rest : List ℕ) → IsAttribute rest → is_of_kind_one (viewed_attribute rest) ≡ false → Entries r entry inside bytes vs rest → Entries r entry inside bytes vs (after_first rest)
-  entries_past vs rest h other s = record { so_far = past of_kind_one (without_context (only_one r)) bytes (map (written_as entry inside) vs) nothing rest (viewed_attribute rest) (after_first rest) (first_attribute_is rest h) other s.so_far }
+  entries_past vs rest h other s = record { so_far = steps.past of_kind_one (without_context (only_one r)) bytes (map (written_as entry inside) vs) nothing rest h other s.so_far }
 
-  pub entries_refused : (vs : List V) (rest : List ℕ) → IsAttribute rest → is_of_kind_one (viewed_attribute rest) ≡ true → r.rule.accepted (viewed_payload rest) ≡ false → Entries r entry inside bytes vs rest → (rows_rule of_kind_one (only_one r)).accepted bytes ≡ false
-  entries_refused vs rest h one a s =
-      let g = without_context (only_one r) in
-      let e = viewed_attribute rest in
-      denies_rows of_kind_one (only_one r) bytes (as_of_kind_one g bytes
-      ∙ refused of_kind_one g bytes (map (written_as entry inside) vs) nothing rest e (after_first rest) (first_attribute_is rest h) one (ap (λ (x : Row). x.rule.accepted e.payload) (sym (is_row r e one)) ∙ a) s.so_far)
+  -- what the rule says of the bytes, once the loop ends
+  module _ (tell : ReadingsTellRules) where
+    pub entries_refused : (vs : List V) (rest : List ℕ) → IsAttribute rest → is_of_kind_one (viewed_attribute rest) ≡ true → r.rule.accepted (viewed_payload rest) ≡ false → Entries r entry inside bytes vs rest → (rows_rule of_kind_one (only_one r)).accepted bytes ≡ false
+    entries_refused vs rest h one a s =
+        let g = without_context (only_one r) in
+        let e = viewed_attribute rest in
+        tell.denies_rows of_kind_one (only_one r) bytes (tell.of_entries g bytes
+        ∙ steps.refused of_kind_one g bytes (map (written_as entry inside) vs) nothing rest h one (ap (λ (x : Row). x.rule.accepted e.payload) (sym (is_row r e one)) ∙ a) s.so_far)
 
-  pub entries_stopped : (vs : List V) (rest : List ℕ) → (IsAttribute rest → ⊥) → 0 < length rest → Entries r entry inside bytes vs rest → (rows_rule of_kind_one (only_one r)).accepted bytes ≡ false
-  entries_stopped vs rest h l s =
-      let g = without_context (only_one r) in
-      denies_rows of_kind_one (only_one r) bytes (as_of_kind_one g bytes ∙ stopped of_kind_one g bytes (map (written_as entry inside) vs) nothing rest (first_attribute_none rest h) l s.so_far)
+    pub entries_stopped : (vs : List V) (rest : List ℕ) → (IsAttribute rest → ⊥) → 0 < length rest → Entries r entry inside bytes vs rest → (rows_rule of_kind_one (only_one r)).accepted bytes ≡ false
+    entries_stopped vs rest h l s =
+        let g = without_context (only_one r) in
+        tell.denies_rows of_kind_one (only_one r) bytes (tell.of_entries g bytes ∙ steps.stopped of_kind_one g bytes (map (written_as entry inside) vs) nothing rest h l s.so_far)
 
-  pub entries_done : (vs : List V) (rest : List ℕ) → length rest ≡ 0 → Entries r entry inside bytes vs rest → EntriesDone r entry inside bytes vs
-  entries_done vs rest l s =
-      let g = without_context (only_one r) in
-      let ws = map (written_as entry inside) vs in
-      let d : reading_as of_kind_one g bytes ≡ Some ws = as_of_kind_one g bytes ∙ done of_kind_one g bytes ws nothing rest l s.so_far in
-      let t = tells_rows of_kind_one (only_one r) bytes ws d in
-      record {
-        read = d;
-        accepted = t.accepted;
-        canonical = sym (t.canonical ∙ ap list_text (entries_written entry inside vs));
-        fits = sym (all_written entry inside vs) ∙ sym t.fits;
-      }
+    pub entries_done : (vs : List V) (rest : List ℕ) → length rest ≡ 0 → Entries r entry inside bytes vs rest → EntriesDone r entry inside bytes vs
+    entries_done vs rest l s =
+        let g = without_context (only_one r) in
+        let ws = map (written_as entry inside) vs in
+        let d : reading_as of_kind_one g bytes ≡ Some ws = tell.of_entries g bytes ∙ steps.done of_kind_one g bytes ws nothing rest l s.so_far in
+        let t = tell.tells_rows of_kind_one (only_one r) bytes ws d in
+        record {
+          read = d;
+          accepted = t.accepted;
+          canonical = sym (t.canonical ∙ ap list_text (entries_written entry inside vs));
+          fits = sym (all_written entry inside vs) ∙ sym t.fits;
+        }

@@ -12,7 +12,11 @@ ghost use Rattle.attribute_tables_grammar.specs.Readings.{reading_as};
 ghost use Rattle.attribute_tables.specs.Beginnings.{entries_begin_readable};
 ghost use Rattle.attribute_tables.specs.Written.{written_as};
 
+use attribute_tables_grammar::laws::{
+    ports_are_entries, readings_go_by_steps, readings_tell_rules,
+};
 use netlink_packet_core::{DecodeError, Nla, NlaBuffer, skip_first};
+use netlink_packet_core_grammar::laws::{first_attributes_are_viewed, first_attributes_are_within};
 use std::alloc::Global;
 
 /// The kind of the entries that are kept.
@@ -82,6 +86,10 @@ pub fn parse_entries<R: EntryReader>(
         → entries_begin_readable (R.entry_row reader.now) (R.may_want_memory reader.now) bytes.now
         ≡ true) }
 {
+    readings_go_by_steps();
+    readings_tell_rules();
+    first_attributes_are_viewed();
+    first_attributes_are_within();
     let mut list = Vec::new(alloc);
     let mut rest = bytes;
     while !rest.is_empty() {
@@ -96,7 +104,6 @@ pub fn parse_entries<R: EntryReader>(
 
 /// Reads a list of which the attributes of kind 1 are kept, and which has an attribute of any kind
 /// in it. It succeeds exactly where the list is accepted, memory aside.
-#[tactic(auto, using(crate::proofs::Ports::port_lists))]
 pub fn parse_ports<R: EntryReader>(
     alloc: Global,
     reader: &R,
@@ -123,6 +130,7 @@ pub fn parse_ports<R: EntryReader>(
         → entries_begin_readable (R.entry_row reader.now) (R.may_want_memory reader.now) bytes.now
         ≡ true) }
 {
+    ports_are_entries();
     if bytes.is_empty() {
         return Err(DecodeError::from("a list of ports without an attribute"));
     }

@@ -15,7 +15,11 @@ ghost use Rattle.attribute_tables.specs.Beginnings.{begins_accepted};
 ghost use Rattle.attribute_tables.specs.Written.{written_as};
 
 use super::reader::{Reader, parse_list};
+use attribute_tables_grammar::laws::{
+    first_attributes_are_read_alone, readings_tell_rules, rows_are_looked_up,
+};
 use netlink_packet_core::{DecodeError, Family, NlaBuffer, read_attribute};
+use netlink_packet_core_grammar::laws::first_attributes_are_viewed;
 use std::alloc::Global;
 use std::marker::PhantomData;
 
@@ -88,6 +92,10 @@ pub fn parse_first<F: Family + Drop>(alloc: Global, bytes: &[u8]) -> Result<F, D
     ensures memory { IfErr result
         (λ e. is_memory e ≡ true → begins_accepted (family_row F.rows) bytes.now ≡ true) }
 {
+    first_attributes_are_read_alone();
+    readings_tell_rules();
+    rows_are_looked_up();
+    first_attributes_are_viewed();
     let buf = NlaBuffer::new_checked(bytes)?;
     let value = read_attribute(alloc, &buf)?;
     Ok(value)

@@ -13,7 +13,9 @@ ghost use Rattle.attribute_tables.specs.Views.{fits_by, is_accepted_by, rewritte
 ghost use Rattle.attribute_tables.specs.Beginnings.{begins_readable};
 ghost use Rattle.attribute_tables.specs.Written.{written_as};
 
+use attribute_tables_grammar::laws::{readings_go_by_steps, readings_tell_rules};
 use netlink_packet_core::{DecodeError, Nla, NlaBuffer, skip_first};
+use netlink_packet_core_grammar::laws::first_attributes_are_viewed;
 use std::alloc::Global;
 
 /// A reader of the attributes of one table, under a context that it holds.
@@ -72,6 +74,9 @@ pub fn parse_list<R: Reader>(
         (λ e. is_memory e ≡ true
         → begins_readable (R.row_of reader.now) (R.may_want_memory reader.now) bytes.now ≡ true) }
 {
+    readings_go_by_steps();
+    readings_tell_rules();
+    first_attributes_are_viewed();
     let mut list = Vec::new(alloc);
     let mut rest = bytes;
     while !rest.is_empty() {

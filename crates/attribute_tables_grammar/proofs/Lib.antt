@@ -8,6 +8,7 @@ pub mod Renewed
 pub mod Together
 pub mod Kept
 pub mod Readings
+pub mod ReadingLaws
 pub mod Named
 pub mod Texts
 pub mod Walks

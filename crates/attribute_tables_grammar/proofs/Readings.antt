@@ -4,19 +4,15 @@ use Rattle.std.specs.Prelude.{◌&&◌, option_map}
 use Rattle.netlink_packet_core_grammar.specs.Attributes.{Attribute, list_text, first_attribute, if_some, attributes_within, attributes_of}
 use Rattle.netlink_packet_core_grammar.specs.Fits.{attribute_fits}
 use Rattle.netlink_packet_core_grammar.proofs.FirstAttribute.{attributes_step, attributes_stop}
-use Rattle.attribute_tables_grammar.specs.Rules.{Rule}
 use Rattle.attribute_tables_grammar.specs.Lists.{Context, nothing, Row, Grammar, without_context, row_of, rewritten, all_accepted, all_fit, ListForm, any, non_empty, of_kind_one, ports, first_alone, not_empty, read_as, is_kept, kept, if_read, list_rule}
 use Rattle.attribute_tables_grammar.specs.LookUps.{rows_rule}
-use Rattle.attribute_tables_grammar.specs.Readings.{Written, written_by, written_list, reading, reading_as, all_written_fit}
+use Rattle.attribute_tables_grammar.specs.Readings.{Written, written_by, written_list, reading, reading_as, all_written_fit, followed_by, SoFar, Tells}
 use Rattle.attribute_tables_grammar.proofs.Kept.{kept_more, kept_past, kept_none}
 
 -- ---- the steps
 
-abbrev pub then : List Written → Option (List Written) → Option (List Written)
-then ws o = option_map (λ rest. ws ++ rest) o
-
 onto : (form : ListForm) (o : Option (List Attribute)) (g : Grammar) (c : Context) (e : Attribute) → is_kept form e ≡ true → (row_of g c e).rule.accepted e.payload ≡ true →
-    if_some (option_map (λ es. e ∷ es) o) (λ es. written_list g c (kept form es)) ≡ then (written_by (row_of g c e) e ∷ []) (if_some o (λ es. written_list g (g.next c e) (kept form es)))
+    if_some (option_map (λ es. e ∷ es) o) (λ es. written_list g c (kept form es)) ≡ followed_by (written_by (row_of g c e) e ∷ []) (if_some o (λ es. written_list g (g.next c e) (kept form es)))
 unfolding written_list
 onto form None g c e k a = refl
 onto form (Some es) g c e k a = ap (written_list g c) (kept_more form e es k) ∙ ap (λ b. cond b (option_map (λ ws. written_by (row_of g c e) e ∷ ws) (written_list g (g.next c e) (kept form es))) None) a
@@ -34,7 +30,7 @@ beside form (Some es) g c e k = ap (written_list g c) (kept_past form e es k)
 
 module _ (form : ListForm) (g : Grammar) where
   reading_step : (c : Context) (bytes : List ℕ) (e : Attribute) (rest : List ℕ) → first_attribute bytes ≡ Some (e, rest) → is_kept form e ≡ true → (row_of g c e).rule.accepted e.payload ≡ true →
-      reading form g c bytes ≡ then (written_by (row_of g c e) e ∷ []) (reading form g (g.next c e) rest)
+      reading form g c bytes ≡ followed_by (written_by (row_of g c e) e ∷ []) (reading form g (g.next c e) rest)
   unfolding reading
   reading_step c bytes e rest f k a = ap (λ o. if_some o (λ es. written_list g c (kept form es))) (attributes_step bytes e rest f) ∙ onto form (attributes_of rest) g c e k a
 
@@ -57,39 +53,36 @@ module _ (form : ListForm) (g : Grammar) where
 
 -- ---- a loop's state: what was read, and the rest in its context
 
-pub record SoFar (form : ListForm) (g : Grammar) (bytes : List ℕ) (ws : List Written) (c : Context) (rest : List ℕ) : Type 0 where
-  pub whole : reading form g nothing bytes ≡ then ws (reading form g c rest)
+followed_nil : (o : Option (List Written)) → followed_by [] o ≡ o
+followed_nil None = refl
+followed_nil (Some ws) = refl
 
-then_nil : (o : Option (List Written)) → then [] o ≡ o
-then_nil None = refl
-then_nil (Some ws) = refl
-
-then_then : (us vs : List Written) (o : Option (List Written)) → then us (then vs o) ≡ then (us ++ vs) o
-then_then us vs None = refl
-then_then us vs (Some ws) = ap Some (sym (append_assoc us vs ws))
+followed_twice : (us vs : List Written) (o : Option (List Written)) → followed_by us (followed_by vs o) ≡ followed_by (us ++ vs) o
+followed_twice us vs None = refl
+followed_twice us vs (Some ws) = ap Some (sym (append_assoc us vs ws))
 
 module _ (form : ListForm) (g : Grammar) (bytes : List ℕ) where
   pub start : SoFar form g bytes [] nothing bytes
-  start = record { whole = sym (then_nil (reading form g nothing bytes)) }
+  start = record { whole = sym (followed_nil (reading form g nothing bytes)) }
 
   pub more : (ws : List Written) (c : Context) (rest : List ℕ) (e : Attribute) (after : List ℕ) (w : Written) → first_attribute rest ≡ Some (e, after) → is_kept form e ≡ true → (row_of g c e).rule.accepted e.payload ≡ true → w ≡ written_by (row_of g c e) e →
       SoFar form g bytes ws c rest → SoFar form g bytes (ws ++ w ∷ []) (g.next c e) after
   more ws c rest e after w f k a is s = record {
-    whole = s.whole ∙ ap (then ws) (reading_step form g c rest e after f k a ∙ ap (λ x. then (x ∷ []) (reading form g (g.next c e) after)) (sym is)) ∙ then_then ws (w ∷ []) (reading form g (g.next c e) after);
+    whole = s.whole ∙ ap (followed_by ws) (reading_step form g c rest e after f k a ∙ ap (λ x. followed_by (x ∷ []) (reading form g (g.next c e) after)) (sym is)) ∙ followed_twice ws (w ∷ []) (reading form g (g.next c e) after);
   }
 
   -- an attribute that its list drops
   pub past : (ws : List Written) (c : Context) (rest : List ℕ) (e : Attribute) (after : List ℕ) → first_attribute rest ≡ Some (e, after) → is_kept form e ≡ false → SoFar form g bytes ws c rest → SoFar form g bytes ws c after
-  past ws c rest e after f k s = record { whole = s.whole ∙ ap (then ws) (reading_past form g c rest e after f k) }
+  past ws c rest e after f k s = record { whole = s.whole ∙ ap (followed_by ws) (reading_past form g c rest e after f k) }
 
   pub refused : (ws : List Written) (c : Context) (rest : List ℕ) (e : Attribute) (after : List ℕ) → first_attribute rest ≡ Some (e, after) → is_kept form e ≡ true → (row_of g c e).rule.accepted e.payload ≡ false → SoFar form g bytes ws c rest → reading form g nothing bytes ≡ None
-  refused ws c rest e after f k a s = s.whole ∙ ap (then ws) (reading_refused form g c rest e after f k a)
+  refused ws c rest e after f k a s = s.whole ∙ ap (followed_by ws) (reading_refused form g c rest e after f k a)
 
   pub stopped : (ws : List Written) (c : Context) (rest : List ℕ) → first_attribute rest ≡ None → 0 < length rest → SoFar form g bytes ws c rest → reading form g nothing bytes ≡ None
-  stopped ws c rest f l s = s.whole ∙ ap (then ws) (reading_stop form g c rest f l)
+  stopped ws c rest f l s = s.whole ∙ ap (followed_by ws) (reading_stop form g c rest f l)
 
   pub done : (ws : List Written) (c : Context) (rest : List ℕ) → length rest ≡ 0 → SoFar form g bytes ws c rest → reading form g nothing bytes ≡ Some ws
-  done ws c rest l s = s.whole ∙ ap (then ws) (reading_end form g c rest l) ∙ ap Some (append-nil ws)
+  done ws c rest l s = s.whole ∙ ap (followed_by ws) (reading_end form g c rest l) ∙ ap Some (append-nil ws)
 
 -- ---- the reading of whole bytes
 
@@ -210,12 +203,6 @@ tells_by : (g : Grammar) (es : List Attribute) (ws : List Written) (b : Bool) �
 unfolding list_or some_list
 tells_by g es ws true a h = (a, ap list_or h)
 tells_by g es ws false a h = absurd cc
-
--- what a list that was read says of its bytes
-pub record Tells (r : Rule) (bytes : List ℕ) (ws : List Written) : Type 0 where
-  pub accepted : r.accepted bytes ≡ true
-  pub canonical : r.canonical bytes ≡ list_text (map (λ (w : Written). w.entry) ws)
-  pub fits : r.fits bytes ≡ all_written_fit ws
 
 tells_in : (form : ListForm) (g : Grammar) (o : Option (List Attribute)) (ws : List Written) → if_some o (λ es. written_list g nothing (kept form es)) ≡ some_list ws →
     (if_read false (λ es. all_accepted g nothing (kept form es)) o ≡ true) × (if_read [] (λ es. list_text (rewritten g nothing (kept form es))) o ≡ list_text (map (λ (w : Written). w.entry) ws)) × (if_read true (λ es. all_fit g nothing (kept form es)) o ≡ all_written_fit ws)

@@ -1,11 +1,13 @@
 -- The laws of the definitions, as the functions of `laws` state them.
-use Rattle.std.specs.Prelude.{◌≡◌, ℕ, ◌↔◌, true, false, List, Some}
+use Rattle.std.specs.Prelude.{◌≡◌, ℕ, ◌<◌, ◌↔◌, Bool, true, false, List, [], ◌∷◌, ◌++◌, length, Some, None}
 use Rattle.netlink_packet_core_grammar.specs.Attributes.{Attribute, attributes_of}
+use Rattle.netlink_packet_core_grammar.specs.AttributeViews.{IsAttribute, viewed_attribute, after_first}
 use Rattle.attribute_tables_grammar.specs.Rules.{Rule, Lawful, Renews}
-use Rattle.attribute_tables_grammar.specs.Lists.{Grammar, Context, nothing, rewritten, ListForm, read_as, kept, list_rule, all_accepted, all_same, context_after, LawfulGrammar}
+use Rattle.attribute_tables_grammar.specs.Lists.{Grammar, Context, Row, nothing, rewrite, rewritten, row_of, without_context, ListForm, any, of_kind_one, ports, first_alone, read_as, is_kept, kept, list_rule, all_accepted, all_same, context_after, LawfulGrammar}
 use Rattle.attribute_tables_grammar.specs.Peers.{Peer, LawfulPeer, bytes_peer}
-use Rattle.attribute_tables_grammar.specs.Tables.{Payload, Payload.list, Table, rule, grammar, payload_bounded, rows_bounded}
-use Rattle.attribute_tables_grammar.specs.LookUps.{rows_rule, table_row}
+use Rattle.attribute_tables_grammar.specs.Tables.{Payload, Payload.list, Table, Table.end, Table.row, Names, rule, named, grammar, payload_bounded, rows_bounded}
+use Rattle.attribute_tables_grammar.specs.LookUps.{list_of, row_of_line, rows_rule, table_row, only_one, payload_at, rule_or_raw}
+use Rattle.attribute_tables_grammar.specs.Readings.{Written, written_by, reading, reading_as, SoFar, Tells}
 
 -- a canonical text is cut into the written kinds and canonical payloads of what was kept
 abbrev pub CanonicalIsCut : Type 0
@@ -45,6 +47,58 @@ OneContext = (g : Grammar) → LawfulGrammar g → (c : Context) (es fs : List A
 abbrev pub TableGrammarsAreLawful : Type 0
 TableGrammarsAreLawful = (p : Peer) → LawfulPeer p → (t : Table) → rows_bounded t ≡ true → LawfulGrammar (grammar p t)
 
--- a list of a table's rows has the rule of the rows that a look-up of each kind finds, for any form
-abbrev pub RowsAreLookedUp : Type 0
-RowsAreLookedUp = (p : Peer) (form : ListForm) (t : Table) → rule p (list form t) ≡ rows_rule form (table_row p t)
+-- a list of a table's rows has the rule of the rows that a look-up of each kind finds, for any form; the same by the list's name, and where kind 1 alone has a row
+pub record RowsAreLookedUp : Type 0 where
+  pub payload : (p : Peer) (form : ListForm) (t : Table) → rule p (list form t) ≡ rows_rule form (table_row p t)
+  pub named : (p : Peer) (form : ListForm) (t : Table) → list_of p form t ≡ rows_rule form (table_row p t)
+  pub of_one : (p : Peer) (form : ListForm) (n : Bool) (s : Payload) → list_of p form (row 1 n s end) ≡ rows_rule form (only_one (row_of_line p (Some (record { is_nested = n; payload = s }))))
+
+-- the rule under a name is that of the payload that a look-up of the name finds, and of raw bytes where it finds none
+abbrev pub NamesAreLookedUp : Type 0
+NamesAreLookedUp = (p : Peer) (names : Names) (n : List ℕ) → named p names n ≡ rule_or_raw p (payload_at names n)
+
+-- what a list is read as is found by steps: an attribute that is kept adds what its row makes of it, and one that the form drops adds nothing;
+-- a kept one that its row refuses, or bytes that begin with no attribute, leave nothing read; and once nothing is left, what was read is the whole
+pub record ReadingsGoBySteps : Type 0 where
+  pub start : (form : ListForm) (g : Grammar) (bytes : List ℕ) → SoFar form g bytes [] nothing bytes
+  pub more : (form : ListForm) (g : Grammar) (bytes : List ℕ) (ws : List Written) (c : Context) (rest : List ℕ) (w : Written) → IsAttribute rest → is_kept form (viewed_attribute rest) ≡ true →
+      (row_of g c (viewed_attribute rest)).rule.accepted (viewed_attribute rest).payload ≡ true → w ≡ written_by (row_of g c (viewed_attribute rest)) (viewed_attribute rest) →
+      SoFar form g bytes ws c rest → SoFar form g bytes (ws ++ w ∷ []) (g.next c (viewed_attribute rest)) (after_first rest)
+  pub past : (form : ListForm) (g : Grammar) (bytes : List ℕ) (ws : List Written) (c : Context) (rest : List ℕ) → IsAttribute rest → is_kept form (viewed_attribute rest) ≡ false →
+      SoFar form g bytes ws c rest → SoFar form g bytes ws c (after_first rest)
+  pub refused : (form : ListForm) (g : Grammar) (bytes : List ℕ) (ws : List Written) (c : Context) (rest : List ℕ) → IsAttribute rest → is_kept form (viewed_attribute rest) ≡ true →
+      (row_of g c (viewed_attribute rest)).rule.accepted (viewed_attribute rest).payload ≡ false → SoFar form g bytes ws c rest → reading form g nothing bytes ≡ None
+  pub stopped : (form : ListForm) (g : Grammar) (bytes : List ℕ) (ws : List Written) (c : Context) (rest : List ℕ) → (IsAttribute rest → ⊥) → 0 < length rest →
+      SoFar form g bytes ws c rest → reading form g nothing bytes ≡ None
+  pub done : (form : ListForm) (g : Grammar) (bytes : List ℕ) (ws : List Written) (c : Context) (rest : List ℕ) → length rest ≡ 0 →
+      SoFar form g bytes ws c rest → reading form g nothing bytes ≡ Some ws
+
+-- what bytes are read as tells their rule: accepted, with that text, where something was read, and refused where nothing was.
+-- Lists of any attributes, and those of which kind 1 is kept, are read from their first byte on
+pub record ReadingsTellRules : Type 0 where
+  pub of_any : (g : Grammar) (bytes : List ℕ) → reading_as any g bytes ≡ reading any g nothing bytes
+  pub of_entries : (g : Grammar) (bytes : List ℕ) → reading_as of_kind_one g bytes ≡ reading of_kind_one g nothing bytes
+  pub tells : (form : ListForm) (g : Grammar) (bytes : List ℕ) (ws : List Written) → reading_as form g bytes ≡ Some ws → Tells (list_rule form g) bytes ws
+  pub denies : (form : ListForm) (g : Grammar) (bytes : List ℕ) → reading_as form g bytes ≡ None → (list_rule form g).accepted bytes ≡ false
+  pub tells_rows : (form : ListForm) (f : ℕ → Row) (bytes : List ℕ) (ws : List Written) → reading_as form (without_context f) bytes ≡ Some ws → Tells (rows_rule form f) bytes ws
+  pub denies_rows : (form : ListForm) (f : ℕ → Row) (bytes : List ℕ) → reading_as form (without_context f) bytes ≡ None → (rows_rule form f).accepted bytes ≡ false
+
+-- a list of its first attribute alone is read as what that attribute's row makes of it; as nothing where the row refuses it, or where there is none
+pub record FirstAloneIsRead : Type 0 where
+  pub read : (g : Grammar) (bytes : List ℕ) (w : Written) → IsAttribute bytes → (row_of g nothing (viewed_attribute bytes)).rule.accepted (viewed_attribute bytes).payload ≡ true →
+      w ≡ written_by (row_of g nothing (viewed_attribute bytes)) (viewed_attribute bytes) → reading_as first_alone g bytes ≡ Some (w ∷ [])
+  pub refused : (g : Grammar) (bytes : List ℕ) → IsAttribute bytes → (row_of g nothing (viewed_attribute bytes)).rule.accepted (viewed_attribute bytes).payload ≡ false → reading_as first_alone g bytes ≡ None
+  pub missing : (g : Grammar) (bytes : List ℕ) → (IsAttribute bytes → ⊥) → reading_as first_alone g bytes ≡ None
+
+-- a list of ports that holds bytes is one of which the attributes of kind 1 are kept; no bytes are none
+pub record PortsAreEntries : Type 0 where
+  pub accepted : (f : ℕ → Row) (bytes : List ℕ) → 0 < length bytes → (rows_rule ports f).accepted bytes ≡ (rows_rule of_kind_one f).accepted bytes
+  pub canonical : (f : ℕ → Row) (bytes : List ℕ) → 0 < length bytes → (rows_rule ports f).canonical bytes ≡ (rows_rule of_kind_one f).canonical bytes
+  pub fits : (f : ℕ → Row) (bytes : List ℕ) → 0 < length bytes → (rows_rule ports f).fits bytes ≡ (rows_rule of_kind_one f).fits bytes
+  pub read : (f : ℕ → Row) (bytes : List ℕ) → 0 < length bytes → reading_as ports (without_context f) bytes ≡ reading_as of_kind_one (without_context f) bytes
+  pub empty : (f : ℕ → Row) (bytes : List ℕ) → length bytes ≡ 0 → (rows_rule ports f).accepted bytes ≡ false
+
+-- what a list leaves in force is found by steps, and an attribute leaves in force what its canonical form does
+pub record ContextsGoBySteps : Type 0 where
+  pub more : (g : Grammar) (c : Context) (es : List Attribute) (e : Attribute) → context_after g c (es ++ e ∷ []) ≡ g.next (context_after g c es) e
+  pub canonical : (g : Grammar) → LawfulGrammar g → (c : Context) (e : Attribute) → (row_of g c e).rule.accepted e.payload ≡ true → g.next c (rewrite (row_of g c e) e) ≡ g.next c e

@@ -1,7 +1,8 @@
 -- What an accepted list is read as: what each value is written as, and whether what is inside it fits.
-use Rattle.std.specs.Prelude.{ℕ, ◌&&◌, Bool, true, cond, List, [], ◌∷◌, Option, Some, None, option_map}
-use Rattle.netlink_packet_core_grammar.specs.Attributes.{Attribute, if_some, attributes_of}
+use Rattle.std.specs.Prelude.{◌≡◌, ℕ, ◌&&◌, Bool, true, cond, List, [], ◌∷◌, ◌++◌, map, Option, Some, None, option_map}
+use Rattle.netlink_packet_core_grammar.specs.Attributes.{Attribute, list_text, if_some, attributes_of}
 use Rattle.netlink_packet_core_grammar.specs.Fits.{attribute_fits}
+use Rattle.attribute_tables_grammar.specs.Rules.{Rule}
 use Rattle.attribute_tables_grammar.specs.Lists.{Context, nothing, Row, Grammar, row_of, rewrite, ListForm, read_as, kept}
 
 pub record Written : Type 0 where
@@ -28,6 +29,20 @@ reading_as form g bytes = if_some (read_as form bytes) (λ es. written_list g no
 unfoldable pub all_written_fit : List Written → Bool
 all_written_fit [] = true
 all_written_fit (w ∷ ws) = (attribute_fits w.entry && w.inside_fits) && all_written_fit ws
+
+-- what was read, and then what the rest is read as; None where the rest is not accepted
+abbrev pub followed_by : List Written → Option (List Written) → Option (List Written)
+followed_by ws o = option_map (λ rest. ws ++ rest) o
+
+-- the bytes are read as what was read so far, and then as what the rest is read as in the context where it begins
+pub record SoFar (form : ListForm) (g : Grammar) (bytes : List ℕ) (ws : List Written) (c : Context) (rest : List ℕ) : Type 0 where
+  pub whole : reading form g nothing bytes ≡ followed_by ws (reading form g c rest)
+
+-- the rule accepts the bytes, and its canonical text and whether it fits are those of what was read
+pub record Tells (r : Rule) (bytes : List ℕ) (ws : List Written) : Type 0 where
+  pub accepted : r.accepted bytes ≡ true
+  pub canonical : r.canonical bytes ≡ list_text (map (λ (w : Written). w.entry) ws)
+  pub fits : r.fits bytes ≡ all_written_fit ws
 
 -- each value is the one that its row names, in the context that the values before it leave
 abbrev pub all_named : {V : Type 0} → Grammar → (V → Attribute) → (Context → V → Type 0) → Context → List V → Type 0

@@ -2,7 +2,9 @@
 
 ghost use Rattle.attribute_tables_grammar.specs.Laws.{CanonicalIsCut, TablesAreLawful, BytesAreLawful, TextsTellMeanings};
 ghost use Rattle.attribute_tables_grammar.specs.Laws.{TextsKeepMeanings, OldTextsAreRenewed, OneContext};
-ghost use Rattle.attribute_tables_grammar.specs.Laws.{TableGrammarsAreLawful, RowsAreLookedUp};
+ghost use Rattle.attribute_tables_grammar.specs.Laws.{TableGrammarsAreLawful, RowsAreLookedUp, NamesAreLookedUp};
+ghost use Rattle.attribute_tables_grammar.specs.Laws.{ReadingsGoBySteps, ReadingsTellRules, FirstAloneIsRead, PortsAreEntries};
+ghost use Rattle.attribute_tables_grammar.specs.Laws.{ContextsGoBySteps};
 
 /// A canonical text is cut into the kept attributes, each in its canonical form.
 pub fn canonical_texts_are_cut_again()
@@ -47,4 +49,41 @@ pub fn table_grammars_are_lawful()
 /// A list of a table's rows has the rule of the rows that a look-up of each kind finds.
 pub fn rows_are_looked_up()
     ensures { RowsAreLookedUp }
+{}
+
+/// The rule under a name is that of the payload that a look-up of the name finds, and that of raw
+/// bytes where it finds none.
+pub fn names_are_looked_up()
+    ensures { NamesAreLookedUp }
+{}
+
+/// What a list is read as is found by steps: each kept attribute adds what its row makes of it,
+/// and one that the form drops adds nothing. A kept attribute that its row refuses, or bytes that
+/// begin with no attribute, leave nothing read; once nothing is left, what was read is the whole.
+pub fn readings_go_by_steps()
+    ensures { ReadingsGoBySteps }
+{}
+
+/// What bytes are read as tells their rule: where something was read they are accepted, with that
+/// as their text, and where nothing was they are refused.
+pub fn readings_tell_rules()
+    ensures { ReadingsTellRules }
+{}
+
+/// A list of its first attribute alone is read as what that attribute's row makes of it, and as
+/// nothing where the row refuses it, or where there is none.
+pub fn first_attributes_are_read_alone()
+    ensures { FirstAloneIsRead }
+{}
+
+/// A list of ports that holds bytes is one of which the attributes of kind 1 are kept. No bytes
+/// are no list of ports.
+pub fn ports_are_entries()
+    ensures { PortsAreEntries }
+{}
+
+/// What a list leaves in force is found by steps, and an attribute leaves in force what its
+/// canonical form does.
+pub fn contexts_go_by_steps()
+    ensures { ContextsGoBySteps }
 {}

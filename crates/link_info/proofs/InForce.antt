@@ -2,13 +2,11 @@
 use Rattle.std.proofs.Common.{◌≡◌, ℕ, true, List, refl, sym, ap, ◌∙◌}
 use Rattle.std.specs.Prelude.{string_bytes}
 use Rattle.attribute_tables_grammar.specs.LookUps.{payload_at, rule_or_raw}
-use Rattle.attribute_tables_grammar.specs.Peers.{Peer, bytes_peer}
-use Rattle.attribute_tables_grammar.proofs.LookUps.{named-payload}
+use Rattle.attribute_tables_grammar.specs.Peers.{Peer}
+use Rattle.attribute_tables_grammar.specs.Laws.{NamesAreLookedUp}
 use Rattle.link_info_grammar.specs.Families.{kinds, port_kinds}
-use Rattle.link_info_grammar.specs.KindNames.{kind_names, port_kind_names}
 use Rattle.link_info_grammar.specs.LinkInfo.{data_rule_under, port_data_rule_under}
-use Rattle.link_info_grammar.proofs.Families.{tables_are_listed}
-use Rattle.link_info_grammar.proofs.Names.{named-lacks, lacks_name-unlisted}
+use Rattle.link_info_grammar.specs.Laws.{UnlistedNamesHoldBytes}
 use Rattle.link_info_kinds.specs.Kinds.{info_kind_text, info_kind_is_named, IsNamedBy}
 use Rattle.link_info_kinds.specs.PortKinds.{info_port_kind_text, info_port_kind_is_named, IsPortNamedBy}
 use Rattle.link_info_kinds.specs.declared.info_kind.InfoKind.{InfoKind}
@@ -18,10 +16,10 @@ use Rattle.link_info_kinds.specs.declared.info_port_kind.InfoPortKind.TheVariant
 use Rattle.link_info_data.specs.Data.{data_payload_of, data_rule_of_under}
 use Rattle.link_info_data.specs.PortData.{port_data_payload_of, port_data_rule_of_under}
 
-module _ (p : Peer) where
+module _ (looked_up : NamesAreLookedUp) (unlisted : UnlistedNamesHoldBytes) (p : Peer) where
   listed : (k : InfoKind) → data_payload_of k ≡ payload_at kinds (info_kind_text k) → data_rule_under p (info_kind_text k) ≡ data_rule_of_under p k
   unfolding data_rule_under
-  listed k h = named-payload p kinds (info_kind_text k) ∙ ap (rule_or_raw p) (sym h)
+  listed k h = looked_up p kinds (info_kind_text k) ∙ ap (rule_or_raw p) (sym h)
 
   data_rule-kind : (k : InfoKind) → info_kind_is_named k ≡ true → data_rule_under p (info_kind_text k) ≡ data_rule_of_under p k
   unfolding data_rule_under
@@ -71,11 +69,11 @@ module _ (p : Peer) where
   data_rule-kind Kind.Ip6ErSpan h = listed Kind.Ip6ErSpan refl
   data_rule-kind Kind.Pfcp h = listed Kind.Pfcp refl
   data_rule-kind Kind.RmNet h = listed Kind.RmNet refl
-  data_rule-kind (Kind.Other s) h = named-lacks p kinds (string_bytes s) (lacks_name-unlisted kinds kind_names (string_bytes s) tables_are_listed.0 h)
+  data_rule-kind (Kind.Other s) h = unlisted.kinds p (string_bytes s) h
 
   listed_port : (k : InfoPortKind) → port_data_payload_of k ≡ payload_at port_kinds (info_port_kind_text k) → port_data_rule_under p (info_port_kind_text k) ≡ port_data_rule_of_under p k
   unfolding port_data_rule_under
-  listed_port k h = named-payload p port_kinds (info_port_kind_text k) ∙ ap (rule_or_raw p) (sym h)
+  listed_port k h = looked_up p port_kinds (info_port_kind_text k) ∙ ap (rule_or_raw p) (sym h)
 
   port_data_rule-kind : (k : InfoPortKind) → info_port_kind_is_named k ≡ true → port_data_rule_under p (info_port_kind_text k) ≡ port_data_rule_of_under p k
   unfolding port_data_rule_under
@@ -83,18 +81,10 @@ module _ (p : Peer) where
   port_data_rule-kind PortKind.Bridge h = listed_port PortKind.Bridge refl
   port_data_rule-kind PortKind.Vrf h = listed_port PortKind.Vrf refl
   port_data_rule-kind PortKind.Team h = listed_port PortKind.Team refl
-  port_data_rule-kind (PortKind.Other s) h =
-      named-lacks p port_kinds (string_bytes s) (lacks_name-unlisted port_kinds port_kind_names (string_bytes s) tables_are_listed.1 h)
+  port_data_rule-kind (PortKind.Other s) h = unlisted.port_kinds p (string_bytes s) h
 
   pub names_tell_rules : (n : List ℕ) (k : InfoKind) → IsNamedBy n k → data_rule_under p n ≡ data_rule_of_under p k
   names_tell_rules n k h = ap (data_rule_under p) (sym h.0) ∙ data_rule-kind k h.1
 
   pub port_names_tell_rules : (n : List ℕ) (k : InfoPortKind) → IsPortNamedBy n k → port_data_rule_under p n ≡ port_data_rule_of_under p k
   port_names_tell_rules n k h = ap (port_data_rule_under p) (sym h.0) ∙ port_data_rule-kind k h.1
-
--- the same where peers are bytes
-pub data_rule_at : (n : List ℕ) (k : InfoKind) → IsNamedBy n k → data_rule_under bytes_peer n ≡ data_rule_of_under bytes_peer k
-data_rule_at = names_tell_rules bytes_peer
-
-pub port_data_rule_at : (n : List ℕ) (k : InfoPortKind) → IsPortNamedBy n k → port_data_rule_under bytes_peer n ≡ port_data_rule_of_under bytes_peer k
-port_data_rule_at = port_names_tell_rules bytes_peer

@@ -18,11 +18,18 @@ ghost use Rattle.link_info.specs.LinkInfo.{context_after_first, in_force, is_acc
 ghost use Rattle.link_info.specs.LinkInfo.{info_begins_accepted, may_want_memory_in};
 ghost use Rattle.link_info.specs.LinkInfo.{link_info_entry, link_info_fits, link_info_names_row};
 
+use super::laws::{names_tell_rules, port_names_tell_rules};
+use attribute_tables_grammar::laws::{
+    contexts_go_by_steps, peers_that_are_bytes_are_lawful, readings_go_by_steps,
+    readings_tell_rules,
+};
 use link_info_data::{InfoData, InfoPortData, LinkXstats};
+use link_info_grammar::laws::info_grammar_is_lawful;
 use link_info_kinds::{InfoKind, InfoPortKind};
 use netlink_packet_core::{
     DecodeError, DefaultNla, Emitable, Nla, NlaBuffer, Parseable, parse_str, skip_first,
 };
+use netlink_packet_core_grammar::laws::first_attributes_are_viewed;
 use std::alloc::Global;
 
 const IFLA_INFO_KIND: u16 = 1;
@@ -135,7 +142,6 @@ fn next_in_force<'a>(
 }
 
 // Reads the data of the kind that a name names.
-#[tactic(auto, using(crate::proofs::InForce::data_rule_at))]
 fn parse_data(alloc: Global, name: &str, payload: &[u8]) -> Result<InfoData, DecodeError>
     ensures ok { OnOk result (IsTrue ((data_rule name.now).accepted payload.now)) }
     ensures text { IfOk result
@@ -145,12 +151,12 @@ fn parse_data(alloc: Global, name: &str, payload: &[u8]) -> Result<InfoData, Dec
     ensures err { IfErr result
         (λ e. is_memory e ≡ false → (data_rule name.now).accepted payload.now ≡ false) }
 {
+    names_tell_rules();
     let kind = InfoKind::from_name(alloc, name)?;
     InfoData::parse_with_param(alloc, payload, &kind)
 }
 
 // Reads the data of the port kind that a name names.
-#[tactic(auto, using(crate::proofs::InForce::port_data_rule_at))]
 fn parse_port_data(alloc: Global, name: &str, payload: &[u8]) -> Result<InfoPortData, DecodeError>
     ensures ok { OnOk result (IsTrue ((port_data_rule name.now).accepted payload.now)) }
     ensures text { IfOk result
@@ -161,6 +167,7 @@ fn parse_port_data(alloc: Global, name: &str, payload: &[u8]) -> Result<InfoPort
     ensures err { IfErr result
         (λ e. is_memory e ≡ false → (port_data_rule name.now).accepted payload.now ≡ false) }
 {
+    port_names_tell_rules();
     let kind = InfoPortKind::from_name(alloc, name)?;
     InfoPortData::parse_with_param(alloc, payload, &kind)
 }
@@ -232,6 +239,12 @@ impl LinkInfo {
         ensures memory { IfErr result
             (λ e. is_memory e ≡ true → info_begins_accepted bytes.now ≡ true) }
     {
+        readings_go_by_steps();
+        readings_tell_rules();
+        contexts_go_by_steps();
+        info_grammar_is_lawful();
+        peers_that_are_bytes_are_lawful();
+        first_attributes_are_viewed();
         let mut list = Vec::new(alloc);
         let mut force = InForce {
             kind: None,

@@ -1,12 +1,12 @@
 -- The laws of the tables of link info, as the functions of `laws` state them.
-use Rattle.std.specs.Prelude.{◌≡◌, true}
-use Rattle.attribute_tables_grammar.specs.Rules.{Lawful}
+use Rattle.std.specs.Prelude.{◌≡◌, ℕ, true, List}
+use Rattle.attribute_tables_grammar.specs.Rules.{Lawful, raw_rule}
 use Rattle.attribute_tables_grammar.specs.Lists.{ListForm, any, LawfulGrammar}
 use Rattle.attribute_tables_grammar.specs.Peers.{Peer, LawfulPeer}
-use Rattle.attribute_tables_grammar.specs.Tables.{Payload.link_info, payload_bounded, rising}
+use Rattle.attribute_tables_grammar.specs.Tables.{Payload.link_info, payload_bounded, rising, named}
 use Rattle.attribute_tables_grammar.specs.LookUps.{link_info_of}
 use Rattle.link_info_grammar.specs.Families.{kinds, port_kinds}
-use Rattle.link_info_grammar.specs.KindNames.{kind_names, port_kind_names, are_listed}
+use Rattle.link_info_grammar.specs.KindNames.{kind_names, port_kind_names, is_unlisted, are_listed}
 use Rattle.link_info_grammar.specs.LinkInfo.{info_grammar_under, info_rule_under}
 
 -- no row is written more than 77 times as long, kinds rise, and no name stands twice
@@ -27,3 +27,8 @@ TablesAreListed = (are_listed kinds kind_names ≡ true) × (are_listed port_kin
 -- link info as a payload is the list of link info
 abbrev pub InfoIsAPayload : Type 0
 InfoIsAPayload = (p : Peer) → link_info_of p any kinds port_kinds ≡ info_rule_under p
+
+-- under a name that is not listed stand raw bytes
+pub record UnlistedNamesHoldBytes : Type 0 where
+  pub kinds : (p : Peer) (n : List ℕ) → is_unlisted kind_names n ≡ true → named p kinds n ≡ raw_rule
+  pub port_kinds : (p : Peer) (n : List ℕ) → is_unlisted port_kind_names n ≡ true → named p port_kinds n ≡ raw_rule

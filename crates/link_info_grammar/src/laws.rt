@@ -1,6 +1,6 @@
 //! Facts of the tables of link info. No function here makes a call.
 
-ghost use Rattle.link_info_grammar.specs.Laws.{TablesPass, InfoIsLawful, InfoGrammarIsLawful, TablesAreListed, InfoIsAPayload};
+ghost use Rattle.link_info_grammar.specs.Laws.{TablesPass, InfoIsLawful, InfoGrammarIsLawful, TablesAreListed, InfoIsAPayload, UnlistedNamesHoldBytes};
 
 /// No row is written more than 77 times as long, kinds rise, and no name stands twice.
 pub fn tables_pass()
@@ -25,4 +25,9 @@ pub fn tables_are_listed()
 /// Link info as the payload of an attribute is the list of link info.
 pub fn info_is_a_payload()
     ensures { InfoIsAPayload }
+{}
+
+/// Under a name that isn't listed stand raw bytes.
+pub fn unlisted_names_hold_bytes()
+    ensures { UnlistedNamesHoldBytes }
 {}

@@ -1,34 +1,12 @@
 -- A walk, a step at a time.
 use Rattle.std.proofs.Common.{◌≡◌, ℕ, zero, suc, ◌<◌, ◌≤◌, List, [], ◌∷◌, length, Option, Some, None, refl, ap, ◌∙◌, arith}
 use Rattle.netlink_packet_core_grammar.specs.Attributes.{Attribute, first_attribute}
-use Rattle.netlink_packet_core_grammar.specs.AttributeViews.{viewed_attribute, IsAttribute, after_first}
-use Rattle.netlink_packet_core_grammar.proofs.Attributes.{sized, no_first_attribute}
-use Rattle.netlink_packet_core_grammar.proofs.FirstAttribute.{first_attribute_is, first_attribute_none}
+use Rattle.netlink_packet_core_grammar.specs.AttributeViews.{viewed_attribute, after_first}
+use Rattle.netlink_packet_core_grammar.specs.Laws.{FirstIsViewed, FirstIsWithin}
 use Rattle.netlink_packet_core_attributes.specs.Walks.{walk_on, walk_within, attribute_walk}
+use Rattle.netlink_packet_core_attributes.specs.Laws.{WalksGoBySteps}
 
--- ---- more steps than bytes change nothing
-
-walk_on-same : (o : Option (Attribute × List ℕ)) (f g : List ℕ → List (Option Attribute)) → ((e : Attribute) (rest : List ℕ) → o ≡ Some (e, rest) → f rest ≡ g rest) → walk_on f o ≡ walk_on g o
-walk_on-same None f g h = refl
-walk_on-same (Some x) f g h = ap (λ r. Some x.0 ∷ r) (h x.0 x.1 refl)
-
-pub shorter : (bytes : List ℕ) (e : Attribute) (rest : List ℕ) → first_attribute bytes ≡ Some (e, rest) → length rest < length bytes
-shorter bytes e rest h = let s = sized bytes e rest h in omega (arith, s.within, s.rest_length)
-
-walk-enough : (m n : ℕ) (bytes : List ℕ) → length bytes ≤ m → length bytes ≤ n → walk_within m bytes ≡ walk_within n bytes
-unfolding walk_within
-walk-enough zero zero bytes k l = refl
-walk-enough zero (suc n) [] k l = refl
-walk-enough zero (suc n) (b ∷ bytes) k l = absurd (omega arith)
-walk-enough (suc m) zero [] k l = refl
-walk-enough (suc m) zero (b ∷ bytes) k l = absurd (omega arith)
-walk-enough (suc m) (suc n) [] k l = refl
-walk-enough (suc m) (suc n) (b ∷ bytes) k l =
-    walk_on-same (first_attribute (b ∷ bytes)) (walk_within m) (walk_within n) (λ e rest h.
-    let s = shorter (b ∷ bytes) e rest h in
-    walk-enough m n rest (omega arith) (omega arith))
-
--- ---- the steps
+-- ---- nothing is left, or no attribute
 
 pub walk-empty : attribute_walk [] ≡ []
 unfolding attribute_walk walk_within
@@ -38,28 +16,50 @@ walk-by : (b : ℕ) (bytes : List ℕ) → attribute_walk (b ∷ bytes) ≡ walk
 unfolding attribute_walk walk_within
 walk-by b bytes = refl
 
-pub walk-step : (bytes : List ℕ) (e : Attribute) (rest : List ℕ) → first_attribute bytes ≡ Some (e, rest) → attribute_walk bytes ≡ Some e ∷ attribute_walk rest
-unfolding attribute_walk
-walk-step [] e rest h = absurd (no_first_attribute [] (e, rest) refl h)
-walk-step (b ∷ bytes) e rest h =
-    let s = shorter (b ∷ bytes) e rest h in
-    walk-by b bytes ∙ ap (walk_on (walk_within (length bytes))) h
-    ∙ ap (λ r. Some e ∷ r) (walk-enough (length bytes) (length rest) rest (omega arith) (omega arith))
-
 pub walk-stop : (bytes : List ℕ) → 0 < length bytes → first_attribute bytes ≡ None → attribute_walk bytes ≡ None ∷ []
 walk-stop [] l h = absurd (omega arith)
 walk-stop (b ∷ bytes) l h = walk-by b bytes ∙ ap (walk_on (walk_within (length bytes))) h
 
--- the same, by places
+-- ---- an attribute is left; more steps than bytes change nothing
 
-pub walk-at_end : (bytes : List ℕ) → length bytes ≡ 0 → attribute_walk bytes ≡ []
-walk-at_end [] e = walk-empty
-walk-at_end (b ∷ bytes) e = absurd (omega arith)
+walk_on-same : (o : Option (Attribute × List ℕ)) (f g : List ℕ → List (Option Attribute)) → ((e : Attribute) (rest : List ℕ) → o ≡ Some (e, rest) → f rest ≡ g rest) → walk_on f o ≡ walk_on g o
+walk_on-same None f g h = refl
+walk_on-same (Some x) f g h = ap (λ r. Some x.0 ∷ r) (h x.0 x.1 refl)
 
-pub walk-attribute : (bytes : List ℕ) → IsAttribute bytes → attribute_walk bytes ≡ Some (viewed_attribute bytes) ∷ attribute_walk (after_first bytes)
-walk-attribute bytes h = walk-step bytes (viewed_attribute bytes) (after_first bytes) (first_attribute_is bytes h)
+module _ (law : FirstIsWithin) where
+  pub shorter : (bytes : List ℕ) (e : Attribute) (rest : List ℕ) → first_attribute bytes ≡ Some (e, rest) → length rest < length bytes
+  shorter bytes e rest h = omega (arith, law.within bytes e rest h, law.rest_length bytes e rest h)
 
-pub walk-fault : (bytes : List ℕ) → 0 < length bytes → (IsAttribute bytes → ⊥) → attribute_walk bytes ≡ None ∷ []
-walk-fault bytes l h = walk-stop bytes l (first_attribute_none bytes h)
+  walk-enough : (m n : ℕ) (bytes : List ℕ) → length bytes ≤ m → length bytes ≤ n → walk_within m bytes ≡ walk_within n bytes
+  unfolding walk_within
+  walk-enough zero zero bytes k l = refl
+  walk-enough zero (suc n) [] k l = refl
+  walk-enough zero (suc n) (b ∷ bytes) k l = absurd (omega arith)
+  walk-enough (suc m) zero [] k l = refl
+  walk-enough (suc m) zero (b ∷ bytes) k l = absurd (omega arith)
+  walk-enough (suc m) (suc n) [] k l = refl
+  walk-enough (suc m) (suc n) (b ∷ bytes) k l =
+      walk_on-same (first_attribute (b ∷ bytes)) (walk_within m) (walk_within n) (λ e rest h.
+      let s = shorter (b ∷ bytes) e rest h in
+      walk-enough m n rest (omega arith) (omega arith))
 
-pub ruleset walks = (walk-empty, walk-at_end, walk-attribute, walk-fault)
+  pub walk-step : (bytes : List ℕ) (e : Attribute) (rest : List ℕ) → first_attribute bytes ≡ Some (e, rest) → attribute_walk bytes ≡ Some e ∷ attribute_walk rest
+  unfolding attribute_walk
+  walk-step [] e rest h = absurd (let w = law.within [] e rest h in omega arith)
+  walk-step (b ∷ bytes) e rest h =
+      let s = shorter (b ∷ bytes) e rest h in
+      walk-by b bytes ∙ ap (walk_on (walk_within (length bytes))) h
+      ∙ ap (λ r. Some e ∷ r) (walk-enough (length bytes) (length rest) rest (omega arith) (omega arith))
+
+-- ---- the same, by places
+
+at_end : (bytes : List ℕ) → length bytes ≡ 0 → attribute_walk bytes ≡ []
+at_end [] e = walk-empty
+at_end (b ∷ bytes) e = absurd (omega arith)
+
+pub walks_go_by_steps : FirstIsViewed → FirstIsWithin → WalksGoBySteps
+walks_go_by_steps first law = record {
+  empty = at_end;
+  attribute = λ bytes h. walk-step law bytes (viewed_attribute bytes) (after_first bytes) (first.whole bytes h);
+  fault = λ bytes l h. walk-stop bytes l (first.none bytes h);
+}

@@ -1,7 +1,7 @@
 -- The laws of walks and of written attributes, as the functions of `laws` state them.
-use Rattle.std.specs.Prelude.{◌≡◌, ◌↔◌, ◌≤◌, ◌+◌, ◌*◌, ℕ, List, [], ◌∷◌, ◌++◌, length, map, Option, Some, None}
+use Rattle.std.specs.Prelude.{◌≡◌, ◌↔◌, ◌<◌, ◌≤◌, ◌+◌, ◌*◌, ℕ, List, [], ◌∷◌, ◌++◌, length, map, Option, Some, None}
 use Rattle.netlink_packet_core_grammar.specs.Attributes.{Attribute, attribute_text, list_text, attributes_of}
-use Rattle.netlink_packet_core_grammar.specs.AttributeViews.{viewed_attribute, IsAttribute}
+use Rattle.netlink_packet_core_grammar.specs.AttributeViews.{viewed_attribute, IsAttribute, after_first}
 use Rattle.netlink_packet_core_attributes.specs.Walks.{IsWalk, attribute_walk}
 
 -- what the function computes is the relation
@@ -27,3 +27,9 @@ TextsAreReadBack = (e : Attribute) (bytes : List ℕ) → IsAttribute (attribute
 -- a walk has one item for every 4 bytes at most, the last 4 counted whole
 abbrev pub WalksAreShort : Type 0
 WalksAreShort = (bytes : List ℕ) → 4 * length (attribute_walk bytes) ≤ length bytes + 3
+
+-- a walk goes on behind the attribute that a view of the bytes sees, and ends where nothing is left, or in a fault where no attribute begins
+pub record WalksGoBySteps : Type 0 where
+  pub empty : (bytes : List ℕ) → length bytes ≡ 0 → attribute_walk bytes ≡ []
+  pub attribute : (bytes : List ℕ) → IsAttribute bytes → attribute_walk bytes ≡ Some (viewed_attribute bytes) ∷ attribute_walk (after_first bytes)
+  pub fault : (bytes : List ℕ) → 0 < length bytes → (IsAttribute bytes → ⊥) → attribute_walk bytes ≡ None ∷ []

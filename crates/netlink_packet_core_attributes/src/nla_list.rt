@@ -5,6 +5,7 @@ ghost use Rattle.netlink_packet_core_grammar.specs.Numbers.{as_usize};
 ghost use Rattle.netlink_packet_core_attributes.specs.Lists.{text_by, size_by, all_fit_by};
 ghost use Rattle.netlink_packet_core_attributes.specs.Walks.{attribute_walk, StepsOnWalk};
 
+use super::laws::walks_go_by_steps;
 use super::nla::{Nla, nla_align};
 use super::nla_buffer::NlaBuffer;
 use super::view::read_u16;
@@ -42,8 +43,8 @@ impl<'a> Iterator for NlasIterator<&'a [u8]> {
 
     ghost remaining = { item_count (λ s. attribute_walk s.now) };
 
-    #[tactic(auto, using(crate::proofs::Walks::walks))]
     fn next(&mut self) -> Option<Result<NlaBuffer<&'a [u8]>, DecodeError>> {
+        walks_go_by_steps();
         if self.rest.is_empty() {
             return None;
         }

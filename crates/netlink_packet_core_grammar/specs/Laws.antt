@@ -1,6 +1,7 @@
 -- The laws of the definitions, as the functions of `laws` state them.
-use Rattle.std.specs.Prelude.{◌≡◌, ℕ, ◌%◌, ◌↔◌, List, ◌++◌, length, Some, None, option_map}
-use Rattle.netlink_packet_core_grammar.specs.Attributes.{Attribute, first_attribute, list_text, list_size, IsAttributeList, attributes_of}
+use Rattle.std.specs.Prelude.{◌≡◌, ℕ, ◌-◌, ◌%◌, ◌≤◌, ◌↔◌, List, ◌++◌, length, Some, None, option_map}
+use Rattle.netlink_packet_core_grammar.specs.Attributes.{Attribute, nla_align, attribute_length, attribute_text, first_attribute, list_text, list_size, IsAttributeList, attributes_of}
+use Rattle.netlink_packet_core_grammar.specs.Numbers.{u16_at, u32_at}
 use Rattle.netlink_packet_core_grammar.specs.AttributeViews.{viewed_attribute, IsAttribute, after_first}
 
 -- bytes are cut into attributes in one way only
@@ -23,3 +24,17 @@ TextIsCut = (es : List Attribute) → (attributes_of (list_text es) ≡ Some es)
 pub record FirstIsViewed : Type 0 where
   pub whole : (bytes : List ℕ) → IsAttribute bytes → first_attribute bytes ≡ Some (viewed_attribute bytes, after_first bytes)
   pub none : (bytes : List ℕ) → (IsAttribute bytes → ⊥) → first_attribute bytes ≡ None
+
+-- the first attribute of some bytes ends within them, and what follows it is as long as what is left behind its padding
+pub record FirstIsWithin : Type 0 where
+  pub within : (bytes : List ℕ) (e : Attribute) (rest : List ℕ) → first_attribute bytes ≡ Some (e, rest) → attribute_length e ≤ length bytes
+  pub rest_length : (bytes : List ℕ) (e : Attribute) (rest : List ℕ) → first_attribute bytes ≡ Some (e, rest) → length rest ≡ length bytes - nla_align (attribute_length e)
+
+-- an attribute that is written in front of some bytes is their first one, and these follow it
+abbrev pub WrittenIsFirst : Type 0
+WrittenIsFirst = (e : Attribute) (rest : List ℕ) → first_attribute (attribute_text e ++ rest) ≡ Some (e, rest)
+
+-- a number at the front of some bytes does not hang on what follows it
+pub record NumbersStandAlone : Type 0 where
+  pub two_bytes : (c d : List ℕ) → 2 ≤ length c → u16_at 0 (c ++ d) ≡ u16_at 0 c
+  pub four_bytes : (c d : List ℕ) → 4 ≤ length c → u32_at 0 (c ++ d) ≡ u32_at 0 c

@@ -11,6 +11,7 @@ ghost use Rattle.netlink_packet_core_messages.specs.Messages.{message_text, mess
 use super::header::NetlinkHeader;
 use super::message::NetlinkMessage;
 use super::payload_traits::{NetlinkDeserializable, NetlinkProtocol, NetlinkSerializable};
+use netlink_packet_core_grammar::laws::numbers_stand_alone;
 
 /// What is written of a header is read as the header, whatever follows.
 pub fn headers_read_back(header: &NetlinkHeader, rest: &[u8])
@@ -55,7 +56,9 @@ pub fn short_lengths_are_refused<I: NetlinkDeserializable>(header: &[u8], rest: 
     requires whole { 16 ≤ length header.now }
     requires short { frame_length header.now < 16 }
     ensures { read_message I.reads (header.now ++ rest.now) ≡ None }
-{}
+{
+    numbers_stand_alone();
+}
 
 /// The body of a frame is the same whatever follows its length.
 pub fn bodies_end_with_their_frame(frame: &[u8], rest: &[u8])

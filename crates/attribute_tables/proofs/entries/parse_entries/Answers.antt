@@ -16,7 +16,7 @@ use Rattle.attribute_tables.proofs.entries.parse_entries.Goals as goal
 
 pub loop-rest-init : goal.loop-rest-init
 loop-rest-init g c = record {
-  so_far = subst (λ vs. Entries (g.R.EntryReader.entry_row c.args.reader.now) g.R.Value.Nla.entry g.R.Value.Nla.inside_fits c.args.bytes.now vs c.args.bytes.now) (sym c.new-list.ensures.items) (entries_start _ _ _ _);
+  so_far = subst (λ vs. Entries (g.R.EntryReader.entry_row c.args.reader.now) g.R.Value.Nla.entry g.R.Value.Nla.inside_fits c.args.bytes.now vs c.args.bytes.now) (sym c.new-list.ensures.items) (entries_start c.readings_go_by_steps.ensures _ _ _ _);
   names_row = grind (arith, elements);
   within = omega arith;
   begun = λ e. e;
@@ -26,7 +26,7 @@ pub returns-in_err-buf-clause-err : goal.returns-in_err-buf-clause-err
 returns-in_err-buf-clause-err g c =
     let b = c.loop-rest.rest.now in
     let n : 0 < length b = grind (arith, nat_tests) in
-    let k = entries_stopped _ _ _ _ _ b (λ h. let e : false ≡ true = c.in_err-buf.ensures.whole.1 h in absurd cc) n c.loop-rest.invariant.so_far in
+    let k = entries_stopped c.readings_go_by_steps.ensures _ _ _ _ c.readings_tell_rules.ensures _ b (λ h. let e : false ≡ true = c.in_err-buf.ensures.whole.1 h in absurd cc) n c.loop-rest.invariant.so_far in
     search rules
 
 pub returns-in_err-read-clause-err : goal.returns-in_err-read-clause-err
@@ -38,7 +38,7 @@ returns-in_err-read-clause-err g c =
     let k : is_memory c.in_err-read.field-0.0 ≡ false → (rows_rule of_kind_one (only_one r)).accepted c.args.bytes.now ≡ false =
     λ m.
     let was : r.rule.accepted (viewed_payload b) ≡ false = rw c.in_ok-buf.ensures.ok at c.in_err-read.ensures.err m in
-    entries_refused r _ _ _ _ b h one was c.loop-rest.invariant.so_far in
+    entries_refused c.readings_go_by_steps.ensures r _ _ _ c.readings_tell_rules.ensures _ b h one was c.loop-rest.invariant.so_far in
     search rules
 
 pub returns-in_err-read-clause-memory : goal.returns-in_err-read-clause-memory
@@ -51,7 +51,7 @@ returns-in_err-read-clause-memory g c =
     let k : is_memory c.in_err-read.field-0.0 ≡ true → entries_begin_readable r may c.args.bytes.now ≡ true =
     λ m.
     let wanted : may (viewed_payload b) ≡ true = rw c.in_ok-buf.ensures.ok at c.in_err-read.ensures.memory m in
-    c.loop-rest.invariant.begun (entries-wanting r may b h one wanted) in
+    c.loop-rest.invariant.begun (entries-wanting c.first_attributes_are_within.ensures c.first_attributes_are_viewed.ensures r may b h one wanted) in
     search rules
 
 pub returns-in_err-push-clause-memory : goal.returns-in_err-push-clause-memory
@@ -62,7 +62,7 @@ returns-in_err-push-clause-memory g c =
     let h : IsAttribute b = c.in_ok-buf.ensures.whole.0 refl in
     let one : is_of_kind_one (viewed_attribute b) ≡ true = search rules in
     let was : r.rule.accepted (viewed_payload b) ≡ true = rw c.in_ok-buf.ensures.ok at c.in_ok-read.ensures.ok in
-    let k = c.loop-rest.invariant.begun (entries-accepted r may b h one was) in
+    let k = c.loop-rest.invariant.begun (entries-accepted c.first_attributes_are_within.ensures c.first_attributes_are_viewed.ensures r may b h one was) in
     search rules
 
 pub loop-rest-preserved : goal.loop-rest-preserved
@@ -80,30 +80,30 @@ loop-rest-preserved g c =
           let was : r.rule.accepted (viewed_payload b) ≡ true = rw c.in_ok-buf.ensures.ok at w.in_ok-read.ensures.ok in
           let entry : g.R.Value.Nla.entry v ≡ rewrite r (viewed_attribute b) = rw c.in_ok-buf.ensures.ok at w.in_ok-read.ensures.value in
           let inside : g.R.Value.Nla.inside_fits v ≡ r.rule.fits (viewed_payload b) = rw c.in_ok-buf.ensures.ok at w.in_ok-read.ensures.inside in
-          let s = entries_more r g.R.Value.Nla.entry g.R.Value.Nla.inside_fits c.args.bytes.now c.loop-rest.list.items b v h one was entry inside c.loop-rest.invariant.so_far in
+          let s = entries_more c.readings_go_by_steps.ensures r g.R.Value.Nla.entry g.R.Value.Nla.inside_fits c.args.bytes.now c.loop-rest.list.items b v h one was entry inside c.loop-rest.invariant.so_far in
           let items : c.if-kind-eq-ENTRY.list.items ≡ c.loop-rest.list.items ++ v ∷ [] = ap (λ l. l.items) w.list-is ∙ w.in_ok-push.ensures.items in
           record {
             so_far = subst (λ r'. Entries r g.R.Value.Nla.entry g.R.Value.Nla.inside_fits c.args.bytes.now c.if-kind-eq-ENTRY.list.items r') (sym c.skip_first-rest.ensures)
                 (subst (λ vs. Entries r g.R.Value.Nla.entry g.R.Value.Nla.inside_fits c.args.bytes.now vs (after_first b)) (sym items) s);
             names_row = subst (λ vs. All (g.R.EntryReader.names_row c.args.reader.now) vs) (sym items) (grind (arith, elements));
             within = within;
-            begun = λ _. c.loop-rest.invariant.begun (entries-accepted r may b h one was);
+            begun = λ _. c.loop-rest.invariant.begun (entries-accepted c.first_attributes_are_within.ensures c.first_attributes_are_viewed.ensures r may b h one was);
           }
       | else-kind-eq-ENTRY w ↦
           let other : is_of_kind_one (viewed_attribute b) ≡ false = search rules in
-          let s = entries_past r g.R.Value.Nla.entry g.R.Value.Nla.inside_fits c.args.bytes.now c.loop-rest.list.items b h other c.loop-rest.invariant.so_far in
+          let s = entries_past c.readings_go_by_steps.ensures r g.R.Value.Nla.entry g.R.Value.Nla.inside_fits c.args.bytes.now c.loop-rest.list.items b h other c.loop-rest.invariant.so_far in
           let items : c.if-kind-eq-ENTRY.list.items ≡ c.loop-rest.list.items = ap (λ l. l.items) w.list-is in
           record {
             so_far = subst (λ r'. Entries r g.R.Value.Nla.entry g.R.Value.Nla.inside_fits c.args.bytes.now c.if-kind-eq-ENTRY.list.items r') (sym c.skip_first-rest.ensures)
                 (subst (λ vs. Entries r g.R.Value.Nla.entry g.R.Value.Nla.inside_fits c.args.bytes.now vs (after_first b)) (sym items) s);
             names_row = subst (λ vs. All (g.R.EntryReader.names_row c.args.reader.now) vs) (sym items) c.loop-rest.invariant.names_row;
             within = within;
-            begun = λ e. c.loop-rest.invariant.begun (entries-past r may b h other (ap (entries_begin_readable r may) (sym c.skip_first-rest.ensures) ∙ e));
+            begun = λ e. c.loop-rest.invariant.begun (entries-past c.first_attributes_are_within.ensures c.first_attributes_are_viewed.ensures r may b h other (ap (entries_begin_readable r may) (sym c.skip_first-rest.ensures) ∙ e));
           }
     ]
 
 ended : (g : Over) (c : goal.After-loop-rest g) → EntriesDone (g.R.EntryReader.entry_row c.args.reader.now) g.R.Value.Nla.entry g.R.Value.Nla.inside_fits c.args.bytes.now c.loop-rest.list.items
-ended g c = entries_done _ _ _ _ _ c.loop-rest.rest.now (grind (arith, nat_tests)) c.loop-rest.invariant.so_far
+ended g c = entries_done c.readings_go_by_steps.ensures _ _ _ _ c.readings_tell_rules.ensures _ c.loop-rest.rest.now (grind (arith, nat_tests)) c.loop-rest.invariant.so_far
 
 pub returns-clause-ok : goal.returns-clause-ok
 returns-clause-ok g c = (ended g c).accepted

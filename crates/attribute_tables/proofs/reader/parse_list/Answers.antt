@@ -5,12 +5,10 @@ use Rattle.std.proofs.lemmas.List.{map-append}
 use Rattle.netlink_packet_core_grammar.specs.Attributes.{nla_align, list_text}
 use Rattle.attribute_tables_grammar.specs.Lists.{nothing, any, row_of, without_context}
 use Rattle.attribute_tables_grammar.specs.LookUps.{rows_rule}
-use Rattle.attribute_tables_grammar.specs.Readings.{written_by}
-use Rattle.attribute_tables_grammar.proofs.Readings.{SoFar, more, refused, stopped, done, as_any, tells_rows, denies_rows}
+use Rattle.attribute_tables_grammar.specs.Readings.{SoFar, written_by}
 use Rattle.netlink_packet_core_grammar.specs.AttributeViews.{IsAttribute, viewed_length, viewed_attribute, after_first}
 use Rattle.netlink_packet_core.specs.Errors.{is_memory}
 use Rattle.attribute_tables.specs.Written.{written_as}
-use Rattle.netlink_packet_core_grammar.proofs.FirstAttribute.{first_attribute_is, first_attribute_none}
 use Rattle.attribute_tables.proofs.Lists.{all_written, entries_written}
 use Rattle.attribute_tables.specs.Views.{is_accepted_by}
 use Rattle.attribute_tables.specs.Beginnings.{begins_readable}
@@ -21,8 +19,8 @@ pub returns-in_err-buf-clause-err : goal.returns-in_err-buf-clause-err
 returns-in_err-buf-clause-err g c =
     let b = c.loop-rest.rest.now in
     let n : 0 < length b = grind (arith, nat_tests) in
-    let f = first_attribute_none b (λ h. let e : false ≡ true = c.in_err-buf.ensures.whole.1 h in absurd cc) in
-    let k = denies_rows any (g.R.Reader.row_of c.args.reader.now) c.args.bytes.now (as_any _ _ ∙ stopped any _ _ _ _ b f n c.loop-rest.invariant.so_far) in
+    let f : IsAttribute b → ⊥ = λ h. let e : false ≡ true = c.in_err-buf.ensures.whole.1 h in absurd cc in
+    let k = c.readings_tell_rules.ensures.denies_rows any (g.R.Reader.row_of c.args.reader.now) c.args.bytes.now (c.readings_tell_rules.ensures.of_any _ _ ∙ c.readings_go_by_steps.ensures.stopped any _ _ _ _ b f n c.loop-rest.invariant.so_far) in
     search rules
 
 pub returns-in_err-read-clause-err : goal.returns-in_err-read-clause-err
@@ -33,7 +31,7 @@ returns-in_err-read-clause-err g c =
     let k : is_memory c.in_err-read.field-0.0 ≡ false → (rows_rule any (g.R.Reader.row_of c.args.reader.now)).accepted c.args.bytes.now ≡ false =
     λ m.
     let was : (row_of rows nothing (viewed_attribute b)).rule.accepted (viewed_attribute b).payload ≡ false = rw c.in_ok-buf.ensures.ok at c.in_err-read.ensures.err m in
-    denies_rows any (g.R.Reader.row_of c.args.reader.now) c.args.bytes.now (as_any _ _ ∙ refused any rows _ _ nothing b (viewed_attribute b) (after_first b) (first_attribute_is b h) refl was c.loop-rest.invariant.so_far) in
+    c.readings_tell_rules.ensures.denies_rows any (g.R.Reader.row_of c.args.reader.now) c.args.bytes.now (c.readings_tell_rules.ensures.of_any _ _ ∙ c.readings_go_by_steps.ensures.refused any rows _ _ nothing b h refl was c.loop-rest.invariant.so_far) in
     search rules
 
 pub returns-in_err-read-clause-memory : goal.returns-in_err-read-clause-memory
@@ -43,7 +41,7 @@ returns-in_err-read-clause-memory g c =
     let k : is_memory c.in_err-read.field-0.0 ≡ true → begins_readable (g.R.Reader.row_of c.args.reader.now) (g.R.Reader.may_want_memory c.args.reader.now) c.args.bytes.now ≡ true =
     λ m.
     let wanted : g.R.Reader.may_want_memory c.args.reader.now b ≡ true = rw c.in_ok-buf.ensures.ok at c.in_err-read.ensures.memory m in
-    c.loop-rest.invariant.begun (begins-wanting (g.R.Reader.row_of c.args.reader.now) (g.R.Reader.may_want_memory c.args.reader.now) b h wanted) in
+    c.loop-rest.invariant.begun (begins-wanting c.first_attributes_are_viewed.ensures (g.R.Reader.row_of c.args.reader.now) (g.R.Reader.may_want_memory c.args.reader.now) b h wanted) in
     search rules
 
 pub returns-in_err-push-clause-memory : goal.returns-in_err-push-clause-memory
@@ -51,7 +49,7 @@ returns-in_err-push-clause-memory g c =
     let b = c.loop-rest.rest.now in
     let h : IsAttribute b = c.in_ok-buf.ensures.whole.0 refl in
     let was : is_accepted_by (g.R.Reader.row_of c.args.reader.now) b ≡ true = rw c.in_ok-buf.ensures.ok at c.in_ok-read.ensures.ok in
-    let k = c.loop-rest.invariant.begun (begins-accepted (g.R.Reader.row_of c.args.reader.now) (g.R.Reader.may_want_memory c.args.reader.now) b h was) in
+    let k = c.loop-rest.invariant.begun (begins-accepted c.first_attributes_are_viewed.ensures (g.R.Reader.row_of c.args.reader.now) (g.R.Reader.may_want_memory c.args.reader.now) b h was) in
     search rules
 
 pub loop-rest-preserved : goal.loop-rest-preserved
@@ -66,28 +64,28 @@ loop-rest-preserved g c =
     let entry : g.R.Value.Nla.entry v ≡ (written_by (row_of rows nothing (viewed_attribute b)) (viewed_attribute b)).entry = rw c.in_ok-buf.ensures.ok at c.in_ok-read.ensures.value in
     let inside : g.R.Value.Nla.inside_fits v ≡ (written_by (row_of rows nothing (viewed_attribute b)) (viewed_attribute b)).inside_fits = rw c.in_ok-buf.ensures.ok at c.in_ok-read.ensures.inside in
     let is : w v ≡ written_by (row_of rows nothing (viewed_attribute b)) (viewed_attribute b) = λ i. record { entry = entry i; inside_fits = inside i } in
-    let so_far = more any rows c.args.bytes.now ws nothing b (viewed_attribute b) (after_first b) (w v) (first_attribute_is b h) refl was is c.loop-rest.invariant.so_far in
+    let so_far = c.readings_go_by_steps.ensures.more any rows c.args.bytes.now ws nothing b (w v) h refl was is c.loop-rest.invariant.so_far in
     let items : map w c.push.new.self.items ≡ ws ++ w v ∷ [] = ap (map w) c.in_ok-push.ensures.items ∙ map-append w c.loop-rest.list.items (v ∷ []) in
     let rest : length c.skip_first-rest.result.now ≡ length (after_first b) = ap length c.skip_first-rest.ensures in
     record {
       so_far = subst (λ us. SoFar any rows c.args.bytes.now us nothing c.skip_first-rest.result.now) (sym items) (subst (λ r. SoFar any rows c.args.bytes.now (ws ++ w v ∷ []) nothing r) (sym c.skip_first-rest.ensures) so_far);
       names_row = grind (arith, elements);
       within = omega (arith, rest, length-drop (nla_align (viewed_length b)) b, c.loop-rest.invariant.within);
-      begun = λ _. c.loop-rest.invariant.begun (begins-accepted (g.R.Reader.row_of c.args.reader.now) (g.R.Reader.may_want_memory c.args.reader.now) b h was);
+      begun = λ _. c.loop-rest.invariant.begun (begins-accepted c.first_attributes_are_viewed.ensures (g.R.Reader.row_of c.args.reader.now) (g.R.Reader.may_want_memory c.args.reader.now) b h was);
     }
 
 pub returns-clause-read : goal.returns-clause-read
-returns-clause-read g c = as_any _ _ ∙ done any _ _ _ _ c.loop-rest.rest.now (grind (arith, nat_tests)) c.loop-rest.invariant.so_far
+returns-clause-read g c = c.readings_tell_rules.ensures.of_any _ _ ∙ c.readings_go_by_steps.ensures.done any _ _ _ _ c.loop-rest.rest.now (grind (arith, nat_tests)) c.loop-rest.invariant.so_far
 
 pub returns-clause-ok : goal.returns-clause-ok
-returns-clause-ok g c = (tells_rows any (g.R.Reader.row_of c.args.reader.now) c.args.bytes.now _ (returns-clause-read g c)).accepted
+returns-clause-ok g c = (c.readings_tell_rules.ensures.tells_rows any (g.R.Reader.row_of c.args.reader.now) c.args.bytes.now _ (returns-clause-read g c)).accepted
 
 pub returns-clause-text : goal.returns-clause-text
 returns-clause-text g c =
     sym (ap list_text (entries_written g.R.Value.Nla.entry g.R.Value.Nla.inside_fits c.loop-rest.list.items))
-    ∙ sym (tells_rows any (g.R.Reader.row_of c.args.reader.now) c.args.bytes.now _ (returns-clause-read g c)).canonical
+    ∙ sym (c.readings_tell_rules.ensures.tells_rows any (g.R.Reader.row_of c.args.reader.now) c.args.bytes.now _ (returns-clause-read g c)).canonical
 
 pub returns-clause-fits : goal.returns-clause-fits
 returns-clause-fits g c =
     sym (all_written g.R.Value.Nla.entry g.R.Value.Nla.inside_fits c.loop-rest.list.items)
-    ∙ sym (tells_rows any (g.R.Reader.row_of c.args.reader.now) c.args.bytes.now _ (returns-clause-read g c)).fits
+    ∙ sym (c.readings_tell_rules.ensures.tells_rows any (g.R.Reader.row_of c.args.reader.now) c.args.bytes.now _ (returns-clause-read g c)).fits

@@ -3,7 +3,7 @@ use Rattle.std.proofs.Common.{◌≡◌, ◌≤◌, true, length, map}
 use Rattle.std.specs.List.{All}
 use Rattle.attribute_tables_grammar.specs.Lists.{nothing}
 use Rattle.attribute_tables_grammar.specs.Lists.{any, without_context}
-use Rattle.attribute_tables_grammar.proofs.Readings.{SoFar}
+use Rattle.attribute_tables_grammar.specs.Readings.{SoFar}
 use Rattle.attribute_tables.specs.Beginnings.{begins_readable}
 use Rattle.attribute_tables.specs.Written.{written_as}
 use Rattle.attribute_tables.proofs.reader.parse_list.Given as goal

@@ -1,5 +1,4 @@
-use Rattle.link_info_grammar.proofs.Families.{info_is_lawful}
 use Rattle.link_info.proofs.laws.link_info_is_lawful.Goals as goal
 
 pub returns : goal.returns
-returns c = info_is_lawful
+returns c = c.info_is_lawful.ensures

@@ -4,6 +4,7 @@ use Rattle.netlink_packet_core_grammar.specs.Attributes.{nla_align, proper_kind}
 use Rattle.netlink_packet_core_grammar.specs.AttributeViews.{IsAttribute, viewed_length, viewed_attribute, viewed_kind, viewed_payload, after_first}
 use Rattle.netlink_packet_core.specs.Errors.{is_memory}
 use Rattle.attribute_tables_grammar.specs.Lists.{nothing, rewrite}
+use Rattle.attribute_tables_grammar.specs.Peers.{bytes_peer}
 use Rattle.attribute_tables_grammar.specs.Tables.{info_next}
 use Rattle.link_info_grammar.specs.LinkInfo.{info_rule, link_info_row}
 use Rattle.link_info.specs.LinkInfo.{context_of, info_begins_accepted, is_accepted_in, may_want_memory_in, link_info_entry, link_info_fits}
@@ -12,7 +13,7 @@ use Rattle.link_info.proofs.infos.LinkInfo.parse_list.Goals as goal
 
 pub loop-force-init : goal.loop-force-init
 loop-force-init c = record {
-  state = subst (λ vs. State c.args.bytes.now vs nothing c.args.bytes.now) (sym c.new-list.ensures.items) (state_start c.args.bytes.now);
+  state = subst (λ vs. State c.args.bytes.now vs nothing c.args.bytes.now) (sym c.new-list.ensures.items) (state_start c.readings_go_by_steps.ensures c.args.bytes.now);
   within = omega arith;
   begun = at_start refl refl;
 }
@@ -21,7 +22,7 @@ pub returns-in_err-buf-clause-err : goal.returns-in_err-buf-clause-err
 returns-in_err-buf-clause-err c =
     let b = c.loop-force.rest.now in
     let n : 0 < length b = grind (arith, nat_tests) in
-    let k = state_stopped _ _ _ b (λ h. let e : false ≡ true = c.in_err-buf.ensures.whole.1 h in absurd cc) n c.loop-force.invariant.state in
+    let k = state_stopped c.readings_go_by_steps.ensures c.readings_tell_rules.ensures _ _ _ b (λ h. let e : false ≡ true = c.in_err-buf.ensures.whole.1 h in absurd cc) n c.loop-force.invariant.state in
     search rules
 
 pub returns-in_err-read-clause-err : goal.returns-in_err-read-clause-err
@@ -32,7 +33,7 @@ returns-in_err-read-clause-err c =
     let k : is_memory c.in_err-read.field-0.0 ≡ false → info_rule.accepted c.args.bytes.now ≡ false =
     λ m.
     let was : (link_info_row f (proper_kind (viewed_kind b))).rule.accepted (viewed_payload b) ≡ false = rw c.in_ok-buf.ensures.ok at c.in_err-read.ensures.err m in
-    state_refused _ _ f b h was c.loop-force.invariant.state in
+    state_refused c.readings_go_by_steps.ensures c.readings_tell_rules.ensures _ _ f b h was c.loop-force.invariant.state in
     search rules
 
 pub returns-in_err-force-clause-err : goal.returns-in_err-force-clause-err
@@ -41,7 +42,7 @@ returns-in_err-force-clause-err c =
     let f = context_of c.loop-force.force.kind c.loop-force.force.port_kind in
     let h : IsAttribute b = c.in_ok-buf.ensures.whole.0 refl in
     let was : (link_info_row f (proper_kind (viewed_kind b))).rule.accepted (viewed_payload b) ≡ false = rw c.in_ok-buf.ensures.ok at c.in_err-force.ensures.err in
-    let k = state_refused _ _ f b h was c.loop-force.invariant.state in
+    let k = state_refused c.readings_go_by_steps.ensures c.readings_tell_rules.ensures _ _ f b h was c.loop-force.invariant.state in
     search rules
 
 pub returns-in_err-read-clause-memory : goal.returns-in_err-read-clause-memory
@@ -52,7 +53,7 @@ returns-in_err-read-clause-memory c =
     let k : is_memory c.in_err-read.field-0.0 ≡ true → info_begins_accepted c.args.bytes.now ≡ true =
     λ m.
     let wanted : may_want_memory_in f b ≡ true = rw c.in_ok-buf.ensures.ok at c.in_err-read.ensures.memory m in
-    begun_wanting c.args.bytes.now f b h wanted c.loop-force.invariant.begun in
+    begun_wanting c.first_attributes_are_viewed.ensures c.args.bytes.now f b h wanted c.loop-force.invariant.begun in
     search rules
 
 pub returns-in_err-push-clause-memory : goal.returns-in_err-push-clause-memory
@@ -61,7 +62,7 @@ returns-in_err-push-clause-memory c =
     let f = context_of c.loop-force.force.kind c.loop-force.force.port_kind in
     let h : IsAttribute b = c.in_ok-buf.ensures.whole.0 refl in
     let was : is_accepted_in f b ≡ true = rw c.in_ok-buf.ensures.ok at c.in_ok-read.ensures.ok in
-    let k = begun_accepted c.args.bytes.now f b h was c.loop-force.invariant.begun in
+    let k = begun_accepted c.first_attributes_are_viewed.ensures c.args.bytes.now f b h was c.loop-force.invariant.begun in
     search rules
 
 pub returns-in_err-force-clause-memory : goal.returns-in_err-force-clause-memory
@@ -70,7 +71,7 @@ returns-in_err-force-clause-memory c =
     let f = context_of c.loop-force.force.kind c.loop-force.force.port_kind in
     let h : IsAttribute b = c.in_ok-buf.ensures.whole.0 refl in
     let was : is_accepted_in f b ≡ true = rw c.in_ok-buf.ensures.ok at c.in_ok-read.ensures.ok in
-    let k = begun_accepted c.args.bytes.now f b h was c.loop-force.invariant.begun in
+    let k = begun_accepted c.first_attributes_are_viewed.ensures c.args.bytes.now f b h was c.loop-force.invariant.begun in
     search rules
 
 pub loop-force-preserved : goal.loop-force-preserved
@@ -84,17 +85,17 @@ loop-force-preserved c =
     let inside : link_info_fits v ≡ (link_info_row f (proper_kind (viewed_kind b))).rule.fits (viewed_payload b) = rw c.in_ok-buf.ensures.ok at c.in_ok-read.ensures.inside in
     let next : context_of c.in_ok-force.force.kind c.in_ok-force.force.port_kind ≡ info_next f (proper_kind (viewed_kind b)) (viewed_payload b) = rw c.in_ok-buf.ensures.ok at c.in_ok-force.ensures.next in
     let rest : length c.skip_first-rest.result.now ≡ length (after_first b) = ap length c.skip_first-rest.ensures in
-    let s = state_more c.args.bytes.now c.loop-force.list.items f b v h was entry inside c.in_ok-read.ensures.names_row c.loop-force.invariant.state in
+    let s = state_more c.readings_go_by_steps.ensures c.contexts_go_by_steps.ensures (c.info_grammar_is_lawful.ensures bytes_peer c.peers_that_are_bytes_are_lawful.ensures) c.args.bytes.now c.loop-force.list.items f b v h was entry inside c.in_ok-read.ensures.names_row c.loop-force.invariant.state in
     record {
       state = subst (λ vs. State c.args.bytes.now vs (context_of c.in_ok-force.force.kind c.in_ok-force.force.port_kind) c.skip_first-rest.result.now) (sym c.in_ok-push.ensures.items)
           (subst (λ d. State c.args.bytes.now (c.loop-force.list.items ++ v ∷ []) d c.skip_first-rest.result.now) (sym next)
           (subst (λ r. State c.args.bytes.now (c.loop-force.list.items ++ v ∷ []) (info_next f (proper_kind (viewed_kind b)) (viewed_payload b)) r) (sym c.skip_first-rest.ensures) s));
       within = omega (arith, rest, length-drop (nla_align (viewed_length b)) b, c.loop-force.invariant.within);
-      begun = past_first (begun_accepted c.args.bytes.now f b h was c.loop-force.invariant.begun);
+      begun = past_first (begun_accepted c.first_attributes_are_viewed.ensures c.args.bytes.now f b h was c.loop-force.invariant.begun);
     }
 
 ended : (c : goal.After-loop-force) → Done c.args.bytes.now c.loop-force.list.items
-ended c = state_done _ _ _ c.loop-force.rest.now (grind (arith, nat_tests)) c.loop-force.invariant.state
+ended c = state_done c.readings_go_by_steps.ensures c.readings_tell_rules.ensures _ _ _ c.loop-force.rest.now (grind (arith, nat_tests)) c.loop-force.invariant.state
 
 pub returns-clause-ok : goal.returns-clause-ok
 returns-clause-ok c = (ended c).accepted

@@ -5,7 +5,7 @@ use Rattle.std.proofs.Math.Seq.{take-add, drop-append-add}
 use Rattle.link_capture_grammar.specs.declared.fault.FaultKind.TheVariants.{Cut}
 use Rattle.netlink_packet_core_grammar.specs.Attributes.{nla_align}
 use Rattle.netlink_packet_core_grammar.specs.Numbers.{u32_at}
-use Rattle.netlink_packet_core_grammar.proofs.Numbers.{u32_at-append}
+use Rattle.netlink_packet_core_grammar.specs.Laws.{NumbersStandAlone}
 use Rattle.link_capture_grammar.specs.Captures.{first_frame}
 use Rattle.link_capture_grammar.proofs.Frames.{cut_cases, accepted, first_frame-more, not_cut}
 
@@ -15,12 +15,12 @@ two_steps old piece one two m n e f =
     f ∙ ap (λ x. x ++ take n (drop m piece)) e ∙ append_assoc old (take m piece) (take n (drop m piece)) ∙ ap (λ x. old ++ x) (sym (take-add m n piece))
 
 -- A cut frame of 16 bytes or more, to which a fill nla_align to 16 adds none, tells a length within the limit that it does not reach.
-pub header_exact : (limit : ℕ) (old new : List ℕ) → first_frame limit old ≡ Err Cut → length new ≤ max 16 (length old) → (more : List ℕ) → new ≡ old ++ more → (length new ≤ 16) ⊎ ((u32_at 0 new ≡ u32_at 0 old) × (16 ≤ u32_at 0 old) × (u32_at 0 old ≤ limit) × (length new < u32_at 0 old))
-header_exact limit old new h le more e =
+pub header_exact : NumbersStandAlone → (limit : ℕ) (old new : List ℕ) → first_frame limit old ≡ Err Cut → length new ≤ max 16 (length old) → (more : List ℕ) → new ≡ old ++ more → (length new ≤ 16) ⊎ ((u32_at 0 new ≡ u32_at 0 old) × (16 ≤ u32_at 0 old) × (u32_at 0 old ≤ limit) × (length new < u32_at 0 old))
+header_exact alone limit old new h le more e =
     elim (cut_cases limit old h) [
       | inl a ↦ inl (omega arith)
       | inr a ↦
-          let n : u32_at 0 new ≡ u32_at 0 old = ap (u32_at 0) e ∙ u32_at-append old more (omega (arith, a.header)) in
+          let n : u32_at 0 new ≡ u32_at 0 old = ap (u32_at 0) e ∙ alone.four_bytes old more (omega (arith, a.header)) in
           inr (n, a.low, a.high, omega (arith, a.header, a.short))
     ]
 

@@ -11,6 +11,7 @@ use super::frames::push_frames;
 use link_capture_frames::push_frame;
 use link_capture_grammar::fault::{CaptureFault, FaultKind};
 use netlink_packet_core::{NETLINK_HEADER_LEN, NetlinkBuffer, nla_align};
+use netlink_packet_core_grammar::laws::numbers_stand_alone;
 use std::alloc::{AllocError, Global};
 
 /// The zeros behind a frame of this length, up to a multiple of 4.
@@ -50,6 +51,7 @@ fn complete_frame(kept: &mut Vec<u8>, piece: &[u8], limit: u32) -> Result<usize,
         (λ n. (n ≡ length piece.now) ⊎ (first_frame limit kept.new.items ≢ Err FaultKind.Cut)) }
     ensures exact { OnOk result (length kept.new.items ≤ max 16 (frame_length kept.new.items)) }
 {
+    numbers_stand_alone();
     let header = fill(kept, piece, NETLINK_HEADER_LEN)?;
     if kept.len() < NETLINK_HEADER_LEN {
         return Ok(header);

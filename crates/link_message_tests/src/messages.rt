@@ -82,6 +82,20 @@ const REFUSED: [&[u8]; 6] = [
     b"\x08\0\x04\0\xdc\x05\0\0\xff",
 ];
 
+// Attributes, and whether their list of ports has no port, which is an entry of kind 1.
+const PORTS: [(&[u8], bool); 5] = [
+    // another entry alone
+    (b"\x08\0\x18\0\x04\0\x05\0", true),
+    // behind another attribute
+    (b"\x08\0\x04\0\xdc\x05\0\0\x08\0\x18\x80\x04\0\x05\0", true),
+    // a port
+    (b"\x08\0\x18\0\x04\0\x01\0", false),
+    // a port behind another entry
+    (b"\x0c\0\x18\0\x04\0\x05\0\x04\0\x01\0", false),
+    // no list of ports
+    (b"\x08\0\x04\0\xdc\x05\0\0", false),
+];
+
 /// A body of no family, about all links.
 fn body(alloc: Global, attributes: &[u8]) -> Result<Vec<u8>, Fail> {
     let mut bytes = Vec::from_elem(alloc, 0u8, LINK_HEADER_LEN)?;
@@ -188,6 +202,15 @@ fn other_bodies_are_refused(rt: HostRuntime) -> Result<(), Fail> {
     }
     for attributes in REFUSED {
         assert!(rt; is_refused(rt.alloc(), &body(rt.alloc(), attributes)?));
+    }
+    Ok(())
+}
+
+#[test]
+fn lists_without_a_port_are_told(rt: HostRuntime) -> Result<(), Fail> {
+    for (attributes, is_emptied) in PORTS {
+        let message = LinkMessage::parse(rt.alloc(), &body(rt.alloc(), attributes)?)?;
+        assert_eq!(rt; message.has_empty_ports(), is_emptied);
     }
     Ok(())
 }

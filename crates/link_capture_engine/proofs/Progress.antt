@@ -1,12 +1,12 @@
 -- How far the engine has come.
-use Rattle.std.proofs.Common.{◌≡◌, ℕ, ◌+◌, ◌-◌, ◌^◌, ◌<◌, ◌≤◌, min, Option, None, Some, Result, Ok, Err, IfErr, OnOk, List, [], ◌++◌, length, take, drop, sym, ap, subst, ◌∙◌, arith, append_assoc, length-append}
+use Rattle.std.proofs.Common.{◌≡◌, ℕ, ◌+◌, ◌-◌, ◌^◌, ◌<◌, ◌≤◌, min, Option, None, Some, Result, Ok, Err, IfErr, OnOk, List, [], ◌++◌, length, take, drop, refl, sym, ap, subst, ◌∙◌, arith, append_assoc, length-append}
 use Rattle.std.proofs.lemmas.List.{take_at, append-nil, take-append-drop, length-take}
 use Rattle.std.specs.Io.KnownBytes.{Appends, Consumes}
 use Rattle.link_capture_grammar.specs.declared.fault.CaptureFault.{CaptureFault}
 use Rattle.link_capture_grammar.specs.declared.fault.FaultKind.{FaultKind}
 use Rattle.link_capture_grammar.specs.declared.fault.FaultKind.TheVariants.{Cut, ShortLength, OverLimit, Refused, EmptyPorts, Unfit, TextOverLimit, Memory, Read, Write, TooLong, Failed}
-use Rattle.link_capture_grammar.specs.Captures.{first_fault, texts}
-use Rattle.link_capture_grammar.proofs.Frames.{texts-append, texts_nil, place}
+use Rattle.link_capture_grammar.specs.Captures.{first_fault, texts, texts_after}
+use Rattle.link_capture_grammar.specs.Laws.{PrefixTexts}
 use Rattle.link_capture_reader.specs.Readers.{ReaderState, StandsFor, Resumes, Gains, FeedFault}
 use Rattle.link_capture_engine.specs.Outcomes.{IsOpen, IsPrefix, OutcomeAt}
 use Rattle.std.proofs.KnownBytes.{Appends-nil, Consumes-nil}
@@ -19,25 +19,23 @@ pub record Came (limit : ℕ) (reader : ReaderState) (written : ℕ) (come_old c
   pub wrote : Appends holds_old holds_new (texts limit s)
   pub count : written ≡ min (length (texts limit s)) (2 ^ 64 - 1)
 
+-- nothing has no texts
+texts_nil : (limit : ℕ) → texts limit [] ≡ []
+unfolding texts_after
+texts_nil limit = refl
+
 pub nothing_came : (limit : ℕ) (reader : ReaderState) (come holds : Option (List ℕ)) → reader.limit ≡ limit → StandsFor reader [] → Came limit reader 0 come come holds holds []
 nothing_came limit reader come holds e h = record {
   limit_is = e;
   stands = h;
   consumed = Consumes-nil come;
-  wrote = subst (Appends holds holds) (sym (texts_nil limit 0)) (Appends-nil holds);
-  count = ap (λ (t : List ℕ). min (length t) (2 ^ 64 - 1)) (sym (texts_nil limit 0));
+  wrote = subst (Appends holds holds) (sym (texts_nil limit)) (Appends-nil holds);
+  count = ap (λ (t : List ℕ). min (length t) (2 ^ 64 - 1)) (sym (texts_nil limit));
 }
 
 pub open_from : (f : Option CaptureFault) (s kept : List ℕ) (owed : ℕ) → Resumes f s kept owed → IsOpen f
 open_from None s kept owed r = tt
 open_from (Some fault) s kept owed r = r.0
-
--- the texts of a front are a front of the texts
-pub prefix_append : (limit : ℕ) (s p : List ℕ) → IsPrefix (texts limit s) (texts limit (s ++ p))
-prefix_append limit s p = (texts limit (drop (place limit s) (s ++ p)), texts-append limit 0 s p)
-
-prefix_take : (limit n : ℕ) (c : List ℕ) → IsPrefix (texts limit (take n c)) (texts limit c)
-prefix_take limit n c = subst (λ x. IsPrefix (texts limit (take n c)) (texts limit x)) (take-append-drop n c) (prefix_append limit (take n c) (drop n c))
 
 all_is : (limit : ℕ) (s t out : List ℕ) → Gains limit s t [] out → texts limit s ++ out ≡ texts limit t
 all_is limit s t out g = ap (λ x. texts limit s ++ x) g.2 ∙ sym g.1
@@ -52,19 +50,23 @@ nothing_more limit s out whole e p = subst (λ x. IsPrefix x whole) (sym (append
 whole_is : (limit : ℕ) (c : List ℕ) → IsPrefix (texts limit c) (texts limit c)
 whole_is limit c = ([], sym (append-nil (texts limit c)))
 
-fed_front_at : (limit : ℕ) (s p out : List ℕ) (kind : FaultKind) (at : ℕ) → FeedFault limit s p [] out kind at → IsPrefix (texts limit s ++ out) (texts limit (s ++ p))
-fed_front_at limit s p out Cut at h = absurd h
-fed_front_at limit s p out ShortLength at h = front_is limit s (s ++ p) out (texts limit (s ++ p)) h.2 (whole_is limit (s ++ p))
-fed_front_at limit s p out OverLimit at h = front_is limit s (s ++ p) out (texts limit (s ++ p)) h.2 (whole_is limit (s ++ p))
-fed_front_at limit s p out Refused at h = front_is limit s (s ++ p) out (texts limit (s ++ p)) h.2 (whole_is limit (s ++ p))
-fed_front_at limit s p out EmptyPorts at h = front_is limit s (s ++ p) out (texts limit (s ++ p)) h.2 (whole_is limit (s ++ p))
-fed_front_at limit s p out Unfit at h = front_is limit s (s ++ p) out (texts limit (s ++ p)) h.2 (whole_is limit (s ++ p))
-fed_front_at limit s p out TextOverLimit at h = front_is limit s (s ++ p) out (texts limit (s ++ p)) h.2 (whole_is limit (s ++ p))
-fed_front_at limit s p out Memory at h = front_is limit s (take at (s ++ p)) out (texts limit (s ++ p)) h.2 (prefix_take limit at (s ++ p))
-fed_front_at limit s p out Read at h = absurd h
-fed_front_at limit s p out Write at h = absurd h
-fed_front_at limit s p out TooLong at h = nothing_more limit s out (texts limit (s ++ p)) h.2 (prefix_append limit s p)
-fed_front_at limit s p out Failed at h = absurd h
+-- a front of a capture has a front of its texts
+prefix_take : PrefixTexts → (limit n : ℕ) (c : List ℕ) → IsPrefix (texts limit (take n c)) (texts limit c)
+prefix_take stay limit n c = subst (λ x. IsPrefix (texts limit (take n c)) (texts limit x)) (take-append-drop n c) (stay limit (take n c) (drop n c))
+
+fed_front_at : PrefixTexts → (limit : ℕ) (s p out : List ℕ) (kind : FaultKind) (at : ℕ) → FeedFault limit s p [] out kind at → IsPrefix (texts limit s ++ out) (texts limit (s ++ p))
+fed_front_at stay limit s p out Cut at h = absurd h
+fed_front_at stay limit s p out ShortLength at h = front_is limit s (s ++ p) out (texts limit (s ++ p)) h.2 (whole_is limit (s ++ p))
+fed_front_at stay limit s p out OverLimit at h = front_is limit s (s ++ p) out (texts limit (s ++ p)) h.2 (whole_is limit (s ++ p))
+fed_front_at stay limit s p out Refused at h = front_is limit s (s ++ p) out (texts limit (s ++ p)) h.2 (whole_is limit (s ++ p))
+fed_front_at stay limit s p out EmptyPorts at h = front_is limit s (s ++ p) out (texts limit (s ++ p)) h.2 (whole_is limit (s ++ p))
+fed_front_at stay limit s p out Unfit at h = front_is limit s (s ++ p) out (texts limit (s ++ p)) h.2 (whole_is limit (s ++ p))
+fed_front_at stay limit s p out TextOverLimit at h = front_is limit s (s ++ p) out (texts limit (s ++ p)) h.2 (whole_is limit (s ++ p))
+fed_front_at stay limit s p out Memory at h = front_is limit s (take at (s ++ p)) out (texts limit (s ++ p)) h.2 (prefix_take stay limit at (s ++ p))
+fed_front_at stay limit s p out Read at h = absurd h
+fed_front_at stay limit s p out Write at h = absurd h
+fed_front_at stay limit s p out TooLong at h = nothing_more limit s out (texts limit (s ++ p)) h.2 (stay limit s p)
+fed_front_at stay limit s p out Failed at h = absurd h
 
 -- what `feed` says, at a reader that stands for s
 abbrev pub FeedOk : ReaderState → ReaderState → List ℕ → List ℕ → List ℕ → Type 0
@@ -73,13 +75,13 @@ FeedOk reader then p old out = (s : List ℕ) → StandsFor reader s → (length
 abbrev pub FeedErr : ReaderState → List ℕ → List ℕ → List ℕ → CaptureFault → Type 0
 FeedErr reader p old out fault = (s : List ℕ) → StandsFor reader s → FeedFault reader.limit s p old out fault.kind fault.offset
 
-pub fed_front : (limit : ℕ) (reader then : ReaderState) (s p old out : List ℕ) (r : Result (Unit {0}) CaptureFault) → reader.limit ≡ limit → old ≡ [] → StandsFor reader s → OnOk r (FeedOk reader then p old out) → IfErr r (FeedErr reader p old out) → IsPrefix (texts limit s ++ out) (texts limit (s ++ p))
-fed_front limit reader then s p old out (Ok x) l e h a b =
+pub fed_front : PrefixTexts → (limit : ℕ) (reader then : ReaderState) (s p old out : List ℕ) (r : Result (Unit {0}) CaptureFault) → reader.limit ≡ limit → old ≡ [] → StandsFor reader s → OnOk r (FeedOk reader then p old out) → IfErr r (FeedErr reader p old out) → IsPrefix (texts limit s ++ out) (texts limit (s ++ p))
+fed_front stay limit reader then s p old out (Ok x) l e h a b =
     subst (λ n. IsPrefix (texts n s ++ out) (texts n (s ++ p))) l
     (front_is reader.limit s (s ++ p) out (texts reader.limit (s ++ p)) (subst (λ o. Gains reader.limit s (s ++ p) o out) e (a s h).2) (whole_is reader.limit (s ++ p)))
-fed_front limit reader then s p old out (Err fault) l e h a b =
+fed_front stay limit reader then s p old out (Err fault) l e h a b =
     subst (λ n. IsPrefix (texts n s ++ out) (texts n (s ++ p))) l
-    (fed_front_at reader.limit s p out fault.kind fault.offset (subst (λ o. FeedFault reader.limit s p o out fault.kind fault.offset) e (b s h)))
+    (fed_front_at stay reader.limit s p out fault.kind fault.offset (subst (λ o. FeedFault reader.limit s p o out fault.kind fault.offset) e (b s h)))
 
 -- a front of it
 pub part_front : (a out whole : List ℕ) (n : ℕ) → IsPrefix (a ++ out) whole → IsPrefix (a ++ take n out) whole

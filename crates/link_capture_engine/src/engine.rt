@@ -7,6 +7,7 @@ ghost use Rattle.link_capture_engine.specs.Outcomes.{Normalizes, ReadFault};
 
 use super::devices::{Sink, Source};
 use link_capture_grammar::fault::{CaptureFault, FaultKind};
+use link_capture_grammar::laws::texts_of_a_prefix_stay;
 use link_capture_reader::CaptureReader;
 use std::alloc::Global;
 
@@ -55,6 +56,7 @@ pub fn normalize<S: Source, K: Sink>(
         (Rises (S.failures source.old) (S.failures source.new))
         (Rises (K.failures sink.old) (K.failures sink.new)) limit result }
 {
+    texts_of_a_prefix_stay();
     let mut reader = CaptureReader::new(alloc, limit);
     let mut buffer = [0u8; 65536];
     let mut out = Vec::new(alloc);

@@ -1,18 +1,17 @@
 -- Laws of the definitions of frames.
 use Rattle.std.proofs.Common.{◌≡◌, ◌≢◌, ℕ, zero, suc, ◌+◌, ◌-◌, ◌%◌, ◌<◌, ◌≤◌, ltb, cond, true, false, Bool, Result, Option, min, List, [], ◌∷◌, ◌++◌, length, take, drop, Some, None, Ok, Err, refl, sym, ap, subst, ◌∙◌, ◌⊎◌, inl, inr, arith, length-append, length-drop, append_assoc, zero-add}
-use Rattle.std.proofs.lemmas.List.{take-append-le, drop-append-le, drop_all, length-take, append-nil, drop_at, take-replicate, take-append-drop}
-use Rattle.std.proofs.Math.Seq.{take-add}
+use Rattle.std.proofs.lemmas.List.{take-append-le, drop-append-le, drop_all, length-take, append-nil, drop_at, take-append-drop}
 use Rattle.std.proofs.lemmas.Bool.Decides.{nat_tests}
 use Rattle.std.proofs.lemmas.Bool.{le-ltb, lt-ltb, ltb-false, ltb-true, cases_lt}
-use Rattle.netlink_packet_core_grammar.specs.Attributes.{nla_align, zeros}
-use Rattle.netlink_packet_core_grammar.specs.Numbers.{u16_at, u32_at, le4}
+use Rattle.netlink_packet_core_grammar.specs.Attributes.{nla_align}
+use Rattle.netlink_packet_core_grammar.specs.Numbers.{u16_at, u32_at}
 use Rattle.netlink_packet_core_grammar.specs.Frames.{frame_length, frame_type, frame_body, frame_text}
 use Rattle.netlink_packet_core_grammar.proofs.Numbers.{u16_at-append, u32_at-append, u16_at-drop_4}
 use Rattle.link_capture_grammar.specs.declared.fault.FaultKind.{FaultKind}
 use Rattle.link_capture_grammar.specs.declared.fault.FaultKind.TheVariants.{Cut, ShortLength, OverLimit, Refused, EmptyPorts, Unfit, TextOverLimit}
 use Rattle.link_capture_grammar.specs.declared.fault.CaptureFault.{CaptureFault}
 use Rattle.link_capture_grammar.specs.Bodies.{Refusal, refused, empty_ports, unfit, body_text}
-use Rattle.link_capture_grammar.specs.Captures.{Judged, first_frame, judged_text, tested, next_fault, next_texts, raised, fault_after, texts_after, first_fault, texts, IsLegal, IsOfFrames}
+use Rattle.link_capture_grammar.specs.Captures.{Judged, Accepted, CutInBody, first_frame, judged_text, tested, next_fault, next_texts, raised, fault_after, texts_after, first_fault, texts, reach_by, reach, IsLegal, IsOfFrames}
 
 -- the chain of tests
 pub guard : {A : Type 0} (b : Bool) (x y z : A) → cond b x y ≡ z → ((b ≡ true) × (x ≡ z)) ⊎ ((b ≡ false) × (y ≡ z))
@@ -35,13 +34,6 @@ judged limit c (Ok body) frame h =
     elim (guard (ltb limit (16 + length body)) _ _ _ h) [ inl a ↦ cc | inr a ↦ (let e = a.1 in cc) ]
 
 -- what an accepted frame is
-pub record Accepted (limit : ℕ) (c : List ℕ) (frame : ℕ × List ℕ) : Type 0 where
-  pub header : 16 ≤ length c
-  pub low : 16 ≤ frame.0
-  pub high : frame.0 ≤ limit
-  pub whole : frame.0 ≤ length c
-  pub is : frame_length c ≡ frame.0
-
 pub accepted : (limit : ℕ) (c : List ℕ) (frame : ℕ × List ℕ) → first_frame limit c ≡ Ok frame → Accepted limit c frame
 unfolding first_frame
 accepted limit c frame h =
@@ -242,15 +234,6 @@ pub seen : (j : Judged) → ((frame : ℕ × List ℕ) × (j ≡ Ok frame)) ⊎ 
 seen (Ok frame) = inl (frame, refl)
 seen (Err kind) = inr (kind, refl)
 
-suc_add : (m n : ℕ) → suc (m + n) ≡ suc m + n
-suc_add m n = omega arith
-
-place_skip : (limit skip : ℕ) (c : List ℕ) → place_after limit skip c ≡ skip + place limit (drop skip c)
-unfolding place_after
-place_skip limit zero c = sym (zero-add (place limit c))
-place_skip limit (suc skip) [] = omega arith
-place_skip limit (suc skip) (b ∷ c) = ap suc (place_skip limit skip c) ∙ suc_add skip (place limit (drop skip c))
-
 raised_one : (kind : FaultKind) (n : ℕ) → raised 1 (Some (record { kind = kind; offset = n })) ≡ Some (record { kind = kind; offset = suc n })
 raised_one kind n = let e : 1 + n ≡ suc n = omega arith in ap (λ m. Some (record { kind = kind; offset = m })) e
 
@@ -297,24 +280,6 @@ fault-append limit zero (b ∷ s) p =
       | inr w ↦
           sym (raised_zero (first_fault limit (b ∷ (s ++ p))))
           ∙ ap (λ n. raised n (first_fault limit (drop n (b ∷ (s ++ p))))) (sym (stop_place limit b s w.0 w.1))
-    ]
-
--- and its whole frames reach as much further
-pub place-append : (limit skip : ℕ) (s p : List ℕ) → place_after limit skip (s ++ p) ≡ place_after limit skip s + place limit (drop (place_after limit skip s) (s ++ p))
-unfolding place_after
-place-append limit skip [] p = place_skip limit skip p
-place-append limit (suc skip) (b ∷ s) p = let e = place-append limit skip s p in omega (arith, e)
-place-append limit zero (b ∷ s) p =
-    elim (seen (first_frame limit (b ∷ s))) [
-      | inl w ↦
-          let frame = w.0 in
-          step_place limit b (s ++ p) frame (frame-more limit b s p frame w.1)
-          ∙ ap suc (place-append limit (nla_align frame.0 - 1) s p)
-          ∙ suc_add (place_after limit (nla_align frame.0 - 1) s) _
-          ∙ ap (λ n. n + place limit (drop n (b ∷ (s ++ p)))) (sym (step_place limit b s frame w.1))
-      | inr w ↦
-          sym (zero-add (place limit (b ∷ (s ++ p))))
-          ∙ ap (λ n. n + place limit (drop n (b ∷ (s ++ p)))) (sym (stop_place limit b s w.0 w.1))
     ]
 
 -- whole frames reach at least over what is passed over
@@ -458,6 +423,14 @@ place_legal limit c h =
       | inr w ↦ (let f = w.1.fault_is in cc)
     ]
 
+-- The place is where the first fault stands, or the next multiple of 4.
+pub reach_place : (limit : ℕ) (c : List ℕ) → place limit c ≡ reach limit c
+reach_place limit c =
+    elim (stops limit 0 c) [
+      | inl w ↦ place_legal limit c w.fault_is ∙ ap (reach_by (length c)) (sym w.fault_is)
+      | inr w ↦ ap (reach_by (length c)) (sym w.1.fault_is)
+    ]
+
 -- What follows a legal string of a multiple of 4 bytes is judged by itself.
 pub joined_texts : (limit : ℕ) (a b : List ℕ) → IsLegal limit a → length a % 4 ≡ 0 → texts limit (a ++ b) ≡ texts limit a ++ texts limit b
 joined_texts limit a b h m =
@@ -485,63 +458,6 @@ one_text limit c frame h =
     ∙ ap (λ t. frame.1 ++ t) (texts_nil limit 0)
     ∙ append-nil frame.1
 
--- How far a walk over the frames of c has come: what it passed is legal.
-pub record Passed (limit : ℕ) (c : List ℕ) (at : ℕ) : Type 0 where
-  pub inside : at ≤ length c
-  pub start : at % 4 ≡ 0
-  pub legal : IsLegal limit (take at c)
-
-pub passed_none : (limit : ℕ) (c : List ℕ) → Passed limit c 0
-passed_none limit c = record { inside = omega arith; start = refl; legal = fault_nil limit 0 }
-
--- one frame further
-pub passed_fault : (limit : ℕ) (c : List ℕ) (at : ℕ) (frame : ℕ × List ℕ) → Passed limit c at → first_frame limit (drop at c) ≡ Ok frame → IsLegal limit (take (at + nla_align frame.0) c)
-passed_fault limit c at frame w h =
-    let n : length (take at c) ≡ at = length-take at c ∙ omega (arith, w.inside) in
-    ap (first_fault limit) (take-add at (nla_align frame.0) c)
-    ∙ joined_fault limit (take at c) (take (nla_align frame.0) (drop at c)) w.legal (ap (λ m. m % 4) n ∙ w.start)
-    ∙ ap (raised (length (take at c))) (one_fault limit (drop at c) frame h)
-
-pub passed_texts : (limit : ℕ) (c : List ℕ) (at : ℕ) (frame : ℕ × List ℕ) → Passed limit c at → first_frame limit (drop at c) ≡ Ok frame → texts limit (take (at + nla_align frame.0) c) ≡ texts limit (take at c) ++ frame.1
-passed_texts limit c at frame w h =
-    let n : length (take at c) ≡ at = length-take at c ∙ omega (arith, w.inside) in
-    ap (texts limit) (take-add at (nla_align frame.0) c)
-    ∙ joined_texts limit (take at c) (take (nla_align frame.0) (drop at c)) w.legal (ap (λ m. m % 4) n ∙ w.start)
-    ∙ ap (λ t. texts limit (take at c) ++ t) (one_text limit (drop at c) frame h)
-
--- a fault there
-pub passed_stop_fault : (limit : ℕ) (c : List ℕ) (at : ℕ) (kind : FaultKind) → Passed limit c at → at < length c → first_frame limit (drop at c) ≡ Err kind → first_fault limit c ≡ Some (record { kind = kind; offset = at })
-passed_stop_fault limit c at kind w l h =
-    let n : length (take at c) ≡ at = length-take at c ∙ omega (arith, w.inside) in
-    let z : length (take at c) + 0 ≡ at = omega (arith, n) in
-    ap (first_fault limit) (sym (take-append-drop at c))
-    ∙ joined_fault limit (take at c) (drop at c) w.legal (ap (λ m. m % 4) n ∙ w.start)
-    ∙ ap (raised (length (take at c))) (fault_stop limit (drop at c) kind (omega (arith, length-drop at c)) h)
-    ∙ ap (λ m. Some (record { kind = kind; offset = m })) z
-
-pub passed_stop_texts : (limit : ℕ) (c : List ℕ) (at : ℕ) (kind : FaultKind) → Passed limit c at → first_frame limit (drop at c) ≡ Err kind → texts limit c ≡ texts limit (take at c)
-passed_stop_texts limit c at kind w h =
-    let n : length (take at c) ≡ at = length-take at c ∙ omega (arith, w.inside) in
-    ap (texts limit) (sym (take-append-drop at c))
-    ∙ joined_texts limit (take at c) (drop at c) w.legal (ap (λ m. m % 4) n ∙ w.start)
-    ∙ ap (λ t. texts limit (take at c) ++ t) (texts_stop limit (drop at c) kind h)
-    ∙ append-nil (texts limit (take at c))
-
--- a frame's text, part by part
-pub parts : (old header body : List ℕ) (claimed : ℕ) (a b c d : List ℕ) → claimed ≡ 16 + length body
-    → a ≡ old ++ le4 claimed → b ≡ a ++ take 12 (drop 4 header) → c ≡ b ++ body → d ≡ c ++ take (nla_align claimed - claimed) (0 ∷ 0 ∷ 0 ∷ [])
-    → d ≡ old ++ frame_text header body
-unfolding frame_text
-parts old header body claimed a b c d t ea eb ec ed =
-    let z : take (nla_align claimed - claimed) (zeros 3) ≡ zeros (nla_align claimed - claimed) = take-replicate (nla_align claimed - claimed) 3 0 (omega arith) in
-    ed ∙ ap (λ x. c ++ x) z ∙ ap (λ x. x ++ zeros (nla_align claimed - claimed)) (ec ∙ ap (λ x. x ++ body) (eb ∙ ap (λ x. x ++ take 12 (drop 4 header)) ea))
-    ∙ simp append_assoc
-    (ap (λ n. old ++ (le4 n ++ (take 12 (drop 4 header) ++ (body ++ zeros (nla_align n - n))))) t)
-
--- what is written grows by t
-pub grown : (old w t : List ℕ) {out new v : List ℕ} → out ≡ old ++ w → new ≡ out ++ t → v ≡ w ++ t → new ≡ old ++ v
-grown old w t {out} {new} {v} d e f = e ∙ ap (λ x. x ++ t) d ∙ append_assoc old w t ∙ ap (λ x. old ++ x) (sym f)
-
 -- no body is cut
 judged_not_cut : (limit : ℕ) (c : List ℕ) (r : Result (List ℕ) Refusal) → judged_text limit c r ≢ Err Cut
 judged_not_cut limit c (Err refused) h = cc
@@ -554,12 +470,6 @@ unfolding judgement
 judgement_not_cut limit c h = judged_not_cut limit c (body_text (frame_type c) (frame_body c)) h
 
 -- What is cut is too short for its header, or for the length that this tells.
-pub record CutInBody (limit : ℕ) (c : List ℕ) : Type 0 where
-  pub header : 16 ≤ length c
-  pub low : 16 ≤ u32_at 0 c
-  pub high : u32_at 0 c ≤ limit
-  pub short : length c < u32_at 0 c
-
 pub cut_cases : (limit : ℕ) (c : List ℕ) → first_frame limit c ≡ Err Cut → (length c < 16) ⊎ CutInBody limit c
 cut_cases limit c h =
     let t : tested limit (length c) (frame_length c) (judgement limit c) ≡ Err Cut = sym (first_frame_is limit c) ∙ h in
@@ -580,33 +490,13 @@ cut_cases limit c h =
           ]
     ]
 
-pub not_cut_short : (limit : ℕ) (c : List ℕ) → 16 ≤ length c → (u32_at 0 c < 16) ⊎ (limit < u32_at 0 c) ⊎ (u32_at 0 c ≤ length c) → first_frame limit c ≢ Err Cut
-not_cut_short limit c h w e =
-    elim (cut_cases limit c e) [
-      | inl a ↦ omega arith
-      | inr a ↦ elim w [ inl b ↦ omega (arith, a.low) | inr b ↦ elim b [ inl d ↦ omega (arith, a.high) | inr d ↦ omega (arith, a.short) ] ]
-    ]
-
--- nothing is cut
-pub cut_nil : (limit : ℕ) → first_frame limit [] ≡ Err Cut
-unfolding first_frame
-cut_nil limit = refl
-
--- What stands before the first fault is legal, and has the texts.
+-- the first fault stands where the whole frames end
 pub fault_place : (limit : ℕ) (c : List ℕ) (fault : CaptureFault) → first_fault limit c ≡ Some fault → place limit c ≡ fault.offset
 fault_place limit c fault h =
     elim (stops limit 0 c) [
       | inl w ↦ (let f = w.fault_is in cc)
       | inr w ↦ (let f = w.1.fault_is in cc)
     ]
-
-pub before_fault : (limit : ℕ) (c : List ℕ) (fault : CaptureFault) → first_fault limit c ≡ Some fault → IsLegal limit (take fault.offset c) × (texts limit (take fault.offset c) ≡ texts limit c)
-before_fault limit c fault h =
-    let at = fault_place limit c fault h in
-    let whole : c ++ [] ≡ c = append-nil c in (
-      ap (first_fault limit) (ap (λ n. take n c) (sym at) ∙ ap (take (place limit c)) (sym whole)) ∙ base_fault limit 0 c [],
-      ap (texts limit) (ap (λ n. take n c) (sym at) ∙ ap (take (place limit c)) (sym whole)) ∙ base_texts limit 0 c [],
-    )
 
 pub fault_inside : (limit : ℕ) (c : List ℕ) (fault : CaptureFault) → first_fault limit c ≡ Some fault → (fault.offset < length c) × (fault.offset % 4 ≡ 0)
 fault_inside limit c fault h =
@@ -674,21 +564,4 @@ fault_more limit a b fault h n =
           ∙ ap (raised at) (fault_stop limit (d ++ b) w.0 (omega (arith, length-append d b, length-drop at a, w.1.inside)) kept)
           ∙ ap (λ x. Some (record { kind = w.0; offset = x })) z
           ∙ ap (λ x. Some (record { kind = x; offset = fault.offset })) k
-    ]
-
--- the texts behind such a fault are none
-pub texts_more : (limit : ℕ) (a b : List ℕ) (fault : CaptureFault) → first_fault limit a ≡ Some fault → fault.kind ≢ Cut → texts limit (a ++ b) ≡ texts limit a
-texts_more limit a b fault h n =
-    elim (stops limit 0 a) [
-      | inl w ↦ (let f = w.fault_is in absurd (cc))
-      | inr w ↦
-          let at : ℕ = place limit a in
-          let f = w.1.fault_is in
-          let k : w.0 ≡ fault.kind = cc in
-          let d = drop at a in
-          let kept : first_frame limit (d ++ b) ≡ Err w.0 = first_frame-more limit d b (λ e. n (let g = w.1.first_frame_is in cc)) ∙ w.1.first_frame_is in
-          texts-append limit 0 a b
-          ∙ ap (λ x. texts limit a ++ texts limit x) (drop-append-le at a b (omega (arith, w.1.inside)))
-          ∙ ap (λ t. texts limit a ++ t) (texts_stop limit (d ++ b) w.0 kept)
-          ∙ append-nil (texts limit a)
     ]

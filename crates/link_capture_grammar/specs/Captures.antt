@@ -1,5 +1,5 @@
 -- Captures: the first fault with its place, and the normal text.
-use Rattle.std.specs.Prelude.{◌≡◌, ℕ, zero, suc, ◌+◌, ◌-◌, ◌%◌, ◌<◌, List, [], ◌∷◌, ◌++◌, length, take, Option, None, Some, Result, Ok, Err, nat_lt, cond}
+use Rattle.std.specs.Prelude.{◌≡◌, ℕ, zero, suc, ◌+◌, ◌-◌, ◌%◌, ◌<◌, ◌≤◌, List, [], ◌∷◌, ◌++◌, length, take, Option, None, Some, Result, Ok, Err, nat_lt, cond}
 use Rattle.netlink_packet_core_grammar.specs.Attributes.{nla_align}
 use Rattle.netlink_packet_core_grammar.specs.Frames.{frame_length, frame_type, frame_body, frame_text}
 use Rattle.link_capture_grammar.specs.declared.fault.FaultKind.{FaultKind}
@@ -38,6 +38,21 @@ tested limit size length' judged =
 unfoldable pub first_frame : ℕ → List ℕ → Judged
 first_frame limit c = tested limit (length c) (frame_length c) (judged_text limit c (body_text (frame_type c) (frame_body c)))
 
+-- an accepted frame: its bytes are there, and it has the length that its header tells, within the limit
+pub record Accepted (limit : ℕ) (c : List ℕ) (frame : ℕ × List ℕ) : Type 0 where
+  pub header : 16 ≤ length c
+  pub low : 16 ≤ frame.0
+  pub high : frame.0 ≤ limit
+  pub whole : frame.0 ≤ length c
+  pub is : frame_length c ≡ frame.0
+
+-- a frame that is cut behind its header, which tells a length within the limit that the bytes don't reach
+pub record CutInBody (limit : ℕ) (c : List ℕ) : Type 0 where
+  pub header : 16 ≤ length c
+  pub low : 16 ≤ frame_length c
+  pub high : frame_length c ≤ limit
+  pub short : length c < frame_length c
+
 -- a fault, k bytes further on
 abbrev pub raised : ℕ → Option CaptureFault → Option CaptureFault
 raised k None = None
@@ -69,6 +84,15 @@ first_fault limit c = fault_after limit 0 c
 
 abbrev pub texts : ℕ → List ℕ → List ℕ
 texts limit c = texts_after limit 0 c
+
+-- How far the whole frames reach, with the padding that the last one is owed: to the first fault, or to the next
+-- multiple of 4.
+abbrev pub reach_by : ℕ → Option CaptureFault → ℕ
+reach_by size None = nla_align size
+reach_by size (Some fault) = fault.offset
+
+abbrev pub reach : ℕ → List ℕ → ℕ
+reach limit c = reach_by (length c) (first_fault limit c)
 
 -- Such a capture's normal text is its texts.
 abbrev pub IsLegal : ℕ → List ℕ → Type 0

@@ -1,9 +1,11 @@
 -- The laws of captures, as the functions of `laws` state them.
-use Rattle.std.specs.Prelude.{◌≡◌, ◌≢◌, ℕ, ◌*◌, ◌%◌, ◌^◌, ◌<◌, ◌≤◌, ◌↔◌, List, ◌++◌, length, Some, Ok}
+use Rattle.std.specs.Prelude.{◌≡◌, ◌≢◌, ℕ, ◌*◌, ◌%◌, ◌^◌, ◌<◌, ◌≤◌, ◌↔◌, ◌⊎◌, List, [], ◌++◌, length, take, drop, Some, Ok, Err}
+use Rattle.netlink_packet_core_grammar.specs.Attributes.{nla_align}
+use Rattle.link_capture_grammar.specs.declared.fault.FaultKind.{FaultKind}
 use Rattle.link_capture_grammar.specs.declared.fault.CaptureFault.{CaptureFault}
 use Rattle.link_capture_grammar.specs.declared.fault.FaultKind.TheVariants.{Cut}
 use Rattle.link_capture_grammar.specs.Bodies.{body_text}
-use Rattle.link_capture_grammar.specs.Captures.{first_fault, texts, raised, IsLegal, IsOfFrames}
+use Rattle.link_capture_grammar.specs.Captures.{Accepted, CutInBody, first_frame, first_fault, texts, raised, reach, IsLegal, IsOfFrames}
 use Rattle.link_capture_grammar.specs.Same.{SameCapture}
 
 -- a limit is a number of 32 bits
@@ -56,3 +58,31 @@ TextsMeanTheSame = (limit : ℕ) (c : List ℕ) → IsLimit limit → IsLegal li
 -- captures that mean the same are legal
 abbrev pub SameAreLegal : Type 0
 SameAreLegal = (limit : ℕ) (a b : List ℕ) → SameCapture limit a b → IsLegal limit a × IsLegal limit b
+
+-- a frame is judged by its own bytes
+pub record FramesStandAlone : Type 0 where
+  -- an accepted frame has the length that its header tells
+  pub accepted : (limit : ℕ) (c : List ℕ) (frame : ℕ × List ℕ) → first_frame limit c ≡ Ok frame → Accepted limit c frame
+  -- a cut one has no header, or less than the length that its header tells
+  pub cut : (limit : ℕ) (c : List ℕ) → first_frame limit c ≡ Err Cut → (length c < 16) ⊎ CutInBody limit c
+  -- and one that isn't cut is judged so whatever follows
+  pub followed : (limit : ℕ) (c more : List ℕ) → first_frame limit c ≢ Err Cut → first_frame limit (c ++ more) ≡ first_frame limit c
+
+-- a capture is judged and written frame by frame
+pub record CapturesGoByFrames : Type 0 where
+  -- an accepted frame alone, with its padding or as much of that as is there, is legal, and has its text
+  pub one_legal : (limit : ℕ) (c : List ℕ) (frame : ℕ × List ℕ) → first_frame limit c ≡ Ok frame → IsLegal limit (take (nla_align frame.0) c)
+  pub one_text : (limit : ℕ) (c : List ℕ) (frame : ℕ × List ℕ) → first_frame limit c ≡ Ok frame → texts limit (take (nla_align frame.0) c) ≡ frame.1
+  -- a fault of the frame in front is the first, and no text stands before it
+  pub front_fault : (limit : ℕ) (c : List ℕ) (kind : FaultKind) → 0 < length c → first_frame limit c ≡ Err kind → first_fault limit c ≡ Some (record { kind = kind; offset = 0 })
+  pub front_texts : (limit : ℕ) (c : List ℕ) (kind : FaultKind) → first_frame limit c ≡ Err kind → texts limit c ≡ []
+  -- the frame at the place of the first fault has that fault
+  pub fault_there : (limit : ℕ) (c : List ℕ) (fault : CaptureFault) → first_fault limit c ≡ Some fault → first_frame limit (drop fault.offset c) ≡ Err fault.kind
+  -- whole frames reach to a multiple of 4
+  pub reach_start : (limit : ℕ) (c : List ℕ) → reach limit c % 4 ≡ 0
+  -- all before that place is legal, and has the texts, whatever follows
+  pub reach_legal : (limit : ℕ) (c more : List ℕ) → IsLegal limit (take (reach limit c) (c ++ more))
+  pub reach_texts : (limit : ℕ) (c more : List ℕ) → texts limit (take (reach limit c) (c ++ more)) ≡ texts limit c
+  -- and all behind it is judged and written by itself
+  pub rest_fault : (limit : ℕ) (c more : List ℕ) → first_fault limit (c ++ more) ≡ raised (reach limit c) (first_fault limit (drop (reach limit c) (c ++ more)))
+  pub rest_texts : (limit : ℕ) (c more : List ℕ) → texts limit (c ++ more) ≡ texts limit c ++ texts limit (drop (reach limit c) (c ++ more))

@@ -3,6 +3,7 @@
 ghost use Rattle.link_capture_grammar.specs.Laws.{TextsAreLegal, TextsAreNormal, JoinedFaults, JoinedLegal};
 ghost use Rattle.link_capture_grammar.specs.Laws.{JoinedTexts, PrefixFaults, PrefixTexts, TextsAreSmall, FaultsStand};
 ghost use Rattle.link_capture_grammar.specs.Laws.{BodiesAreNormal, TextsMeanTheSame, SameAreLegal};
+ghost use Rattle.link_capture_grammar.specs.Laws.{FramesStandAlone, CapturesGoByFrames};
 
 /// The texts of any bytes are legal under the same limit.
 pub fn texts_are_legal()
@@ -62,4 +63,16 @@ pub fn texts_mean_the_same()
 /// Captures that mean the same are legal.
 pub fn same_captures_are_legal()
     ensures { SameAreLegal }
+{}
+
+/// A frame is judged by its own bytes: one that isn't cut is judged so whatever follows, and one that is has no
+/// header, or less than the length that its header tells.
+pub fn frames_stand_alone()
+    ensures { FramesStandAlone }
+{}
+
+/// A capture is judged and written frame by frame: what stands before the place to which the whole frames of its
+/// first bytes reach is legal and written, whatever follows, and what stands behind it is judged by itself.
+pub fn captures_go_by_frames()
+    ensures { CapturesGoByFrames }
 {}

@@ -1,13 +1,13 @@
 -- The cut frame's bytes, once more have come.
-use Rattle.std.proofs.Common.{◌≡◌, ℕ, ◌+◌, ◌-◌, ◌<◌, ◌≤◌, ◌⊎◌, inl, inr, Ok, Err, List, ◌++◌, length, take, drop, max, sym, ap, ◌∙◌, arith, length-append, append_assoc}
+use Rattle.std.proofs.Common.{◌≡◌, ◌≢◌, ℕ, ◌+◌, ◌-◌, ◌<◌, ◌≤◌, ◌⊎◌, inl, inr, Ok, Err, List, ◌++◌, length, take, drop, max, sym, ap, ◌∙◌, arith, length-append, append_assoc}
 use Rattle.std.proofs.lemmas.List.{length-drop, drop-drop, take-append-drop}
 use Rattle.std.proofs.Math.Seq.{take-add, drop-append-add}
 use Rattle.link_capture_grammar.specs.declared.fault.FaultKind.TheVariants.{Cut}
 use Rattle.netlink_packet_core_grammar.specs.Attributes.{nla_align}
 use Rattle.netlink_packet_core_grammar.specs.Numbers.{u32_at}
 use Rattle.netlink_packet_core_grammar.specs.Laws.{NumbersStandAlone}
-use Rattle.link_capture_grammar.specs.Captures.{first_frame}
-use Rattle.link_capture_grammar.proofs.Frames.{cut_cases, accepted, first_frame-more, not_cut}
+use Rattle.link_capture_grammar.specs.Captures.{Judged, first_frame}
+use Rattle.link_capture_grammar.specs.Laws.{FramesStandAlone}
 
 -- bytes come in two steps
 pub two_steps : (old piece one two : List ℕ) (m n : ℕ) → one ≡ old ++ take m piece → two ≡ one ++ take n (drop m piece) → two ≡ old ++ take (m + n) piece
@@ -15,14 +15,25 @@ two_steps old piece one two m n e f =
     f ∙ ap (λ x. x ++ take n (drop m piece)) e ∙ append_assoc old (take m piece) (take n (drop m piece)) ∙ ap (λ x. old ++ x) (sym (take-add m n piece))
 
 -- A cut frame of 16 bytes or more, to which a fill nla_align to 16 adds none, tells a length within the limit that it does not reach.
-pub header_exact : NumbersStandAlone → (limit : ℕ) (old new : List ℕ) → first_frame limit old ≡ Err Cut → length new ≤ max 16 (length old) → (more : List ℕ) → new ≡ old ++ more → (length new ≤ 16) ⊎ ((u32_at 0 new ≡ u32_at 0 old) × (16 ≤ u32_at 0 old) × (u32_at 0 old ≤ limit) × (length new < u32_at 0 old))
-header_exact alone limit old new h le more e =
-    elim (cut_cases limit old h) [
+pub header_exact : NumbersStandAlone → FramesStandAlone → (limit : ℕ) (old new : List ℕ) → first_frame limit old ≡ Err Cut → length new ≤ max 16 (length old) → (more : List ℕ) → new ≡ old ++ more → (length new ≤ 16) ⊎ ((u32_at 0 new ≡ u32_at 0 old) × (16 ≤ u32_at 0 old) × (u32_at 0 old ≤ limit) × (length new < u32_at 0 old))
+header_exact numbers frames limit old new h le more e =
+    elim (frames.cut limit old h) [
       | inl a ↦ inl (omega arith)
       | inr a ↦
-          let n : u32_at 0 new ≡ u32_at 0 old = ap (u32_at 0) e ∙ alone.four_bytes old more (omega (arith, a.header)) in
+          let n : u32_at 0 new ≡ u32_at 0 old = ap (u32_at 0) e ∙ numbers.four_bytes old more (omega (arith, a.header)) in
           inr (n, a.low, a.high, omega (arith, a.header, a.short))
     ]
+
+-- a frame whose length is known, and is there, isn't cut
+pub not_cut_short : FramesStandAlone → (limit : ℕ) (c : List ℕ) → 16 ≤ length c → (u32_at 0 c < 16) ⊎ (limit < u32_at 0 c) ⊎ (u32_at 0 c ≤ length c) → first_frame limit c ≢ Err Cut
+not_cut_short frames limit c h w e =
+    elim (frames.cut limit c e) [
+      | inl a ↦ omega arith
+      | inr a ↦ elim w [ inl b ↦ omega (arith, a.low) | inr b ↦ elim b [ inl d ↦ omega (arith, a.high) | inr d ↦ omega (arith, a.short) ] ]
+    ]
+
+not_cut : (j : Judged) (frame : ℕ × List ℕ) → j ≡ Ok frame → j ≢ Err Cut
+not_cut j frame h e = cc
 
 -- what was moved and what was not
 pub whole : (old piece new : List ℕ) (m : ℕ) → new ≡ old ++ take m piece → old ++ piece ≡ new ++ drop m piece
@@ -36,15 +47,15 @@ pub record Completed (limit : ℕ) (old piece new : List ℕ) (m claimed : ℕ) 
   pub total : length (old ++ piece) ≡ claimed + (length piece - m)
   pub left : drop (nla_align claimed) (old ++ piece) ≡ drop (m + (nla_align claimed - claimed)) piece
 
-pub completed : (limit : ℕ) (old piece new : List ℕ) (m claimed : ℕ) (text : List ℕ) → new ≡ old ++ take m piece → m ≤ length piece → length new ≤ max 16 (u32_at 0 new) → first_frame limit new ≡ Ok (claimed, text) → Completed limit old piece new m claimed text
-completed limit old piece new m claimed text e l x h =
-    let a = accepted limit new (claimed, text) h in
+pub completed : FramesStandAlone → (limit : ℕ) (old piece new : List ℕ) (m claimed : ℕ) (text : List ℕ) → new ≡ old ++ take m piece → m ≤ length piece → length new ≤ max 16 (u32_at 0 new) → first_frame limit new ≡ Ok (claimed, text) → Completed limit old piece new m claimed text
+completed frames limit old piece new m claimed text e l x h =
+    let a = frames.accepted limit new (claimed, text) h in
     let w = whole old piece new m e in
     let size : length new ≡ claimed = omega (arith, a.is, a.low, a.whole) in
     let total : length (old ++ piece) ≡ claimed + (length piece - m) = ap length w ∙ length-append new (drop m piece) ∙ omega (arith, length-drop m piece) in
     let reach : nla_align claimed ≡ length new + (nla_align claimed - claimed) = omega arith in
     record {
-      front_is = ap (first_frame limit) w ∙ first_frame-more limit new (drop m piece) (not_cut (first_frame limit new) (claimed, text) h) ∙ h;
+      front_is = ap (first_frame limit) w ∙ frames.followed limit new (drop m piece) (not_cut (first_frame limit new) (claimed, text) h) ∙ h;
       size = size;
       total = total;
       left = ap (drop (nla_align claimed)) w ∙ ap (λ n. drop n (new ++ drop m piece)) reach ∙ drop-append-add new (drop m piece) (nla_align claimed - claimed) ∙ drop-drop (nla_align claimed - claimed) m piece;

@@ -1,132 +1,180 @@
 -- What a walk has passed, and what is left of it.
-use Rattle.std.proofs.Common.{◌≡◌, ℕ, ◌+◌, ◌-◌, ◌%◌, ◌<◌, ◌≤◌, inl, inr, Option, None, Some, Ok, Err, List, [], ◌++◌, length, take, drop, sym, ap, subst, ◌∙◌, refl, arith, append_assoc}
-use Rattle.std.proofs.lemmas.List.{length-take, length-drop, append-nil, drop-drop, drop_all, take_all, take-append-drop}
+use Rattle.std.proofs.Common.{◌≡◌, ℕ, ◌+◌, ◌-◌, ◌%◌, ◌<◌, ◌≤◌, Option, None, Some, Ok, Err, List, [], ◌++◌, length, take, drop, sym, ap, subst, ◌∙◌, refl, arith, append_assoc}
+use Rattle.std.proofs.lemmas.List.{length-take, length-drop, append-nil, drop_at, drop-drop, take_all, take-append-drop}
 use Rattle.std.proofs.Math.Seq.{take-add}
 use Rattle.link_capture_grammar.specs.declared.fault.CaptureFault.{CaptureFault}
 use Rattle.link_capture_grammar.specs.declared.fault.FaultKind.{FaultKind}
 use Rattle.link_capture_grammar.specs.declared.fault.FaultKind.TheVariants.{Cut}
 use Rattle.netlink_packet_core_grammar.specs.Attributes.{nla_align}
-use Rattle.link_capture_grammar.specs.Captures.{first_frame, first_fault, texts, raised, StopsAt}
-use Rattle.link_capture_grammar.proofs.Frames.{Passed, joined_fault, joined_texts, one_fault, one_text, place, place_legal, place_near, place_start, stops, base_fault, base_texts, raised_add, fault_nil, texts_nil, fault_stop, texts_stop}
+use Rattle.link_capture_grammar.specs.Captures.{first_frame, first_fault, fault_after, texts, texts_after, raised, reach, reach_by, IsLegal, StopsAt}
+use Rattle.link_capture_grammar.specs.Laws.{CapturesGoByFrames}
 use Rattle.link_capture_reader.specs.Readers.{Resumes}
-use Rattle.link_capture_reader.specs.Walks.{Goes, Faults, Lacks}
+use Rattle.link_capture_reader.specs.Walks.{Goes, Faults, Lacks, Passed}
 
--- a walk's fault and texts are those of what is left of the string
-pub left_fault : (limit : ℕ) (c : List ℕ) (m : ℕ) → Passed limit c m → first_fault limit c ≡ raised m (first_fault limit (drop m c))
-left_fault limit c m w =
-    let n : length (take m c) ≡ m = length-take m c ∙ omega (arith, w.inside) in
-    ap (first_fault limit) (sym (take-append-drop m c))
-    ∙ joined_fault limit (take m c) (drop m c) w.legal (ap (λ k. k % 4) n ∙ w.start)
-    ∙ ap (λ k. raised k (first_fault limit (drop m c))) n
+-- nothing has no fault and no texts
+pub fault_nil : (limit : ℕ) → first_fault limit [] ≡ None
+unfolding fault_after
+fault_nil limit = refl
 
-pub left_texts : (limit : ℕ) (c : List ℕ) (m : ℕ) → Passed limit c m → texts limit c ≡ texts limit (take m c) ++ texts limit (drop m c)
-left_texts limit c m w =
-    let n : length (take m c) ≡ m = length-take m c ∙ omega (arith, w.inside) in
-    ap (texts limit) (sym (take-append-drop m c))
-    ∙ joined_texts limit (take m c) (drop m c) w.legal (ap (λ k. k % 4) n ∙ w.start)
+pub texts_nil : (limit : ℕ) → texts limit [] ≡ []
+unfolding texts_after
+texts_nil limit = refl
 
-pub left_stop : (limit : ℕ) (c : List ℕ) (m at : ℕ) → Passed limit c m → StopsAt limit (drop m c) at → StopsAt limit c (m + at)
-left_stop limit c m at w h =
-    let n : length (take m c) ≡ m = length-take m c ∙ omega (arith, w.inside) in
-    record {
-      inside = omega (arith, h.inside, length-drop m c);
-      start = omega (arith, h.start, w.start);
-      legal = ap (first_fault limit) (take-add m at c)
-          ∙ joined_fault limit (take m c) (take at (drop m c)) w.legal (ap (λ k. k % 4) n ∙ w.start)
-          ∙ ap (raised (length (take m c))) h.legal;
-    }
+raised_add : (a b n : ℕ) (f : Option CaptureFault) → a + b ≡ n → raised a (raised b f) ≡ raised n f
+raised_add a b n None e = refl
+raised_add a b n (Some f) e = let k : a + (b + f.offset) ≡ n + f.offset = omega arith in ap (λ m. Some (record { kind = f.kind; offset = m })) k
 
-pub left_stop_texts : (limit : ℕ) (c : List ℕ) (m at : ℕ) → Passed limit c m → texts limit (take (m + at) c) ≡ texts limit (take m c) ++ texts limit (take at (drop m c))
-left_stop_texts limit c m at w =
-    let n : length (take m c) ≡ m = length-take m c ∙ omega (arith, w.inside) in
-    ap (texts limit) (take-add m at c) ∙ joined_texts limit (take m c) (take at (drop m c)) w.legal (ap (λ k. k % 4) n ∙ w.start)
+-- what is written grows by t
+pub grown : (old w t : List ℕ) {out new v : List ℕ} → out ≡ old ++ w → new ≡ out ++ t → v ≡ w ++ t → new ≡ old ++ v
+grown old w t {out} {new} {v} d e f = e ∙ ap (λ x. x ++ t) d ∙ append_assoc old w t ∙ ap (λ x. old ++ x) (sym f)
 
--- and it resumes as what is left does
-pub left_resumes : (c : List ℕ) (m : ℕ) (kept : List ℕ) (owed : ℕ) (f : Option CaptureFault) → m ≤ length c → m % 4 ≡ 0 → Resumes f (drop m c) kept owed → Resumes (raised m f) c kept owed
+-- nothing is passed
+pub passed_none : (limit : ℕ) (c : List ℕ) → Passed limit c 0
+passed_none limit c = record { inside = omega arith; start = refl; legal = fault_nil limit }
+
+pub stop_zero : (limit : ℕ) (c : List ℕ) → 0 < length c → StopsAt limit c 0
+stop_zero limit c h = record { inside = h; start = refl; legal = fault_nil limit }
+
+pub no_texts : (limit : ℕ) (old : List ℕ) → old ≡ old ++ texts limit []
+no_texts limit old = rw (texts_nil limit) (sym (append-nil old))
+
+-- what is left resumes as the whole does
+left_resumes : (c : List ℕ) (m : ℕ) (kept : List ℕ) (owed : ℕ) (f : Option CaptureFault) → m ≤ length c → m % 4 ≡ 0 → Resumes f (drop m c) kept owed → Resumes (raised m f) c kept owed
 left_resumes c m kept owed None l h r = (r.0, r.1 ∙ (let n = length-drop m c in omega (arith, n)))
 left_resumes c m kept owed (Some fault) l h r = (r.0, r.1 ∙ drop-drop fault.offset m c, r.2)
 
--- one accepted frame in front, with its padding
-pub passed_one : (limit : ℕ) (c : List ℕ) (frame : ℕ × List ℕ) → first_frame limit c ≡ Ok frame → nla_align frame.0 ≤ length c → Passed limit c (nla_align frame.0)
-passed_one limit c frame h l = record { inside = l; start = omega arith; legal = one_fault limit c frame h }
+module _ (go : CapturesGoByFrames) where
+  -- what follows legal frames is judged and written by itself
+  legal_reach : (limit : ℕ) (a : List ℕ) → IsLegal limit a → length a % 4 ≡ 0 → reach limit a ≡ length a
+  legal_reach limit a h m = ap (reach_by (length a)) h ∙ omega arith
 
--- no more than that
-pub only_one_fault : (limit : ℕ) (c : List ℕ) (frame : ℕ × List ℕ) → first_frame limit c ≡ Ok frame → length c ≤ nla_align frame.0 → first_fault limit c ≡ None
-only_one_fault limit c frame h l = ap (first_fault limit) (sym (take_all (nla_align frame.0) c l)) ∙ one_fault limit c frame h
+  joined_fault : (limit : ℕ) (a b : List ℕ) → IsLegal limit a → length a % 4 ≡ 0 → first_fault limit (a ++ b) ≡ raised (length a) (first_fault limit b)
+  joined_fault limit a b h m =
+      go.rest_fault limit a b ∙ ap (λ n. raised n (first_fault limit (drop n (a ++ b)))) (legal_reach limit a h m)
+      ∙ ap (λ c. raised (length a) (first_fault limit c)) (drop_at a b (length a) refl)
 
-pub only_one_texts : (limit : ℕ) (c : List ℕ) (frame : ℕ × List ℕ) → first_frame limit c ≡ Ok frame → length c ≤ nla_align frame.0 → texts limit c ≡ frame.1
-only_one_texts limit c frame h l = ap (texts limit) (sym (take_all (nla_align frame.0) c l)) ∙ one_text limit c frame h
+  joined_texts : (limit : ℕ) (a b : List ℕ) → IsLegal limit a → length a % 4 ≡ 0 → texts limit (a ++ b) ≡ texts limit a ++ texts limit b
+  joined_texts limit a b h m =
+      go.rest_texts limit a b ∙ ap (λ n. texts limit a ++ texts limit (drop n (a ++ b))) (legal_reach limit a h m)
+      ∙ ap (λ c. texts limit a ++ texts limit c) (drop_at a b (length a) refl)
 
--- What a string resumes at: the place nla_align to which its whole frames reach.
-pub resume_place : (limit : ℕ) (s kept : List ℕ) (owed : ℕ) → Resumes (first_fault limit s) s kept owed → (kept ≡ drop (place limit s) s) × (owed ≡ place limit s - length s)
-resume_place limit s kept owed r =
-    let near = place_near limit 0 s (omega arith) in
-    elim (stops limit 0 s) [
-      | inl w ↦
-          let q = subst (λ f. Resumes f s kept owed) w.fault_is r in
-          let e = place_legal limit s w.fault_is in
-          (q.0 ∙ sym (drop_all (place limit s) s w.outside), q.1 ∙ ap (λ n. n - length s) (sym e))
-      | inr w ↦
-          let q = subst (λ f. Resumes f s kept owed) w.1.fault_is r in
-          (q.1, q.2 ∙ omega (arith, w.1.inside))
-    ]
+  -- a walk's fault and texts are those of what is left of the string
+  pub left_fault : (limit : ℕ) (c : List ℕ) (m : ℕ) → Passed limit c m → first_fault limit c ≡ raised m (first_fault limit (drop m c))
+  left_fault limit c m w =
+      let n : length (take m c) ≡ m = length-take m c ∙ omega (arith, w.inside) in
+      ap (first_fault limit) (sym (take-append-drop m c))
+      ∙ joined_fault limit (take m c) (drop m c) w.legal (ap (λ k. k % 4) n ∙ w.start)
+      ∙ ap (λ k. raised k (first_fault limit (drop m c))) n
 
--- Once as many bytes are there, all before that place is passed.
-pub resume_passed : (limit : ℕ) (s p : List ℕ) → place limit s ≤ length (s ++ p) → Passed limit (s ++ p) (place limit s)
-resume_passed limit s p l = record { inside = l; start = (let h = place_start limit 0 0 s refl in omega (arith, h)); legal = base_fault limit 0 s p }
+  pub left_texts : (limit : ℕ) (c : List ℕ) (m : ℕ) → Passed limit c m → texts limit c ≡ texts limit (take m c) ++ texts limit (drop m c)
+  left_texts limit c m w =
+      let n : length (take m c) ≡ m = length-take m c ∙ omega (arith, w.inside) in
+      ap (texts limit) (sym (take-append-drop m c))
+      ∙ joined_texts limit (take m c) (drop m c) w.legal (ap (λ k. k % 4) n ∙ w.start)
 
-pub resume_texts : (limit : ℕ) (s p : List ℕ) → texts limit (take (place limit s) (s ++ p)) ≡ texts limit s
-resume_texts limit s p = base_texts limit 0 s p
+  pub left_stop : (limit : ℕ) (c : List ℕ) (m at : ℕ) → Passed limit c m → StopsAt limit (drop m c) at → StopsAt limit c (m + at)
+  left_stop limit c m at w h =
+      let n : length (take m c) ≡ m = length-take m c ∙ omega (arith, w.inside) in
+      record {
+        inside = omega (arith, h.inside, length-drop m c);
+        start = omega (arith, h.start, w.start);
+        legal = ap (first_fault limit) (take-add m at c)
+            ∙ joined_fault limit (take m c) (take at (drop m c)) w.legal (ap (λ k. k % 4) n ∙ w.start)
+            ∙ ap (raised (length (take m c))) h.legal;
+      }
 
--- The texts so far, and those of what is left.
-pub then_texts : (limit : ℕ) (c : List ℕ) (m : ℕ) (left t old : List ℕ) {out new : List ℕ} → Passed limit c m → left ≡ drop m c → texts limit (take m c) ≡ t → out ≡ old ++ t → new ≡ out ++ texts limit left → new ≡ old ++ texts limit c
-then_texts limit c m left t old w l e o n =
-    n ∙ ap (λ x. x ++ texts limit left) o ∙ append_assoc old t (texts limit left)
-    ∙ ap (λ x. old ++ x) (ap (λ x. t ++ texts limit x) l ∙ ap (λ x. x ++ texts limit (drop m c)) (sym e) ∙ sym (left_texts limit c m w))
+  pub left_stop_texts : (limit : ℕ) (c : List ℕ) (m at : ℕ) → Passed limit c m → texts limit (take (m + at) c) ≡ texts limit (take m c) ++ texts limit (take at (drop m c))
+  left_stop_texts limit c m at w =
+      let n : length (take m c) ≡ m = length-take m c ∙ omega (arith, w.inside) in
+      ap (texts limit) (take-add m at c) ∙ joined_texts limit (take m c) (take at (drop m c)) w.legal (ap (λ k. k % 4) n ∙ w.start)
 
-pub then_resumes : (limit : ℕ) (c : List ℕ) (m : ℕ) (left kept : List ℕ) (owed : ℕ) → Passed limit c m → left ≡ drop m c → Resumes (first_fault limit left) left kept owed → Resumes (first_fault limit c) c kept owed
-then_resumes limit c m left kept owed w l r =
-    subst (λ f. Resumes f c kept owed) (sym (left_fault limit c m w))
-    (left_resumes c m kept owed (first_fault limit (drop m c)) w.inside w.start (subst (λ x. Resumes (first_fault limit x) x kept owed) l r))
+  -- one accepted frame in front, with its padding
+  pub passed_one : (limit : ℕ) (c : List ℕ) (frame : ℕ × List ℕ) → first_frame limit c ≡ Ok frame → nla_align frame.0 ≤ length c → Passed limit c (nla_align frame.0)
+  passed_one limit c frame h l = record { inside = l; start = omega arith; legal = go.one_legal limit c frame h }
 
-pub then_fault : (limit : ℕ) (c : List ℕ) (m start at : ℕ) (left : List ℕ) (fault : CaptureFault) → Passed limit c m → left ≡ drop m c → at ≡ start + m → raised at (first_fault limit left) ≡ Some fault → raised start (first_fault limit c) ≡ Some fault
-then_fault limit c m start at left fault w l e h =
-    ap (raised start) (left_fault limit c m w) ∙ raised_add start m at (first_fault limit (drop m c)) (sym e) ∙ ap (λ x. raised at (first_fault limit x)) (sym l) ∙ h
+  -- no more than that
+  pub only_one_fault : (limit : ℕ) (c : List ℕ) (frame : ℕ × List ℕ) → first_frame limit c ≡ Ok frame → length c ≤ nla_align frame.0 → first_fault limit c ≡ None
+  only_one_fault limit c frame h l = ap (first_fault limit) (sym (take_all (nla_align frame.0) c l)) ∙ go.one_legal limit c frame h
 
-pub then_stop : (limit : ℕ) (c : List ℕ) (m at : ℕ) (left : List ℕ) → Passed limit c m → left ≡ drop m c → StopsAt limit left at → StopsAt limit c (m + at)
-then_stop limit c m at left w l h = left_stop limit c m at w (subst (λ x. StopsAt limit x at) l h)
+  pub only_one_texts : (limit : ℕ) (c : List ℕ) (frame : ℕ × List ℕ) → first_frame limit c ≡ Ok frame → length c ≤ nla_align frame.0 → texts limit c ≡ frame.1
+  only_one_texts limit c frame h l = ap (texts limit) (sym (take_all (nla_align frame.0) c l)) ∙ go.one_text limit c frame h
 
-pub then_stop_texts : (limit : ℕ) (c : List ℕ) (m at : ℕ) (left t old : List ℕ) {out new : List ℕ} → Passed limit c m → left ≡ drop m c → texts limit (take m c) ≡ t → out ≡ old ++ t → new ≡ out ++ texts limit (take at left) → new ≡ old ++ texts limit (take (m + at) c)
-then_stop_texts limit c m at left t old w l e o n =
-    n ∙ ap (λ x. x ++ texts limit (take at left)) o ∙ append_assoc old t (texts limit (take at left))
-    ∙ ap (λ x. old ++ x) (ap (λ x. t ++ texts limit (take at x)) l ∙ ap (λ x. x ++ texts limit (take at (drop m c))) (sym e) ∙ sym (left_stop_texts limit c m at w))
+  -- Once as many bytes are there, all before that place is passed.
+  pub resume_passed : (limit : ℕ) (s p : List ℕ) → reach limit s ≤ length (s ++ p) → Passed limit (s ++ p) (reach limit s)
+  resume_passed limit s p l = record { inside = l; start = go.reach_start limit s; legal = go.reach_legal limit s p }
 
--- nothing is passed
-pub stop_zero : (limit : ℕ) (c : List ℕ) → 0 < length c → StopsAt limit c 0
-stop_zero limit c h = record { inside = h; start = refl; legal = fault_nil limit 0 }
+  pub resume_texts : (limit : ℕ) (s p : List ℕ) → texts limit (take (reach limit s) (s ++ p)) ≡ texts limit s
+  resume_texts limit s p = go.reach_texts limit s p
 
-pub no_texts : (limit : ℕ) (old : List ℕ) → old ≡ old ++ texts limit []
-no_texts limit old = rw (texts_nil limit 0) (sym (append-nil old))
+  -- The texts so far, and those of what is left.
+  pub then_texts : (limit : ℕ) (c : List ℕ) (m : ℕ) (left t old : List ℕ) {out new : List ℕ} → Passed limit c m → left ≡ drop m c → texts limit (take m c) ≡ t → out ≡ old ++ t → new ≡ out ++ texts limit left → new ≡ old ++ texts limit c
+  then_texts limit c m left t old w l e o n =
+      n ∙ ap (λ x. x ++ texts limit left) o ∙ append_assoc old t (texts limit left)
+      ∙ ap (λ x. old ++ x) (ap (λ x. t ++ texts limit x) l ∙ ap (λ x. x ++ texts limit (drop m c)) (sym e) ∙ sym (left_texts limit c m w))
 
--- a string that is cut in its first frame
-pub cut_resumes : (limit : ℕ) (c : List ℕ) → 0 < length c → first_frame limit c ≡ Err Cut → Resumes (first_fault limit c) c c 0
-cut_resumes limit c l h = subst (λ f. Resumes f c c 0) (sym (fault_stop limit c Cut l h)) (refl, refl, refl)
+  pub then_resumes : (limit : ℕ) (c : List ℕ) (m : ℕ) (left kept : List ℕ) (owed : ℕ) → Passed limit c m → left ≡ drop m c → Resumes (first_fault limit left) left kept owed → Resumes (first_fault limit c) c kept owed
+  then_resumes limit c m left kept owed w l r =
+      subst (λ f. Resumes f c kept owed) (sym (left_fault limit c m w))
+      (left_resumes c m kept owed (first_fault limit (drop m c)) w.inside w.start (subst (λ x. Resumes (first_fault limit x) x kept owed) l r))
 
-pub start_fault : (limit start : ℕ) (c : List ℕ) (kind : FaultKind) → 0 < length c → first_frame limit c ≡ Err kind → raised start (first_fault limit c) ≡ Some (record { kind = kind; offset = start })
-start_fault limit start c kind l h = let z : start + 0 ≡ start = omega arith in ap (raised start) (fault_stop limit c kind l h) ∙ ap (λ n. Some (record { kind = kind; offset = n })) z
+  pub then_fault : (limit : ℕ) (c : List ℕ) (m start at : ℕ) (left : List ℕ) (fault : CaptureFault) → Passed limit c m → left ≡ drop m c → at ≡ start + m → raised at (first_fault limit left) ≡ Some fault → raised start (first_fault limit c) ≡ Some fault
+  then_fault limit c m start at left fault w l e h =
+      ap (raised start) (left_fault limit c m w) ∙ raised_add start m at (first_fault limit (drop m c)) (sym e) ∙ ap (λ x. raised at (first_fault limit x)) (sym l) ∙ h
 
-pub start_texts : (limit : ℕ) (c old : List ℕ) (kind : FaultKind) → first_frame limit c ≡ Err kind → old ≡ old ++ texts limit c
-start_texts limit c old kind h = sym (append-nil old) ∙ ap (λ x. old ++ x) (sym (texts_stop limit c kind h))
+  pub then_stop : (limit : ℕ) (c : List ℕ) (m at : ℕ) (left : List ℕ) → Passed limit c m → left ≡ drop m c → StopsAt limit left at → StopsAt limit c (m + at)
+  then_stop limit c m at left w l h = left_stop limit c m at w (subst (λ x. StopsAt limit x at) l h)
 
--- What is said of what is left, said of the whole.
-pub then_goes : (limit : ℕ) (c : List ℕ) (m : ℕ) (left t old out new kept : List ℕ) (owed : ℕ) → Passed limit c m → left ≡ drop m c → texts limit (take m c) ≡ t → out ≡ old ++ t → Goes limit left out new kept owed → Goes limit c old new kept owed
-then_goes limit c m left t old out new kept owed w l e o h =
-    (then_resumes limit c m left kept owed w l h.0, then_texts limit c m left t old w l e o h.1)
+  pub then_stop_texts : (limit : ℕ) (c : List ℕ) (m at : ℕ) (left t old : List ℕ) {out new : List ℕ} → Passed limit c m → left ≡ drop m c → texts limit (take m c) ≡ t → out ≡ old ++ t → new ≡ out ++ texts limit (take at left) → new ≡ old ++ texts limit (take (m + at) c)
+  then_stop_texts limit c m at left t old w l e o n =
+      n ∙ ap (λ x. x ++ texts limit (take at left)) o ∙ append_assoc old t (texts limit (take at left))
+      ∙ ap (λ x. old ++ x) (ap (λ x. t ++ texts limit (take at x)) l ∙ ap (λ x. x ++ texts limit (take at (drop m c))) (sym e) ∙ sym (left_stop_texts limit c m at w))
 
-pub then_faults : (limit : ℕ) (c : List ℕ) (m start at : ℕ) (left t old out new : List ℕ) (fault : CaptureFault) → Passed limit c m → left ≡ drop m c → at ≡ start + m → texts limit (take m c) ≡ t → out ≡ old ++ t → Faults limit at left out new fault → Faults limit start c old new fault
-then_faults limit c m start at left t old out new fault w l a e o h = λ n.
-    let q = h n in (q.0, then_fault limit c m start at left fault w l a q.1, then_texts limit c m left t old w l e o q.2)
+  -- a string that is cut in its first frame
+  pub cut_resumes : (limit : ℕ) (c : List ℕ) → 0 < length c → first_frame limit c ≡ Err Cut → Resumes (first_fault limit c) c c 0
+  cut_resumes limit c l h = subst (λ f. Resumes f c c 0) (sym (go.front_fault limit c Cut l h)) (refl, refl, refl)
 
-pub then_lacks : (limit : ℕ) (c : List ℕ) (m start at : ℕ) (left t old out new : List ℕ) (fault : CaptureFault) → Passed limit c m → left ≡ drop m c → at ≡ start + m → texts limit (take m c) ≡ t → out ≡ old ++ t → Lacks limit at left out new fault → Lacks limit start c old new fault
-then_lacks limit c m start at left t old out new fault w l a e o h = λ n.
-    let q = h n in (m + q.0, omega (arith, q.1, a), then_stop limit c m q.0 left w l q.2, then_stop_texts limit c m q.0 left t old w l e o q.3)
+  pub start_fault : (limit start : ℕ) (c : List ℕ) (kind : FaultKind) → 0 < length c → first_frame limit c ≡ Err kind → raised start (first_fault limit c) ≡ Some (record { kind = kind; offset = start })
+  start_fault limit start c kind l h = let z : start + 0 ≡ start = omega arith in ap (raised start) (go.front_fault limit c kind l h) ∙ ap (λ n. Some (record { kind = kind; offset = n })) z
+
+  pub start_texts : (limit : ℕ) (c old : List ℕ) (kind : FaultKind) → first_frame limit c ≡ Err kind → old ≡ old ++ texts limit c
+  start_texts limit c old kind h = sym (append-nil old) ∙ ap (λ x. old ++ x) (sym (go.front_texts limit c kind h))
+
+  -- What is said of what is left, said of the whole.
+  pub then_goes : (limit : ℕ) (c : List ℕ) (m : ℕ) (left t old out new kept : List ℕ) (owed : ℕ) → Passed limit c m → left ≡ drop m c → texts limit (take m c) ≡ t → out ≡ old ++ t → Goes limit left out new kept owed → Goes limit c old new kept owed
+  then_goes limit c m left t old out new kept owed w l e o h =
+      (then_resumes limit c m left kept owed w l h.0, then_texts limit c m left t old w l e o h.1)
+
+  pub then_faults : (limit : ℕ) (c : List ℕ) (m start at : ℕ) (left t old out new : List ℕ) (fault : CaptureFault) → Passed limit c m → left ≡ drop m c → at ≡ start + m → texts limit (take m c) ≡ t → out ≡ old ++ t → Faults limit at left out new fault → Faults limit start c old new fault
+  then_faults limit c m start at left t old out new fault w l a e o h = λ n.
+      let q = h n in (q.0, then_fault limit c m start at left fault w l a q.1, then_texts limit c m left t old w l e o q.2)
+
+  pub then_lacks : (limit : ℕ) (c : List ℕ) (m start at : ℕ) (left t old out new : List ℕ) (fault : CaptureFault) → Passed limit c m → left ≡ drop m c → at ≡ start + m → texts limit (take m c) ≡ t → out ≡ old ++ t → Lacks limit at left out new fault → Lacks limit start c old new fault
+  then_lacks limit c m start at left t old out new fault w l a e o h = λ n.
+      let q = h n in (m + q.0, omega (arith, q.1, a), then_stop limit c m q.0 left w l q.2, then_stop_texts limit c m q.0 left t old w l e o q.3)
+
+  -- one frame further
+  pub passed_fault : (limit : ℕ) (c : List ℕ) (at : ℕ) (frame : ℕ × List ℕ) → Passed limit c at → first_frame limit (drop at c) ≡ Ok frame → IsLegal limit (take (at + nla_align frame.0) c)
+  passed_fault limit c at frame w h =
+      let n : length (take at c) ≡ at = length-take at c ∙ omega (arith, w.inside) in
+      ap (first_fault limit) (take-add at (nla_align frame.0) c)
+      ∙ joined_fault limit (take at c) (take (nla_align frame.0) (drop at c)) w.legal (ap (λ m. m % 4) n ∙ w.start)
+      ∙ ap (raised (length (take at c))) (go.one_legal limit (drop at c) frame h)
+
+  pub passed_texts : (limit : ℕ) (c : List ℕ) (at : ℕ) (frame : ℕ × List ℕ) → Passed limit c at → first_frame limit (drop at c) ≡ Ok frame → texts limit (take (at + nla_align frame.0) c) ≡ texts limit (take at c) ++ frame.1
+  passed_texts limit c at frame w h =
+      left_stop_texts limit c at (nla_align frame.0) w ∙ ap (λ t. texts limit (take at c) ++ t) (go.one_text limit (drop at c) frame h)
+
+  -- a fault there
+  pub passed_stop_fault : (limit : ℕ) (c : List ℕ) (at : ℕ) (kind : FaultKind) → Passed limit c at → at < length c → first_frame limit (drop at c) ≡ Err kind → first_fault limit c ≡ Some (record { kind = kind; offset = at })
+  passed_stop_fault limit c at kind w l h = left_fault limit c at w ∙ start_fault limit at (drop at c) kind (omega (arith, length-drop at c)) h
+
+  pub passed_stop_texts : (limit : ℕ) (c : List ℕ) (at : ℕ) (kind : FaultKind) → Passed limit c at → first_frame limit (drop at c) ≡ Err kind → texts limit c ≡ texts limit (take at c)
+  passed_stop_texts limit c at kind w h =
+      left_texts limit c at w ∙ ap (λ t. texts limit (take at c) ++ t) (go.front_texts limit (drop at c) kind h) ∙ append-nil (texts limit (take at c))
+
+  -- what stands before the first fault is legal, and has the texts
+  pub before_fault : (limit : ℕ) (c : List ℕ) (fault : CaptureFault) → first_fault limit c ≡ Some fault → IsLegal limit (take fault.offset c) × (texts limit (take fault.offset c) ≡ texts limit c)
+  before_fault limit c fault h =
+      let at : reach limit c ≡ fault.offset = ap (reach_by (length c)) h in
+      let whole : take (reach limit c) (c ++ []) ≡ take fault.offset c = ap (take (reach limit c)) (append-nil c) ∙ ap (λ n. take n c) at in
+      (subst (IsLegal limit) whole (go.reach_legal limit c []), ap (texts limit) (sym whole) ∙ go.reach_texts limit c [])

@@ -1,95 +1,109 @@
 -- What a reader stands for, one piece further.
-use Rattle.std.proofs.Common.{◌≡◌, ◌≢◌, ℕ, ◌+◌, ◌-◌, ◌^◌, ◌<◌, ◌≤◌, ◌⊎◌, inl, inr, None, Some, Result, IfErr, Ok, Err, List, [], ◌++◌, length, take, drop, sym, ap, subst, ◌∙◌, refl, arith, length-append}
+use Rattle.std.proofs.Common.{◌≡◌, ◌≢◌, ℕ, ◌+◌, ◌-◌, ◌^◌, ◌<◌, ◌≤◌, ◌⊎◌, inl, inr, Option, None, Some, Result, IfErr, Ok, Err, List, [], ◌++◌, length, take, drop, sym, ap, subst, ◌∙◌, refl, arith, length-append}
 use Rattle.std.proofs.lemmas.List.{length-drop, append-nil, drop_all, drop-append-le, nil_from_length}
 use Rattle.std.proofs.Math.Seq.{drop-append-add}
+use Rattle.netlink_packet_core_grammar.specs.Attributes.{nla_align}
 use Rattle.link_capture_grammar.specs.declared.fault.CaptureFault.{CaptureFault}
 use Rattle.link_capture_grammar.specs.declared.fault.FaultKind.{FaultKind}
 use Rattle.link_capture_grammar.specs.declared.fault.FaultKind.TheVariants.{Cut, ShortLength, OverLimit, Refused, EmptyPorts, Unfit, TextOverLimit, Memory, Read, Write, TooLong, Failed}
-use Rattle.link_capture_grammar.specs.Captures.{first_frame, first_fault, texts, raised, StopsAt, IsOfFrames}
-use Rattle.link_capture_grammar.proofs.Frames.{Passed, fault-append, texts-append, fault_nil, texts_nil, place, place_legal, stops, fault_kinds, cut_cases, cut_nil}
-use Rattle.link_capture_reader.proofs.Passing.{left_fault, left_stop_texts, then_resumes, then_stop, resume_passed, resume_texts}
+use Rattle.link_capture_grammar.specs.Captures.{first_frame, first_fault, texts, raised, reach, reach_by, StopsAt, IsOfFrames}
+use Rattle.link_capture_grammar.specs.Laws.{FramesStandAlone, CapturesGoByFrames, FaultsStand}
+use Rattle.link_capture_reader.proofs.Passing.{fault_nil, texts_nil, left_fault, left_stop_texts, then_resumes, then_stop, resume_passed, resume_texts}
 use Rattle.link_capture_reader.specs.Readers.{IsReader, StandsFor, Resumes, Gains, FeedFault}
-use Rattle.link_capture_reader.specs.Walks.{Goes, Faults, Lacks}
+use Rattle.link_capture_reader.specs.Walks.{Goes, Faults, Lacks, Passed}
+
+-- no frame is there where no bytes are
+cut_nil : (limit : ℕ) → first_frame limit [] ≡ Err Cut
+unfolding first_frame
+cut_nil limit = refl
+
+-- a string is legal, or has a first fault
+judged : (fault : Option CaptureFault) → (fault ≡ None) ⊎ ((f : CaptureFault) × (fault ≡ Some f))
+judged None = inl refl
+judged (Some f) = inr (f, refl)
 
 -- a reader of nothing
 pub new_reader : (limit : ℕ) → 16 ≤ limit → IsReader (record { limit = limit; accepted = 0; kept = []; owed = 0; failed = None })
 new_reader limit h = record { limit = h; cut = cut_nil limit; small = omega arith; inside = omega arith; owed = inl refl; padding = omega arith; failed = tt }
 
 pub new_stands : (limit : ℕ) → StandsFor (record { limit = limit; accepted = 0; kept = []; owed = 0; failed = None }) []
-new_stands limit = record { going = refl; accepted = refl; rest = subst (λ f. Resumes f [] [] 0) (sym (fault_nil limit 0)) (refl, refl) }
+new_stands limit = record { going = refl; accepted = refl; rest = subst (λ f. Resumes f [] [] 0) (sym (fault_nil limit)) (refl, refl) }
 
 -- a piece of padding alone
-pub padding_resumes : (limit : ℕ) (s p kept : List ℕ) (owed : ℕ) → length p ≤ owed → Resumes (first_fault limit s) s kept owed → Resumes (first_fault limit (s ++ p)) (s ++ p) kept (owed - length p)
-padding_resumes limit s p kept owed l r =
-    elim (stops limit 0 s) [
-      | inl w ↦
-          let q = subst (λ f. Resumes f s kept owed) w.fault_is r in
-          let at = place_legal limit s w.fault_is in
-          let n = length-append s p in
-          let none : first_fault limit (s ++ p) ≡ None =
-          fault-append limit 0 s p ∙ ap (λ x. raised (place limit s) (first_fault limit x)) (drop_all (place limit s) (s ++ p) (omega (arith, n, at, q.1, w.outside)))
-          ∙ ap (raised (place limit s)) (fault_nil limit 0) in
-          subst (λ f. Resumes f (s ++ p) kept (owed - length p)) (sym none) (q.0, omega (arith, n, q.1))
-      | inr w ↦
-          let q = subst (λ f. Resumes f s kept owed) w.1.fault_is r in
-          let e : p ≡ [] = nil_from_length p (omega (arith, q.2)) in
-          let z : owed - length p ≡ owed = omega (arith, q.2) in
-          let n : s ++ p ≡ s = ap (λ x. s ++ x) e ∙ append-nil s in
-          subst (λ x. Resumes (first_fault limit (s ++ p)) (s ++ p) kept x) (sym z) (subst (λ x. Resumes (first_fault limit x) x kept owed) (sym n) r)
-    ]
+module _ (go : CapturesGoByFrames) where
+  pub padding_resumes : (limit : ℕ) (s p kept : List ℕ) (owed : ℕ) → length p ≤ owed → Resumes (first_fault limit s) s kept owed → Resumes (first_fault limit (s ++ p)) (s ++ p) kept (owed - length p)
+  padding_resumes limit s p kept owed l r =
+      elim (judged (first_fault limit s)) [
+        | inl w ↦
+            let q = subst (λ f. Resumes f s kept owed) w r in
+            let at : reach limit s ≡ nla_align (length s) = ap (reach_by (length s)) w in
+            let n = length-append s p in
+            let none : first_fault limit (s ++ p) ≡ None =
+            go.rest_fault limit s p ∙ ap (λ x. raised (reach limit s) (first_fault limit x)) (drop_all (reach limit s) (s ++ p) (omega (arith, n, at, q.1)))
+            ∙ ap (raised (reach limit s)) (fault_nil limit) in
+            subst (λ f. Resumes f (s ++ p) kept (owed - length p)) (sym none) (q.0, omega (arith, n, q.1))
+        | inr w ↦
+            let q = subst (λ f. Resumes f s kept owed) w.1 r in
+            let e : p ≡ [] = nil_from_length p (omega (arith, q.2)) in
+            let z : owed - length p ≡ owed = omega (arith, q.2) in
+            let n : s ++ p ≡ s = ap (λ x. s ++ x) e ∙ append-nil s in
+            subst (λ x. Resumes (first_fault limit (s ++ p)) (s ++ p) kept x) (sym z) (subst (λ x. Resumes (first_fault limit x) x kept owed) (sym n) r)
+      ]
 
-pub padding_texts : (limit : ℕ) (s p kept : List ℕ) (owed : ℕ) → length p ≤ owed → Resumes (first_fault limit s) s kept owed → texts limit (s ++ p) ≡ texts limit s
-padding_texts limit s p kept owed l r =
-    elim (stops limit 0 s) [
-      | inl w ↦
-          let q = subst (λ f. Resumes f s kept owed) w.fault_is r in
-          let at = place_legal limit s w.fault_is in
-          let n = length-append s p in
-          texts-append limit 0 s p ∙ ap (λ x. texts limit s ++ texts limit x) (drop_all (place limit s) (s ++ p) (omega (arith, n, at, q.1, w.outside)))
-          ∙ ap (λ t. texts limit s ++ t) (texts_nil limit 0) ∙ append-nil (texts limit s)
-      | inr w ↦
-          let q = subst (λ f. Resumes f s kept owed) w.1.fault_is r in
-          let e : p ≡ [] = nil_from_length p (omega (arith, q.2)) in
-          ap (λ x. texts limit (s ++ x)) e ∙ ap (texts limit) (append-nil s)
-    ]
+  pub padding_texts : (limit : ℕ) (s p kept : List ℕ) (owed : ℕ) → length p ≤ owed → Resumes (first_fault limit s) s kept owed → texts limit (s ++ p) ≡ texts limit s
+  padding_texts limit s p kept owed l r =
+      elim (judged (first_fault limit s)) [
+        | inl w ↦
+            let q = subst (λ f. Resumes f s kept owed) w r in
+            let at : reach limit s ≡ nla_align (length s) = ap (reach_by (length s)) w in
+            let n = length-append s p in
+            go.rest_texts limit s p ∙ ap (λ x. texts limit s ++ texts limit x) (drop_all (reach limit s) (s ++ p) (omega (arith, n, at, q.1)))
+            ∙ ap (λ t. texts limit s ++ t) (texts_nil limit) ∙ append-nil (texts limit s)
+        | inr w ↦
+            let q = subst (λ f. Resumes f s kept owed) w.1 r in
+            let e : p ≡ [] = nil_from_length p (omega (arith, q.2)) in
+            ap (λ x. texts limit (s ++ x)) e ∙ ap (texts limit) (append-nil s)
+      ]
 
 -- What is judged of a longer string: the cut frame's bytes, and what comes behind the padding.
 pub record Resumed (limit : ℕ) (s p kept : List ℕ) (owed start : ℕ) : Type 0 where
-  pub at : place limit s ≡ start
-  pub left : kept ++ drop owed p ≡ drop (place limit s) (s ++ p)
-  pub passed : Passed limit (s ++ p) (place limit s)
+  pub at : reach limit s ≡ start
+  pub left : kept ++ drop owed p ≡ drop (reach limit s) (s ++ p)
+  pub passed : Passed limit (s ++ p) (reach limit s)
 
-pub resumed : (limit : ℕ) (s p kept : List ℕ) (owed start : ℕ) → owed < length p → Resumes (first_fault limit s) s kept owed → start + length kept ≡ length s + owed → Resumed limit s p kept owed start
-resumed limit s p kept owed start l r e =
+pub resumed : CapturesGoByFrames → FaultsStand → (limit : ℕ) (s p kept : List ℕ) (owed start : ℕ) → owed < length p → Resumes (first_fault limit s) s kept owed → start + length kept ≡ length s + owed → Resumed limit s p kept owed start
+resumed go stand limit s p kept owed start l r e =
     let n = length-append s p in
-    elim (stops limit 0 s) [
+    elim (judged (first_fault limit s)) [
       | inl w ↦
-          let q = subst (λ f. Resumes f s kept owed) w.fault_is r in
-          let at = place_legal limit s w.fault_is in
-          let reach : place limit s ≡ length s + owed = omega (arith, at, q.1, w.outside) in
+          let q = subst (λ f. Resumes f s kept owed) w r in
+          let at : reach limit s ≡ nla_align (length s) = ap (reach_by (length s)) w in
+          let far : reach limit s ≡ length s + owed = omega (arith, at, q.1) in
           let z = ap length q.0 in
           record {
-            at = omega (arith, reach, z);
-            left = ap (λ x. x ++ drop owed p) q.0 ∙ sym (drop-append-add s p owed) ∙ ap (λ m. drop m (s ++ p)) (sym reach);
-            passed = resume_passed limit s p (omega (arith, n, reach));
+            at = omega (arith, far, z);
+            left = ap (λ x. x ++ drop owed p) q.0 ∙ sym (drop-append-add s p owed) ∙ ap (λ m. drop m (s ++ p)) (sym far);
+            passed = resume_passed go limit s p (omega (arith, n, far));
           }
       | inr w ↦
-          let q = subst (λ f. Resumes f s kept owed) w.1.fault_is r in
-          let z = ap length q.1 ∙ length-drop (place limit s) s in
+          let q = subst (λ f. Resumes f s kept owed) w.1 r in
+          let at : reach limit s ≡ w.0.offset = ap (reach_by (length s)) w.1 in
+          let inside : w.0.offset < length s = (stand limit s w.0 w.1).0 in
+          let z = ap length q.1 ∙ length-drop w.0.offset s in
           record {
-            at = omega (arith, z, q.2, w.1.inside);
-            left = ap (λ m. kept ++ drop m p) q.2 ∙ ap (λ x. x ++ p) q.1 ∙ sym (drop-append-le (place limit s) s p (omega (arith, w.1.inside)));
-            passed = resume_passed limit s p (omega (arith, n, w.1.inside));
+            at = omega (arith, z, q.2, at, inside);
+            left = ap (λ m. kept ++ drop m p) q.2 ∙ ap (λ x. x ++ p) q.1 ∙ sym (drop-append-le w.0.offset s p (omega (arith, inside))) ∙ ap (λ m. drop m (s ++ p)) (sym at);
+            passed = resume_passed go limit s p (omega (arith, n, at, inside));
           }
     ]
 
-gained : (limit : ℕ) (s p kept : List ℕ) (owed start : ℕ) → Resumed limit s p kept owed start → texts limit (s ++ p) ≡ texts limit s ++ texts limit (kept ++ drop owed p)
-gained limit s p kept owed start w = texts-append limit 0 s p ∙ ap (λ x. texts limit s ++ texts limit x) (sym w.left)
+gained : CapturesGoByFrames → (limit : ℕ) (s p kept : List ℕ) (owed start : ℕ) → Resumed limit s p kept owed start → texts limit (s ++ p) ≡ texts limit s ++ texts limit (kept ++ drop owed p)
+gained go limit s p kept owed start w = go.rest_texts limit s p ∙ ap (λ x. texts limit s ++ texts limit x) (sym w.left)
 
-pub goes_on : (limit : ℕ) (s p kept : List ℕ) (owed start : ℕ) (old new more : List ℕ) (then : ℕ) → Resumed limit s p kept owed start → Goes limit (kept ++ drop owed p) old new more then → Resumes (first_fault limit (s ++ p)) (s ++ p) more then × Gains limit s (s ++ p) old new
-goes_on limit s p kept owed start old new more then w h = (
-  then_resumes limit (s ++ p) (place limit s) (kept ++ drop owed p) more then w.passed w.left h.0,
-  (texts limit (kept ++ drop owed p), gained limit s p kept owed start w, h.1),
+pub goes_on : CapturesGoByFrames → (limit : ℕ) (s p kept : List ℕ) (owed start : ℕ) (old new more : List ℕ) (then : ℕ) → Resumed limit s p kept owed start → Goes limit (kept ++ drop owed p) old new more then → Resumes (first_fault limit (s ++ p)) (s ++ p) more then × Gains limit s (s ++ p) old new
+goes_on go limit s p kept owed start old new more then w h = (
+  then_resumes go limit (s ++ p) (reach limit s) (kept ++ drop owed p) more then w.passed w.left h.0,
+  (texts limit (kept ++ drop owed p), gained go limit s p kept owed start w, h.1),
 )
 
 -- a fault of a frame, by its kind
@@ -124,33 +138,33 @@ is_memory Write = inr (λ e. cc)
 is_memory TooLong = inr (λ e. cc)
 is_memory Failed = inr (λ e. cc)
 
-pub faults_on : (limit : ℕ) (s p kept : List ℕ) (owed start : ℕ) (old new : List ℕ) (fault : CaptureFault) → length s + length p < 2 ^ 64 → Resumed limit s p kept owed start → Faults limit start (kept ++ drop owed p) old new fault → Lacks limit start (kept ++ drop owed p) old new fault → FeedFault limit s p old new fault.kind fault.offset
-faults_on limit s p kept owed start old new fault l w h k =
+pub faults_on : CapturesGoByFrames → FaultsStand → (limit : ℕ) (s p kept : List ℕ) (owed start : ℕ) (old new : List ℕ) (fault : CaptureFault) → length s + length p < 2 ^ 64 → Resumed limit s p kept owed start → Faults limit start (kept ++ drop owed p) old new fault → Lacks limit start (kept ++ drop owed p) old new fault → FeedFault limit s p old new fault.kind fault.offset
+faults_on go stand limit s p kept owed start old new fault l w h k =
     let d = kept ++ drop owed p in
     elim (is_memory fault.kind) [
       | inl e ↦
           let q = k e in
-          let at : fault.offset ≡ place limit s + q.0 = q.1 ∙ ap (λ n. n + q.0) (sym w.at) in
+          let at : fault.offset ≡ reach limit s + q.0 = q.1 ∙ ap (λ n. n + q.0) (sym w.at) in
           memory_fault limit s p old new fault.kind fault.offset e l
-          (subst (StopsAt limit (s ++ p)) (sym at) (then_stop limit (s ++ p) (place limit s) q.0 d w.passed w.left q.2)) (
+          (subst (StopsAt limit (s ++ p)) (sym at) (then_stop go limit (s ++ p) (reach limit s) q.0 d w.passed w.left q.2)) (
             texts limit (take q.0 d),
-            ap (λ n. texts limit (take n (s ++ p))) at ∙ left_stop_texts limit (s ++ p) (place limit s) q.0 w.passed ∙ ap (λ t. t ++ texts limit (take q.0 (drop (place limit s) (s ++ p)))) (resume_texts limit s p)
+            ap (λ n. texts limit (take n (s ++ p))) at ∙ left_stop_texts go limit (s ++ p) (reach limit s) q.0 w.passed ∙ ap (λ t. t ++ texts limit (take q.0 (drop (reach limit s) (s ++ p)))) (resume_texts go limit s p)
                 ∙ ap (λ x. texts limit s ++ texts limit (take q.0 x)) (sym w.left),
             q.3,
           )
       | inr e ↦
           let q = h e in
           let f : first_fault limit (s ++ p) ≡ Some fault =
-          left_fault limit (s ++ p) (place limit s) w.passed ∙ ap (λ x. raised (place limit s) (first_fault limit x)) (sym w.left) ∙ ap (λ n. raised n (first_fault limit d)) w.at ∙ q.1 in
-          feed_fault limit s p old new fault.kind fault.offset q.0 (fault_kinds limit (s ++ p) fault f) l f (texts limit d, gained limit s p kept owed start w, q.2)
+          left_fault go limit (s ++ p) (reach limit s) w.passed ∙ ap (λ x. raised (reach limit s) (first_fault limit x)) (sym w.left) ∙ ap (λ n. raised n (first_fault limit d)) w.at ∙ q.1 in
+          feed_fault limit s p old new fault.kind fault.offset q.0 (stand limit (s ++ p) fault f).2 l f (texts limit d, gained go limit s p kept owed start w, q.2)
     ]
 
 -- what a string resumes at makes a reader
-pub resumes_reader : (limit accepted : ℕ) (c kept : List ℕ) (owed : ℕ) → 16 ≤ limit → length c ≤ accepted → Resumes (first_fault limit c) c kept owed → IsReader (record { limit = limit; accepted = accepted; kept = kept; owed = owed; failed = None })
-resumes_reader limit accepted c kept owed h l r =
-    elim (stops limit 0 c) [
+pub resumes_reader : CapturesGoByFrames → FramesStandAlone → (limit accepted : ℕ) (c kept : List ℕ) (owed : ℕ) → 16 ≤ limit → length c ≤ accepted → Resumes (first_fault limit c) c kept owed → IsReader (record { limit = limit; accepted = accepted; kept = kept; owed = owed; failed = None })
+resumes_reader go alone limit accepted c kept owed h l r =
+    elim (judged (first_fault limit c)) [
       | inl w ↦
-          let q = subst (λ f. Resumes f c kept owed) w.fault_is r in
+          let q = subst (λ f. Resumes f c kept owed) w r in
           let z = ap length q.0 in
           record {
             limit = h;
@@ -162,13 +176,13 @@ resumes_reader limit accepted c kept owed h l r =
             failed = tt;
           }
       | inr w ↦
-          let q = subst (λ f. Resumes f c kept owed) w.1.fault_is r in
-          let z = ap length q.1 ∙ length-drop (place limit c) c in
-          let cut : first_frame limit kept ≡ Err Cut = ap (first_frame limit) q.1 ∙ w.1.first_frame_is ∙ ap (λ k. Err k) q.0 in
+          let q = subst (λ f. Resumes f c kept owed) w.1 r in
+          let z = ap length q.1 ∙ length-drop w.0.offset c in
+          let cut : first_frame limit kept ≡ Err Cut = ap (first_frame limit) q.1 ∙ go.fault_there limit c w.0 w.1 ∙ ap (λ k. Err k) q.0 in
           record {
             limit = h;
             cut = cut;
-            small = elim (cut_cases limit kept cut) [ inl a ↦ omega arith | inr a ↦ omega (arith, a.short, a.high) ];
+            small = elim (alone.cut limit kept cut) [ inl a ↦ omega arith | inr a ↦ omega (arith, a.short, a.high) ];
             inside = omega (arith, z);
             owed = inl q.2;
             padding = omega (arith, q.2);
@@ -186,12 +200,13 @@ pub failed_reader : (limit accepted offset : ℕ) → 16 ≤ limit → IsReader 
 failed_reader limit accepted offset h = record { limit = h; cut = cut_nil limit; small = omega arith; inside = omega arith; owed = inl refl; padding = omega arith; failed = refl }
 
 -- no frame is cut where no bytes of it are there
-pub nothing_cut : (limit : ℕ) (s : List ℕ) (owed : ℕ) → Resumes (first_fault limit s) s [] owed → first_fault limit s ≡ None
-nothing_cut limit s owed r =
-    elim (stops limit 0 s) [
-      | inl w ↦ w.fault_is
+pub nothing_cut : FaultsStand → (limit : ℕ) (s : List ℕ) (owed : ℕ) → Resumes (first_fault limit s) s [] owed → first_fault limit s ≡ None
+nothing_cut stand limit s owed r =
+    elim (judged (first_fault limit s)) [
+      | inl w ↦ w
       | inr w ↦
-          let q = subst (λ f. Resumes f s [] owed) w.1.fault_is r in
-          let z = ap length q.1 ∙ length-drop (place limit s) s in
-          absurd (omega (arith, z, w.1.inside))
+          let q = subst (λ f. Resumes f s [] owed) w.1 r in
+          let z = ap length q.1 ∙ length-drop w.0.offset s in
+          let inside : w.0.offset < length s = (stand limit s w.0 w.1).0 in
+          absurd (omega (arith, z, inside))
     ]

@@ -5,6 +5,7 @@ ghost use Rattle.link_capture_grammar.specs.Captures.{first_fault, texts, StopsA
 
 use link_capture_frames::push_frame;
 use link_capture_grammar::fault::{CaptureFault, FaultKind};
+use link_capture_grammar::laws::captures_go_by_frames;
 use netlink_packet_core::nla_align;
 use std::alloc::Global;
 
@@ -28,6 +29,7 @@ pub(crate) fn push_frames(
         (λ fault. fault.kind ≡ FaultKind.Memory → StopsAt limit bytes.now fault.offset
         × (out.new.items ≡ out.old.items ++ texts limit (take fault.offset bytes.now))) }
 {
+    captures_go_by_frames();
     let mut at = 0usize;
     while at < bytes.len() {
         match push_frame(alloc, &bytes[at..], limit, out) {

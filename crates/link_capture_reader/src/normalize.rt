@@ -8,8 +8,8 @@ ghost use Rattle.link_capture_reader.specs.Joined.{IsJoined};
 use super::reader::CaptureReader;
 use link_capture_grammar::fault::{CaptureFault, FaultKind};
 use link_capture_grammar::laws::{
-    joined_captures_are_legal, joined_captures_have_joined_texts, texts_are_legal,
-    texts_are_normal, texts_are_small, texts_mean_the_same,
+    faults_stand_at_frames, joined_captures_are_legal, joined_captures_have_joined_texts,
+    texts_are_legal, texts_are_normal, texts_are_small, texts_mean_the_same,
 };
 use std::alloc::Global;
 
@@ -51,6 +51,7 @@ pub fn normalize_bytes(
     ensures joined { IsLegal limit bytes.now → length bytes.now % 4 ≡ 0
         → IsJoined limit bytes.now }
 {
+    faults_stand_at_frames();
     texts_are_legal();
     texts_are_normal();
     texts_mean_the_same();

@@ -10,6 +10,9 @@ ghost use Rattle.link_capture_reader.specs.Walks.{Goes, Faults, Lacks};
 use super::frames::push_frames;
 use link_capture_frames::push_frame;
 use link_capture_grammar::fault::{CaptureFault, FaultKind};
+use link_capture_grammar::laws::{
+    captures_go_by_frames, faults_stand_at_frames, frames_stand_alone,
+};
 use netlink_packet_core::{NETLINK_HEADER_LEN, NetlinkBuffer, nla_align};
 use netlink_packet_core_grammar::laws::numbers_stand_alone;
 use std::alloc::{AllocError, Global};
@@ -52,6 +55,7 @@ fn complete_frame(kept: &mut Vec<u8>, piece: &[u8], limit: u32) -> Result<usize,
     ensures exact { OnOk result (length kept.new.items ≤ max 16 (frame_length kept.new.items)) }
 {
     numbers_stand_alone();
+    frames_stand_alone();
     let header = fill(kept, piece, NETLINK_HEADER_LEN)?;
     if kept.len() < NETLINK_HEADER_LEN {
         return Ok(header);
@@ -84,6 +88,7 @@ fn read_frames(
     ensures memory { IfErr result
         (λ fault. Lacks limit start bytes.now out.old.items out.new.items fault) }
 {
+    captures_go_by_frames();
     match push_frames(alloc, bytes, limit, out) {
         Ok(()) => Ok(padding(bytes.len())),
         Err(fault) => match fault.kind {
@@ -122,6 +127,8 @@ fn resume_frame(
     ensures memory { IfErr result (λ fault. Lacks limit start (kept.old.items ++ bytes.now)
         out.old.items out.new.items fault) }
 {
+    frames_stand_alone();
+    captures_go_by_frames();
     if kept.is_empty() {
         return read_frames(alloc, start, kept, bytes, limit, out);
     }
@@ -186,6 +193,9 @@ pub(crate) fn accept_piece(
         → Resumes (first_fault limit s) s kept.old.items owed
         → FeedFault limit s piece.now out.old.items out.new.items fault.kind fault.offset) }
 {
+    frames_stand_alone();
+    captures_go_by_frames();
+    faults_stand_at_frames();
     if piece.len() as u64 > u64::MAX - accepted {
         return Err(CaptureFault {
             kind: FaultKind::TooLong,

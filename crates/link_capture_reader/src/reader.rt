@@ -6,6 +6,7 @@ ghost use Rattle.link_capture_reader.specs.Readers.{ReaderState, IsReader, Stand
 
 use super::pieces::accept_piece;
 use link_capture_grammar::fault::{CaptureFault, FaultKind};
+use link_capture_grammar::laws::faults_stand_at_frames;
 use std::alloc::Global;
 use std::marker::Model;
 
@@ -121,6 +122,7 @@ impl CaptureReader {
         ensures again { IfSome self.failed (λ offset.
             result ≡ Err (record { kind = FaultKind.Failed; offset = offset })) }
     {
+        faults_stand_at_frames();
         if let Some(offset) = self.failed {
             return Err(CaptureFault {
                 kind: FaultKind::Failed,

@@ -35,7 +35,7 @@ returns-in_err-written g c =
       failed_write _ _ _ c.args.limit (s ++ piece) (texts c.args.limit s) c.as_slice.result.now c.pieces.written z.2.0 c.in_err-written.field-0.0
           (z.1 ∙ ap risen i.sink_failures)
           (subst (λ x. IsPrefix (texts c.args.limit s ++ x) (texts c.args.limit (s ++ piece))) (sym c.as_slice.ensures.value)
-          (fed_front c.args.limit c.pieces.reader c.feed-fed.new.self s piece c.pieces.out.items c.feed-fed.new.out.items c.feed-fed.result came.limit_is i.empty came.stands c.feed-fed.ensures.ok c.feed-fed.ensures.fault))
+          (fed_front c.texts_of_a_prefix_stay.ensures c.args.limit c.pieces.reader c.feed-fed.new.self s piece c.pieces.out.items c.feed-fed.new.out.items c.feed-fed.result came.limit_is i.empty came.stands c.feed-fed.ensures.ok c.feed-fed.ensures.fault))
           z.2.1 came.count z.0 z.2.2,
     )
 

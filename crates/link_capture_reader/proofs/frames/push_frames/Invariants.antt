@@ -1,7 +1,7 @@
 -- the frames before `at` are legal, and their texts are written
 use Rattle.std.proofs.Common.{◌≡◌, ◌++◌, ◌-◌, length, take}
 use Rattle.link_capture_grammar.specs.Captures.{texts}
-use Rattle.link_capture_grammar.proofs.Frames.{Passed}
+use Rattle.link_capture_reader.specs.Walks.{Passed}
 use Rattle.link_capture_reader.proofs.frames.push_frames.Given as goal
 
 abbrev pub invariant-loop-at : goal.invariant-loop-at

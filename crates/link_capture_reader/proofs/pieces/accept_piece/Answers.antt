@@ -12,8 +12,8 @@ pub returns-then-piece-owed-clause-ok : goal.returns-then-piece-owed-clause-ok
 returns-then-piece-owed-clause-ok c = λ s a r.
     let limit = c.args.limit in
     let piece = c.args.piece.now in (
-      padding_resumes limit s piece c.args.kept.now.items c.args.owed (omega arith) r,
-      ([], padding_texts limit s piece c.args.kept.now.items c.args.owed (omega arith) r ∙ sym (append-nil (texts limit s)), sym (append-nil c.args.out.now.items)),
+      padding_resumes c.captures_go_by_frames.ensures limit s piece c.args.kept.now.items c.args.owed (omega arith) r,
+      ([], padding_texts c.captures_go_by_frames.ensures limit s piece c.args.kept.now.items c.args.owed (omega arith) r ∙ sym (append-nil (texts limit s)), sym (append-nil c.args.out.now.items)),
     )
 
 pub returns-clause-reader : goal.returns-clause-reader
@@ -27,7 +27,7 @@ returns-clause-reader c =
     IfOk-weaker c.resume_frame.result
     (λ then. Goes limit (kept ++ more) c.args.out.now.items c.resume_frame.new.out.items c.resume_frame.new.kept.items then)
     (λ then. IsReader (record { limit = limit; accepted = c.args.accepted + length piece; kept = c.resume_frame.new.kept.items; owed = then; failed = None }))
-    (λ then h. resumes_reader limit (c.args.accepted + length piece) (kept ++ more) c.resume_frame.new.kept.items then c.requires.reader.limit n h.0)
+    (λ then h. resumes_reader c.captures_go_by_frames.ensures c.frames_stand_alone.ensures limit (c.args.accepted + length piece) (kept ++ more) c.resume_frame.new.kept.items then c.requires.reader.limit n h.0)
     c.resume_frame.ensures.ok
 
 pub returns-clause-ok : goal.returns-clause-ok
@@ -40,8 +40,8 @@ returns-clause-ok c =
     (λ then. Goes limit (kept ++ drop c.args.owed piece) c.args.out.now.items c.resume_frame.new.out.items c.resume_frame.new.kept.items then)
     (λ then. (s : List ℕ) → c.args.accepted ≡ length s → Resumes (first_fault limit s) s kept c.args.owed
     → Resumes (first_fault limit (s ++ piece)) (s ++ piece) c.resume_frame.new.kept.items then × Gains limit s (s ++ piece) c.args.out.now.items c.resume_frame.new.out.items)
-    (λ then h s a r. goes_on limit s piece kept c.args.owed (c.args.accepted + c.args.owed - length kept) _ _ c.resume_frame.new.kept.items then
-    (resumed limit s piece kept c.args.owed _ (omega arith) r (omega (arith, c.requires.reader.inside))) h)
+    (λ then h s a r. goes_on c.captures_go_by_frames.ensures limit s piece kept c.args.owed (c.args.accepted + c.args.owed - length kept) _ _ c.resume_frame.new.kept.items then
+    (resumed c.captures_go_by_frames.ensures c.faults_stand_at_frames.ensures limit s piece kept c.args.owed _ (omega arith) r (omega (arith, c.requires.reader.inside))) h)
     (subst (λ x. IfOk c.resume_frame.result (λ then. Goes limit (kept ++ x) c.args.out.now.items c.resume_frame.new.out.items c.resume_frame.new.kept.items then)) e c.resume_frame.ensures.ok)
 
 pub returns-clause-fault : goal.returns-clause-fault
@@ -56,7 +56,7 @@ returns-clause-fault c =
     (λ fault. Faults limit start (kept ++ drop c.args.owed piece) c.args.out.now.items c.resume_frame.new.out.items fault)
     (λ fault. Lacks limit start (kept ++ drop c.args.owed piece) c.args.out.now.items c.resume_frame.new.out.items fault)
     (λ fault. (s : List ℕ) → c.args.accepted ≡ length s → Resumes (first_fault limit s) s kept c.args.owed → FeedFault limit s piece c.args.out.now.items c.resume_frame.new.out.items fault.kind fault.offset)
-    (λ fault h k s a r. faults_on limit s piece kept c.args.owed start _ _ fault (subst (λ n. n + length piece < 2 ^ 64) a fits)
-    (resumed limit s piece kept c.args.owed start (omega arith) r (omega (arith, c.requires.reader.inside))) h k)
+    (λ fault h k s a r. faults_on c.captures_go_by_frames.ensures c.faults_stand_at_frames.ensures limit s piece kept c.args.owed start _ _ fault (subst (λ n. n + length piece < 2 ^ 64) a fits)
+    (resumed c.captures_go_by_frames.ensures c.faults_stand_at_frames.ensures limit s piece kept c.args.owed start (omega arith) r (omega (arith, c.requires.reader.inside))) h k)
     (subst (λ x. IfErr c.resume_frame.result (λ fault. Faults limit start (kept ++ x) c.args.out.now.items c.resume_frame.new.out.items fault)) e c.resume_frame.ensures.fault)
     (subst (λ x. IfErr c.resume_frame.result (λ fault. Lacks limit start (kept ++ x) c.args.out.now.items c.resume_frame.new.out.items fault)) e c.resume_frame.ensures.memory)

@@ -1,7 +1,7 @@
 -- no memory for the cut frame's bytes: what stands before it is written
 use Rattle.std.proofs.Common.{◌≢◌, ◌++◌, refl, sym, ap, ◌∙◌}
 use Rattle.link_capture_grammar.specs.declared.fault.FaultKind.TheVariants.{Memory}
-use Rattle.link_capture_grammar.proofs.Frames.{before_fault}
+use Rattle.link_capture_reader.proofs.Passing.{before_fault}
 use Rattle.link_capture_reader.proofs.pieces.read_frames.Goals as goal
 
 pub returns-in-Err-extend_from_slice-clause-memory : goal.returns-in-Err-extend_from_slice-clause-memory
@@ -9,7 +9,7 @@ returns-in-Err-extend_from_slice-clause-memory c = λ _.
     let cut = c.in-Cut.is in
     let other : c.in-Err.fault.kind ≢ Memory = λ e. cc in
     let claimed = c.in-Err.ensures.fault other in
-    let b = before_fault c.args.limit c.args.bytes.now c.in-Err.fault claimed.0 in (
+    let b = before_fault c.captures_go_by_frames.ensures c.args.limit c.args.bytes.now c.in-Err.fault claimed.0 in (
       c.in-Err.fault.offset,
       refl,
       record { inside = c.in-Err.ensures.place.0; start = c.in-Err.ensures.place.1; legal = b.0 },

@@ -5,10 +5,8 @@ use Rattle.std.proofs.lemmas.Result.{IfOk-weaker, IfErr-weaker}
 use Rattle.link_capture_grammar.specs.declared.fault.FaultKind.TheVariants.{Cut, Memory}
 use Rattle.netlink_packet_core_grammar.specs.Attributes.{nla_align}
 use Rattle.link_capture_grammar.specs.Captures.{first_frame, first_fault}
-use Rattle.link_capture_grammar.proofs.Frames.{first_frame-more}
 use Rattle.link_capture_reader.proofs.CutFrames.{completed, whole}
 use Rattle.link_capture_reader.proofs.Passing.{passed_one, only_one_fault, only_one_texts, then_goes, then_faults, then_lacks, stop_zero, no_texts, cut_resumes, start_fault, start_texts}
-use Rattle.link_capture_grammar.proofs.Frames.{one_text}
 use Rattle.link_capture_reader.specs.Readers.{Resumes}
 use Rattle.link_capture_reader.specs.Walks.{Goes, Faults, Lacks}
 use Rattle.link_capture_reader.proofs.pieces.resume_frame.Goals as goal
@@ -23,13 +21,13 @@ returns-then-left-owed-clause-ok c =
     let bytes = c.args.bytes.now in
     let ok = c.in-Ok-push_frame.ensures.ok in
     let fr = ap (first_frame c.args.limit) (sym c.as_slice.ensures.value) ∙ ok.1 in
-    let d = completed c.args.limit old bytes c.complete_frame.new.kept.items c.in-Ok.moved c.in-Ok-push_frame.size ok.0 c.in-Ok.ensures.moved c.in-Ok.ensures.within c.in-Ok.ensures.exact fr in
+    let d = completed c.frames_stand_alone.ensures c.args.limit old bytes c.complete_frame.new.kept.items c.in-Ok.moved c.in-Ok-push_frame.size ok.0 c.in-Ok.ensures.moved c.in-Ok.ensures.within c.in-Ok.ensures.exact fr in
     let pad = c.padding-owed.ensures in
     let le : length (old ++ bytes) ≤ nla_align c.in-Ok-push_frame.size = omega (arith, d.total) in (
       subst (λ f. Resumes f (old ++ bytes) c.clear.new.self.items (c.padding-owed.result - (length bytes - c.in-Ok.moved)))
-          (sym (only_one_fault c.args.limit (old ++ bytes) (c.in-Ok-push_frame.size, ok.0) d.front_is le))
+          (sym (only_one_fault c.captures_go_by_frames.ensures c.args.limit (old ++ bytes) (c.in-Ok-push_frame.size, ok.0) d.front_is le))
           (c.clear.ensures.items, omega (arith, d.total)),
-      ok.2 ∙ ap (λ t. c.args.out.now.items ++ t) (sym (only_one_texts c.args.limit (old ++ bytes) (c.in-Ok-push_frame.size, ok.0) d.front_is le)),
+      ok.2 ∙ ap (λ t. c.args.out.now.items ++ t) (sym (only_one_texts c.captures_go_by_frames.ensures c.args.limit (old ++ bytes) (c.in-Ok-push_frame.size, ok.0) d.front_is le)),
     )
 
 pub returns-else-left-owed-clause-ok : goal.returns-else-left-owed-clause-ok
@@ -38,15 +36,15 @@ returns-else-left-owed-clause-ok c =
     let bytes = c.args.bytes.now in
     let ok = c.in-Ok-push_frame.ensures.ok in
     let fr = ap (first_frame c.args.limit) (sym c.as_slice.ensures.value) ∙ ok.1 in
-    let d = completed c.args.limit old bytes c.complete_frame.new.kept.items c.in-Ok.moved c.in-Ok-push_frame.size ok.0 c.in-Ok.ensures.moved c.in-Ok.ensures.within c.in-Ok.ensures.exact fr in
+    let d = completed c.frames_stand_alone.ensures c.args.limit old bytes c.complete_frame.new.kept.items c.in-Ok.moved c.in-Ok-push_frame.size ok.0 c.in-Ok.ensures.moved c.in-Ok.ensures.within c.in-Ok.ensures.exact fr in
     let pad = c.padding-owed.ensures in
-    let w = passed_one c.args.limit (old ++ bytes) (c.in-Ok-push_frame.size, ok.0) d.front_is (omega (arith, d.total)) in
+    let w = passed_one c.captures_go_by_frames.ensures c.args.limit (old ++ bytes) (c.in-Ok-push_frame.size, ok.0) d.front_is (omega (arith, d.total)) in
     let left = take_rest bytes (c.in-Ok.moved + c.padding-owed.result) ∙ ap (λ n. drop (c.in-Ok.moved + n) bytes) pad ∙ sym d.left in
-    let one = one_text c.args.limit (old ++ bytes) (c.in-Ok-push_frame.size, ok.0) d.front_is in
+    let one = c.captures_go_by_frames.ensures.one_text c.args.limit (old ++ bytes) (c.in-Ok-push_frame.size, ok.0) d.front_is in
     IfOk-weaker c.read_frames-in-Ok-push_frame.result
     (λ owed. Goes c.args.limit _ c.push_frame.new.out.items c.read_frames-in-Ok-push_frame.new.out.items c.read_frames-in-Ok-push_frame.new.kept.items owed)
     (λ owed. Goes c.args.limit (old ++ bytes) c.args.out.now.items c.read_frames-in-Ok-push_frame.new.out.items c.read_frames-in-Ok-push_frame.new.kept.items owed)
-    (λ owed. then_goes c.args.limit (old ++ bytes) (nla_align c.in-Ok-push_frame.size) _ ok.0 c.args.out.now.items _ _ _ owed w left one ok.2)
+    (λ owed. then_goes c.captures_go_by_frames.ensures c.args.limit (old ++ bytes) (nla_align c.in-Ok-push_frame.size) _ ok.0 c.args.out.now.items _ _ _ owed w left one ok.2)
     c.read_frames-in-Ok-push_frame.ensures.ok
 
 pub returns-else-left-owed-clause-fault : goal.returns-else-left-owed-clause-fault
@@ -55,15 +53,15 @@ returns-else-left-owed-clause-fault c =
     let bytes = c.args.bytes.now in
     let ok = c.in-Ok-push_frame.ensures.ok in
     let fr = ap (first_frame c.args.limit) (sym c.as_slice.ensures.value) ∙ ok.1 in
-    let d = completed c.args.limit old bytes c.complete_frame.new.kept.items c.in-Ok.moved c.in-Ok-push_frame.size ok.0 c.in-Ok.ensures.moved c.in-Ok.ensures.within c.in-Ok.ensures.exact fr in
+    let d = completed c.frames_stand_alone.ensures c.args.limit old bytes c.complete_frame.new.kept.items c.in-Ok.moved c.in-Ok-push_frame.size ok.0 c.in-Ok.ensures.moved c.in-Ok.ensures.within c.in-Ok.ensures.exact fr in
     let pad = c.padding-owed.ensures in
-    let w = passed_one c.args.limit (old ++ bytes) (c.in-Ok-push_frame.size, ok.0) d.front_is (omega (arith, d.total)) in
+    let w = passed_one c.captures_go_by_frames.ensures c.args.limit (old ++ bytes) (c.in-Ok-push_frame.size, ok.0) d.front_is (omega (arith, d.total)) in
     let left = take_rest bytes (c.in-Ok.moved + c.padding-owed.result) ∙ ap (λ n. drop (c.in-Ok.moved + n) bytes) pad ∙ sym d.left in
-    let one = one_text c.args.limit (old ++ bytes) (c.in-Ok-push_frame.size, ok.0) d.front_is in
+    let one = c.captures_go_by_frames.ensures.one_text c.args.limit (old ++ bytes) (c.in-Ok-push_frame.size, ok.0) d.front_is in
     IfErr-weaker c.read_frames-in-Ok-push_frame.result
     (λ fault. Faults c.args.limit _ _ c.push_frame.new.out.items c.read_frames-in-Ok-push_frame.new.out.items fault)
     (λ fault. Faults c.args.limit c.args.start (old ++ bytes) c.args.out.now.items c.read_frames-in-Ok-push_frame.new.out.items fault)
-    (λ fault. then_faults c.args.limit (old ++ bytes) (nla_align c.in-Ok-push_frame.size) c.args.start _ _ ok.0 c.args.out.now.items _ _ fault w left (omega arith) one ok.2)
+    (λ fault. then_faults c.captures_go_by_frames.ensures c.args.limit (old ++ bytes) (nla_align c.in-Ok-push_frame.size) c.args.start _ _ ok.0 c.args.out.now.items _ _ fault w left (omega arith) one ok.2)
     c.read_frames-in-Ok-push_frame.ensures.fault
 
 pub returns-else-left-owed-clause-memory : goal.returns-else-left-owed-clause-memory
@@ -72,15 +70,15 @@ returns-else-left-owed-clause-memory c =
     let bytes = c.args.bytes.now in
     let ok = c.in-Ok-push_frame.ensures.ok in
     let fr = ap (first_frame c.args.limit) (sym c.as_slice.ensures.value) ∙ ok.1 in
-    let d = completed c.args.limit old bytes c.complete_frame.new.kept.items c.in-Ok.moved c.in-Ok-push_frame.size ok.0 c.in-Ok.ensures.moved c.in-Ok.ensures.within c.in-Ok.ensures.exact fr in
+    let d = completed c.frames_stand_alone.ensures c.args.limit old bytes c.complete_frame.new.kept.items c.in-Ok.moved c.in-Ok-push_frame.size ok.0 c.in-Ok.ensures.moved c.in-Ok.ensures.within c.in-Ok.ensures.exact fr in
     let pad = c.padding-owed.ensures in
-    let w = passed_one c.args.limit (old ++ bytes) (c.in-Ok-push_frame.size, ok.0) d.front_is (omega (arith, d.total)) in
+    let w = passed_one c.captures_go_by_frames.ensures c.args.limit (old ++ bytes) (c.in-Ok-push_frame.size, ok.0) d.front_is (omega (arith, d.total)) in
     let left = take_rest bytes (c.in-Ok.moved + c.padding-owed.result) ∙ ap (λ n. drop (c.in-Ok.moved + n) bytes) pad ∙ sym d.left in
-    let one = one_text c.args.limit (old ++ bytes) (c.in-Ok-push_frame.size, ok.0) d.front_is in
+    let one = c.captures_go_by_frames.ensures.one_text c.args.limit (old ++ bytes) (c.in-Ok-push_frame.size, ok.0) d.front_is in
     IfErr-weaker c.read_frames-in-Ok-push_frame.result
     (λ fault. Lacks c.args.limit _ _ c.push_frame.new.out.items c.read_frames-in-Ok-push_frame.new.out.items fault)
     (λ fault. Lacks c.args.limit c.args.start (old ++ bytes) c.args.out.now.items c.read_frames-in-Ok-push_frame.new.out.items fault)
-    (λ fault. then_lacks c.args.limit (old ++ bytes) (nla_align c.in-Ok-push_frame.size) c.args.start _ _ ok.0 c.args.out.now.items _ _ fault w left (omega arith) one ok.2)
+    (λ fault. then_lacks c.captures_go_by_frames.ensures c.args.limit (old ++ bytes) (nla_align c.in-Ok-push_frame.size) c.args.start _ _ ok.0 c.args.out.now.items _ _ fault w left (omega arith) one ok.2)
     c.read_frames-in-Ok-push_frame.ensures.memory
 
 pub returns-in-Cut-clause-ok : goal.returns-in-Cut-clause-ok
@@ -94,7 +92,7 @@ returns-in-Cut-clause-ok c =
     let all : c.in-Ok.moved ≡ length bytes = elim c.in-Ok.ensures.judged [ inl a ↦ a | inr a ↦ absurd (a fr) ] in
     let same : new ≡ old ++ bytes = c.in-Ok.ensures.moved ∙ ap (λ x. old ++ x) (take_all c.in-Ok.moved bytes (omega arith)) in
     let some : 0 < length new = omega (arith, ap length same, length-append old bytes) in
-    (subst (λ d. Resumes (first_fault c.args.limit d) d new 0) same (cut_resumes c.args.limit new some fr), c.in-Err.ensures.err ∙ start_texts c.args.limit (old ++ bytes) c.args.out.now.items Cut (ap (first_frame c.args.limit) (sym same) ∙ fr))
+    (subst (λ d. Resumes (first_fault c.args.limit d) d new 0) same (cut_resumes c.captures_go_by_frames.ensures c.args.limit new some fr), c.in-Err.ensures.err ∙ start_texts c.captures_go_by_frames.ensures c.args.limit (old ++ bytes) c.args.out.now.items Cut (ap (first_frame c.args.limit) (sym same) ∙ fr))
 
 pub returns-in_default-kind : goal.returns-in_default-kind
 returns-in_default-kind c =
@@ -108,10 +106,10 @@ returns-in_default-kind c =
       fault = λ n.
           let fr : first_frame c.args.limit new ≡ Err c.in-Err.kind = ap (first_frame c.args.limit) (sym c.as_slice.ensures.value) ∙ c.in-Err.ensures.refused n in
           let not_cut : first_frame c.args.limit new ≢ Err Cut = λ e. c.in_default-kind.not-Cut (let q = sym fr ∙ e in cc) in
-          let all : first_frame c.args.limit (old ++ bytes) ≡ Err c.in-Err.kind = ap (first_frame c.args.limit) w ∙ first_frame-more c.args.limit new (drop c.in-Ok.moved bytes) not_cut ∙ fr in (
+          let all : first_frame c.args.limit (old ++ bytes) ≡ Err c.in-Err.kind = ap (first_frame c.args.limit) w ∙ c.frames_stand_alone.ensures.followed c.args.limit new (drop c.in-Ok.moved bytes) not_cut ∙ fr in (
             c.in_default-kind.not-Cut,
-            start_fault c.args.limit c.args.start (old ++ bytes) c.in-Err.kind some all,
-            c.in-Err.ensures.err ∙ start_texts c.args.limit (old ++ bytes) c.args.out.now.items c.in-Err.kind all,
+            start_fault c.captures_go_by_frames.ensures c.args.limit c.args.start (old ++ bytes) c.in-Err.kind some all,
+            c.in-Err.ensures.err ∙ start_texts c.captures_go_by_frames.ensures c.args.limit (old ++ bytes) c.args.out.now.items c.in-Err.kind all,
           );
       memory = λ _. (0, omega arith, stop_zero _ _ some, c.in-Err.ensures.err ∙ no_texts c.args.limit c.args.out.now.items);
     }

@@ -54,12 +54,12 @@ fn complete_frame(kept: &mut Vec<u8>, piece: &[u8], limit: u32) -> Result<usize,
         (λ n. (n ≡ length piece.now) ⊎ (first_frame limit kept.new.items ≢ Err FaultKind.Cut)) }
     ensures exact { OnOk result (length kept.new.items ≤ max 16 (frame_length kept.new.items)) }
 {
-    numbers_stand_alone();
-    frames_stand_alone();
     let header = fill(kept, piece, NETLINK_HEADER_LEN)?;
     if kept.len() < NETLINK_HEADER_LEN {
         return Ok(header);
     }
+    numbers_stand_alone();
+    frames_stand_alone();
     let claimed = claimed_length(kept.as_slice());
     if claimed > limit {
         return Ok(header);
@@ -127,11 +127,11 @@ fn resume_frame(
     ensures memory { IfErr result (λ fault. Lacks limit start (kept.old.items ++ bytes.now)
         out.old.items out.new.items fault) }
 {
-    frames_stand_alone();
-    captures_go_by_frames();
     if kept.is_empty() {
         return read_frames(alloc, start, kept, bytes, limit, out);
     }
+    frames_stand_alone();
+    captures_go_by_frames();
     let Ok(moved) = complete_frame(kept, bytes, limit) else {
         return Err(CaptureFault {
             kind: FaultKind::Memory,
@@ -193,15 +193,15 @@ pub(crate) fn accept_piece(
         → Resumes (first_fault limit s) s kept.old.items owed
         → FeedFault limit s piece.now out.old.items out.new.items fault.kind fault.offset) }
 {
-    frames_stand_alone();
-    captures_go_by_frames();
-    faults_stand_at_frames();
     if piece.len() as u64 > u64::MAX - accepted {
         return Err(CaptureFault {
             kind: FaultKind::TooLong,
             offset: accepted,
         });
     }
+    frames_stand_alone();
+    captures_go_by_frames();
+    faults_stand_at_frames();
     if piece.len() <= owed {
         return Ok(owed - piece.len());
     }

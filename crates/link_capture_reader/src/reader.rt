@@ -122,13 +122,13 @@ impl CaptureReader {
         ensures again { IfSome self.failed (λ offset.
             result ≡ Err (record { kind = FaultKind.Failed; offset = offset })) }
     {
-        faults_stand_at_frames();
         if let Some(offset) = self.failed {
             return Err(CaptureFault {
                 kind: FaultKind::Failed,
                 offset,
             });
         }
+        faults_stand_at_frames();
         if self.kept.is_empty() {
             return Ok(());
         }

@@ -6,4 +6,6 @@ pub use link_message_grammar::laws::{
     canonical_texts_are_read_again, empty_ports_are_told, info_is_a_list_inside,
     kinds_are_looked_up, kinds_rise, link_peers_are_lawful, old_bodies_are_renewed,
 };
-pub use link_message_types::laws::{layer_types_are_named, masks_are_kept, numbers_are_kept};
+pub use link_message_types::laws::{
+    headers_are_sixteen_bytes, layer_types_are_named, masks_are_kept, numbers_are_kept,
+};

@@ -1,6 +1,6 @@
 //! Facts of the definitions. No function here makes a call.
 
-ghost use Rattle.link_message_types.specs.Laws.{NumbersAreKept, MasksAreKept, LayerTypesAreNamed};
+ghost use Rattle.link_message_types.specs.Laws.{NumbersAreKept, MasksAreKept, LayerTypesAreNamed, HeadersAreSixteenBytes};
 
 /// From number to value to number is the identity, of address families and of each number type.
 pub fn numbers_are_kept()
@@ -15,4 +15,9 @@ pub fn masks_are_kept()
 /// From a layer type to its number and back is the identity.
 pub fn layer_types_are_named()
     ensures { LayerTypesAreNamed }
+{}
+
+/// A header is written as 16 bytes.
+pub fn headers_are_sixteen_bytes()
+    ensures { HeadersAreSixteenBytes }
 {}

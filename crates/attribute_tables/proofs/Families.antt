@@ -1,19 +1,19 @@
 -- The rule of a family's list is the rule of its rows, and what holds no attributes fits.
 use Rattle.std.proofs.Common.{◌≡◌, ℕ, List, true}
+use Rattle.attribute_tables_grammar.specs.Laws.{RowsAreLookedUp, RowsWithoutListsFit}
 use Rattle.attribute_tables_grammar.specs.Lists.{any}
 use Rattle.attribute_tables_grammar.specs.LookUps.{list_of, rows_rule, table_row, holds_no_lists}
 use Rattle.attribute_tables_grammar.specs.Peers.{bytes_peer}
 use Rattle.attribute_tables_grammar.specs.Tables.{Table}
-use Rattle.attribute_tables_grammar.proofs.LookUps.{list-rows, fits-without_lists}
 use Rattle.attribute_tables.proofs.Beginnings.{family-begins}
 
-pub family-list : (t : Table) → list_of bytes_peer any t ≡ rows_rule any (table_row bytes_peer t)
-family-list t = list-rows bytes_peer any t
+pub family-list : RowsAreLookedUp → (t : Table) → list_of bytes_peer any t ≡ rows_rule any (table_row bytes_peer t)
+family-list law t = law.named bytes_peer any t
 
 pub ruleset family_lists = (family-list, family-begins)
 
 -- what an attribute of a table without lists holds fits
-pub family-fits : (t : Table) → holds_no_lists t ≡ true → (k : ℕ) (bytes : List ℕ) → (table_row bytes_peer t k).rule.fits bytes ≡ true
-family-fits t h k bytes = fits-without_lists bytes_peer t k bytes h
+pub family-fits : RowsWithoutListsFit → (t : Table) → holds_no_lists t ≡ true → (k : ℕ) (bytes : List ℕ) → (table_row bytes_peer t k).rule.fits bytes ≡ true
+family-fits law t h k bytes = law bytes_peer t h k bytes
 
 pub ruleset families = (family-fits)

@@ -10,8 +10,7 @@ use Rattle.attribute_tables_grammar.specs.LookUps.{list_of, table_row, holds_no_
 use Rattle.attribute_tables_grammar.specs.Peers.{bytes_peer}
 use Rattle.attribute_tables_grammar.specs.Readings.{Written, all_written_fit}
 use Rattle.attribute_tables_grammar.specs.Tables.{Table}
-use Rattle.attribute_tables_grammar.specs.Laws.{ReadingsTellRules, FirstAloneIsRead, RowsAreLookedUp}
-use Rattle.attribute_tables.proofs.Families.{family-fits}
+use Rattle.attribute_tables_grammar.specs.Laws.{ReadingsTellRules, FirstAloneIsRead, RowsAreLookedUp, RowsWithoutListsFit}
 
 pub record First (t : Table) (b : List ℕ) (e : Attribute) : Type 0 where
   pub accepted : (list_of bytes_peer first_alone t).accepted b ≡ true
@@ -30,12 +29,12 @@ one_text : (e : Attribute) → list_text (e ∷ []) ≡ attribute_text e
 unfolding list_text
 one_text e = append-nil (attribute_text e)
 
-module _ (alone : FirstAloneIsRead) (tell : ReadingsTellRules) (rows : RowsAreLookedUp) where
+module _ (alone : FirstAloneIsRead) (tell : ReadingsTellRules) (rows : RowsAreLookedUp) (fitting : RowsWithoutListsFit) where
   pub first_of : (t : Table) (b : List ℕ) (e : Attribute) → holds_no_lists t ≡ true → IsAttribute b → accepts t b ≡ true → Gives t b e → First t b e
   first_of t b e plain h a is =
       let f = table_row bytes_peer t in
       let w : Written = record { entry = e; inside_fits = true } in
-      let wrote : w ≡ record { entry = e; inside_fits = (f (proper_kind (viewed_attribute b).kind)).rule.fits (viewed_attribute b).payload } = λ i. record { entry = e; inside_fits = sym (family-fits t plain (proper_kind (viewed_attribute b).kind) (viewed_attribute b).payload) i } in
+      let wrote : w ≡ record { entry = e; inside_fits = (f (proper_kind (viewed_attribute b).kind)).rule.fits (viewed_attribute b).payload } = λ i. record { entry = e; inside_fits = sym (fitting bytes_peer t plain (proper_kind (viewed_attribute b).kind) (viewed_attribute b).payload) i } in
       let r = alone.read (without_context f) b w h a (wrote ∙ ap (λ x. record { entry = x; inside_fits = (f (proper_kind (viewed_attribute b).kind)).rule.fits (viewed_attribute b).payload }) is) in
       let t' = tell.tells_rows first_alone f b (w ∷ []) r in
       let rule_is = rows.named bytes_peer first_alone t in

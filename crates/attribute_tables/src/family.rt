@@ -17,6 +17,7 @@ ghost use Rattle.attribute_tables.specs.Written.{written_as};
 use super::reader::{Reader, parse_list};
 use attribute_tables_grammar::laws::{
     first_attributes_are_read_alone, readings_tell_rules, rows_are_looked_up,
+    rows_without_lists_fit,
 };
 use netlink_packet_core::{DecodeError, Family, NlaBuffer, read_attribute};
 use netlink_packet_core_grammar::laws::first_attributes_are_viewed;
@@ -47,6 +48,7 @@ impl<F: Family + Drop> Reader for FamilyReader<F> {
 
     #[tactic(auto, using(crate::proofs::Families::families))]
     fn read(&self, alloc: Global, buf: &NlaBuffer<&[u8]>) -> Result<F, DecodeError> {
+        rows_without_lists_fit();
         read_attribute(alloc, buf)
     }
 }
@@ -72,6 +74,7 @@ pub fn parse_family<F: Family + Drop>(alloc: Global, bytes: &[u8]) -> Result<Vec
     ensures memory { IfErr result
         (λ e. is_memory e ≡ true → begins_accepted (family_row F.rows) bytes.now ≡ true) }
 {
+    rows_are_looked_up();
     parse_list(alloc, &FamilyReader::<F>::new(), bytes)
 }
 
@@ -95,6 +98,7 @@ pub fn parse_first<F: Family + Drop>(alloc: Global, bytes: &[u8]) -> Result<F, D
     first_attributes_are_read_alone();
     readings_tell_rules();
     rows_are_looked_up();
+    rows_without_lists_fit();
     first_attributes_are_viewed();
     let buf = NlaBuffer::new_checked(bytes)?;
     let value = read_attribute(alloc, &buf)?;

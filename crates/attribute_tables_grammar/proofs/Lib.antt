@@ -6,6 +6,7 @@ pub mod Tables
 pub mod LookUps
 pub mod Renewed
 pub mod Together
+pub mod ReadAgain
 pub mod Kept
 pub mod Readings
 pub mod ReadingLaws

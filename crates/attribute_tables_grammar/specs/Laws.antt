@@ -6,7 +6,7 @@ use Rattle.attribute_tables_grammar.specs.Rules.{Rule, Lawful, Renews}
 use Rattle.attribute_tables_grammar.specs.Lists.{Grammar, Context, Row, nothing, rewrite, rewritten, row_of, without_context, ListForm, any, of_kind_one, ports, first_alone, read_as, is_kept, kept, list_rule, all_accepted, all_same, context_after, LawfulGrammar}
 use Rattle.attribute_tables_grammar.specs.Peers.{Peer, LawfulPeer, bytes_peer}
 use Rattle.attribute_tables_grammar.specs.Tables.{Payload, Payload.list, Table, Table.end, Table.row, Names, rule, named, grammar, payload_bounded, rows_bounded}
-use Rattle.attribute_tables_grammar.specs.LookUps.{list_of, row_of_line, rows_rule, table_row, only_one, payload_at, rule_or_raw}
+use Rattle.attribute_tables_grammar.specs.LookUps.{list_of, row_of_line, rows_rule, table_row, only_one, holds_no_lists, payload_at, rule_or_raw}
 use Rattle.attribute_tables_grammar.specs.Readings.{Written, written_by, reading, reading_as, SoFar, Tells}
 
 -- a canonical text is cut into the written kinds and canonical payloads of what was kept
@@ -53,6 +53,10 @@ pub record RowsAreLookedUp : Type 0 where
   pub named : (p : Peer) (form : ListForm) (t : Table) → list_of p form t ≡ rows_rule form (table_row p t)
   pub of_one : (p : Peer) (form : ListForm) (n : Bool) (s : Payload) → list_of p form (row 1 n s end) ≡ rows_rule form (only_one (row_of_line p (Some (record { is_nested = n; payload = s }))))
 
+-- what a row of a table without lists holds fits
+abbrev pub RowsWithoutListsFit : Type 0
+RowsWithoutListsFit = (p : Peer) (t : Table) → holds_no_lists t ≡ true → (k : ℕ) (bytes : List ℕ) → (table_row p t k).rule.fits bytes ≡ true
+
 -- the rule under a name is that of the payload that a look-up of the name finds, and of raw bytes where it finds none
 abbrev pub NamesAreLookedUp : Type 0
 NamesAreLookedUp = (p : Peer) (names : Names) (n : List ℕ) → named p names n ≡ rule_or_raw p (payload_at names n)
@@ -97,6 +101,11 @@ pub record PortsAreEntries : Type 0 where
   pub fits : (f : ℕ → Row) (bytes : List ℕ) → 0 < length bytes → (rows_rule ports f).fits bytes ≡ (rows_rule of_kind_one f).fits bytes
   pub read : (f : ℕ → Row) (bytes : List ℕ) → 0 < length bytes → reading_as ports (without_context f) bytes ≡ reading_as of_kind_one (without_context f) bytes
   pub empty : (f : ℕ → Row) (bytes : List ℕ) → length bytes ≡ 0 → (rows_rule ports f).accepted bytes ≡ false
+
+-- a list that is accepted and fits, and in which no ports are left empty, is read from its canonical text as from its own bytes
+abbrev pub ListsAreReadAgain : Type 0
+ListsAreReadAgain = (g : Grammar) → LawfulGrammar g → (b : List ℕ) → (list_rule any g).accepted b ≡ true → (list_rule any g).empty_ports b ≡ false → (list_rule any g).fits b ≡ true →
+    reading_as any g ((list_rule any g).canonical b) ≡ reading_as any g b
 
 -- what a list leaves in force is found by steps, and an attribute leaves in force what its canonical form does
 pub record ContextsGoBySteps : Type 0 where

@@ -4,7 +4,7 @@ ghost use Rattle.attribute_tables_grammar.specs.Laws.{CanonicalIsCut, TablesAreL
 ghost use Rattle.attribute_tables_grammar.specs.Laws.{TextsKeepMeanings, OldTextsAreRenewed, OneContext};
 ghost use Rattle.attribute_tables_grammar.specs.Laws.{TableGrammarsAreLawful, RowsAreLookedUp, NamesAreLookedUp};
 ghost use Rattle.attribute_tables_grammar.specs.Laws.{ReadingsGoBySteps, ReadingsTellRules, FirstAloneIsRead, PortsAreEntries};
-ghost use Rattle.attribute_tables_grammar.specs.Laws.{ContextsGoBySteps};
+ghost use Rattle.attribute_tables_grammar.specs.Laws.{ContextsGoBySteps, ListsAreReadAgain, RowsWithoutListsFit};
 
 /// A canonical text is cut into the kept attributes, each in its canonical form.
 pub fn canonical_texts_are_cut_again()
@@ -51,6 +51,11 @@ pub fn rows_are_looked_up()
     ensures { RowsAreLookedUp }
 {}
 
+/// What a row of a table without lists holds fits.
+pub fn rows_without_lists_fit()
+    ensures { RowsWithoutListsFit }
+{}
+
 /// The rule under a name is that of the payload that a look-up of the name finds, and that of raw
 /// bytes where it finds none.
 pub fn names_are_looked_up()
@@ -80,6 +85,12 @@ pub fn first_attributes_are_read_alone()
 /// are no list of ports.
 pub fn ports_are_entries()
     ensures { PortsAreEntries }
+{}
+
+/// A list that is accepted and fits, and in which no ports are left empty, is read from its
+/// canonical text as from its own bytes.
+pub fn lists_are_read_again()
+    ensures { ListsAreReadAgain }
 {}
 
 /// What a list leaves in force is found by steps, and an attribute leaves in force what its

@@ -1,9 +1,9 @@
 -- The laws of link info, as the functions of `laws` state them.
-use Rattle.std.specs.Prelude.{◌≡◌, ℕ, true, List, map}
+use Rattle.std.specs.Prelude.{◌≡◌, ℕ, List, map}
 use Rattle.link_info_grammar.specs.KindNames.{kind_names, port_kind_names}
 use Rattle.attribute_tables_grammar.specs.Rules.{Lawful}
-use Rattle.link_info_kinds.specs.Kinds.{info_kind_text, info_kind_is_named, listed_kind, listed_kinds, IsNamedBy}
-use Rattle.link_info_kinds.specs.PortKinds.{info_port_kind_text, info_port_kind_is_named, listed_port_kind, listed_port_kinds, IsPortNamedBy}
+use Rattle.link_info_kinds.specs.Kinds.{info_kind_text, listed_kinds, IsNamedBy}
+use Rattle.link_info_kinds.specs.PortKinds.{info_port_kind_text, listed_port_kinds, IsPortNamedBy}
 use Rattle.link_info_kinds.specs.declared.info_kind.InfoKind.{InfoKind}
 use Rattle.link_info_kinds.specs.declared.info_port_kind.InfoPortKind.{InfoPortKind}
 use Rattle.link_info_data.specs.Data.{data_rule_of_under}
@@ -24,12 +24,3 @@ PortNamesTellRules = (p : Peer) (name : List ℕ) (kind : InfoPortKind) → IsPo
 -- each listed name is the name of one variant, in the order of the names
 abbrev pub KindsAreTheNames : Type 0
 KindsAreTheNames = (map info_kind_text listed_kinds ≡ kind_names) × (map info_port_kind_text listed_port_kinds ≡ port_kind_names)
-
--- kinds with one name are one variant, or both `Other`
-abbrev pub NamesTellKinds : Type 0
-NamesTellKinds = (k m : InfoKind) → info_kind_is_named k ≡ true → info_kind_is_named m ≡ true → info_kind_text k ≡ info_kind_text m → listed_kind k ≡ listed_kind m
-
-abbrev pub NamesTellPortKinds : Type 0
-NamesTellPortKinds =
-    (k m : InfoPortKind) → info_port_kind_is_named k ≡ true → info_port_kind_is_named m ≡ true → info_port_kind_text k ≡ info_port_kind_text m →
-    listed_port_kind k ≡ listed_port_kind m

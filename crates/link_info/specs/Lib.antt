@@ -51,6 +51,7 @@ pub use Rattle.link_info_overlays.specs.Gtp
 pub use Rattle.link_info_overlays.specs.Vxlan
 pub use Rattle.link_info_raw.specs.RawData
 pub use Rattle.link_info_kinds.specs.Kinds
+pub use Rattle.link_info_kinds.specs.Laws as KindLaws
 pub use Rattle.link_info_kinds.specs.PortKinds
 pub use Rattle.link_info_data.specs.Data
 pub use Rattle.link_info_data.specs.PortData

@@ -1,6 +1,6 @@
 //! Facts of the definitions. A function here calls nothing but laws of the crates below.
 
-ghost use Rattle.link_info.specs.Laws.{LinkInfoIsLawful, NamesTellRules, PortNamesTellRules, KindsAreTheNames, NamesTellKinds, NamesTellPortKinds};
+ghost use Rattle.link_info.specs.Laws.{LinkInfoIsLawful, NamesTellRules, PortNamesTellRules, KindsAreTheNames};
 
 use attribute_tables_grammar::laws::names_are_looked_up;
 pub use attribute_tables_grammar::laws::{
@@ -11,6 +11,7 @@ use link_info_grammar::laws::{info_is_lawful, unlisted_names_hold_bytes};
 pub use link_info_grammar::laws::{
     info_grammar_is_lawful, info_is_a_payload, tables_are_listed, tables_pass,
 };
+pub use link_info_kinds::laws::{names_tell_kinds, names_tell_port_kinds};
 
 /// The canonical text of legal link info is legal, its own canonical text, and at most 77 times as
 /// long; two legal lists mean the same exactly where they have one canonical text.
@@ -39,16 +40,4 @@ pub fn port_names_tell_rules()
 /// The kinds that aren't `Other` have the listed names, each its own, and so have the port kinds.
 pub fn kinds_are_the_names()
     ensures { KindsAreTheNames }
-{}
-
-/// Two kinds with one name are one variant, or both `Other`, unless one is an `Other` of a listed
-/// name. So `from_name` of what a kind is displayed as gives that kind.
-pub fn names_tell_kinds()
-    ensures { NamesTellKinds }
-{}
-
-/// Two port kinds with one name are one variant, or both `Other`, unless one is an `Other` of a
-/// listed name.
-pub fn names_tell_port_kinds()
-    ensures { NamesTellPortKinds }
 {}

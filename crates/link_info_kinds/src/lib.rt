@@ -3,6 +3,7 @@
 
 mod info_kind;
 mod info_port_kind;
+pub mod laws;
 
 pub use info_kind::InfoKind;
 pub use info_port_kind::InfoPortKind;

@@ -8,10 +8,10 @@ use Rattle.netlink_packet_core.specs.Fits.{attribute_fits}
 use Rattle.netlink_packet_core.specs.Families.{attribute}
 use Rattle.netlink_packet_core.specs.Lists.{text_by, all_fit_by}
 use Rattle.netlink_packet_core.specs.Families.{family_row}
+use Rattle.attribute_tables_grammar.specs.Laws.{RowsWithoutListsFit}
 use Rattle.attribute_tables_grammar.specs.Lists.{any, row_at, rewrite}
 use Rattle.attribute_tables_grammar.specs.LookUps.{line_at, row_of_line, has_no_row, list_of}
 use Rattle.attribute_tables_grammar.specs.Peers.{bytes_peer}
-use Rattle.attribute_tables_grammar.proofs.LookUps.{fits-without_lists}
 use Rattle.link_info_grammar.specs.Families.{macvlan, macvlan_address}
 use Rattle.link_info_stacked.specs.MacVlan.{mac_vlan_entry, mac_vlan_texts, mac_vlan_fits, mac_vlan_all_fit, mac_vlan_names_row, mac_vlan_address_names_row}
 use Rattle.link_info_stacked.specs.declared.mac_vlan.InfoMacVlan.{InfoMacVlan, MacAddrData, MacAddrData', Row_of-InfoMacVlan, end_of-InfoMacVlan, more_of-InfoMacVlan, items-the_row-InfoMacVlan, items_hidden-the_row-InfoMacVlan-0}
@@ -69,8 +69,8 @@ pub no-row-outside : (k : ℕ) → k ≢ 5 → has_no_row macvlan_address k → 
 no-row-outside k h n = same-line k h ∙ n
 
 -- what an attribute of the list holds fits
-pub address-fits : (k : ℕ) (bytes : List ℕ) → (family_row macvlan_address k).rule.fits bytes ≡ true
-address-fits k bytes = fits-without_lists bytes_peer macvlan_address k bytes refl
+pub address-fits : RowsWithoutListsFit → (k : ℕ) (bytes : List ℕ) → (family_row macvlan_address k).rule.fits bytes ≡ true
+address-fits law k bytes = law bytes_peer macvlan_address refl k bytes
 
 pub ruleset address_rows = (same-row, no-row-outside, address-fits)
 

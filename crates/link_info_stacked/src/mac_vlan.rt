@@ -18,6 +18,7 @@ ghost use Rattle.link_info_grammar.specs.Families.{macvlan, macvlan_address};
 ghost use Rattle.link_info_stacked.specs.MacVlan.{mac_vlan_entry, mac_vlan_fits, mac_vlan_names_row, mac_vlan_address_names_row, mac_vlan_may_want_memory, MacVlanGives};
 
 use attribute_tables::{Reader, parse_list, typed};
+use attribute_tables_grammar::laws::{rows_are_looked_up, rows_without_lists_fit};
 use link_info_types::{Flags, MacVlanFlags, MacVlanMacAddressMode, MacVlanMode};
 use netlink_packet_core::{
     DecodeError, DefaultNla, NLA_HEADER_SIZE, Nla, NlaBuffer, Parseable, attribute_len,
@@ -239,6 +240,7 @@ impl Reader for AddressReader {
 
     #[tactic(auto, using(crate::proofs::Rows::address_rows))]
     fn read(&self, alloc: Global, buf: &NlaBuffer<&[u8]>) -> Result<InfoMacVlan, DecodeError> {
+        rows_without_lists_fit();
         InfoMacVlan::read_address(alloc, buf)
     }
 }
@@ -263,6 +265,7 @@ fn parse_addresses(alloc: Global, bytes: &[u8]) -> Result<Vec<InfoMacVlan>, Deco
     ensures memory { IfErr result
         (λ e. is_memory e ≡ true → begins_accepted (family_row macvlan_address) bytes.now ≡ true) }
 {
+    rows_are_looked_up();
     parse_list(alloc, &AddressReader, bytes)
 }
 
@@ -327,5 +330,6 @@ pub fn parse_mac_vlan(alloc: Global, bytes: &[u8]) -> Result<Vec<InfoMacVlan>, D
         (λ e. is_memory e ≡ true
         → begins_readable (family_row macvlan) mac_vlan_may_want_memory bytes.now ≡ true) }
 {
+    rows_are_looked_up();
     parse_list(alloc, &MacVlanReader, bytes)
 }

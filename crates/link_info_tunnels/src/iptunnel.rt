@@ -16,6 +16,7 @@ ghost use Rattle.attribute_tables_grammar.specs.Readings.{reading_as};
 ghost use Rattle.link_info_tunnels.specs.IpTunnel.{ip_tunnel_entry, ip_tunnel_names_row, ip_tunnel_of, ip_tunnel_begins_accepted, ip_tunnel_rule};
 
 use attribute_tables::{Reader, parse_list, typed};
+use attribute_tables_grammar::laws::{rows_are_looked_up, rows_without_lists_fit};
 use link_info_kinds::InfoKind;
 use link_info_tunnel_types::{
     Flags, Ip6TunnelFlags, IpProtocol, TunnelEncapFlags, TunnelEncapType,
@@ -268,6 +269,7 @@ impl<'k> Reader for InfoIpTunnelReader<'k> {
 
     #[tactic(auto, using(attribute_tables::proofs::Families::families, crate::proofs::IpTunnels::ip_tunnels))]
     fn read(&self, alloc: Global, buf: &NlaBuffer<&[u8]>) -> Result<InfoIpTunnel, DecodeError> {
+        rows_without_lists_fit();
         InfoIpTunnel::parse_with_param(alloc, buf, self.kind)
     }
 }
@@ -297,5 +299,6 @@ pub fn parse_ip_tunnel(
         (λ e. is_memory e ≡ true
         → ip_tunnel_begins_accepted kind.now bytes.now ≡ true) }
 {
+    rows_are_looked_up();
     parse_list(alloc, &InfoIpTunnelReader { kind }, bytes)
 }

@@ -1,4 +1,3 @@
-pub mod Laws
 pub use Rattle.link_message_grammar.specs.Body
 pub use Rattle.link_message_grammar.specs.Laws as GrammarLaws
 pub use Rattle.link_message_grammar.specs.LinkMessage as LinkTables
@@ -7,6 +6,7 @@ pub use Rattle.link_message_types.specs.Events
 pub use Rattle.link_message_types.specs.ExtentMasks
 pub use Rattle.link_message_types.specs.Headers
 pub use Rattle.link_message_types.specs.Inet6Types
+pub use Rattle.link_message_types.specs.Laws as TypeLaws
 pub use Rattle.link_message_types.specs.LinkFlagTypes
 pub use Rattle.link_message_types.specs.LinkLayerTypes
 pub use Rattle.link_message_types.specs.LinkModes

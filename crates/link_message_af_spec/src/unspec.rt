@@ -19,6 +19,7 @@ ghost use Rattle.link_message_af_spec.specs.AddressFamilies.{af_spec_unspec_entr
 use super::inet::{AfSpecInet, AfSpecInetReader};
 use super::inet6::{AfSpecInet6, AfSpecInet6Reader};
 use attribute_tables::{Reader, parse_family, parse_list};
+use attribute_tables_grammar::laws::rows_are_looked_up;
 use link_message_lists::AfSpecMctp;
 use netlink_packet_core::{
     DecodeError, DefaultNla, Nla, NlaBuffer, Parseable, emit_all, fits_all, len_all,
@@ -102,6 +103,7 @@ impl Reader for AfSpecUnspecReader {
 
     #[tactic(auto, using(crate::proofs::FamilyRules::family_rules, attribute_tables::proofs::Families::family_lists))]
     fn read(&self, alloc: Global, buf: &NlaBuffer<&[u8]>) -> Result<AfSpecUnspec, DecodeError> {
+        rows_are_looked_up();
         let payload = buf.value();
         match buf.kind() {
             AF_INET => Ok(AfSpecUnspec::Inet(parse_list(alloc, &AfSpecInetReader, payload)?)),
@@ -147,5 +149,6 @@ pub fn parse_families(alloc: Global, bytes: &[u8]) -> Result<Vec<AfSpecUnspec>, 
         (λ e. is_memory e ≡ true
         → begins_readable (family_row specific) (table_may_want_memory specific) bytes.now ≡ true) }
 {
+    rows_are_looked_up();
     parse_list(alloc, &AfSpecUnspecReader, bytes)
 }

@@ -24,6 +24,7 @@ use super::payload::{LinkPayload, parse_bytes, parse_extent_masks, parse_link_in
 use attribute_tables::{Reader, parse_family, parse_list, typed};
 use link_info::LinkInfo;
 use link_message_af_spec::{AfSpecUnspec, parse_families};
+use link_message_grammar::laws::attributes_are_looked_up;
 use link_message_lists::{
     DevlinkPort, DpllPin, LinkProtoInfoInet6, LinkProtocolDownReason, LinkXdp, Prop, parse_raw,
 };
@@ -731,6 +732,7 @@ impl LinkAttribute {
             → begins_readable (attribute_row (table_family family))
             (link_attribute_may_want_memory (table_family family)) bytes.now ≡ true) }
     {
+        attributes_are_looked_up();
         parse_list(alloc, &LinkAttributeReader { family }, bytes)
     }
 }

@@ -14,6 +14,7 @@ ghost use Rattle.link_message_attributes.specs.Payloads.{link_payload_bytes, lin
 
 use link_info::LinkInfo;
 use link_message_af_spec::AfSpecUnspec;
+use link_message_grammar::laws::info_is_a_list_inside;
 use link_message_lists::{
     DevlinkPort, DpllPin, LinkProtoInfoInet6, LinkProtocolDownReason, LinkXdp, Prop,
 };
@@ -180,6 +181,7 @@ pub(crate) fn parse_link_info(alloc: Global, payload: &[u8]) -> Result<Vec<LinkI
     ensures memory { IfErr result
         (λ e. is_memory e ≡ true → info_begins_accepted payload.now ≡ true) }
 {
+    info_is_a_list_inside();
     if payload.is_empty() {
         return Err(DecodeError::from("IFLA_LINKINFO without an attribute"));
     }

@@ -4,5 +4,6 @@ pub mod Body
 pub mod Parts
 pub mod EmptyPorts
 pub mod Together
+pub mod ReadAgain
 pub mod Cases
 pub mod NestedCases

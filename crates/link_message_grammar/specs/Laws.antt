@@ -1,5 +1,5 @@
 -- The laws of the definitions, as the functions of `laws` state them.
-use Rattle.std.specs.Prelude.{◌≡◌, ℕ, ◌*◌, ◌≤◌, ◌<◌, ◌&&◌, ◌++◌, nat_le, true, false, List, length, Some}
+use Rattle.std.specs.Prelude.{◌≡◌, ℕ, ◌*◌, ◌≤◌, ◌<◌, ◌&&◌, ◌++◌, nat_le, true, false, List, length, Option, Some}
 use Rattle.attribute_tables_grammar.specs.Rules.{Lawful, Renews}
 use Rattle.std.specs.List.{list_any}
 use Rattle.attribute_tables_grammar.specs.Lists.{any, without_context}
@@ -49,6 +49,19 @@ pub record BodyParts (b : List ℕ) : Type 0 where
 
 abbrev pub BodiesAreHeadersAndAttributes : Type 0
 BodiesAreHeadersAndAttributes = (b : List ℕ) → BodyParts b
+
+-- what the attributes of a body are read as
+abbrev pub reading_of : List ℕ → Option (List Written)
+reading_of b = reading_as any (without_context (attribute_row (family b))) (attribute_bytes b)
+
+-- the canonical text of a body has its header, and attributes that are read as the body's
+pub record IsReadAgain (b : List ℕ) : Type 0 where
+  pub header : header_text (link_body.canonical b) ≡ header_text b
+  pub family : family (link_body.canonical b) ≡ family b
+  pub attributes : reading_of (link_body.canonical b) ≡ reading_of b
+
+abbrev pub CanonicalTextsAreReadAgain : Type 0
+CanonicalTextsAreReadAgain = (b : List ℕ) → link_body.accepted b ≡ true → link_body.fits b ≡ true → link_body.empty_ports b ≡ false → IsReadAgain b
 
 -- what is looked up of a kind is what the table says of it
 abbrev pub KindsAreLookedUp : Type 0

@@ -1,9 +1,13 @@
-//! Facts of the definitions. No function here makes a call.
+//! Facts of the definitions. A function here calls nothing but laws of the crates below.
 
 ghost use Rattle.link_message_grammar.specs.Laws.{AttributesAreLawful, KindsRise, BodiesAreLawful, BodiesAreSmall};
 ghost use Rattle.link_message_grammar.specs.Laws.{LinkPeersAreLawful, BodiesTellMeanings, BodiesKeepMeanings, OldBodiesAreRenewed};
 ghost use Rattle.link_message_grammar.specs.Laws.{BodiesAreHeadersAndAttributes, KindsAreLookedUp, AttributesAreLookedUp, InfoIsAListInside};
-ghost use Rattle.link_message_grammar.specs.Laws.{EmptyPortsAreTold};
+ghost use Rattle.link_message_grammar.specs.Laws.{EmptyPortsAreTold, CanonicalTextsAreReadAgain};
+
+use attribute_tables_grammar::laws::{
+    lists_are_read_again, peers_that_are_bytes_are_lawful, table_grammars_are_lawful,
+};
 
 /// Lists of link attributes are lawful, under each address family.
 pub fn attributes_are_lawful()
@@ -49,6 +53,16 @@ pub fn old_bodies_are_renewed()
 pub fn bodies_are_headers_and_attributes()
     ensures { BodiesAreHeadersAndAttributes }
 {}
+
+/// A legal body that fits, and in which no ports are left empty, is read from its canonical text
+/// as from its own bytes.
+pub fn canonical_texts_are_read_again()
+    ensures { CanonicalTextsAreReadAgain }
+{
+    lists_are_read_again();
+    table_grammars_are_lawful();
+    peers_that_are_bytes_are_lawful();
+}
 
 /// What is looked up of a kind is what the table of the family says of it.
 pub fn kinds_are_looked_up()

@@ -1,12 +1,12 @@
 -- The rule of a list of raw attributes is the rule of rows of which there is none.
 use Rattle.std.proofs.Common.{◌≡◌}
+use Rattle.attribute_tables_grammar.specs.Laws.{RowsAreLookedUp}
 use Rattle.attribute_tables_grammar.specs.Lists.{any}
 use Rattle.attribute_tables_grammar.specs.LookUps.{list_of, table_row, rows_rule}
 use Rattle.attribute_tables_grammar.specs.Peers.{bytes_peer}
 use Rattle.attribute_tables_grammar.specs.Tables.{Table.end}
-use Rattle.attribute_tables_grammar.proofs.LookUps.{list-rows}
 
-pub raw-list : list_of bytes_peer any end ≡ rows_rule any (table_row bytes_peer end)
-raw-list = list-rows bytes_peer any end
+pub raw-list : RowsAreLookedUp → list_of bytes_peer any end ≡ rows_rule any (table_row bytes_peer end)
+raw-list law = law.named bytes_peer any end
 
 pub ruleset raw_rules = (raw-list)

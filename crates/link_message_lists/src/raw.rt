@@ -11,6 +11,7 @@ ghost use Rattle.attribute_tables_grammar.specs.Tables.{Table.end};
 ghost use Rattle.attribute_tables.specs.Beginnings.{begins_accepted};
 
 use attribute_tables::{Reader, parse_list};
+use attribute_tables_grammar::laws::rows_are_looked_up;
 use netlink_packet_core::{DecodeError, DefaultNla, NlaBuffer, Parseable};
 use std::alloc::Global;
 
@@ -47,5 +48,6 @@ pub fn parse_raw(alloc: Global, bytes: &[u8]) -> Result<Vec<DefaultNla>, DecodeE
     ensures memory { IfErr result
         (λ e. is_memory e ≡ true → begins_accepted (family_row end) bytes.now ≡ true) }
 {
+    rows_are_looked_up();
     parse_list(alloc, &RawReader, bytes)
 }

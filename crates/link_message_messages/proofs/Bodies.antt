@@ -10,39 +10,38 @@ use Rattle.attribute_tables_grammar.specs.Readings.{reading_as}
 use Rattle.attribute_tables.specs.Beginnings.{begins_readable}
 use Rattle.attribute_tables.specs.Written.{written_as}
 use Rattle.link_message_grammar.specs.Body.{attribute_bytes, attribute_row, attributes_rule, family, header_text, is_emptied, link_body}
-use Rattle.link_message_grammar.specs.Laws.{EmptyPortsAreTold}
+use Rattle.link_message_grammar.specs.Laws.{BodiesAreHeadersAndAttributes, EmptyPortsAreTold}
 use Rattle.link_message_grammar.specs.LinkMessage.{Family, family_of}
 use Rattle.link_message_types.specs.AddressFamilies.{address_family_of, table_family}
 use Rattle.link_message_types.specs.declared.address_family.AddressFamily.{AddressFamily}
 use Rattle.link_message_attributes.specs.declared.attributes.LinkAttribute.{LinkAttribute}
 use Rattle.link_message_attributes.specs.LinkAttributes.{link_attribute_entry, link_attribute_fits, link_attribute_may_want_memory}
 use Rattle.link_message_messages.specs.LinkMessages.{body_begins_readable}
-use Rattle.link_message_grammar.proofs.Parts.{bodies_are_headers_and_attributes}
 
 short : (n : ℕ) (t : Bool) → nat_le 16 n ≡ t → n < 16 → t ≡ false
 short n true e l = absurd (let h : 16 ≤ n = leb-true 16 n e in omega arith)
 short n false e l = refl
 
-pub body-short : (b : List ℕ) → length b < 16 → link_body.accepted b ≡ false
-body-short b l = (bodies_are_headers_and_attributes b).accepted ∙ ap (λ t. t && (attributes_rule (family b)).accepted (attribute_bytes b)) (short (length b) (nat_le 16 (length b)) refl l)
+pub body-short : BodiesAreHeadersAndAttributes → (b : List ℕ) → length b < 16 → link_body.accepted b ≡ false
+body-short parts b l = (parts b).accepted ∙ ap (λ t. t && (attributes_rule (family b)).accepted (attribute_bytes b)) (short (length b) (nat_le 16 (length b)) refl l)
 
-pub body-accepted : (b : List ℕ) → 16 ≤ length b → link_body.accepted b ≡ (attributes_rule (family b)).accepted (attribute_bytes b)
-body-accepted b l = (bodies_are_headers_and_attributes b).accepted ∙ ap (λ t. t && (attributes_rule (family b)).accepted (attribute_bytes b)) (le-leb 16 (length b) l)
+pub body-accepted : BodiesAreHeadersAndAttributes → (b : List ℕ) → 16 ≤ length b → link_body.accepted b ≡ (attributes_rule (family b)).accepted (attribute_bytes b)
+body-accepted parts b l = (parts b).accepted ∙ ap (λ t. t && (attributes_rule (family b)).accepted (attribute_bytes b)) (le-leb 16 (length b) l)
 
-pub body-canonical : (b : List ℕ) → link_body.canonical b ≡ header_text b ++ (attributes_rule (family b)).canonical (attribute_bytes b)
-body-canonical b = (bodies_are_headers_and_attributes b).canonical
+pub body-canonical : BodiesAreHeadersAndAttributes → (b : List ℕ) → link_body.canonical b ≡ header_text b ++ (attributes_rule (family b)).canonical (attribute_bytes b)
+body-canonical parts b = (parts b).canonical
 
-pub body-fits : (b : List ℕ) → link_body.fits b ≡ (attributes_rule (family b)).fits (attribute_bytes b)
-body-fits b = (bodies_are_headers_and_attributes b).fits
+pub body-fits : BodiesAreHeadersAndAttributes → (b : List ℕ) → link_body.fits b ≡ (attributes_rule (family b)).fits (attribute_bytes b)
+body-fits parts b = (parts b).fits
 
 -- what the attributes are read as tells whether they have ports of which nothing is kept
 read_empty : (vs : List LinkAttribute) → list_any (λ w. is_emptied w.entry) (map (written_as link_attribute_entry link_attribute_fits) vs) ≡ list_any (λ v. is_emptied (link_attribute_entry v)) vs
 read_empty [] = refl
 read_empty (v ∷ vs) = ap (λ t. is_emptied (link_attribute_entry v) || t) (read_empty vs)
 
-pub body-empty_ports : EmptyPortsAreTold → (b : List ℕ) (f : Family) → f ≡ family b → (vs : List LinkAttribute) → reading_as any (without_context (attribute_row f)) (attribute_bytes b) ≡ Some (map (written_as link_attribute_entry link_attribute_fits) vs) → list_any (λ v. is_emptied (link_attribute_entry v)) vs ≡ link_body.empty_ports b
-body-empty_ports law b f h vs r =
-    sym (read_empty vs) ∙ sym (law f (attribute_bytes b) _ r) ∙ ap (λ g. (attributes_rule g).empty_ports (attribute_bytes b)) h ∙ sym (bodies_are_headers_and_attributes b).empty_ports
+pub body-empty_ports : BodiesAreHeadersAndAttributes → EmptyPortsAreTold → (b : List ℕ) (f : Family) → f ≡ family b → (vs : List LinkAttribute) → reading_as any (without_context (attribute_row f)) (attribute_bytes b) ≡ Some (map (written_as link_attribute_entry link_attribute_fits) vs) → list_any (λ v. is_emptied (link_attribute_entry v)) vs ≡ link_body.empty_ports b
+body-empty_ports parts law b f h vs r =
+    sym (read_empty vs) ∙ sym (law f (attribute_bytes b) _ r) ∙ ap (λ g. (attributes_rule g).empty_ports (attribute_bytes b)) h ∙ sym (parts b).empty_ports
 
 -- a size of which `buffer_len` and its like tell, is 0 where they tell 0
 pub size_told : (n : ℕ) → (as_usize n == 0) ≡ (n == 0)

@@ -1,6 +1,18 @@
 -- A message is written as its header and then its attributes.
 use Rattle.std.proofs.Common.{◌≡◌, ℕ, ◌+◌, List, ◌++◌, length, drop, sym, ap, ◌∙◌, arith, length-append, append_assoc, append-nil}
 use Rattle.std.proofs.lemmas.List.{drop-drop, drop_all}
+use Rattle.link_message_types.specs.Headers.{link_header_bytes}
+use Rattle.link_message_types.specs.Laws.{HeadersAreSixteenBytes}
+use Rattle.link_message_types.specs.declared.header.LinkHeader.{LinkHeader}
+
+-- the size of a header, alone and in front of other bytes
+pub length-header : HeadersAreSixteenBytes → (h : LinkHeader) → length (link_header_bytes h) ≡ 16
+length-header law = law
+
+pub length-header-append : HeadersAreSixteenBytes → (h : LinkHeader) (r : List ℕ) → length (link_header_bytes h ++ r) ≡ 16 + length r
+length-header-append law h r = omega (arith, length-append (link_header_bytes h) r, law h)
+
+pub ruleset headers = (length-header, length-header-append)
 
 -- in a place of its size the header is all
 pub header_alone : (h front : List ℕ) → length front ≡ length h → h ++ drop (length h) front ≡ h

@@ -11,7 +11,8 @@ ghost use Rattle.link_message_messages.specs.LinkMessages.{link_message_text, li
 ghost use Rattle.link_message_messages.specs.LinkMessages.{body_begins_readable, link_message_empty_ports};
 
 use link_message_attributes::LinkAttribute;
-use link_message_grammar::laws::empty_ports_are_told;
+use link_message_grammar::laws::{bodies_are_headers_and_attributes, empty_ports_are_told};
+use link_message_types::laws::headers_are_sixteen_bytes;
 use link_message_types::{LINK_HEADER_LEN, LinkHeader};
 use netlink_packet_core::{DecodeError, Emitable, Nla, emit_all, fits_all, len_all};
 use std::alloc::Global;
@@ -54,6 +55,7 @@ impl LinkMessage {
         ensures memory { IfErr result
             (λ e. is_memory e ≡ true → body_begins_readable bytes.now ≡ true) }
     {
+        bodies_are_headers_and_attributes();
         empty_ports_are_told();
         let header = LinkHeader::parse(bytes)?;
         let (_, list) = bytes.split_at(LINK_HEADER_LEN);
@@ -84,13 +86,15 @@ impl Emitable for LinkMessage {
 
     ghost can_emit = { λ m. link_message_fits m ≡ true };
 
-    #[tactic(auto, using(link_message_types::proofs::HeaderBytes::headers, attribute_tables::proofs::Lists::lists))]
+    #[tactic(auto, using(crate::proofs::Texts::headers, attribute_tables::proofs::Lists::lists))]
     fn buffer_len(&self) -> usize {
+        headers_are_sixteen_bytes();
         len_all(&self.attributes).saturating_add(LINK_HEADER_LEN)
     }
 
-    #[tactic(auto, using(link_message_types::proofs::HeaderBytes::headers, attribute_tables::proofs::Lists::lists))]
+    #[tactic(auto, using(crate::proofs::Texts::headers, attribute_tables::proofs::Lists::lists))]
     fn emit(&self, buffer: &mut [u8]) {
+        headers_are_sixteen_bytes();
         let (header, attributes) = buffer.split_at_mut(LINK_HEADER_LEN);
         self.header.emit(header);
         emit_all(&self.attributes, attributes);

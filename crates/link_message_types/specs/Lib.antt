@@ -13,3 +13,4 @@ pub mod VfTypes
 pub mod MctpTypes
 pub mod Inet6Types
 pub mod XdpTypes
+pub mod Laws

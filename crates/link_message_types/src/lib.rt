@@ -6,6 +6,7 @@ pub mod event;
 pub mod ext_mask;
 pub mod header;
 pub mod inet6;
+pub mod laws;
 pub mod link_flag;
 pub mod link_layer_type;
 pub mod link_state;

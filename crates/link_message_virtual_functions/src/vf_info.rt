@@ -19,6 +19,7 @@ ghost use Rattle.link_message_virtual_functions.specs.VfInfos.{vf_info_row, is_v
 use super::vf_stats::VfStats;
 use super::vf_vlan::{VfVlan, VfVlanReader};
 use attribute_tables::{EntryReader, Reader, parse_entries, parse_family, parse_list};
+use attribute_tables_grammar::laws::rows_are_looked_up;
 use link_message_records::{
     FieldRecord, VfInfoBroadcast, VfInfoLinkState, VfInfoMac, VfInfoRate, VfInfoRssQueryEn,
     VfInfoSpoofCheck, VfInfoTrust, VfInfoTxRate, VfInfoVlan, emit_record,
@@ -162,6 +163,7 @@ impl Reader for VfInfoReader {
 
     #[tactic(auto, using(crate::proofs::VfRules::vf_rules, attribute_tables::proofs::Families::family_lists))]
     fn read(&self, alloc: Global, buf: &NlaBuffer<&[u8]>) -> Result<VfInfo, DecodeError> {
+        rows_are_looked_up();
         let payload = buf.value();
         match buf.kind() {
             IFLA_VF_MAC => Ok(VfInfo::Mac(VfInfoMac::parse(payload)?)),
@@ -238,6 +240,7 @@ impl EntryReader for LinkVfInfoReader {
 
     #[tactic(auto, using(crate::proofs::VfRules::vf_rules))]
     fn read(&self, alloc: Global, buf: &NlaBuffer<&[u8]>) -> Result<LinkVfInfo, DecodeError> {
+        rows_are_looked_up();
         Ok(LinkVfInfo(parse_list(alloc, &VfInfoReader, buf.value())?))
     }
 }
@@ -264,6 +267,7 @@ pub fn parse_vf_infos(alloc: Global, bytes: &[u8]) -> Result<Vec<LinkVfInfo>, De
         (λ e. is_memory e ≡ true
         → vf_infos_begin_readable bytes.now ≡ true) }
 {
+    rows_are_looked_up();
     parse_entries(alloc, &LinkVfInfoReader, bytes)
 }
 

@@ -15,6 +15,7 @@ ghost use Rattle.link_message_grammar.specs.NestedTables.{vf_ports};
 ghost use Rattle.link_message_virtual_functions.specs.VfPorts.{vf_port_entry, link_vf_port_entry, link_vf_port_fits, vf_port_row, is_vf_port, IsVfPortOf, vf_ports_begin_readable};
 
 use attribute_tables::{EntryReader, parse_family, parse_ports};
+use attribute_tables_grammar::laws::rows_are_looked_up;
 use netlink_packet_core::{
     DecodeError, DefaultNla, Family, Field, FieldNla, Nla, NlaBuffer, Parseable, emit_all,
     fits_all, len_all,
@@ -97,6 +98,7 @@ impl EntryReader for LinkVfPortReader {
 
     #[tactic(auto, using(crate::proofs::VfRules::vf_rules))]
     fn read(&self, alloc: Global, buf: &NlaBuffer<&[u8]>) -> Result<LinkVfPort, DecodeError> {
+        rows_are_looked_up();
         Ok(LinkVfPort(parse_family(alloc, buf.value())?))
     }
 }
@@ -120,6 +122,7 @@ pub fn parse_vf_ports(alloc: Global, bytes: &[u8]) -> Result<Vec<LinkVfPort>, De
         (λ e. is_memory e ≡ true
         → vf_ports_begin_readable bytes.now ≡ true) }
 {
+    rows_are_looked_up();
     parse_ports(alloc, &LinkVfPortReader, bytes)
 }
 

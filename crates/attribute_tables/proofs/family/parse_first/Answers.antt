@@ -12,7 +12,7 @@ use Rattle.attribute_tables.proofs.family.parse_first.Goals as goal
 
 pub returns-in_err-buf-clause-err : goal.returns-in_err-buf-clause-err
 returns-in_err-buf-clause-err g c =
-    let k = first_none c.first_attributes_are_read_alone.ensures c.readings_tell_rules.ensures c.rows_are_looked_up.ensures g.F.Family.rows c.args.bytes.now (λ h. let e : false ≡ true = c.in_err-buf.ensures.whole.1 h in absurd cc) in
+    let k = first_none c.first_attributes_are_read_alone.ensures c.readings_tell_rules.ensures c.rows_are_looked_up.ensures c.rows_without_lists_fit.ensures g.F.Family.rows c.args.bytes.now (λ h. let e : false ≡ true = c.in_err-buf.ensures.whole.1 h in absurd cc) in
     search rules
 
 pub returns-in_err-value-clause-err : goal.returns-in_err-value-clause-err
@@ -20,7 +20,7 @@ returns-in_err-value-clause-err g c =
     let b = c.args.bytes.now in
     let h : IsAttribute b = c.in_ok-buf.ensures.whole.0 refl in
     let e : accepts g.F.Family.rows b ≡ is_memory c.in_err-value.field-0.0 = rw c.in_ok-buf.ensures.ok at c.in_err-value.ensures.err in
-    let k : (list_of bytes_peer first_alone g.F.Family.rows).accepted b ≡ is_memory c.in_err-value.field-0.0 = accepted_first c.first_attributes_are_read_alone.ensures c.readings_tell_rules.ensures c.rows_are_looked_up.ensures g.F.Family.rows b g.met.F.Family.plain h ∙ e in
+    let k : (list_of bytes_peer first_alone g.F.Family.rows).accepted b ≡ is_memory c.in_err-value.field-0.0 = accepted_first c.first_attributes_are_read_alone.ensures c.readings_tell_rules.ensures c.rows_are_looked_up.ensures c.rows_without_lists_fit.ensures g.F.Family.rows b g.met.F.Family.plain h ∙ e in
     search rules
 
 pub returns-in_err-value-clause-memory : goal.returns-in_err-value-clause-memory
@@ -36,18 +36,18 @@ returns-clause-ok g c =
     let b = c.args.bytes.now in
     let a : accepts g.F.Family.rows b ≡ true = rw c.in_ok-buf.ensures.ok at c.in_ok-value.ensures.ok in
     let is : Gives g.F.Family.rows b (g.F.FieldNla.field_entry c.in_ok-value.value) = rw c.in_ok-buf.ensures.ok at c.in_ok-value.ensures.value in
-    (first_of c.first_attributes_are_read_alone.ensures c.readings_tell_rules.ensures c.rows_are_looked_up.ensures g.F.Family.rows b (g.F.FieldNla.field_entry c.in_ok-value.value) g.met.F.Family.plain (c.in_ok-buf.ensures.whole.0 refl) a is).accepted
+    (first_of c.first_attributes_are_read_alone.ensures c.readings_tell_rules.ensures c.rows_are_looked_up.ensures c.rows_without_lists_fit.ensures g.F.Family.rows b (g.F.FieldNla.field_entry c.in_ok-value.value) g.met.F.Family.plain (c.in_ok-buf.ensures.whole.0 refl) a is).accepted
 
 pub returns-clause-text : goal.returns-clause-text
 returns-clause-text g c =
     let b = c.args.bytes.now in
     let a : accepts g.F.Family.rows b ≡ true = rw c.in_ok-buf.ensures.ok at c.in_ok-value.ensures.ok in
     let is : Gives g.F.Family.rows b (g.F.FieldNla.field_entry c.in_ok-value.value) = rw c.in_ok-buf.ensures.ok at c.in_ok-value.ensures.value in
-    (first_of c.first_attributes_are_read_alone.ensures c.readings_tell_rules.ensures c.rows_are_looked_up.ensures g.F.Family.rows b (g.F.FieldNla.field_entry c.in_ok-value.value) g.met.F.Family.plain (c.in_ok-buf.ensures.whole.0 refl) a is).canonical
+    (first_of c.first_attributes_are_read_alone.ensures c.readings_tell_rules.ensures c.rows_are_looked_up.ensures c.rows_without_lists_fit.ensures g.F.Family.rows b (g.F.FieldNla.field_entry c.in_ok-value.value) g.met.F.Family.plain (c.in_ok-buf.ensures.whole.0 refl) a is).canonical
 
 pub returns-clause-fits : goal.returns-clause-fits
 returns-clause-fits g c =
     let b = c.args.bytes.now in
     let a : accepts g.F.Family.rows b ≡ true = rw c.in_ok-buf.ensures.ok at c.in_ok-value.ensures.ok in
     let is : Gives g.F.Family.rows b (g.F.FieldNla.field_entry c.in_ok-value.value) = rw c.in_ok-buf.ensures.ok at c.in_ok-value.ensures.value in
-    (first_of c.first_attributes_are_read_alone.ensures c.readings_tell_rules.ensures c.rows_are_looked_up.ensures g.F.Family.rows b (g.F.FieldNla.field_entry c.in_ok-value.value) g.met.F.Family.plain (c.in_ok-buf.ensures.whole.0 refl) a is).fits
+    (first_of c.first_attributes_are_read_alone.ensures c.readings_tell_rules.ensures c.rows_are_looked_up.ensures c.rows_without_lists_fit.ensures g.F.Family.rows b (g.F.FieldNla.field_entry c.in_ok-value.value) g.met.F.Family.plain (c.in_ok-buf.ensures.whole.0 refl) a is).fits

@@ -1,11 +1,9 @@
--- The laws of link messages, as the functions of `laws` state them.
-use Rattle.std.specs.Prelude.{◌≡◌, ℕ, ◌<◌, ◌^◌, true, false, List, Option}
-use Rattle.attribute_tables_grammar.specs.Lists.{any, without_context}
-use Rattle.attribute_tables_grammar.specs.Readings.{Written, reading_as}
-use Rattle.link_message_grammar.specs.Body.{attribute_bytes, attribute_row, family, header_text, link_body}
+-- The laws of number types and of the header, as the functions of `laws` state them.
+use Rattle.std.specs.Prelude.{◌≡◌, ℕ, ◌<◌, ◌^◌, length}
 use Rattle.link_message_types.specs.AddressFamilies.{address_family_number, address_family_of}
 use Rattle.link_message_types.specs.Events.{link_event_number, link_event_of}
 use Rattle.link_message_types.specs.ExtentMasks.{joined_extent_masks, link_extent_mask_number, link_extent_mask_of, link_extent_masks_of}
+use Rattle.link_message_types.specs.Headers.{link_header_bytes}
 use Rattle.link_message_types.specs.Inet6Types.{in_6_addr_gen_mode_number, in_6_addr_gen_mode_of}
 use Rattle.link_message_types.specs.LinkLayerTypes.{link_layer_type_number, link_layer_type_of}
 use Rattle.link_message_types.specs.LinkModes.{link_mode_number, link_mode_of}
@@ -14,20 +12,8 @@ use Rattle.link_message_types.specs.MctpTypes.{mctp_phys_binding_number, mctp_ph
 use Rattle.link_message_types.specs.VfTypes.{vf_link_state_number, vf_link_state_of}
 use Rattle.link_message_types.specs.VlanTypes.{vlan_protocol_number, vlan_protocol_of}
 use Rattle.link_message_types.specs.XdpTypes.{xdp_attached_number, xdp_attached_of}
+use Rattle.link_message_types.specs.declared.header.LinkHeader.{LinkHeader}
 use Rattle.link_message_types.specs.declared.link_layer_type.LinkLayerType.{LinkLayerType}
-
--- what the attributes of a body are read as
-abbrev pub reading_of : List ℕ → Option (List Written)
-reading_of b = reading_as any (without_context (attribute_row (family b))) (attribute_bytes b)
-
--- the canonical text of a body has its header, and attributes that are read as the body's
-pub record IsReadAgain (b : List ℕ) : Type 0 where
-  pub header : header_text (link_body.canonical b) ≡ header_text b
-  pub family : family (link_body.canonical b) ≡ family b
-  pub attributes : reading_of (link_body.canonical b) ≡ reading_of b
-
-abbrev pub CanonicalTextsAreReadAgain : Type 0
-CanonicalTextsAreReadAgain = (b : List ℕ) → link_body.accepted b ≡ true → link_body.fits b ≡ true → link_body.empty_ports b ≡ false → IsReadAgain b
 
 -- a value of a number has that number
 abbrev pub Keeps : {V : Type 0} → (V → ℕ) → (ℕ → V) → Type 0
@@ -51,3 +37,7 @@ MasksAreKept = (n : ℕ) → n < 2 ^ 32 → joined_extent_masks (link_extent_mas
 
 abbrev pub LayerTypesAreNamed : Type 0
 LayerTypesAreNamed = (t : LinkLayerType) → link_layer_type_of (link_layer_type_number t) ≡ t
+
+-- a header is written as 16 bytes
+abbrev pub HeadersAreSixteenBytes : Type 0
+HeadersAreSixteenBytes = (h : LinkHeader) → length (link_header_bytes h) ≡ 16

@@ -1,23 +1,14 @@
 -- A canonical text is read as the bytes that it is the text of.
-use Rattle.std.proofs.Common.{◌≡◌, ◌+◌, ℕ, Bool, true, false, cond, List, [], ◌∷◌, ◌++◌, length, refl, sym, ap, subst, ◌∙◌}
+use Rattle.std.proofs.Common.{◌≡◌, ◌+◌, ℕ, true, false, cond, List, [], ◌∷◌, length, refl, sym, ap, ◌∙◌}
 use Rattle.std.specs.Prelude.{◌&&◌, nat_le, Option, Some, None, option_map}
 use Rattle.std.proofs.lemmas.Bool.{and_parts, or_parts}
 use Rattle.netlink_packet_core_grammar.specs.Attributes.{Attribute, proper_kind, attributes_of, if_some}
-use Rattle.attribute_tables_grammar.specs.Rules.{Rule, Lawful}
-use Rattle.attribute_tables_grammar.specs.Lists.{Context, nothing, Row, Grammar, LawfulGrammar, any, if_read, list_rule, row_of, rewrite, rewritten, all_accepted, all_fit, some_empty_ports, without_context}
-use Rattle.attribute_tables_grammar.specs.LookUps.{rows_rule}
-use Rattle.attribute_tables_grammar.specs.Peers.{bytes_peer}
-use Rattle.attribute_tables_grammar.specs.Readings.{Written, written_by, written_list, reading_as}
+use Rattle.attribute_tables_grammar.specs.Rules.{Lawful}
+use Rattle.attribute_tables_grammar.specs.Laws.{ListsAreReadAgain}
+use Rattle.attribute_tables_grammar.specs.Lists.{Context, nothing, Grammar, LawfulGrammar, any, if_read, list_rule, row_of, rewrite, rewritten, all_accepted, all_fit, some_empty_ports}
+use Rattle.attribute_tables_grammar.specs.Readings.{written_by, written_list, reading_as}
 use Rattle.attribute_tables_grammar.proofs.Attributes.{proper_kind-written, next_again, rewrite_again}
-use Rattle.attribute_tables_grammar.proofs.Tables.{bytes_peer_lawful, table_lawful}
 use Rattle.attribute_tables_grammar.proofs.Together.{canonical_is_cut}
-use Rattle.link_message_grammar.specs.Body.{attribute_bytes, attribute_row, attributes_rule, family, header_text, link_body}
-use Rattle.link_message_grammar.specs.LinkMessage.{Family, link_table}
-use Rattle.link_message_grammar.proofs.Body.{WrittenHeader, written_header, family_again}
-use Rattle.link_message_grammar.proofs.Lines.{attributes-grammar}
-use Rattle.link_message_grammar.proofs.Parts.{attributes_are_looked_up, bodies_are_headers_and_attributes}
-use Rattle.link_message_grammar.proofs.Tables.{table_bounded}
-use Rattle.link_message.specs.Laws.{reading_of, IsReadAgain, CanonicalTextsAreReadAgain}
 
 -- ---- attributes, one after another
 
@@ -65,32 +56,5 @@ module _ (g : Grammar) (lawful : LawfulGrammar g) where
       ∙ list_again nothing es accepted full fit
       ∙ sym (ap (λ o. if_some o (λ es. written_list g nothing es)) h)
 
--- ---- bodies
-
-rows_lawful : (f : Family) → LawfulGrammar (without_context (attribute_row f))
-rows_lawful f = subst LawfulGrammar (attributes-grammar f) (table_lawful bytes_peer bytes_peer_lawful (link_table f) (table_bounded f))
-
-attributes_again : (f : Family) (r : Rule) → r ≡ rows_rule any (attribute_row f) → (b : List ℕ) → r.accepted b ≡ true → r.empty_ports b ≡ false → r.fits b ≡ true → reading_as any (without_context (attribute_row f)) (r.canonical b) ≡ reading_as any (without_context (attribute_row f)) b
-unfolding rows_rule
-attributes_again f r h b a m s =
-    ap (λ (q : Rule). reading_as any (without_context (attribute_row f)) (q.canonical b)) h
-    ∙ bytes_again (without_context (attribute_row f)) (rows_lawful f) b (attributes_of b) refl
-    (sym (ap (λ (q : Rule). q.accepted b) h) ∙ a) (sym (ap (λ (q : Rule). q.empty_ports b) h) ∙ m) (sym (ap (λ (q : Rule). q.fits b) h) ∙ s)
-
-pub canonical_texts_are_read_again : CanonicalTextsAreReadAgain
-canonical_texts_are_read_again b a f m =
-    let p = bodies_are_headers_and_attributes b in
-    let r = attributes_rule (family b) in
-    let s = and_parts (nat_le 16 (length b)) (r.accepted (attribute_bytes b)) (sym p.accepted ∙ a) in
-    let w : WrittenHeader b = written_header b s.0 in
-    let c = r.canonical (attribute_bytes b) in
-    let t : link_body.canonical b ≡ header_text b ++ c = p.canonical in
-    let same : family (link_body.canonical b) ≡ family b = ap family t ∙ family_again b c w in
-    let rest : attribute_bytes (link_body.canonical b) ≡ c = ap attribute_bytes t ∙ w.rest c in
-    record {
-      header = ap header_text t ∙ w.again c;
-      family = same;
-      attributes = ap (λ g. reading_as any (without_context (attribute_row g)) (attribute_bytes (link_body.canonical b))) same
-          ∙ ap (λ x. reading_as any (without_context (attribute_row (family b))) x) rest
-          ∙ attributes_again (family b) r (attributes_are_looked_up (family b)) (attribute_bytes b) s.1 (sym p.empty_ports ∙ m) (sym p.fits ∙ f);
-    }
+pub lists_are_read_again : ListsAreReadAgain
+lists_are_read_again g lawful b = bytes_again g lawful b (attributes_of b) refl

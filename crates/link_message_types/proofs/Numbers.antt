@@ -3,7 +3,6 @@ use Rattle.std.proofs.Common.{◌≡◌, ℕ, Bool, true, false, List, [], ◌�
 use Rattle.std.specs.Prelude.{◌==◌, if◌then◌else◌}
 use Rattle.std.proofs.lemmas.Bool.{eqb-true}
 use Rattle.netlink_packet_core_grammar.specs.Named.{numbered_by}
-use Rattle.link_message_types.proofs.Masks.{masks_joined}
 use Rattle.link_message_types.specs.AddressFamilies.{address_family_number, listed_address_families}
 use Rattle.link_message_types.specs.declared.address_family.AddressFamily.{AddressFamily}
 use Rattle.link_message_types.specs.Events.{link_event_number, listed_link_events}
@@ -26,7 +25,7 @@ use Rattle.link_message_types.specs.XdpTypes.{xdp_attached_number, listed_xdp_at
 use Rattle.link_message_types.specs.declared.xdp.XdpAttached.{XdpAttached}
 use Rattle.link_message_types.specs.LinkLayerTypes.{link_layer_type_of}
 use Rattle.link_message_types.specs.declared.link_layer_type.LinkLayerType.TheVariants as Layer
-use Rattle.link_message.specs.Laws.{NumbersAreKept, MasksAreKept, LayerTypesAreNamed}
+use Rattle.link_message_types.specs.Laws.{NumbersAreKept, LayerTypesAreNamed}
 
 module _ {V : Type 0} (number : V → ℕ) (other : ℕ → V) (is_other : (n : ℕ) → number (other n) ≡ n) where
   first_or : (n : ℕ) (v w : V) (t : Bool) → (n == number v) ≡ t → number w ≡ n → number (if t then v else w) ≡ n
@@ -50,9 +49,6 @@ numbers_are_kept = record {
   vlan_protocols = kept vlan_protocol_number VlanProtocol.Other (λ n. refl) listed_vlan_protocols;
   attached_programs = kept xdp_attached_number XdpAttached.Other (λ n. refl) listed_xdp_attachments;
 }
-
-pub masks_are_kept : MasksAreKept
-masks_are_kept = masks_joined
 
 pub layer_types_are_named : LayerTypesAreNamed
 unfolding link_layer_type_of

@@ -1,5 +1,0 @@
-use Rattle.link_message.proofs.Numbers.{layer_types_are_named}
-use Rattle.link_message.proofs.laws.layer_types_are_named.Goals as goal
-
-pub returns : goal.returns
-returns c = layer_types_are_named

@@ -1,5 +1,0 @@
-use Rattle.link_message.proofs.Numbers.{numbers_are_kept}
-use Rattle.link_message.proofs.laws.numbers_are_kept.Goals as goal
-
-pub returns : goal.returns
-returns c = numbers_are_kept

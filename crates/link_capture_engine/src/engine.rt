@@ -56,7 +56,6 @@ pub fn normalize<S: Source, K: Sink>(
         (Rises (S.failures source.old) (S.failures source.new))
         (Rises (K.failures sink.old) (K.failures sink.new)) limit result }
 {
-    texts_of_a_prefix_stay();
     let mut reader = CaptureReader::new(alloc, limit);
     let mut buffer = [0u8; 65536];
     let mut out = Vec::new(alloc);
@@ -72,6 +71,7 @@ pub fn normalize<S: Source, K: Sink>(
             return reader.finish();
         }
         let fed = reader.feed(&buffer[..size], &mut out);
+        texts_of_a_prefix_stay();
         written = write_all(sink, out.as_slice(), written)?;
         fed?;
         out.clear();

@@ -88,16 +88,18 @@ fn read_frames(
     ensures memory { IfErr result
         (λ fault. Lacks limit start bytes.now out.old.items out.new.items fault) }
 {
-    captures_go_by_frames();
     match push_frames(alloc, bytes, limit, out) {
         Ok(()) => Ok(padding(bytes.len())),
         Err(fault) => match fault.kind {
             FaultKind::Cut => match kept.extend_from_slice(&bytes[fault.offset as usize..]) {
                 Ok(()) => Ok(0),
-                Err(_) => Err(CaptureFault {
-                    kind: FaultKind::Memory,
-                    offset: start + fault.offset,
-                }),
+                Err(_) => {
+                    captures_go_by_frames();
+                    Err(CaptureFault {
+                        kind: FaultKind::Memory,
+                        offset: start + fault.offset,
+                    })
+                }
             },
             kind => Err(CaptureFault {
                 kind,

@@ -1,6 +1,6 @@
 //! Link messages (rtnetlink.h, RTM_NEWLINK and its like): a header and the attributes of a link.
 //!
-//! This crate offers the items of its parts again, so nothing above it names a part.
+//! This crate offers the items of its parts again, so a caller needs no other.
 #![tactic(auto)]
 
 pub mod laws;

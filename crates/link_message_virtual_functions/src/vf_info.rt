@@ -13,8 +13,11 @@ ghost use Rattle.attribute_tables_grammar.specs.Peers.{bytes_peer};
 ghost use Rattle.attribute_tables.specs.Views.{fits_by};
 ghost use Rattle.attribute_tables.specs.Beginnings.{table_may_want_memory};
 ghost use Rattle.link_message_grammar.specs.NestedTables.{vf, vf_infos};
-ghost use Rattle.link_message_virtual_functions.specs.VfInfos.{vf_info_entry, vf_info_fits, vf_info_names_row, link_vf_info_entry, link_vf_info_fits, link_vf_info_names_row};
-ghost use Rattle.link_message_virtual_functions.specs.VfInfos.{vf_info_row, is_vf_info, IsVfInfoOf, vf_info_begins_readable, vf_infos_begin_readable};
+ghost use Rattle.link_message_virtual_functions.specs.VfInfos.{vf_info_entry, vf_info_fits, vf_info_names_row};
+ghost use Rattle.link_message_virtual_functions.specs.VfInfos.{link_vf_info_entry, link_vf_info_fits};
+ghost use Rattle.link_message_virtual_functions.specs.VfInfos.{link_vf_info_names_row};
+ghost use Rattle.link_message_virtual_functions.specs.VfInfos.{vf_info_row, is_vf_info, IsVfInfoOf};
+ghost use Rattle.link_message_virtual_functions.specs.VfInfos.{vf_info_begins_readable, vf_infos_begin_readable};
 
 use super::vf_stats::VfStats;
 use super::vf_vlan::{VfVlan, VfVlanReader};

@@ -1,6 +1,7 @@
 ghost use Rattle.std.specs.Prelude.{◌≡◌, true, false, length, Some, None, IfOk, IfErr};
 ghost use Rattle.netlink_packet_core_grammar.specs.Numbers.{as_usize};
-ghost use Rattle.netlink_packet_core_messages.specs.Payloads.{payload_entry, payload_value, read_payload, payload_may_want_memory, OfInner, HasCode};
+ghost use Rattle.netlink_packet_core_messages.specs.Payloads.{payload_entry, payload_value, read_payload};
+ghost use Rattle.netlink_packet_core_messages.specs.Payloads.{payload_may_want_memory, OfInner, HasCode};
 ghost use Rattle.netlink_packet_core_messages.specs.Refusals.{wants_memory, Tells};
 
 use super::byte_vec::ByteVec;

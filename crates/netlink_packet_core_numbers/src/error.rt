@@ -1,7 +1,10 @@
 ghost use Rattle.std.specs.Prelude.{◌≡◌, ℕ, Bool, true, false, List, Some, None, replicate, is_err};
 ghost use Rattle.std.specs.Borrow.{Bor};
 ghost use Rattle.netlink_packet_core_numbers.specs.Errors.{is_memory, in_context, in_context_if, cause_text, prefix_text, display_text};
-ghost use Rattle.netlink_packet_core_numbers.specs.Errors.{out_of_memory, invalid_buffer, invalid_mac_address, invalid_ip_address, invalid_number, nla_buffer_too_small, nla_length_mismatch, nla_invalid_length, buffer_too_small, of_text};
+ghost use Rattle.netlink_packet_core_numbers.specs.Errors.{out_of_memory, invalid_buffer, invalid_mac_address};
+ghost use Rattle.netlink_packet_core_numbers.specs.Errors.{invalid_ip_address, invalid_number, nla_buffer_too_small};
+ghost use Rattle.netlink_packet_core_numbers.specs.Errors.{nla_length_mismatch, nla_invalid_length, buffer_too_small};
+ghost use Rattle.netlink_packet_core_numbers.specs.Errors.{of_text};
 
 use std::alloc::{AllocError, AllocFailed};
 use std::fmt;

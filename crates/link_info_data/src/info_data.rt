@@ -2,7 +2,8 @@
 
 ghost use Rattle.std.specs.Prelude.{◌≡◌, false, true, IsTrue, IfOk, IfErr, OnOk};
 ghost use Rattle.netlink_packet_core.specs.Errors.{is_memory};
-ghost use Rattle.link_info_data.specs.Data.{info_data_entry, info_data_fits, info_data_payload, info_data_names_row, data_rule_of, data_may_want_memory};
+ghost use Rattle.link_info_data.specs.Data.{info_data_entry, info_data_fits, info_data_payload, info_data_names_row};
+ghost use Rattle.link_info_data.specs.Data.{data_rule_of, data_may_want_memory};
 
 use attribute_tables::{parse_family, parse_first};
 use link_info_devices::{

@@ -2,7 +2,8 @@
 
 ghost use Rattle.std.specs.Prelude.{◌≡◌, false, true, IsTrue, IfOk, IfErr, OnOk};
 ghost use Rattle.netlink_packet_core.specs.Errors.{is_memory};
-ghost use Rattle.link_info_data.specs.PortData.{info_port_data_entry, info_port_data_fits, info_port_data_payload, info_port_data_names_row, port_data_rule_of, port_data_may_want_memory};
+ghost use Rattle.link_info_data.specs.PortData.{info_port_data_entry, info_port_data_fits, info_port_data_payload};
+ghost use Rattle.link_info_data.specs.PortData.{info_port_data_names_row, port_data_rule_of, port_data_may_want_memory};
 
 use attribute_tables::parse_family;
 use link_info_devices::InfoVrf;

@@ -1,6 +1,7 @@
 //! Facts of the tables of link info. No function here makes a call.
 
-ghost use Rattle.link_info_grammar.specs.Laws.{TablesPass, InfoIsLawful, InfoGrammarIsLawful, TablesAreListed, InfoIsAPayload, UnlistedNamesHoldBytes};
+ghost use Rattle.link_info_grammar.specs.Laws.{TablesPass, InfoIsLawful, InfoGrammarIsLawful, TablesAreListed};
+ghost use Rattle.link_info_grammar.specs.Laws.{InfoIsAPayload, UnlistedNamesHoldBytes};
 
 /// No row is written more than 77 times as long, kinds rise, and no name stands twice.
 pub fn tables_pass()

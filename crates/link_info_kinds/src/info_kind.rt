@@ -7,7 +7,8 @@ ghost use Rattle.netlink_packet_core.specs.Named.{named_by};
 ghost use Rattle.netlink_packet_core.specs.NlaBuffers.{storage};
 ghost use Rattle.netlink_packet_core.specs.Texts.{without_nul};
 ghost use Rattle.link_info_grammar.specs.KindNames.{kind_names, is_unlisted};
-ghost use Rattle.link_info_kinds.specs.Kinds.{info_kind_accepted, info_kind_takes_memory, info_kind_entry, info_kind_text, info_kind_is_named, listed_kinds, IsNamedBy};
+ghost use Rattle.link_info_kinds.specs.Kinds.{info_kind_accepted, info_kind_takes_memory, info_kind_entry};
+ghost use Rattle.link_info_kinds.specs.Kinds.{info_kind_text, info_kind_is_named, listed_kinds, IsNamedBy};
 
 use netlink_packet_core::{DecodeError, Nla, NlaBuffer, Parseable, fill_text, parse_str};
 use std::alloc::Global;

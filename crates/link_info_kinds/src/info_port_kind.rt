@@ -8,7 +8,9 @@ ghost use Rattle.netlink_packet_core.specs.Named.{named_by};
 ghost use Rattle.netlink_packet_core.specs.NlaBuffers.{storage};
 ghost use Rattle.netlink_packet_core.specs.Texts.{without_nul};
 ghost use Rattle.link_info_grammar.specs.KindNames.{port_kind_names, is_unlisted};
-ghost use Rattle.link_info_kinds.specs.PortKinds.{info_port_kind_accepted, info_port_kind_takes_memory, info_port_kind_entry, info_port_kind_text, info_port_kind_is_named, listed_port_kinds, IsPortNamedBy};
+ghost use Rattle.link_info_kinds.specs.PortKinds.{info_port_kind_accepted, info_port_kind_takes_memory};
+ghost use Rattle.link_info_kinds.specs.PortKinds.{info_port_kind_entry, info_port_kind_text, info_port_kind_is_named};
+ghost use Rattle.link_info_kinds.specs.PortKinds.{listed_port_kinds, IsPortNamedBy};
 
 use netlink_packet_core::{DecodeError, Nla, NlaBuffer, Parseable, fill_text, parse_str};
 use std::alloc::Global;

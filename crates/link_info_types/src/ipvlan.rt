@@ -3,7 +3,8 @@
 ghost use Rattle.std.specs.Prelude.{◌≡◌, Some, false, IfOk, IfErr, ⊤};
 ghost use Rattle.std.specs.Result.{result_ok};
 ghost use Rattle.netlink_packet_core.specs.Errors.{is_memory};
-ghost use Rattle.link_info_types.specs.IpVlanTypes.{ip_vlan_mode_number, ip_vlan_mode_of, ip_vlan_mode_text, ip_vlan_mode_named, ip_vlan_flags_bits, ip_vlan_flags_table};
+ghost use Rattle.link_info_types.specs.IpVlanTypes.{ip_vlan_mode_number, ip_vlan_mode_of, ip_vlan_mode_text};
+ghost use Rattle.link_info_types.specs.IpVlanTypes.{ip_vlan_mode_named, ip_vlan_flags_bits, ip_vlan_flags_table};
 
 use bitflags::{Flag, Flags};
 use netlink_packet_core::DecodeError;

@@ -3,7 +3,9 @@
 ghost use Rattle.std.specs.Prelude.{◌≡◌, Some, false, IfOk, IfErr, ⊤};
 ghost use Rattle.std.specs.Result.{result_ok};
 ghost use Rattle.netlink_packet_core.specs.Errors.{is_memory};
-ghost use Rattle.link_info_types.specs.MacVlanTypes.{mac_vlan_mode_number, mac_vlan_mode_of, mac_vlan_mode_text, mac_vlan_mode_named, mac_vlan_flags_bits, mac_vlan_flags_table, mac_vlan_mac_address_mode_number, mac_vlan_mac_address_mode_of};
+ghost use Rattle.link_info_types.specs.MacVlanTypes.{mac_vlan_mode_number, mac_vlan_mode_of, mac_vlan_mode_text};
+ghost use Rattle.link_info_types.specs.MacVlanTypes.{mac_vlan_mode_named, mac_vlan_flags_bits, mac_vlan_flags_table};
+ghost use Rattle.link_info_types.specs.MacVlanTypes.{mac_vlan_mac_address_mode_number, mac_vlan_mac_address_mode_of};
 
 use bitflags::{Flag, Flags};
 use netlink_packet_core::DecodeError;

@@ -1,7 +1,9 @@
 //! Numbers of MACsec.
 
 ghost use Rattle.std.specs.Prelude.{◌≡◌};
-ghost use Rattle.link_info_types.specs.MacSecTypes.{mac_sec_cipher_id_number, mac_sec_cipher_id_of, mac_sec_validate_number, mac_sec_validate_of, mac_sec_offload_number, mac_sec_offload_of};
+ghost use Rattle.link_info_types.specs.MacSecTypes.{mac_sec_cipher_id_number, mac_sec_cipher_id_of};
+ghost use Rattle.link_info_types.specs.MacSecTypes.{mac_sec_validate_number, mac_sec_validate_of};
+ghost use Rattle.link_info_types.specs.MacSecTypes.{mac_sec_offload_number, mac_sec_offload_of};
 
 const MACSEC_DEFAULT_CIPHER_ID: u64 = 0x0080020001000001;
 

@@ -3,7 +3,10 @@
 ghost use Rattle.std.specs.Prelude.{◌≡◌, Some, false, IfOk, IfErr};
 ghost use Rattle.std.specs.Result.{result_ok};
 ghost use Rattle.netlink_packet_core.specs.Errors.{is_memory};
-ghost use Rattle.link_info_types.specs.NetkitTypes.{netkit_mode_number, netkit_mode_of, netkit_mode_text, netkit_mode_named, netkit_policy_number, netkit_policy_of, netkit_policy_text, netkit_policy_named, netkit_scrub_number, netkit_scrub_of, netkit_scrub_text, netkit_scrub_named};
+ghost use Rattle.link_info_types.specs.NetkitTypes.{netkit_mode_number, netkit_mode_of, netkit_mode_text};
+ghost use Rattle.link_info_types.specs.NetkitTypes.{netkit_mode_named, netkit_policy_number, netkit_policy_of};
+ghost use Rattle.link_info_types.specs.NetkitTypes.{netkit_policy_text, netkit_policy_named, netkit_scrub_number};
+ghost use Rattle.link_info_types.specs.NetkitTypes.{netkit_scrub_of, netkit_scrub_text, netkit_scrub_named};
 
 use netlink_packet_core::DecodeError;
 use std::fmt;

@@ -16,7 +16,8 @@ ghost use Rattle.attribute_tables.specs.Written.{written_as};
 ghost use Rattle.link_message_grammar.specs.LinkMessage.{has_no_link_row};
 ghost use Rattle.link_message_grammar.specs.Body.{attribute_row, attributes_rule};
 ghost use Rattle.link_message_types.specs.AddressFamilies.{table_family};
-ghost use Rattle.link_message_attributes.specs.LinkAttributes.{IsReadAsNumber, link_attribute_entry, link_attribute_fits, link_attribute_names_row};
+ghost use Rattle.link_message_attributes.specs.LinkAttributes.{IsReadAsNumber, link_attribute_entry};
+ghost use Rattle.link_message_attributes.specs.LinkAttributes.{link_attribute_fits, link_attribute_names_row};
 ghost use Rattle.link_message_attributes.specs.LinkAttributes.{IsReadAsNumber, row_may_want_memory, link_attribute_may_want_memory};
 ghost use Rattle.link_message_attributes.specs.Payloads.{link_payload_bytes, link_payload_fits};
 

@@ -6,7 +6,9 @@ ghost use Rattle.netlink_packet_core.specs.Attributes.{zeros};
 ghost use Rattle.netlink_packet_core.specs.Numbers.{be2};
 ghost use Rattle.link_message_types.specs.VfTypes.{vf_link_state_number, vf_link_state_of};
 ghost use Rattle.link_message_types.specs.VlanTypes.{vlan_protocol_number, vlan_protocol_of};
-ghost use Rattle.link_message_records.specs.VfRecords.{vf_info_vlan_bytes, vf_info_tx_rate_bytes, vf_info_rate_bytes, vf_info_link_state_bytes, vf_info_mac_bytes, vf_info_broadcast_bytes, vf_vlan_info_bytes};
+ghost use Rattle.link_message_records.specs.VfRecords.{vf_info_vlan_bytes, vf_info_tx_rate_bytes, vf_info_rate_bytes};
+ghost use Rattle.link_message_records.specs.VfRecords.{vf_info_link_state_bytes, vf_info_mac_bytes};
+ghost use Rattle.link_message_records.specs.VfRecords.{vf_info_broadcast_bytes, vf_vlan_info_bytes};
 
 use super::record::{FieldRecord, bytes_of, write_record};
 use link_message_types::{Record, RecordBuffer, VfLinkState, VlanProtocol};

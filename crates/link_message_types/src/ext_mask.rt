@@ -2,7 +2,8 @@
 
 ghost use Rattle.std.specs.Prelude.{◌≡◌, true, IfOk, IfErr};
 ghost use Rattle.netlink_packet_core.specs.Errors.{is_memory};
-ghost use Rattle.link_message_types.specs.ExtentMasks.{link_extent_mask_number, link_extent_mask_of, set_extent_masks, link_extent_masks_of, joined_extent_masks};
+ghost use Rattle.link_message_types.specs.ExtentMasks.{link_extent_mask_number, link_extent_mask_of, set_extent_masks};
+ghost use Rattle.link_message_types.specs.ExtentMasks.{link_extent_masks_of, joined_extent_masks};
 
 use netlink_packet_core::DecodeError;
 use std::alloc::{AllocError, Global};

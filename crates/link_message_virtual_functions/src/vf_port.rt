@@ -12,7 +12,9 @@ ghost use Rattle.attribute_tables_grammar.specs.Peers.{bytes_peer};
 ghost use Rattle.attribute_tables_grammar.specs.Tables.{Table.end};
 ghost use Rattle.attribute_tables.specs.Beginnings.{begins_accepted};
 ghost use Rattle.link_message_grammar.specs.NestedTables.{vf_ports};
-ghost use Rattle.link_message_virtual_functions.specs.VfPorts.{vf_port_entry, link_vf_port_entry, link_vf_port_fits, vf_port_row, is_vf_port, IsVfPortOf, vf_ports_begin_readable};
+ghost use Rattle.link_message_virtual_functions.specs.VfPorts.{vf_port_entry, link_vf_port_entry, link_vf_port_fits};
+ghost use Rattle.link_message_virtual_functions.specs.VfPorts.{vf_port_row, is_vf_port, IsVfPortOf};
+ghost use Rattle.link_message_virtual_functions.specs.VfPorts.{vf_ports_begin_readable};
 
 use attribute_tables::{EntryReader, parse_family, parse_ports};
 use attribute_tables_grammar::laws::rows_are_looked_up;

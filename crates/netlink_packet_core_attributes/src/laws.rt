@@ -1,6 +1,8 @@
 //! Facts of the definitions. A function here calls nothing but laws of the crates below.
 
-ghost use Rattle.netlink_packet_core_attributes.specs.Laws.{WalkIsTheRelation, ListsAreWalked, OthersEndInAFault, TextsAreWalked, TextsAreReadBack, WalksAreShort, WalksGoBySteps};
+ghost use Rattle.netlink_packet_core_attributes.specs.Laws.{WalkIsTheRelation, ListsAreWalked, OthersEndInAFault};
+ghost use Rattle.netlink_packet_core_attributes.specs.Laws.{TextsAreWalked, TextsAreReadBack, WalksAreShort};
+ghost use Rattle.netlink_packet_core_attributes.specs.Laws.{WalksGoBySteps};
 
 use netlink_packet_core_grammar::laws::{
     attributes_are_the_relation, first_attributes_are_viewed, first_attributes_are_within,

@@ -5,7 +5,8 @@ ghost use Rattle.netlink_packet_core_grammar.specs.AttributeViews.{viewed_length
 ghost use Rattle.netlink_packet_core_grammar.specs.Bytes.{put_at};
 ghost use Rattle.netlink_packet_core_grammar.specs.Numbers.{le2};
 ghost use Rattle.netlink_packet_core_numbers.specs.Errors.{is_memory};
-ghost use Rattle.netlink_packet_core_attributes.specs.Kinds.{has_nested_flag, has_byte_order_flag, with_nested_flag, with_byte_order_flag, with_kind};
+ghost use Rattle.netlink_packet_core_attributes.specs.Kinds.{has_nested_flag, has_byte_order_flag, with_nested_flag};
+ghost use Rattle.netlink_packet_core_attributes.specs.Kinds.{with_byte_order_flag, with_kind};
 ghost use Rattle.netlink_packet_core_attributes.specs.NlaBuffers.{storage, view_of, with_value};
 
 use super::nla::{NLA_F_NESTED, NLA_F_NET_BYTEORDER, NLA_HEADER_SIZE, NLA_TYPE_MASK};

@@ -10,9 +10,17 @@ pub use family::{FamilyReader, parse_family, parse_first};
 pub use reader::{Reader, parse_list};
 
 /// The variant of a payload that was read, or the refusal. A number type or a flag set is made of
-/// the number. (A `match`, since `?` in each arm of a long table costs the check twice the time.)
+/// the number. Kinds that are read alike may share an arm: `of_u32(kind)` names the function that
+/// makes the variant of a kind. (A `match`, since `?` in each arm of a long table costs the check
+/// twice the time.)
 #[macro_export]
 macro_rules! typed {
+    ($make:ident($kind:ident), $read:expr) => {
+        match $read {
+            Ok(value) => Ok(Self::$make($kind, value)),
+            Err(error) => Err(error),
+        }
+    };
     ($variant:ident, $read:expr) => {
         match $read {
             Ok(value) => Ok(Some(Self::$variant(value))),

@@ -1,6 +1,9 @@
 //! Data of the kind `geneve` (if_link.h, IFLA_GENEVE_*). Numbers are little-endian unless told; a truth is 1 byte, zero or not.
 
-ghost use Rattle.std.specs.Prelude.{refl};
+ghost use Rattle.std.specs.Prelude.{refl, IfNone, IfSome, [], ◌∷◌, ◌≡◌, ◌≢◌};
+ghost use Rattle.std.specs.Net.Addr.{ipv4_octets, ipv6_octets};
+ghost use Rattle.netlink_packet_core.specs.Truths.{truth_byte};
+ghost use Rattle.netlink_packet_core.specs.Families.{attribute};
 ghost use Rattle.link_info_grammar.specs.Families.{geneve};
 ghost use Rattle.link_info_overlays.specs.Geneve.{geneve_entry, geneve_names_row};
 
@@ -112,6 +115,63 @@ impl FieldNla for InfoGeneve {
     }
 }
 
+impl InfoGeneve {
+    // The attribute of a kind that holds an address of IPv4.
+    fn of_ipv4(kind: u16, address: Ipv4Addr) -> Option<Self>
+        ensures value { IfSome result (λ v. geneve_entry v ≡ attribute kind (ipv4_octets address)) }
+        ensures names_row { IfSome result (λ v. geneve_names_row v) }
+        ensures none { IfNone result (kind ≢ 2 × kind ≢ 17) }
+    {
+        match kind {
+            IFLA_GENEVE_REMOTE => Some(Self::Remote(address)),
+            IFLA_GENEVE_LOCAL => Some(Self::Local(address)),
+            _ => None,
+        }
+    }
+
+    // The attribute of a kind that holds 1 byte.
+    fn of_u8(kind: u16, number: u8) -> Option<Self>
+        ensures value { IfSome result (λ v. geneve_entry v ≡ attribute kind (number ∷ [])) }
+        ensures names_row { IfSome result (λ v. geneve_names_row v) }
+        ensures none { IfNone result (kind ≢ 3 × kind ≢ 4 × kind ≢ 13) }
+    {
+        match kind {
+            IFLA_GENEVE_TTL => Some(Self::Ttl(number)),
+            IFLA_GENEVE_TOS => Some(Self::Tos(number)),
+            IFLA_GENEVE_DF => Some(Self::Df(GeneveDf::from(number))),
+            _ => None,
+        }
+    }
+
+    // The attribute of a kind that holds an address of IPv6.
+    fn of_ipv6(kind: u16, address: Ipv6Addr) -> Option<Self>
+        ensures value { IfSome result (λ v. geneve_entry v ≡ attribute kind (ipv6_octets address)) }
+        ensures names_row { IfSome result (λ v. geneve_names_row v) }
+        ensures none { IfNone result (kind ≢ 7 × kind ≢ 18) }
+    {
+        match kind {
+            IFLA_GENEVE_REMOTE6 => Some(Self::Remote6(address)),
+            IFLA_GENEVE_LOCAL6 => Some(Self::Local6(address)),
+            _ => None,
+        }
+    }
+
+    // The attribute of a kind that holds a truth.
+    fn of_truth(kind: u16, truth: bool) -> Option<Self>
+        ensures value { IfSome result (λ v. geneve_entry v ≡ attribute kind (truth_byte truth)) }
+        ensures names_row { IfSome result (λ v. geneve_names_row v) }
+        ensures none { IfNone result (kind ≢ 8 × kind ≢ 9 × kind ≢ 10 × kind ≢ 12) }
+    {
+        match kind {
+            IFLA_GENEVE_UDP_CSUM => Some(Self::UdpCsum(truth)),
+            IFLA_GENEVE_UDP_ZERO_CSUM6_TX => Some(Self::UdpZeroCsum6Tx(truth)),
+            IFLA_GENEVE_UDP_ZERO_CSUM6_RX => Some(Self::UdpZeroCsum6Rx(truth)),
+            IFLA_GENEVE_TTL_INHERIT => Some(Self::TtlInherit(truth)),
+            _ => None,
+        }
+    }
+}
+
 impl Family for InfoGeneve {
     ghost rows = { geneve };
 
@@ -120,21 +180,26 @@ impl Family for InfoGeneve {
     fn read_row(_alloc: Global, kind: u16, payload: &[u8]) -> Result<Option<Self>, DecodeError> {
         match kind {
             IFLA_GENEVE_ID => typed!(Id, parse_u32(payload)),
-            IFLA_GENEVE_REMOTE => typed!(Remote, parse_ipv4_addr(payload)),
-            IFLA_GENEVE_TTL => typed!(Ttl, parse_u8(payload)),
-            IFLA_GENEVE_TOS => typed!(Tos, parse_u8(payload)),
+            IFLA_GENEVE_REMOTE | IFLA_GENEVE_LOCAL => typed!(
+                of_ipv4(kind),
+                parse_ipv4_addr(payload)
+            ),
+            IFLA_GENEVE_TTL | IFLA_GENEVE_TOS | IFLA_GENEVE_DF => typed!(
+                of_u8(kind),
+                parse_u8(payload)
+            ),
             IFLA_GENEVE_PORT => typed!(Port, parse_u16_be(payload)),
             IFLA_GENEVE_COLLECT_METADATA => Ok(Some(Self::CollectMetadata)),
-            IFLA_GENEVE_REMOTE6 => typed!(Remote6, parse_ipv6_addr(payload)),
-            IFLA_GENEVE_UDP_CSUM => typed!(UdpCsum, parse_bool(payload)),
-            IFLA_GENEVE_UDP_ZERO_CSUM6_TX => typed!(UdpZeroCsum6Tx, parse_bool(payload)),
-            IFLA_GENEVE_UDP_ZERO_CSUM6_RX => typed!(UdpZeroCsum6Rx, parse_bool(payload)),
+            IFLA_GENEVE_REMOTE6 | IFLA_GENEVE_LOCAL6 => typed!(
+                of_ipv6(kind),
+                parse_ipv6_addr(payload)
+            ),
+            IFLA_GENEVE_UDP_CSUM
+            | IFLA_GENEVE_UDP_ZERO_CSUM6_TX
+            | IFLA_GENEVE_UDP_ZERO_CSUM6_RX
+            | IFLA_GENEVE_TTL_INHERIT => typed!(of_truth(kind), parse_bool(payload)),
             IFLA_GENEVE_LABEL => typed!(Label, parse_u32_be(payload)),
-            IFLA_GENEVE_TTL_INHERIT => typed!(TtlInherit, parse_bool(payload)),
-            IFLA_GENEVE_DF => typed!(Df, parse_u8(payload), GeneveDf),
             IFLA_GENEVE_INNER_PROTO_INHERIT => Ok(Some(Self::InnerProtoInherit)),
-            IFLA_GENEVE_LOCAL => typed!(Local, parse_ipv4_addr(payload)),
-            IFLA_GENEVE_LOCAL6 => typed!(Local6, parse_ipv6_addr(payload)),
             _ => Ok(None),
         }
     }

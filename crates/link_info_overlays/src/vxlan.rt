@@ -1,6 +1,10 @@
 //! Data of the kind `vxlan` (if_link.h, IFLA_VXLAN_*). Numbers are little-endian unless told; a truth is 1 byte, zero or not.
 
-ghost use Rattle.std.specs.Prelude.{refl};
+ghost use Rattle.std.specs.Prelude.{refl, IfNone, IfSome, [], ◌∷◌, ◌≡◌, ◌≢◌};
+ghost use Rattle.std.specs.Net.Addr.{ipv4_octets, ipv6_octets};
+ghost use Rattle.netlink_packet_core.specs.Truths.{truth_byte};
+ghost use Rattle.netlink_packet_core.specs.Numbers.{le4};
+ghost use Rattle.netlink_packet_core.specs.Families.{attribute};
 ghost use Rattle.link_info_grammar.specs.Families.{vxlan};
 ghost use Rattle.link_info_overlays.specs.Vxlan.{vxlan_entry, vxlan_names_row};
 
@@ -207,6 +211,93 @@ impl FieldNla for InfoVxlan {
     }
 }
 
+impl InfoVxlan {
+    // The attribute of a kind that holds 4 bytes, little-endian.
+    fn of_u32(kind: u16, number: u32) -> Option<Self>
+        ensures value { IfSome result (λ v. vxlan_entry v ≡ attribute kind (le4 number)) }
+        ensures names_row { IfSome result (λ v. vxlan_names_row v) }
+        ensures none { IfNone result (kind ≢ 1 × kind ≢ 3 × kind ≢ 8 × kind ≢ 9 × kind ≢ 32) }
+    {
+        match kind {
+            IFLA_VXLAN_ID => Some(Self::Id(number)),
+            IFLA_VXLAN_LINK => Some(Self::Link(number)),
+            IFLA_VXLAN_AGEING => Some(Self::Ageing(number)),
+            IFLA_VXLAN_LIMIT => Some(Self::Limit(number)),
+            IFLA_VXLAN_LABEL_POLICY => Some(Self::LabelPolicy(number)),
+            _ => None,
+        }
+    }
+
+    // The attribute of a kind that holds an address of IPv4.
+    fn of_ipv4(kind: u16, address: Ipv4Addr) -> Option<Self>
+        ensures value { IfSome result (λ v. vxlan_entry v ≡ attribute kind (ipv4_octets address)) }
+        ensures names_row { IfSome result (λ v. vxlan_names_row v) }
+        ensures none { IfNone result (kind ≢ 2 × kind ≢ 4) }
+    {
+        match kind {
+            IFLA_VXLAN_GROUP => Some(Self::Group(address)),
+            IFLA_VXLAN_LOCAL => Some(Self::Local(address)),
+            _ => None,
+        }
+    }
+
+    // The attribute of a kind that holds 1 byte.
+    fn of_u8(kind: u16, number: u8) -> Option<Self>
+        ensures value { IfSome result (λ v. vxlan_entry v ≡ attribute kind (number ∷ [])) }
+        ensures names_row { IfSome result (λ v. vxlan_names_row v) }
+        ensures none { IfNone result (kind ≢ 5 × kind ≢ 6 × kind ≢ 28 × kind ≢ 29) }
+    {
+        match kind {
+            IFLA_VXLAN_TTL => Some(Self::Ttl(number)),
+            IFLA_VXLAN_TOS => Some(Self::Tos(number)),
+            IFLA_VXLAN_TTL_INHERIT => Some(Self::TtlInherit(number)),
+            IFLA_VXLAN_DF => Some(Self::Df(VxlanDf::from(number))),
+            _ => None,
+        }
+    }
+
+    // The attribute of a kind that holds a truth.
+    fn of_truth(kind: u16, truth: bool) -> Option<Self>
+        ensures value { IfSome result (λ v. vxlan_entry v ≡ attribute kind (truth_byte truth)) }
+        ensures names_row { IfSome result (λ v. vxlan_names_row v) }
+        ensures none { IfNone result
+            (kind ≢ 7 × kind ≢ 11 × kind ≢ 12 × kind ≢ 13 × kind ≢ 14 × kind ≢ 18
+            × kind ≢ 19 × kind ≢ 20 × kind ≢ 21 × kind ≢ 22 × kind ≢ 25 × kind ≢ 30
+            × kind ≢ 31 × kind ≢ 34) }
+    {
+        match kind {
+            IFLA_VXLAN_LEARNING => Some(Self::Learning(truth)),
+            IFLA_VXLAN_PROXY => Some(Self::Proxy(truth)),
+            IFLA_VXLAN_RSC => Some(Self::Rsc(truth)),
+            IFLA_VXLAN_L2MISS => Some(Self::L2Miss(truth)),
+            IFLA_VXLAN_L3MISS => Some(Self::L3Miss(truth)),
+            IFLA_VXLAN_UDP_CSUM => Some(Self::UDPCsum(truth)),
+            IFLA_VXLAN_UDP_ZERO_CSUM6_TX => Some(Self::UDPZeroCsumTX(truth)),
+            IFLA_VXLAN_UDP_ZERO_CSUM6_RX => Some(Self::UDPZeroCsumRX(truth)),
+            IFLA_VXLAN_REMCSUM_TX => Some(Self::RemCsumTX(truth)),
+            IFLA_VXLAN_REMCSUM_RX => Some(Self::RemCsumRX(truth)),
+            IFLA_VXLAN_COLLECT_METADATA => Some(Self::CollectMetadata(truth)),
+            IFLA_VXLAN_VNIFILTER => Some(Self::Vnifilter(truth)),
+            IFLA_VXLAN_LOCALBYPASS => Some(Self::Localbypass(truth)),
+            IFLA_VXLAN_MC_ROUTE => Some(Self::McRoute(truth)),
+            _ => None,
+        }
+    }
+
+    // The attribute of a kind that holds an address of IPv6.
+    fn of_ipv6(kind: u16, address: Ipv6Addr) -> Option<Self>
+        ensures value { IfSome result (λ v. vxlan_entry v ≡ attribute kind (ipv6_octets address)) }
+        ensures names_row { IfSome result (λ v. vxlan_names_row v) }
+        ensures none { IfNone result (kind ≢ 16 × kind ≢ 17) }
+    {
+        match kind {
+            IFLA_VXLAN_GROUP6 => Some(Self::Group6(address)),
+            IFLA_VXLAN_LOCAL6 => Some(Self::Local6(address)),
+            _ => None,
+        }
+    }
+}
+
 impl Family for InfoVxlan {
     ghost rows = { vxlan };
 
@@ -214,41 +305,42 @@ impl Family for InfoVxlan {
 
     fn read_row(_alloc: Global, kind: u16, payload: &[u8]) -> Result<Option<Self>, DecodeError> {
         match kind {
-            IFLA_VXLAN_ID => typed!(Id, parse_u32(payload)),
-            IFLA_VXLAN_GROUP => typed!(Group, parse_ipv4_addr(payload)),
-            IFLA_VXLAN_LINK => typed!(Link, parse_u32(payload)),
-            IFLA_VXLAN_LOCAL => typed!(Local, parse_ipv4_addr(payload)),
-            IFLA_VXLAN_TTL => typed!(Ttl, parse_u8(payload)),
-            IFLA_VXLAN_TOS => typed!(Tos, parse_u8(payload)),
-            IFLA_VXLAN_LEARNING => typed!(Learning, parse_bool(payload)),
-            IFLA_VXLAN_AGEING => typed!(Ageing, parse_u32(payload)),
-            IFLA_VXLAN_LIMIT => typed!(Limit, parse_u32(payload)),
+            IFLA_VXLAN_TTL_INHERIT if payload.is_empty() => Ok(Some(Self::TtlInheritFlag)),
+            IFLA_VXLAN_ID | IFLA_VXLAN_LINK => typed!(of_u32(kind), parse_u32(payload)),
+            IFLA_VXLAN_GROUP | IFLA_VXLAN_LOCAL => typed!(of_ipv4(kind), parse_ipv4_addr(payload)),
+            IFLA_VXLAN_TTL | IFLA_VXLAN_TOS | IFLA_VXLAN_TTL_INHERIT | IFLA_VXLAN_DF => typed!(
+                of_u8(kind),
+                parse_u8(payload)
+            ),
+            IFLA_VXLAN_AGEING | IFLA_VXLAN_LIMIT | IFLA_VXLAN_LABEL_POLICY => typed!(
+                of_u32(kind),
+                parse_u32(payload)
+            ),
+            IFLA_VXLAN_LEARNING
+            | IFLA_VXLAN_PROXY
+            | IFLA_VXLAN_RSC
+            | IFLA_VXLAN_L2MISS
+            | IFLA_VXLAN_L3MISS => typed!(of_truth(kind), parse_bool(payload)),
+            IFLA_VXLAN_UDP_CSUM
+            | IFLA_VXLAN_UDP_ZERO_CSUM6_TX
+            | IFLA_VXLAN_UDP_ZERO_CSUM6_RX
+            | IFLA_VXLAN_REMCSUM_TX
+            | IFLA_VXLAN_REMCSUM_RX => typed!(of_truth(kind), parse_bool(payload)),
+            IFLA_VXLAN_COLLECT_METADATA
+            | IFLA_VXLAN_VNIFILTER
+            | IFLA_VXLAN_LOCALBYPASS
+            | IFLA_VXLAN_MC_ROUTE => typed!(of_truth(kind), parse_bool(payload)),
             IFLA_VXLAN_PORT_RANGE => typed!(PortRange, parse_range(payload)),
-            IFLA_VXLAN_PROXY => typed!(Proxy, parse_bool(payload)),
-            IFLA_VXLAN_RSC => typed!(Rsc, parse_bool(payload)),
-            IFLA_VXLAN_L2MISS => typed!(L2Miss, parse_bool(payload)),
-            IFLA_VXLAN_L3MISS => typed!(L3Miss, parse_bool(payload)),
             IFLA_VXLAN_PORT => typed!(Port, parse_u16_be(payload)),
-            IFLA_VXLAN_GROUP6 => typed!(Group6, parse_ipv6_addr(payload)),
-            IFLA_VXLAN_LOCAL6 => typed!(Local6, parse_ipv6_addr(payload)),
-            IFLA_VXLAN_UDP_CSUM => typed!(UDPCsum, parse_bool(payload)),
-            IFLA_VXLAN_UDP_ZERO_CSUM6_TX => typed!(UDPZeroCsumTX, parse_bool(payload)),
-            IFLA_VXLAN_UDP_ZERO_CSUM6_RX => typed!(UDPZeroCsumRX, parse_bool(payload)),
-            IFLA_VXLAN_REMCSUM_TX => typed!(RemCsumTX, parse_bool(payload)),
-            IFLA_VXLAN_REMCSUM_RX => typed!(RemCsumRX, parse_bool(payload)),
+            IFLA_VXLAN_GROUP6 | IFLA_VXLAN_LOCAL6 => typed!(
+                of_ipv6(kind),
+                parse_ipv6_addr(payload)
+            ),
             IFLA_VXLAN_GBP => Ok(Some(Self::Gbp)),
             IFLA_VXLAN_REMCSUM_NOPARTIAL => Ok(Some(Self::RemCsumNoPartial)),
-            IFLA_VXLAN_COLLECT_METADATA => typed!(CollectMetadata, parse_bool(payload)),
             IFLA_VXLAN_LABEL => typed!(Label, parse_u32_be(payload)),
             IFLA_VXLAN_GPE => Ok(Some(Self::Gpe)),
-            IFLA_VXLAN_TTL_INHERIT if payload.is_empty() => Ok(Some(Self::TtlInheritFlag)),
-            IFLA_VXLAN_TTL_INHERIT => typed!(TtlInherit, parse_u8(payload)),
-            IFLA_VXLAN_DF => typed!(Df, parse_u8(payload), VxlanDf),
-            IFLA_VXLAN_VNIFILTER => typed!(Vnifilter, parse_bool(payload)),
-            IFLA_VXLAN_LOCALBYPASS => typed!(Localbypass, parse_bool(payload)),
-            IFLA_VXLAN_LABEL_POLICY => typed!(LabelPolicy, parse_u32(payload)),
             IFLA_VXLAN_RESERVED_BITS => typed!(ReservedBits, parse_u64_be(payload)),
-            IFLA_VXLAN_MC_ROUTE => typed!(McRoute, parse_bool(payload)),
             _ => Ok(None),
         }
     }

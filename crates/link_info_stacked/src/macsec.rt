@@ -1,6 +1,8 @@
 //! Data of the kind `macsec` (if_link.h, IFLA_MACSEC_*). Numbers are little-endian unless told.
 
-ghost use Rattle.std.specs.Prelude.{refl};
+ghost use Rattle.std.specs.Prelude.{refl, IfNone, IfSome, [], ◌∷◌, ◌≡◌, ◌≢◌};
+ghost use Rattle.netlink_packet_core.specs.Numbers.{le8};
+ghost use Rattle.netlink_packet_core.specs.Families.{attribute};
 ghost use Rattle.link_info_grammar.specs.Families.{macsec};
 ghost use Rattle.link_info_stacked.specs.Macsec.{macsec_entry, macsec_names_row};
 
@@ -99,6 +101,44 @@ impl FieldNla for InfoMacSec {
     }
 }
 
+impl InfoMacSec {
+    // The attribute of a kind that holds 8 bytes, little-endian.
+    fn of_u64(kind: u16, number: u64) -> Option<Self>
+        ensures value { IfSome result (λ v. macsec_entry v ≡ attribute kind (le8 number)) }
+        ensures names_row { IfSome result (λ v. macsec_names_row v) }
+        ensures none { IfNone result (kind ≢ 1 × kind ≢ 4) }
+    {
+        match kind {
+            IFLA_MACSEC_SCI => Some(Self::Sci(number)),
+            IFLA_MACSEC_CIPHER_SUITE => Some(Self::CipherSuite(MacSecCipherId::from(number))),
+            _ => None,
+        }
+    }
+
+    // The attribute of a kind that holds 1 byte.
+    fn of_u8(kind: u16, number: u8) -> Option<Self>
+        ensures value { IfSome result (λ v. macsec_entry v ≡ attribute kind (number ∷ [])) }
+        ensures names_row { IfSome result (λ v. macsec_names_row v) }
+        ensures none { IfNone result
+            (kind ≢ 3 × kind ≢ 6 × kind ≢ 7 × kind ≢ 8 × kind ≢ 9 × kind ≢ 10 × kind ≢ 11
+            × kind ≢ 12 × kind ≢ 13 × kind ≢ 15) }
+    {
+        match kind {
+            IFLA_MACSEC_ICV_LEN => Some(Self::IcvLen(number)),
+            IFLA_MACSEC_ENCODING_SA => Some(Self::EncodingSa(number)),
+            IFLA_MACSEC_ENCRYPT => Some(Self::Encrypt(number)),
+            IFLA_MACSEC_PROTECT => Some(Self::Protect(number)),
+            IFLA_MACSEC_INC_SCI => Some(Self::IncSci(number)),
+            IFLA_MACSEC_ES => Some(Self::Es(number)),
+            IFLA_MACSEC_SCB => Some(Self::Scb(number)),
+            IFLA_MACSEC_REPLAY_PROTECT => Some(Self::ReplayProtect(number)),
+            IFLA_MACSEC_VALIDATION => Some(Self::Validation(MacSecValidate::from(number))),
+            IFLA_MACSEC_OFFLOAD => Some(Self::Offload(MacSecOffload::from(number))),
+            _ => None,
+        }
+    }
+}
+
 impl Family for InfoMacSec {
     ghost rows = { macsec };
 
@@ -106,20 +146,19 @@ impl Family for InfoMacSec {
 
     fn read_row(_alloc: Global, kind: u16, payload: &[u8]) -> Result<Option<Self>, DecodeError> {
         match kind {
-            IFLA_MACSEC_SCI => typed!(Sci, parse_u64(payload)),
+            IFLA_MACSEC_SCI | IFLA_MACSEC_CIPHER_SUITE => typed!(of_u64(kind), parse_u64(payload)),
             IFLA_MACSEC_PORT => typed!(Port, parse_u16_be(payload)),
-            IFLA_MACSEC_ICV_LEN => typed!(IcvLen, parse_u8(payload)),
-            IFLA_MACSEC_CIPHER_SUITE => typed!(CipherSuite, parse_u64(payload), MacSecCipherId),
+            IFLA_MACSEC_ICV_LEN
+            | IFLA_MACSEC_ENCODING_SA
+            | IFLA_MACSEC_ENCRYPT
+            | IFLA_MACSEC_PROTECT
+            | IFLA_MACSEC_INC_SCI
+            | IFLA_MACSEC_ES
+            | IFLA_MACSEC_SCB
+            | IFLA_MACSEC_REPLAY_PROTECT
+            | IFLA_MACSEC_VALIDATION
+            | IFLA_MACSEC_OFFLOAD => typed!(of_u8(kind), parse_u8(payload)),
             IFLA_MACSEC_WINDOW => typed!(Window, parse_u32(payload)),
-            IFLA_MACSEC_ENCODING_SA => typed!(EncodingSa, parse_u8(payload)),
-            IFLA_MACSEC_ENCRYPT => typed!(Encrypt, parse_u8(payload)),
-            IFLA_MACSEC_PROTECT => typed!(Protect, parse_u8(payload)),
-            IFLA_MACSEC_INC_SCI => typed!(IncSci, parse_u8(payload)),
-            IFLA_MACSEC_ES => typed!(Es, parse_u8(payload)),
-            IFLA_MACSEC_SCB => typed!(Scb, parse_u8(payload)),
-            IFLA_MACSEC_REPLAY_PROTECT => typed!(ReplayProtect, parse_u8(payload)),
-            IFLA_MACSEC_VALIDATION => typed!(Validation, parse_u8(payload), MacSecValidate),
-            IFLA_MACSEC_OFFLOAD => typed!(Offload, parse_u8(payload), MacSecOffload),
             _ => Ok(None),
         }
     }

@@ -1,7 +1,10 @@
 //! Data of the kinds `ip6gre`, `ip6gretap` and `ip6erspan` (if_tunnel.h, IFLA_GRE_*). Numbers
 //! are little-endian unless told.
 
-ghost use Rattle.std.specs.Prelude.{refl};
+ghost use Rattle.std.specs.Prelude.{refl, IfNone, IfSome, [], ◌∷◌, ◌≡◌, ◌≢◌};
+ghost use Rattle.std.specs.Net.Addr.{ipv6_octets};
+ghost use Rattle.netlink_packet_core.specs.Numbers.{be2, be4, le2, le4};
+ghost use Rattle.netlink_packet_core.specs.Families.{attribute};
 ghost use Rattle.link_info_grammar.specs.Families.{gre6};
 ghost use Rattle.link_info_tunnels.specs.Gre6.{gre6_entry, gre6_names_row};
 
@@ -110,6 +113,94 @@ impl FieldNla for InfoGre6 {
     }
 }
 
+impl InfoGre6 {
+    // The attribute of a kind that holds 4 bytes, little-endian.
+    fn of_u32(kind: u16, number: u32) -> Option<Self>
+        ensures value { IfSome result (λ v. gre6_entry v ≡ attribute kind (le4 number)) }
+        ensures names_row { IfSome result (λ v. gre6_names_row v) }
+        ensures none { IfNone result (kind ≢ 1 × kind ≢ 20 × kind ≢ 21) }
+    {
+        match kind {
+            IFLA_GRE_LINK => Some(Self::Link(number)),
+            IFLA_GRE_FWMARK => Some(Self::FwMask(number)),
+            IFLA_GRE_ERSPAN_INDEX => Some(Self::ErSpanIndex(number)),
+            _ => None,
+        }
+    }
+
+    // The attribute of a kind that holds 2 bytes, big-endian.
+    fn of_u16_be(kind: u16, number: u16) -> Option<Self>
+        ensures value { IfSome result (λ v. gre6_entry v ≡ attribute kind (be2 number)) }
+        ensures names_row { IfSome result (λ v. gre6_names_row v) }
+        ensures none { IfNone result (kind ≢ 2 × kind ≢ 3 × kind ≢ 16 × kind ≢ 17) }
+    {
+        match kind {
+            IFLA_GRE_IFLAGS => Some(Self::IFlags(GreIOFlags::from_bits_retain(number))),
+            IFLA_GRE_OFLAGS => Some(Self::OFlags(GreIOFlags::from_bits_retain(number))),
+            IFLA_GRE_ENCAP_SPORT => Some(Self::SourcePort(number)),
+            IFLA_GRE_ENCAP_DPORT => Some(Self::DestinationPort(number)),
+            _ => None,
+        }
+    }
+
+    // The attribute of a kind that holds 4 bytes, big-endian.
+    fn of_u32_be(kind: u16, number: u32) -> Option<Self>
+        ensures value { IfSome result (λ v. gre6_entry v ≡ attribute kind (be4 number)) }
+        ensures names_row { IfSome result (λ v. gre6_names_row v) }
+        ensures none { IfNone result (kind ≢ 4 × kind ≢ 5 × kind ≢ 12) }
+    {
+        match kind {
+            IFLA_GRE_IKEY => Some(Self::IKey(number)),
+            IFLA_GRE_OKEY => Some(Self::OKey(number)),
+            IFLA_GRE_FLOWINFO => Some(Self::FlowLabel(number)),
+            _ => None,
+        }
+    }
+
+    // The attribute of a kind that holds an address of IPv6.
+    fn of_ipv6(kind: u16, address: Ipv6Addr) -> Option<Self>
+        ensures value { IfSome result (λ v. gre6_entry v ≡ attribute kind (ipv6_octets address)) }
+        ensures names_row { IfSome result (λ v. gre6_names_row v) }
+        ensures none { IfNone result (kind ≢ 6 × kind ≢ 7) }
+    {
+        match kind {
+            IFLA_GRE_LOCAL => Some(Self::Local(address)),
+            IFLA_GRE_REMOTE => Some(Self::Remote(address)),
+            _ => None,
+        }
+    }
+
+    // The attribute of a kind that holds 1 byte.
+    fn of_u8(kind: u16, number: u8) -> Option<Self>
+        ensures value { IfSome result (λ v. gre6_entry v ≡ attribute kind (number ∷ [])) }
+        ensures names_row { IfSome result (λ v. gre6_names_row v) }
+        ensures none { IfNone result (kind ≢ 8 × kind ≢ 9 × kind ≢ 11 × kind ≢ 22 × kind ≢ 23) }
+    {
+        match kind {
+            IFLA_GRE_TTL => Some(Self::Ttl(number)),
+            IFLA_GRE_TOS => Some(Self::Tos(number)),
+            IFLA_GRE_ENCAP_LIMIT => Some(Self::EncapLimit(number)),
+            IFLA_GRE_ERSPAN_VER => Some(Self::ErSpanVer(number)),
+            IFLA_GRE_ERSPAN_DIR => Some(Self::ErSpanDir(ErSpanDir::from(number))),
+            _ => None,
+        }
+    }
+
+    // The attribute of a kind that holds 2 bytes, little-endian.
+    fn of_u16(kind: u16, number: u16) -> Option<Self>
+        ensures value { IfSome result (λ v. gre6_entry v ≡ attribute kind (le2 number)) }
+        ensures names_row { IfSome result (λ v. gre6_names_row v) }
+        ensures none { IfNone result (kind ≢ 14 × kind ≢ 15 × kind ≢ 24) }
+    {
+        match kind {
+            IFLA_GRE_ENCAP_TYPE => Some(Self::EncapType(GreEncapType::from(number))),
+            IFLA_GRE_ENCAP_FLAGS => Some(Self::EncapFlags(GreEncapFlags::from_bits_retain(number))),
+            IFLA_GRE_ERSPAN_HWID => Some(Self::ErSpanHwId(number)),
+            _ => None,
+        }
+    }
+}
+
 impl Family for InfoGre6 {
     ghost rows = { gre6 };
 
@@ -117,31 +208,27 @@ impl Family for InfoGre6 {
 
     fn read_row(_alloc: Global, kind: u16, payload: &[u8]) -> Result<Option<Self>, DecodeError> {
         match kind {
-            IFLA_GRE_LINK => typed!(Link, parse_u32(payload)),
-            IFLA_GRE_IFLAGS => typed!(IFlags, parse_u16_be(payload), GreIOFlags::from_bits_retain),
-            IFLA_GRE_OFLAGS => typed!(OFlags, parse_u16_be(payload), GreIOFlags::from_bits_retain),
-            IFLA_GRE_IKEY => typed!(IKey, parse_u32_be(payload)),
-            IFLA_GRE_OKEY => typed!(OKey, parse_u32_be(payload)),
-            IFLA_GRE_LOCAL => typed!(Local, parse_ipv6_addr(payload)),
-            IFLA_GRE_REMOTE => typed!(Remote, parse_ipv6_addr(payload)),
-            IFLA_GRE_TTL => typed!(Ttl, parse_u8(payload)),
-            IFLA_GRE_TOS => typed!(Tos, parse_u8(payload)),
-            IFLA_GRE_ENCAP_LIMIT => typed!(EncapLimit, parse_u8(payload)),
-            IFLA_GRE_FLOWINFO => typed!(FlowLabel, parse_u32_be(payload)),
-            IFLA_GRE_ENCAP_TYPE => typed!(EncapType, parse_u16(payload), GreEncapType),
-            IFLA_GRE_ENCAP_FLAGS => typed!(
-                EncapFlags,
-                parse_u16(payload),
-                GreEncapFlags::from_bits_retain
+            IFLA_GRE_LINK | IFLA_GRE_FWMARK | IFLA_GRE_ERSPAN_INDEX => typed!(
+                of_u32(kind),
+                parse_u32(payload)
             ),
-            IFLA_GRE_ENCAP_SPORT => typed!(SourcePort, parse_u16_be(payload)),
-            IFLA_GRE_ENCAP_DPORT => typed!(DestinationPort, parse_u16_be(payload)),
+            IFLA_GRE_IFLAGS | IFLA_GRE_OFLAGS | IFLA_GRE_ENCAP_SPORT | IFLA_GRE_ENCAP_DPORT =>
+                typed!(of_u16_be(kind), parse_u16_be(payload)),
+            IFLA_GRE_IKEY | IFLA_GRE_OKEY | IFLA_GRE_FLOWINFO => typed!(
+                of_u32_be(kind),
+                parse_u32_be(payload)
+            ),
+            IFLA_GRE_LOCAL | IFLA_GRE_REMOTE => typed!(of_ipv6(kind), parse_ipv6_addr(payload)),
+            IFLA_GRE_TTL
+            | IFLA_GRE_TOS
+            | IFLA_GRE_ENCAP_LIMIT
+            | IFLA_GRE_ERSPAN_VER
+            | IFLA_GRE_ERSPAN_DIR => typed!(of_u8(kind), parse_u8(payload)),
+            IFLA_GRE_ENCAP_TYPE | IFLA_GRE_ENCAP_FLAGS | IFLA_GRE_ERSPAN_HWID => typed!(
+                of_u16(kind),
+                parse_u16(payload)
+            ),
             IFLA_GRE_COLLECT_METADATA => Ok(Some(Self::CollectMetadata)),
-            IFLA_GRE_FWMARK => typed!(FwMask, parse_u32(payload)),
-            IFLA_GRE_ERSPAN_INDEX => typed!(ErSpanIndex, parse_u32(payload)),
-            IFLA_GRE_ERSPAN_VER => typed!(ErSpanVer, parse_u8(payload)),
-            IFLA_GRE_ERSPAN_DIR => typed!(ErSpanDir, parse_u8(payload), ErSpanDir),
-            IFLA_GRE_ERSPAN_HWID => typed!(ErSpanHwId, parse_u16(payload)),
             _ => Ok(None),
         }
     }

@@ -1,18 +1,21 @@
 //! Data of the kinds `ipip`, `ip6tnl` and `sit` (if_tunnel.h, IFLA_IPTUN_*). Numbers are
 //! little-endian unless told.
 
-ghost use Rattle.std.specs.Prelude.{◌≡◌, ◌<◌, true, false, length, map, Some, IsTrue, IfOk, IfErr, IfSome, IfNone, OnOk};
+ghost use Rattle.std.specs.Prelude.{◌≡◌, ◌<◌, true, false, length, map, Some, IsTrue, IfOk, IfErr, IfSome, IfNone, OnOk, [], ◌∷◌, ◌≢◌};
+ghost use Rattle.netlink_packet_core.specs.Addresses.{ip_octets};
+ghost use Rattle.netlink_packet_core.specs.Numbers.{be2, le2, le4};
 ghost use Rattle.std.specs.List.{All};
 ghost use Rattle.netlink_packet_core.specs.Attributes.{proper_kind};
 ghost use Rattle.netlink_packet_core.specs.AttributeViews.{IsAttribute, viewed_kind};
 ghost use Rattle.netlink_packet_core.specs.Errors.{is_memory};
-ghost use Rattle.netlink_packet_core.specs.Families.{Gives, accepts, family_row, may_want_memory};
+ghost use Rattle.netlink_packet_core.specs.Families.{Gives, accepts, family_row, may_want_memory, attribute};
 ghost use Rattle.netlink_packet_core.specs.Lists.{text_by, all_fit_by};
 ghost use Rattle.netlink_packet_core.specs.NlaBuffers.{storage};
 ghost use Rattle.attribute_tables.specs.Written.{written_as};
 ghost use Rattle.attribute_tables_grammar.specs.Lists.{any, without_context};
 ghost use Rattle.attribute_tables_grammar.specs.LookUps.{has_no_row};
 ghost use Rattle.attribute_tables_grammar.specs.Readings.{reading_as};
+ghost use Rattle.link_info_kinds.specs.declared.info_kind.InfoKind.{InfoKind};
 ghost use Rattle.link_info_tunnels.specs.IpTunnel.{ip_tunnel_entry, ip_tunnel_names_row, ip_tunnel_of};
 ghost use Rattle.link_info_tunnels.specs.IpTunnel.{ip_tunnel_begins_accepted, ip_tunnel_rule};
 
@@ -167,6 +170,82 @@ impl FieldNla for InfoIpTunnel {
 }
 
 impl InfoIpTunnel {
+    // The attribute of a kind that holds 4 bytes, little-endian.
+    fn of_u32(kind: u16, number: u32) -> Option<Self>
+        ensures value { IfSome result (λ v. ip_tunnel_entry v ≡ attribute kind (le4 number)) }
+        ensures names_row { IfSome result
+            (λ v. (link : InfoKind) → ip_tunnel_names_row link v) }
+        ensures none { IfNone result (kind ≢ 1 × kind ≢ 20) }
+    {
+        match kind {
+            IFLA_IPTUN_LINK => Some(Self::Link(number)),
+            IFLA_IPTUN_FWMARK => Some(Self::FwMark(number)),
+            _ => None,
+        }
+    }
+
+    // The attribute of a kind that holds an address.
+    fn of_ip(kind: u16, address: IpAddr) -> Option<Self>
+        ensures value { IfSome result (λ v. ip_tunnel_entry v ≡ attribute kind (ip_octets address)) }
+        ensures names_row { IfSome result
+            (λ v. (link : InfoKind) → ip_tunnel_names_row link v) }
+        ensures none { IfNone result (kind ≢ 2 × kind ≢ 3) }
+    {
+        match kind {
+            IFLA_IPTUN_LOCAL => Some(Self::Local(address)),
+            IFLA_IPTUN_REMOTE => Some(Self::Remote(address)),
+            _ => None,
+        }
+    }
+
+    // The attribute of a kind that holds 1 byte.
+    fn of_u8(kind: u16, number: u8) -> Option<Self>
+        ensures value { IfSome result (λ v. ip_tunnel_entry v ≡ attribute kind (number ∷ [])) }
+        ensures names_row { IfSome result
+            (λ v. (link : InfoKind) → ip_tunnel_names_row link v) }
+        ensures none { IfNone result (kind ≢ 4 × kind ≢ 5 × kind ≢ 6 × kind ≢ 9) }
+    {
+        match kind {
+            IFLA_IPTUN_TTL => Some(Self::Ttl(number)),
+            IFLA_IPTUN_TOS => Some(Self::Tos(number)),
+            IFLA_IPTUN_ENCAP_LIMIT => Some(Self::EncapLimit(number)),
+            IFLA_IPTUN_PROTO => Some(Self::Protocol(IpProtocol::from(number))),
+            _ => None,
+        }
+    }
+
+    // The attribute of a kind that holds 2 bytes, little-endian.
+    fn of_u16(kind: u16, number: u16) -> Option<Self>
+        ensures value { IfSome result (λ v. ip_tunnel_entry v ≡ attribute kind (le2 number)) }
+        ensures names_row { IfSome result
+            (λ v. (link : InfoKind) → ip_tunnel_names_row link v) }
+        ensures none { IfNone result (kind ≢ 13 × kind ≢ 14 × kind ≢ 15 × kind ≢ 16) }
+    {
+        match kind {
+            IFLA_IPTUN_6RD_PREFIXLEN => Some(Self::Ipv6RdPrefixLen(number)),
+            IFLA_IPTUN_6RD_RELAY_PREFIXLEN => Some(Self::Ipv6RdRelayPrefixLen(number)),
+            IFLA_IPTUN_ENCAP_TYPE => Some(Self::EncapType(TunnelEncapType::from(number))),
+            IFLA_IPTUN_ENCAP_FLAGS => Some(Self::EncapFlags(TunnelEncapFlags::from_bits_retain(
+                number,
+            ))),
+            _ => None,
+        }
+    }
+
+    // The attribute of a kind that holds 2 bytes, big-endian.
+    fn of_u16_be(kind: u16, number: u16) -> Option<Self>
+        ensures value { IfSome result (λ v. ip_tunnel_entry v ≡ attribute kind (be2 number)) }
+        ensures names_row { IfSome result
+            (λ v. (link : InfoKind) → ip_tunnel_names_row link v) }
+        ensures none { IfNone result (kind ≢ 17 × kind ≢ 18) }
+    {
+        match kind {
+            IFLA_IPTUN_ENCAP_SPORT => Some(Self::EncapSPort(number)),
+            IFLA_IPTUN_ENCAP_DPORT => Some(Self::EncapDPort(number)),
+            _ => None,
+        }
+    }
+
     // Reads one attribute under a kind of links; `None` where its kind has no row.
     #[tactic(auto, unfolding(crate::specs::IpTunnel::ip_tunnel_of))]
     fn read_row(buf: &NlaBuffer<&[u8]>, link: &InfoKind) -> Result<Option<Self>, DecodeError>
@@ -184,14 +263,15 @@ impl InfoIpTunnel {
             (λ e. accepts (ip_tunnel_of link.now) (storage buf.now).now ≡ false) }
         ensures memory { IfErr result (λ e. is_memory e ≡ false) }
     {
+        let kind = buf.kind();
         let payload = buf.value();
-        match buf.kind() {
-            IFLA_IPTUN_LINK => typed!(Link, parse_u32(payload)),
-            IFLA_IPTUN_LOCAL => typed!(Local, parse_ip(payload)),
-            IFLA_IPTUN_REMOTE => typed!(Remote, parse_ip(payload)),
-            IFLA_IPTUN_TTL => typed!(Ttl, parse_u8(payload)),
-            IFLA_IPTUN_TOS => typed!(Tos, parse_u8(payload)),
-            IFLA_IPTUN_ENCAP_LIMIT => typed!(EncapLimit, parse_u8(payload)),
+        match kind {
+            IFLA_IPTUN_LINK | IFLA_IPTUN_FWMARK => typed!(of_u32(kind), parse_u32(payload)),
+            IFLA_IPTUN_LOCAL | IFLA_IPTUN_REMOTE => typed!(of_ip(kind), parse_ip(payload)),
+            IFLA_IPTUN_TTL | IFLA_IPTUN_TOS | IFLA_IPTUN_ENCAP_LIMIT | IFLA_IPTUN_PROTO => typed!(
+                of_u8(kind),
+                parse_u8(payload)
+            ),
             IFLA_IPTUN_FLOWINFO => typed!(FlowInfo, parse_u32_be(payload)),
             IFLA_IPTUN_FLAGS => match link {
                 InfoKind::IpIp => typed!(Ipv4Flags, parse_u16_be(payload)),
@@ -205,22 +285,18 @@ impl InfoIpTunnel {
                 }
                 _ => Err(DecodeError::from("flags of a tunnel under a kind that has none")),
             },
-            IFLA_IPTUN_PROTO => typed!(Protocol, parse_u8(payload), IpProtocol),
             IFLA_IPTUN_PMTUDISC => typed!(PMtuDisc, parse_bool(payload)),
             IFLA_IPTUN_6RD_PREFIX => typed!(Ipv6RdPrefix, parse_ipv6_addr(payload)),
             IFLA_IPTUN_6RD_RELAY_PREFIX => typed!(Ipv6RdRelayPrefix, parse_ipv4_addr(payload)),
-            IFLA_IPTUN_6RD_PREFIXLEN => typed!(Ipv6RdPrefixLen, parse_u16(payload)),
-            IFLA_IPTUN_6RD_RELAY_PREFIXLEN => typed!(Ipv6RdRelayPrefixLen, parse_u16(payload)),
-            IFLA_IPTUN_ENCAP_TYPE => typed!(EncapType, parse_u16(payload), TunnelEncapType),
-            IFLA_IPTUN_ENCAP_FLAGS => typed!(
-                EncapFlags,
-                parse_u16(payload),
-                TunnelEncapFlags::from_bits_retain
+            IFLA_IPTUN_6RD_PREFIXLEN
+            | IFLA_IPTUN_6RD_RELAY_PREFIXLEN
+            | IFLA_IPTUN_ENCAP_TYPE
+            | IFLA_IPTUN_ENCAP_FLAGS => typed!(of_u16(kind), parse_u16(payload)),
+            IFLA_IPTUN_ENCAP_SPORT | IFLA_IPTUN_ENCAP_DPORT => typed!(
+                of_u16_be(kind),
+                parse_u16_be(payload)
             ),
-            IFLA_IPTUN_ENCAP_SPORT => typed!(EncapSPort, parse_u16_be(payload)),
-            IFLA_IPTUN_ENCAP_DPORT => typed!(EncapDPort, parse_u16_be(payload)),
             IFLA_IPTUN_COLLECT_METADATA => Ok(Some(Self::CollectMetadata)),
-            IFLA_IPTUN_FWMARK => typed!(FwMark, parse_u32(payload)),
             _ => Ok(None),
         }
     }

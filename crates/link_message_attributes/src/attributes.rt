@@ -21,140 +21,108 @@ ghost use Rattle.link_message_attributes.specs.LinkAttributes.{link_attribute_fi
 ghost use Rattle.link_message_attributes.specs.LinkAttributes.{IsReadAsNumber, row_may_want_memory, link_attribute_may_want_memory};
 ghost use Rattle.link_message_attributes.specs.Payloads.{link_payload_bytes, link_payload_fits};
 
-use super::payload::{LinkPayload, parse_bytes, parse_extent_masks, parse_link_info};
-use attribute_tables::{Reader, parse_family, parse_list, typed};
+use super::kinds::IFLA_ADDRESS;
+use super::kinds::IFLA_AF_SPEC;
+use super::kinds::IFLA_ALLMULTI;
+use super::kinds::IFLA_BROADCAST;
+use super::kinds::IFLA_CARRIER;
+use super::kinds::IFLA_CARRIER_CHANGES;
+use super::kinds::IFLA_CARRIER_DOWN_COUNT;
+use super::kinds::IFLA_CARRIER_UP_COUNT;
+use super::kinds::IFLA_DEVLINK_PORT;
+use super::kinds::IFLA_DPLL_PIN;
+use super::kinds::IFLA_EVENT;
+use super::kinds::IFLA_EXT_MASK;
+use super::kinds::IFLA_GRO_IPV4_MAX_SIZE;
+use super::kinds::IFLA_GRO_MAX_SIZE;
+use super::kinds::IFLA_GROUP;
+use super::kinds::IFLA_GSO_IPV4_MAX_SIZE;
+use super::kinds::IFLA_GSO_MAX_SEGS;
+use super::kinds::IFLA_GSO_MAX_SIZE;
+use super::kinds::IFLA_IF_NETNSID;
+use super::kinds::IFLA_IFALIAS;
+use super::kinds::IFLA_IFNAME;
+use super::kinds::IFLA_LINK;
+use super::kinds::IFLA_LINK_NETNSID;
+use super::kinds::IFLA_LINKINFO;
+use super::kinds::IFLA_LINKMODE;
+use super::kinds::IFLA_MAP;
+use super::kinds::IFLA_MASTER;
+use super::kinds::IFLA_MAX_MTU;
+use super::kinds::IFLA_MIN_MTU;
+use super::kinds::IFLA_MTU;
+use super::kinds::IFLA_NET_NS_FD;
+use super::kinds::IFLA_NET_NS_PID;
+use super::kinds::IFLA_NEW_IFINDEX;
+use super::kinds::IFLA_NEW_NETNSID;
+use super::kinds::IFLA_NUM_RX_QUEUES;
+use super::kinds::IFLA_NUM_TX_QUEUES;
+use super::kinds::IFLA_NUM_VF;
+use super::kinds::IFLA_OPERSTATE;
+use super::kinds::IFLA_PARENT_DEV_BUS_NAME;
+use super::kinds::IFLA_PARENT_DEV_NAME;
+use super::kinds::IFLA_PERM_ADDRESS;
+use super::kinds::IFLA_PHYS_PORT_ID;
+use super::kinds::IFLA_PHYS_PORT_NAME;
+use super::kinds::IFLA_PHYS_SWITCH_ID;
+use super::kinds::IFLA_PORT_SELF;
+use super::kinds::IFLA_PROMISCUITY;
+use super::kinds::IFLA_PROP_LIST;
+use super::kinds::IFLA_PROTINFO;
+use super::kinds::IFLA_PROTO_DOWN;
+use super::kinds::IFLA_PROTO_DOWN_REASON;
+use super::kinds::IFLA_QDISC;
+use super::kinds::IFLA_STATS;
+use super::kinds::IFLA_STATS64;
+use super::kinds::IFLA_TSO_MAX_SEGS;
+use super::kinds::IFLA_TSO_MAX_SIZE;
+use super::kinds::IFLA_TXQLEN;
+use super::kinds::IFLA_VF_PORTS;
+use super::kinds::IFLA_VFINFO_LIST;
+use super::kinds::IFLA_XDP;
+use super::payload::LinkPayload;
+use super::payload::parse_bytes;
+use super::payload::parse_extent_masks;
+use super::payload::parse_link_info;
+use attribute_tables::Reader;
+use attribute_tables::parse_family;
+use attribute_tables::parse_list;
+use attribute_tables::typed;
 use link_info::LinkInfo;
-use link_message_af_spec::{AfSpecUnspec, parse_families};
+use link_message_af_spec::AfSpecUnspec;
+use link_message_af_spec::parse_families;
 use link_message_grammar::laws::attributes_are_looked_up;
-use link_message_lists::{
-    DevlinkPort, DpllPin, LinkProtoInfoInet6, LinkProtocolDownReason, LinkXdp, Prop, parse_raw,
-};
-use link_message_records::{FieldRecord, Map, Stats, Stats64, read_settings};
-use link_message_types::{AddressFamily, LinkEvent, LinkExtentMask, LinkMode, LinkPhysId, State};
-use link_message_virtual_functions::{LinkVfInfo, LinkVfPort, parse_vf_infos, parse_vf_ports};
-use netlink_packet_core::{
-    DecodeError, DefaultNla, Field, NLA_F_NESTED, Nla, NlaBuffer, Parseable, parse_i32,
-    parse_string, parse_u8, parse_u32,
-};
+use link_message_lists::DevlinkPort;
+use link_message_lists::DpllPin;
+use link_message_lists::LinkProtoInfoInet6;
+use link_message_lists::LinkProtocolDownReason;
+use link_message_lists::LinkXdp;
+use link_message_lists::Prop;
+use link_message_lists::parse_raw;
+use link_message_records::FieldRecord;
+use link_message_records::Map;
+use link_message_records::Stats;
+use link_message_records::Stats64;
+use link_message_records::read_settings;
+use link_message_types::AddressFamily;
+use link_message_types::LinkEvent;
+use link_message_types::LinkExtentMask;
+use link_message_types::LinkMode;
+use link_message_types::LinkPhysId;
+use link_message_types::State;
+use link_message_virtual_functions::LinkVfInfo;
+use link_message_virtual_functions::LinkVfPort;
+use link_message_virtual_functions::parse_vf_infos;
+use link_message_virtual_functions::parse_vf_ports;
+use netlink_packet_core::DecodeError;
+use netlink_packet_core::DefaultNla;
+use netlink_packet_core::Field;
+use netlink_packet_core::NLA_F_NESTED;
+use netlink_packet_core::Nla;
+use netlink_packet_core::NlaBuffer;
+use netlink_packet_core::Parseable;
+use netlink_packet_core::parse_string;
 use std::alloc::Global;
-
-const IFLA_ADDRESS: u16 = 1;
-
-const IFLA_BROADCAST: u16 = 2;
-
-const IFLA_IFNAME: u16 = 3;
-
-const IFLA_MTU: u16 = 4;
-
-const IFLA_LINK: u16 = 5;
-
-const IFLA_QDISC: u16 = 6;
-
-const IFLA_STATS: u16 = 7;
-
-const IFLA_MASTER: u16 = 10;
-
-const IFLA_PROTINFO: u16 = 12;
-
-const IFLA_TXQLEN: u16 = 13;
-
-const IFLA_MAP: u16 = 14;
-
-const IFLA_OPERSTATE: u16 = 16;
-
-const IFLA_LINKMODE: u16 = 17;
-
-const IFLA_LINKINFO: u16 = 18;
-
-const IFLA_NET_NS_PID: u16 = 19;
-
-const IFLA_IFALIAS: u16 = 20;
-
-const IFLA_NUM_VF: u16 = 21;
-
-const IFLA_VFINFO_LIST: u16 = 22;
-
-const IFLA_STATS64: u16 = 23;
-
-const IFLA_VF_PORTS: u16 = 24;
-
-const IFLA_PORT_SELF: u16 = 25;
-
-const IFLA_AF_SPEC: u16 = 26;
-
-const IFLA_GROUP: u16 = 27;
-
-const IFLA_NET_NS_FD: u16 = 28;
-
-const IFLA_EXT_MASK: u16 = 29;
-
-const IFLA_PROMISCUITY: u16 = 30;
-
-const IFLA_NUM_TX_QUEUES: u16 = 31;
-
-const IFLA_NUM_RX_QUEUES: u16 = 32;
-
-const IFLA_CARRIER: u16 = 33;
-
-const IFLA_PHYS_PORT_ID: u16 = 34;
-
-const IFLA_CARRIER_CHANGES: u16 = 35;
-
-const IFLA_PHYS_SWITCH_ID: u16 = 36;
-
-const IFLA_LINK_NETNSID: u16 = 37;
-
-const IFLA_PHYS_PORT_NAME: u16 = 38;
-
-const IFLA_PROTO_DOWN: u16 = 39;
-
-const IFLA_GSO_MAX_SEGS: u16 = 40;
-
-const IFLA_GSO_MAX_SIZE: u16 = 41;
-
-const IFLA_XDP: u16 = 43;
-
-const IFLA_EVENT: u16 = 44;
-
-const IFLA_NEW_NETNSID: u16 = 45;
-
-const IFLA_IF_NETNSID: u16 = 46;
-
-const IFLA_CARRIER_UP_COUNT: u16 = 47;
-
-const IFLA_CARRIER_DOWN_COUNT: u16 = 48;
-
-const IFLA_NEW_IFINDEX: u16 = 49;
-
-const IFLA_MIN_MTU: u16 = 50;
-
-const IFLA_MAX_MTU: u16 = 51;
-
-const IFLA_PROP_LIST: u16 = 52;
-
-const IFLA_PERM_ADDRESS: u16 = 54;
-
-const IFLA_PROTO_DOWN_REASON: u16 = 55;
-
-const IFLA_PARENT_DEV_NAME: u16 = 56;
-
-const IFLA_PARENT_DEV_BUS_NAME: u16 = 57;
-
-const IFLA_GRO_MAX_SIZE: u16 = 58;
-
-const IFLA_TSO_MAX_SIZE: u16 = 59;
-
-const IFLA_TSO_MAX_SEGS: u16 = 60;
-
-const IFLA_ALLMULTI: u16 = 61;
-
-const IFLA_DEVLINK_PORT: u16 = 62;
-
-const IFLA_GSO_IPV4_MAX_SIZE: u16 = 63;
-
-const IFLA_GRO_IPV4_MAX_SIZE: u16 = 64;
-
-const IFLA_DPLL_PIN: u16 = 65;
 
 /// An attribute of a link.
 #[derive(Debug, PartialEq, Eq, Drop)]
@@ -516,75 +484,6 @@ impl LinkAttribute {
             | AddressFamily::Packet
             | AddressFamily::Mctp
             | AddressFamily::Other(_) => Ok(Self::AfSpecUnknown(parse_bytes(alloc, payload)?)),
-        }
-    }
-
-    // Reads the payload of a kind that isn't read otherwise, as a number; `None` where the kind has
-    // no row.
-    fn read_number(
-        family: AddressFamily,
-        kind: u16,
-        payload: &[u8],
-    ) -> Result<Option<Self>, DecodeError>
-        requires { IsReadAsNumber kind }
-        ensures ok { OnOk result
-            (IsTrue ((attribute_row (table_family family) kind).rule.accepted payload.now)) }
-        ensures none { IfOk result
-            (λ o. IfNone o (has_no_link_row (table_family family) kind)) }
-        ensures typed { IfOk result
-            (λ o. IfSome o (λ _. (attribute_row (table_family family) kind).is_typed ≡ true)) }
-        ensures value { IfOk result
-            (λ o. IfSome o
-            (λ v. link_attribute_entry v
-            ≡ rewrite (attribute_row (table_family family) kind) (attribute kind payload.now))) }
-        ensures inside { IfOk result
-            (λ o. IfSome o
-            (λ v. link_attribute_fits v
-            ≡ (attribute_row (table_family family) kind).rule.fits payload.now)) }
-        ensures names_row { IfOk result
-            (λ o. IfSome o (λ v. link_attribute_names_row (table_family family) v)) }
-        ensures err { IfErr result
-            (λ e. is_memory e ≡ false
-            → (attribute_row (table_family family) kind).rule.accepted payload.now ≡ false) }
-        ensures memory { IfErr result
-            (λ e. is_memory e ≡ true
-            → row_may_want_memory (table_family family) kind payload.now ≡ true) }
-    {
-        match kind {
-            IFLA_MTU => typed!(Mtu, parse_u32(payload)),
-            IFLA_LINK => typed!(Link, parse_u32(payload)),
-            IFLA_MASTER => typed!(Controller, parse_u32(payload)),
-            IFLA_TXQLEN => typed!(TxQueueLen, parse_u32(payload)),
-            IFLA_OPERSTATE => typed!(OperState, parse_u8(payload), State),
-            IFLA_LINKMODE => typed!(Mode, parse_u8(payload), LinkMode),
-            IFLA_NET_NS_PID => typed!(NetNsPid, parse_u32(payload)),
-            IFLA_NUM_VF => typed!(NumVf, parse_u32(payload)),
-            IFLA_GROUP => typed!(Group, parse_u32(payload)),
-            IFLA_NET_NS_FD => typed!(NetNsFd, parse_i32(payload)),
-            IFLA_PROMISCUITY => typed!(Promiscuity, parse_u32(payload)),
-            IFLA_NUM_TX_QUEUES => typed!(NumTxQueues, parse_u32(payload)),
-            IFLA_NUM_RX_QUEUES => typed!(NumRxQueues, parse_u32(payload)),
-            IFLA_CARRIER => typed!(Carrier, parse_u8(payload)),
-            IFLA_CARRIER_CHANGES => typed!(CarrierChanges, parse_u32(payload)),
-            IFLA_LINK_NETNSID => typed!(LinkNetnsId, parse_u32(payload)),
-            IFLA_PROTO_DOWN => typed!(ProtoDown, parse_u8(payload)),
-            IFLA_GSO_MAX_SEGS => typed!(GsoMaxSegs, parse_u32(payload)),
-            IFLA_GSO_MAX_SIZE => typed!(GsoMaxSize, parse_u32(payload)),
-            IFLA_EVENT => typed!(Event, parse_u32(payload), LinkEvent),
-            IFLA_NEW_NETNSID => typed!(NewNetnsId, parse_u32(payload)),
-            IFLA_IF_NETNSID => typed!(IfNetnsId, parse_u32(payload)),
-            IFLA_CARRIER_UP_COUNT => typed!(CarrierUpCount, parse_u32(payload)),
-            IFLA_CARRIER_DOWN_COUNT => typed!(CarrierDownCount, parse_u32(payload)),
-            IFLA_NEW_IFINDEX => typed!(NewIfIndex, parse_u32(payload)),
-            IFLA_MIN_MTU => typed!(MinMtu, parse_u32(payload)),
-            IFLA_MAX_MTU => typed!(MaxMtu, parse_u32(payload)),
-            IFLA_GRO_MAX_SIZE => typed!(GroMaxSize, parse_u32(payload)),
-            IFLA_TSO_MAX_SIZE => typed!(TsoMaxSize, parse_u32(payload)),
-            IFLA_TSO_MAX_SEGS => typed!(TsoMaxSegs, parse_u32(payload)),
-            IFLA_ALLMULTI => typed!(AllMulti, parse_u32(payload)),
-            IFLA_GSO_IPV4_MAX_SIZE => typed!(GsoIpv4MaxSize, parse_u32(payload)),
-            IFLA_GRO_IPV4_MAX_SIZE => typed!(GroIpv4MaxSize, parse_u32(payload)),
-            _ => Ok(None),
         }
     }
 

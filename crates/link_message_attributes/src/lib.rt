@@ -2,6 +2,8 @@
 #![tactic(auto)]
 
 mod attributes;
+mod kinds;
+mod numbers;
 mod payload;
 
 pub use attributes::LinkAttribute;

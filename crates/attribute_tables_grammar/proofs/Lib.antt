@@ -13,6 +13,7 @@ pub mod ReadingLaws
 pub mod Named
 pub mod Texts
 pub mod Walks
-pub mod TableWalk
+pub mod MeasureSteps
+pub mod OwnTexts
 pub mod TableText
 mod Facts

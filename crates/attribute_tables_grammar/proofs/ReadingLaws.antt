@@ -32,6 +32,7 @@ ports_are_entries = record {
   accepted = λ f bytes l. (ports_alike (without_context f) bytes l).accepted;
   canonical = λ f bytes l. (ports_alike (without_context f) bytes l).canonical;
   fits = λ f bytes l. (ports_alike (without_context f) bytes l).fits;
+  attributes = λ f bytes l. (ports_alike (without_context f) bytes l).attributes;
   read = λ f bytes l. (ports_alike (without_context f) bytes l).read;
   empty = λ f bytes l. ports_refuses (without_context f) bytes l;
 }

@@ -1,10 +1,10 @@
 -- A reading tells what the rule of a list tells, and goes on by steps.
-use Rattle.std.proofs.Common.{◌≡◌, ℕ, ◌<◌, Bool, true, false, cond, List, [], ◌∷◌, ◌++◌, length, map, Option, Some, None, refl, sym, ap, ◌∙◌, arith, append_assoc, append-nil}
+use Rattle.std.proofs.Common.{◌≡◌, ℕ, ◌+◌, ◌<◌, Bool, true, false, cond, List, [], ◌∷◌, ◌++◌, length, map, Option, Some, None, refl, sym, ap, ◌∙◌, arith, append_assoc, append-nil}
 use Rattle.std.specs.Prelude.{◌&&◌, option_map}
 use Rattle.netlink_packet_core_grammar.specs.Attributes.{Attribute, list_text, first_attribute, if_some, attributes_within, attributes_of}
 use Rattle.netlink_packet_core_grammar.specs.Fits.{attribute_fits}
 use Rattle.netlink_packet_core_grammar.proofs.FirstAttribute.{attributes_step, attributes_stop}
-use Rattle.attribute_tables_grammar.specs.Lists.{Context, nothing, Row, Grammar, without_context, row_of, rewritten, all_accepted, all_fit, ListForm, any, non_empty, of_kind_one, ports, first_alone, not_empty, read_as, is_kept, kept, if_read, list_rule}
+use Rattle.attribute_tables_grammar.specs.Lists.{Context, nothing, Row, Grammar, without_context, row_of, rewritten, all_accepted, all_fit, attributes_inside, ListForm, any, non_empty, of_kind_one, ports, first_alone, not_empty, read_as, is_kept, kept, if_read, list_rule}
 use Rattle.attribute_tables_grammar.specs.LookUps.{rows_rule}
 use Rattle.attribute_tables_grammar.specs.Readings.{Written, written_by, written_list, reading, reading_as, all_written_fit, followed_by, SoFar, Tells}
 use Rattle.attribute_tables_grammar.proofs.Kept.{kept_more, kept_past, kept_none}
@@ -103,7 +103,7 @@ first_not_empty None f = refl
 first_not_empty (Some x) f = inside_not_empty (f x.1) x.0
 
 -- some bytes are no list without an attribute
-bytes_not_empty : (bytes : List ℕ) → 0 < length bytes → if_some (attributes_of bytes) not_empty ≡ attributes_of bytes
+pub bytes_not_empty : (bytes : List ℕ) → 0 < length bytes → if_some (attributes_of bytes) not_empty ≡ attributes_of bytes
 unfolding attributes_within
 bytes_not_empty [] l = absurd (omega arith)
 bytes_not_empty (b ∷ bytes) l = first_not_empty (first_attribute (b ∷ bytes)) (attributes_within (length bytes))
@@ -113,6 +113,7 @@ pub record AlikeOn (r s : ListForm) (g : Grammar) (bytes : List ℕ) : Type 0 wh
   pub accepted : (list_rule r g).accepted bytes ≡ (list_rule s g).accepted bytes
   pub canonical : (list_rule r g).canonical bytes ≡ (list_rule s g).canonical bytes
   pub fits : (list_rule r g).fits bytes ≡ (list_rule s g).fits bytes
+  pub attributes : (list_rule r g).attributes bytes ≡ (list_rule s g).attributes bytes
   pub read : reading_as r g bytes ≡ reading_as s g bytes
 
 alike_at : {A : Type 0} (r s : ListForm) (bytes : List ℕ) (d : A) (f : List Attribute → A) → read_as r bytes ≡ read_as s bytes → ((es : List Attribute) → kept r es ≡ kept s es) → if_read d (λ es. f (kept r es)) (read_as r bytes) ≡ if_read d (λ es. f (kept s es)) (read_as s bytes)
@@ -124,6 +125,7 @@ alike_by r s g bytes h k = record {
   accepted = alike_at r s bytes false (all_accepted g nothing) h k;
   canonical = alike_at r s bytes [] (λ es. list_text (rewritten g nothing es)) h k;
   fits = alike_at r s bytes true (all_fit g nothing) h k;
+  attributes = ap (if_read 0 (λ es. length es + attributes_inside g nothing (kept r es))) h ∙ ap (λ (q : List Attribute → List Attribute). if_read 0 (λ es. length es + attributes_inside g nothing (q es)) (read_as s bytes)) (λ i es. k es i);
   read = ap (λ o. if_some o (λ es. written_list g nothing (kept r es))) h ∙ ap (λ (q : List Attribute → List Attribute). if_some (read_as s bytes) (λ es. written_list g nothing (q es))) (λ i es. k es i);
 }
 

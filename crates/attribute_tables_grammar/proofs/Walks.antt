@@ -154,22 +154,6 @@ module _ (form : ListForm) (g : Grammar) where
   unfolding walk_as
   walk_list bytes = whole (read_as form bytes)
 
-or_nothing : (m : Option Measure) → option_map (or_empty false) m ≡ m
-or_nothing None = refl
-or_nothing (Some m) = refl
-
-if_some_nothing : (o : Option (List Attribute)) (f : List Attribute → Option Measure) → if_some o (λ es. option_map (or_empty false) (f es)) ≡ if_some o f
-if_some_nothing None f = refl
-if_some_nothing (Some es) f = or_nothing (f es)
-
-pub walk_any : (g : Grammar) (bytes : List ℕ) → walk any g nothing bytes ≡ measure (list_rule any g) bytes
-unfolding walk walk_as
-walk_any g bytes = sym (if_some_nothing (attributes_of bytes) (measures any g nothing)) ∙ walk_list any g bytes
-
-pub walk_of_kind_one : (g : Grammar) (bytes : List ℕ) → walk of_kind_one g nothing bytes ≡ measure (list_rule of_kind_one g) bytes
-unfolding walk walk_as
-walk_of_kind_one g bytes = sym (if_some_nothing (attributes_of bytes) (measures of_kind_one g nothing)) ∙ walk_list of_kind_one g bytes
-
 -- ---- bounds
 
 abbrev some_measure : Measure → Option Measure

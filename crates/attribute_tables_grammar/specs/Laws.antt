@@ -1,13 +1,15 @@
 -- The laws of the definitions, as the functions of `laws` state them.
-use Rattle.std.specs.Prelude.{◌≡◌, ℕ, ◌<◌, ◌↔◌, Bool, true, false, List, [], ◌∷◌, ◌++◌, length, Some, None}
-use Rattle.netlink_packet_core_grammar.specs.Attributes.{Attribute, attributes_of}
+use Rattle.std.specs.Prelude.{◌≡◌, ℕ, ◌-◌, ◌<◌, ◌↔◌, Bool, true, false, List, [], ◌∷◌, ◌++◌, length, take, drop, get_or, Option, Some, None, option_map}
+use Rattle.netlink_packet_core_grammar.specs.Attributes.{nla_align, zeros, Attribute, attribute_length, attribute_text, first_attribute, attributes_of}
 use Rattle.netlink_packet_core_grammar.specs.AttributeViews.{IsAttribute, viewed_attribute, after_first}
 use Rattle.attribute_tables_grammar.specs.Rules.{Rule, Lawful, Renews}
-use Rattle.attribute_tables_grammar.specs.Lists.{Grammar, Context, Row, nothing, rewrite, rewritten, row_of, without_context, ListForm, any, of_kind_one, ports, first_alone, read_as, is_kept, kept, list_rule, all_accepted, all_same, context_after, LawfulGrammar}
+use Rattle.attribute_tables_grammar.specs.Lists.{Grammar, Context, Row, nothing, rewrite, rewritten, written_kind, row_of, without_context, ListForm, any, non_empty, of_kind_one, ports, first_alone, read_as, is_kept, kept, list_rule, all_accepted, all_same, context_after, LawfulGrammar}
 use Rattle.attribute_tables_grammar.specs.Peers.{Peer, LawfulPeer, bytes_peer}
 use Rattle.attribute_tables_grammar.specs.Tables.{Payload, Payload.list, Table, Table.end, Table.row, Names, rule, named, grammar, payload_bounded, rows_bounded}
 use Rattle.attribute_tables_grammar.specs.LookUps.{list_of, row_of_line, rows_rule, table_row, only_one, holds_no_lists, payload_at, rule_or_raw}
 use Rattle.attribute_tables_grammar.specs.Readings.{Written, written_by, reading, reading_as, SoFar, Tells}
+use Rattle.attribute_tables_grammar.specs.Walks.{Measure, measure, plus, none_yet, dropped, with_header, walk_as, MeasuredSoFar, closed, IsWalked, WantsAttribute, IsSmall, IsMeasure}
+use Rattle.attribute_tables_grammar.specs.OwnTexts.{OwnSoFar}
 
 -- a canonical text is cut into the written kinds and canonical payloads of what was kept
 abbrev pub CanonicalIsCut : Type 0
@@ -99,6 +101,7 @@ pub record PortsAreEntries : Type 0 where
   pub accepted : (f : ℕ → Row) (bytes : List ℕ) → 0 < length bytes → (rows_rule ports f).accepted bytes ≡ (rows_rule of_kind_one f).accepted bytes
   pub canonical : (f : ℕ → Row) (bytes : List ℕ) → 0 < length bytes → (rows_rule ports f).canonical bytes ≡ (rows_rule of_kind_one f).canonical bytes
   pub fits : (f : ℕ → Row) (bytes : List ℕ) → 0 < length bytes → (rows_rule ports f).fits bytes ≡ (rows_rule of_kind_one f).fits bytes
+  pub attributes : (f : ℕ → Row) (bytes : List ℕ) → 0 < length bytes → (rows_rule ports f).attributes bytes ≡ (rows_rule of_kind_one f).attributes bytes
   pub read : (f : ℕ → Row) (bytes : List ℕ) → 0 < length bytes → reading_as ports (without_context f) bytes ≡ reading_as of_kind_one (without_context f) bytes
   pub empty : (f : ℕ → Row) (bytes : List ℕ) → length bytes ≡ 0 → (rows_rule ports f).accepted bytes ≡ false
 
@@ -111,3 +114,47 @@ ListsAreReadAgain = (g : Grammar) → LawfulGrammar g → (b : List ℕ) → (li
 pub record ContextsGoBySteps : Type 0 where
   pub more : (g : Grammar) (c : Context) (es : List Attribute) (e : Attribute) → context_after g c (es ++ e ∷ []) ≡ g.next (context_after g c es) e
   pub canonical : (g : Grammar) → LawfulGrammar g → (c : Context) (e : Attribute) → (row_of g c e).rule.accepted e.payload ≡ true → g.next c (rewrite (row_of g c e) e) ≡ g.next c e
+
+-- the row that is looked up of a kind is lawful, in a table without large rows
+abbrev pub TableRowsAreLawful : Type 0
+TableRowsAreLawful = (p : Peer) → LawfulPeer p → (t : Table) → rows_bounded t ≡ true → (k : ℕ) → Lawful (table_row p t k).rule
+
+-- the measure of a list is found by steps: a kept attribute adds what its row measures of its payload, with a header, and one that the form drops adds that it is there;
+-- a kept one that its row refuses, or bytes that begin with no attribute, leave nothing measured; and once nothing is left, what was measured is the whole's
+pub record MeasuresGoBySteps : Type 0 where
+  pub start : (form : ListForm) (g : Grammar) (bytes : List ℕ) → MeasuredSoFar form g bytes none_yet nothing bytes
+  pub more : (form : ListForm) (g : Grammar) (bytes rest : List ℕ) (c : Context) (e : Attribute) (after : List ℕ) (so_far m : Measure) → first_attribute rest ≡ Some (e, after) → is_kept form e ≡ true →
+      Some m ≡ measure (row_of g c e).rule e.payload → MeasuredSoFar form g bytes so_far c rest → MeasuredSoFar form g bytes (plus so_far (with_header m)) (g.next c e) after
+  pub past : (form : ListForm) (g : Grammar) (bytes rest : List ℕ) (c : Context) (e : Attribute) (after : List ℕ) (so_far : Measure) → first_attribute rest ≡ Some (e, after) → is_kept form e ≡ false →
+      MeasuredSoFar form g bytes so_far c rest → MeasuredSoFar form g bytes (plus so_far dropped) c after
+  pub refused : (form : ListForm) (g : Grammar) (bytes rest : List ℕ) (c : Context) (e : Attribute) (after : List ℕ) (so_far : Measure) → IsWalked form bytes → first_attribute rest ≡ Some (e, after) → is_kept form e ≡ true →
+      None ≡ measure (row_of g c e).rule e.payload → MeasuredSoFar form g bytes so_far c rest → None ≡ measure (list_rule form g) bytes
+  pub stopped : (form : ListForm) (g : Grammar) (bytes rest : List ℕ) (c : Context) (so_far : Measure) → IsWalked form bytes → first_attribute rest ≡ None → 0 < length rest →
+      MeasuredSoFar form g bytes so_far c rest → None ≡ measure (list_rule form g) bytes
+  pub done : (form : ListForm) (g : Grammar) (bytes rest : List ℕ) (c : Context) (so_far : Measure) → IsWalked form bytes → length rest ≡ 0 →
+      MeasuredSoFar form g bytes so_far c rest → Some (closed form so_far) ≡ measure (list_rule form g) bytes
+  -- what an attribute adds is bounded by its bytes
+  pub small : (r : Rule) → Lawful r → (rest : List ℕ) (e : Attribute) (after : List ℕ) (m : Measure) → first_attribute rest ≡ Some (e, after) → Some m ≡ measure r e.payload → IsSmall rest after m
+
+-- what a walk tells of whole bytes is the measure of their rule, and a measure tells what the rule says; a list of its first attribute alone has the measure of that one;
+-- a form that wants an attribute refuses no bytes, and measures all others alike
+pub record MeasuresTellRules : Type 0 where
+  pub walked : (form : ListForm) (g : Grammar) (bytes : List ℕ) → walk_as form g bytes ≡ measure (list_rule form g) bytes
+  pub tells : (r : Rule) (p : List ℕ) (m : Measure) → Some m ≡ measure r p → IsMeasure r p m
+  pub denies : (r : Rule) (p : List ℕ) → None ≡ measure r p → r.accepted p ≡ false
+  pub first_some : (g : Grammar) (bytes : List ℕ) (e : Attribute) (after : List ℕ) (o : Option Measure) → first_attribute bytes ≡ Some (e, after) → o ≡ measure (row_of g nothing e).rule e.payload →
+      option_map with_header o ≡ measure (list_rule first_alone g) bytes
+  pub first_none : (g : Grammar) (bytes : List ℕ) → first_attribute bytes ≡ None → None ≡ measure (list_rule first_alone g) bytes
+  pub no_bytes : (form : ListForm) (g : Grammar) (bytes : List ℕ) → length bytes ≡ 0 → WantsAttribute form → None ≡ measure (list_rule form g) bytes
+  pub non_empty : (g : Grammar) (bytes : List ℕ) → 0 < length bytes → measure (list_rule non_empty g) bytes ≡ measure (list_rule any g) bytes
+
+-- bytes are their own canonical text where their attributes are, one after another: the form keeps each, its kind and its payload are written as they stand, and it is padded with zeros
+pub record OwnTextsGoBySteps : Type 0 where
+  pub padded : (bytes : List ℕ) (e : Attribute) (after : List ℕ) → ((i : ℕ) → get_or bytes i 0 < 256) → first_attribute bytes ≡ Some (e, after) →
+      take (nla_align (attribute_length e) - attribute_length e) (drop (attribute_length e) bytes) ≡ zeros (nla_align (attribute_length e) - attribute_length e) → bytes ≡ attribute_text e ++ after
+  pub start : (form : ListForm) (g : Grammar) (bytes : List ℕ) → OwnSoFar form g bytes nothing bytes
+  pub more : (form : ListForm) (g : Grammar) (bytes rest : List ℕ) (c : Context) (e : Attribute) (after : List ℕ) → first_attribute rest ≡ Some (e, after) → is_kept form e ≡ true →
+      written_kind (row_of g c e) e.kind ≡ e.kind → (row_of g c e).rule.canonical e.payload ≡ e.payload → rest ≡ attribute_text e ++ after → OwnSoFar form g bytes c rest → OwnSoFar form g bytes (g.next c e) after
+  pub done : (form : ListForm) (g : Grammar) (bytes rest : List ℕ) (c : Context) → IsWalked form bytes → length rest ≡ 0 → OwnSoFar form g bytes c rest → (list_rule form g).canonical bytes ≡ bytes
+  pub alone : (g : Grammar) (bytes : List ℕ) (e : Attribute) (after : List ℕ) → first_attribute bytes ≡ Some (e, after) → length after ≡ 0 → written_kind (row_of g nothing e) e.kind ≡ e.kind →
+      (row_of g nothing e).rule.canonical e.payload ≡ e.payload → bytes ≡ attribute_text e ++ after → (list_rule first_alone g).canonical bytes ≡ bytes

@@ -7,4 +7,5 @@ pub mod Rows
 pub mod LookUps
 pub mod Readings
 pub mod Walks
+pub mod OwnTexts
 pub mod Laws

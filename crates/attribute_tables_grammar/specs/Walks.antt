@@ -1,8 +1,8 @@
 -- What one walk tells of a list: whether it is accepted, and then the size of its text, its attributes, whether it fits, and whether ports in it keep nothing.
-use Rattle.std.specs.Prelude.{ℕ, ◌+◌, ◌&&◌, ◌||◌, nat_le, Bool, true, false, cond, List, [], ◌∷◌, length, Option, Some, None, option_map}
+use Rattle.std.specs.Prelude.{◌≡◌, ℕ, ◌+◌, ◌*◌, ◌==◌, ◌<◌, ◌≤◌, ◌&&◌, ◌||◌, nat_le, Bool, true, false, cond, List, [], ◌∷◌, length, Option, Some, None, option_map}
 use Rattle.netlink_packet_core_grammar.specs.Attributes.{nla_align, Attribute, if_some, attributes_of}
 use Rattle.attribute_tables_grammar.specs.Rules.{Rule}
-use Rattle.attribute_tables_grammar.specs.Lists.{Context, nothing, Grammar, row_of, ListForm, read_as, kept, is_kept, is_empty_ports}
+use Rattle.attribute_tables_grammar.specs.Lists.{Context, nothing, Grammar, row_of, ListForm, any, non_empty, of_kind_one, ports, first_alone, read_as, kept, is_kept, is_empty_ports}
 
 pub record Measure : Type 0 where
   pub size : ℕ
@@ -51,3 +51,42 @@ or_empty b m = record { size = m.size; attributes = m.attributes; fits = m.fits;
 -- of whole bytes, by their form
 unfoldable pub walk_as : ListForm → Grammar → List ℕ → Option Measure
 walk_as form g bytes = if_some (read_as form bytes) (λ es. option_map (or_empty (is_empty_ports form (kept form es))) (measures form g nothing es))
+
+-- ---- as a loop goes on
+
+-- the whole is what was met so far, and then the rest in the context that is in force
+pub record MeasuredSoFar (form : ListForm) (g : Grammar) (bytes : List ℕ) (m : Measure) (c : Context) (rest : List ℕ) : Type 0 where
+  pub whole : walk form g nothing bytes ≡ both (Some m) (walk form g c rest)
+
+-- of a whole list, from that of its attributes: ports keep nothing exactly where they have no text
+abbrev pub closed : ListForm → Measure → Measure
+closed ports m = or_empty (m.size == 0) m
+closed _ m = m
+
+-- the form is one whose attributes are walked, and the bytes are there where it wants an attribute
+abbrev pub IsWalked : ListForm → List ℕ → Type 0
+IsWalked any bytes = Unit {0}
+IsWalked non_empty bytes = 0 < length bytes
+IsWalked of_kind_one bytes = Unit {0}
+IsWalked ports bytes = 0 < length bytes
+IsWalked first_alone bytes = ⊥
+
+-- the form refuses no bytes
+abbrev pub WantsAttribute : ListForm → Type 0
+WantsAttribute non_empty = Unit {0}
+WantsAttribute ports = Unit {0}
+WantsAttribute _ = ⊥
+
+-- an attribute's text is at most 77 times as long, it has four bytes for each header, and the rest is shorter
+pub record IsSmall (bytes rest : List ℕ) (m : Measure) : Type 0 where
+  pub within : nla_align (4 + m.size) + 77 * length rest ≤ 77 * length bytes
+  pub few : 4 * (1 + m.attributes) + length rest ≤ length bytes
+  pub shorter : length rest < length bytes
+
+-- what a measure says of bytes that a rule accepts
+pub record IsMeasure (r : Rule) (p : List ℕ) (m : Measure) : Type 0 where
+  pub accepted : r.accepted p ≡ true
+  pub size : m.size ≡ length (r.canonical p)
+  pub attributes : m.attributes ≡ r.attributes p
+  pub fits : m.fits ≡ r.fits p
+  pub empty_ports : m.empty_ports ≡ r.empty_ports p

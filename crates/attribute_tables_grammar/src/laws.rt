@@ -5,6 +5,7 @@ ghost use Rattle.attribute_tables_grammar.specs.Laws.{TextsKeepMeanings, OldText
 ghost use Rattle.attribute_tables_grammar.specs.Laws.{TableGrammarsAreLawful, RowsAreLookedUp, NamesAreLookedUp};
 ghost use Rattle.attribute_tables_grammar.specs.Laws.{ReadingsGoBySteps, ReadingsTellRules, FirstAloneIsRead, PortsAreEntries};
 ghost use Rattle.attribute_tables_grammar.specs.Laws.{ContextsGoBySteps, ListsAreReadAgain, RowsWithoutListsFit};
+ghost use Rattle.attribute_tables_grammar.specs.Laws.{TableRowsAreLawful, MeasuresGoBySteps, MeasuresTellRules, OwnTextsGoBySteps};
 
 /// A canonical text is cut into the kept attributes, each in its canonical form.
 pub fn canonical_texts_are_cut_again()
@@ -97,4 +98,30 @@ pub fn lists_are_read_again()
 /// canonical form does.
 pub fn contexts_go_by_steps()
     ensures { ContextsGoBySteps }
+{}
+
+/// The row that is looked up of a kind is lawful, in a table without large rows.
+pub fn table_rows_are_lawful()
+    ensures { TableRowsAreLawful }
+{}
+
+/// The measure of a list is found by steps: each kept attribute adds what its row measures, and one
+/// that the form drops adds that it is there. A kept attribute that its row refuses, or bytes that
+/// begin with no attribute, leave nothing measured; once nothing is left, what was measured is the
+/// whole's.
+pub fn measures_go_by_steps()
+    ensures { MeasuresGoBySteps }
+{}
+
+/// What a walk tells of whole bytes is the measure of their rule, which tells what the rule says.
+/// A list of its first attribute alone has the measure of that one. A form that wants an attribute
+/// refuses no bytes.
+pub fn measures_tell_rules()
+    ensures { MeasuresTellRules }
+{}
+
+/// Bytes are their own canonical text where each attribute is written as it stands, with zeros
+/// behind it.
+pub fn own_texts_go_by_steps()
+    ensures { OwnTextsGoBySteps }
 {}

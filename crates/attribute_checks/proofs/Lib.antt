@@ -1,0 +1,6 @@
+pub mod Bisection
+pub mod LookUps
+pub mod Loop
+pub mod InfoRows
+pub mod NameRows
+pub mod OwnText

@@ -1,0 +1,46 @@
+-- Padding, names, and what is in force, as the code finds them.
+use Rattle.std.proofs.Common.{◌≡◌, ℕ, zero, suc, ◌+◌, ◌-◌, ◌*◌, ◌<◌, ◌≤◌, ◌++◌, List, [], ◌∷◌, length, take, drop, get_or, Option, Some, refl, sym, ap, ◌∙◌, arith}
+use Rattle.std.specs.Prelude.{slice_index}
+use Rattle.netlink_packet_core_grammar.specs.Attributes.{nla_align, zeros, Attribute}
+use Rattle.netlink_packet_core_grammar.specs.AttributeViews.{viewed_length, viewed_kind, viewed_attribute, after_first}
+use Rattle.netlink_packet_core_grammar.specs.Numbers.{u16_at}
+use Rattle.netlink_packet_core_grammar.specs.Texts.{without_nul}
+
+-- the numbers of a header, as the code reads them
+abbrev pub length_at : List ℕ → ℕ
+length_at bytes = slice_index bytes 0 + 256 * slice_index bytes 1
+
+abbrev pub kind_at : List ℕ → ℕ
+kind_at bytes = slice_index bytes 2 + 256 * slice_index bytes 3
+
+pub length_sum : (bytes : List ℕ) → viewed_length bytes ≡ length_at bytes
+unfolding u16_at
+length_sum bytes = omega arith
+
+pub kind_sum : (bytes : List ℕ) → viewed_kind bytes ≡ kind_at bytes
+unfolding u16_at
+kind_sum bytes = omega arith
+
+-- the attribute that is viewed is the one that the code cuts
+pub viewed_at : (bytes rest : List ℕ) → rest ≡ drop (nla_align (length_at bytes)) bytes → (o : Option (Attribute × List ℕ)) → o ≡ Some (viewed_attribute bytes, after_first bytes) → o ≡ Some (record { kind = kind_at bytes; payload = take (length_at bytes - 4) (drop 4 bytes) }, rest)
+viewed_at bytes rest r o h =
+    h ∙ ap (λ n. Some (record { kind = n; payload = take (viewed_length bytes - 4) (drop 4 bytes) }, after_first bytes)) (kind_sum bytes)
+    ∙ ap (λ n. Some (record { kind = kind_at bytes; payload = take (n - 4) (drop 4 bytes) }, drop (nla_align n) bytes)) (length_sum bytes)
+    ∙ ap (λ x. Some (record { kind = kind_at bytes; payload = take (length_at bytes - 4) (drop 4 bytes) }, x)) (sym r)
+
+zeros_three : (n : ℕ) → n < 4 → take n (0 ∷ 0 ∷ 0 ∷ []) ≡ zeros n
+zeros_three zero h = refl
+zeros_three (suc zero) h = refl
+zeros_three (suc (suc zero)) h = refl
+zeros_three (suc (suc (suc zero))) h = refl
+zeros_three (suc (suc (suc (suc n)))) h = absurd (omega arith)
+
+pub padded : (xs : List ℕ) (p q n : ℕ) → p ≡ n → q ≡ n → n < 4 → take p xs ≡ take q (0 ∷ 0 ∷ 0 ∷ []) → take n xs ≡ zeros n
+padded xs p q n e f l h = ap (λ k. take k xs) (sym e) ∙ h ∙ ap (λ k. take k (0 ∷ 0 ∷ 0 ∷ [])) f ∙ zeros_three n l
+
+-- a name with a NUL behind it is its own text
+pub own_name : (p : List ℕ) → length (without_nul p) < length p → without_nul p ++ 0 ∷ [] ≡ p
+own_name [] l = absurd (omega arith)
+own_name (zero ∷ []) l = refl
+own_name (suc b ∷ []) l = absurd (omega arith)
+own_name (b ∷ c ∷ p) l = ap (λ x. b ∷ x) (own_name (c ∷ p) (omega arith))

@@ -1,0 +1,138 @@
+//! Measures of lists, without a typed value.
+
+ghost use Rattle.std.specs.Prelude.{◌≡◌, ◌<◌, ◌+◌, ◌*◌, ◌^◌, ◌&&◌, ℕ, true, false, option_map, IfSome};
+ghost use Rattle.attribute_tables_grammar.specs.Lists.{is_kept};
+ghost use Rattle.attribute_tables_grammar.specs.LookUps.{payload_rule};
+ghost use Rattle.attribute_tables_grammar.specs.Walks.{measure, plus, with_header, dropped, closed};
+ghost use Rattle.attribute_checks.specs.Rows.{is_below, payload_of, form_of};
+ghost use Rattle.attribute_checks.specs.Measures.{view};
+
+use crate::attribute::{Attribute, first_attribute, is_own_attribute};
+use crate::rows::{Form, Held};
+use crate::shapes::{Measured, NOTHING_YET, measure_shape};
+use crate::tables::{TableSet, find};
+use attribute_tables_grammar::laws::{
+    measures_go_by_steps, measures_tell_rules, own_texts_go_by_steps, rows_are_looked_up,
+};
+use netlink_packet_core_grammar::laws::first_attributes_are_within;
+
+// Whether a list of this form keeps an attribute.
+fn is_kept(form: Form, attribute: Attribute<'_>) -> bool
+    ensures { result ≡ is_kept (form_of form)
+        (record { kind = attribute.entry.kind; payload = attribute.entry.payload.now }) }
+{
+    match form {
+        Form::OfKindOne | Form::Ports => attribute.kind % 0x4000 == 1,
+        Form::Any | Form::NonEmpty | Form::FirstAlone => true,
+    }
+}
+
+/// One more attribute, around what was found in its payload.
+pub fn with_attribute(total: Measured, inside: Measured, is_own: bool) -> Measured
+    requires len { total.text_len + inside.text_len + 7 < 2 ^ 128 }
+    requires headers { total.attributes + inside.attributes + 1 < 2 ^ 64 }
+    ensures measure { view result ≡ plus (view total) (with_header (view inside)) }
+    ensures own { result.is_own ≡ total.is_own && (inside.is_own && is_own) }
+{
+    let size = 4 + inside.text_len;
+    Measured {
+        text_len: total.text_len + (size + 3) / 4 * 4,
+        attributes: total.attributes + (1 + inside.attributes),
+        fits: total.fits & ((size <= 65535) & inside.fits),
+        empty_ports: total.empty_ports | inside.empty_ports,
+        is_own: total.is_own & (inside.is_own & is_own),
+    }
+}
+
+// One more attribute, which its list drops.
+fn with_dropped(total: Measured) -> Measured
+    requires { total.attributes + 1 < 2 ^ 64 }
+    ensures measure { view result ≡ plus (view total) dropped }
+    ensures own { result.is_own ≡ false }
+{
+    Measured {
+        text_len: total.text_len,
+        attributes: total.attributes + 1,
+        fits: total.fits,
+        empty_ports: total.empty_ports,
+        is_own: false,
+    }
+}
+
+// The measure of a whole list: ports that keep nothing are told.
+fn close(form: Form, total: Measured) -> Measured
+    ensures measure { view result ≡ closed (form_of form) (view total) }
+    ensures own { result.is_own ≡ total.is_own }
+{
+    match form {
+        Form::Ports => Measured {
+            text_len: total.text_len,
+            attributes: total.attributes,
+            fits: total.fits,
+            empty_ports: (total.text_len == 0) | total.empty_ports,
+            is_own: total.is_own,
+        },
+        _ => total,
+    }
+}
+
+/// Whether bytes are accepted as what a row holds, and their measure.
+pub fn measure_held<T: TableSet>(set: &T, held: Held, bytes: &[u8]) -> Option<Measured>
+    requires { is_below T.count held ≡ true }
+    ensures measure { option_map view result
+        ≡ measure (payload_rule T.peer (payload_of T.tables T.info held)) bytes.now }
+    ensures own { IfSome result
+        (λ m. m.is_own ≡ true
+        → (payload_rule T.peer (payload_of T.tables T.info held)).canonical bytes.now ≡ bytes.now) }
+{
+    let (form, table) = match held {
+        Held::Plain(shape) => return measure_shape(shape, bytes),
+        Held::Peer => return set.measure_peer(bytes),
+        Held::LinkInfo => return set.measure_info(bytes),
+        Held::List(form, table) => (form, table),
+    };
+    rows_are_looked_up();
+    measures_go_by_steps();
+    measures_tell_rules();
+    own_texts_go_by_steps();
+    first_attributes_are_within();
+    let mut total = NOTHING_YET;
+    match form {
+        Form::FirstAlone => {
+            let Some((attribute, after)) = first_attribute(bytes) else {
+                return None;
+            };
+            let found = find(set, table, attribute.kind);
+            let Some(inside) = measure_held(set, found.held, attribute.payload) else {
+                return None;
+            };
+            let is_own = is_own_attribute(bytes, attribute, after);
+            let is_whole = is_own & (found.keeps_kind & after.is_empty());
+            return Some(with_attribute(total, inside, is_whole));
+        }
+        Form::NonEmpty | Form::Ports => {
+            if bytes.is_empty() {
+                return None;
+            }
+        }
+        Form::Any | Form::OfKindOne => {}
+    }
+    let mut rest = bytes;
+    while !rest.is_empty() {
+        let Some((attribute, after)) = first_attribute(rest) else {
+            return None;
+        };
+        if is_kept(form, attribute) {
+            let found = find(set, table, attribute.kind);
+            let Some(inside) = measure_held(set, found.held, attribute.payload) else {
+                return None;
+            };
+            let is_own = is_own_attribute(rest, attribute, after);
+            total = with_attribute(total, inside, is_own & found.keeps_kind);
+        } else {
+            total = with_dropped(total);
+        }
+        rest = after;
+    }
+    Some(close(form, total))
+}

@@ -1,0 +1,91 @@
+//! Tables by number, and what the row of a kind says.
+
+ghost use Rattle.std.specs.Prelude.{◌≡◌, ◌<◌, ◌+◌, ◌==◌, ◌%◌, ℕ, true, cond, option_map, IfSome};
+ghost use Rattle.netlink_packet_core_grammar.specs.Attributes.{proper_kind};
+ghost use Rattle.attribute_tables_grammar.specs.Lists.{written_kind};
+ghost use Rattle.attribute_tables_grammar.specs.LookUps.{payload_rule, table_row};
+ghost use Rattle.attribute_tables_grammar.specs.Peers.{Peer, LawfulPeer, peer_rule};
+ghost use Rattle.attribute_tables_grammar.specs.Rules.{Lawful};
+ghost use Rattle.attribute_tables_grammar.specs.Tables.{Payload, Table};
+ghost use Rattle.attribute_tables_grammar.specs.Walks.{measure};
+ghost use Rattle.attribute_checks.specs.Rows.{keys_rise, are_known, is_below, build, payload_of, tables_below, all_bounded};
+ghost use Rattle.attribute_checks.specs.Measures.{view};
+
+use crate::rows::{Held, Row, Shape, look_up};
+use crate::shapes::Measured;
+use attribute_tables_grammar::laws::table_rows_are_lawful;
+
+/// Tables by number, and what their rows hand on: peers and link info.
+pub trait TableSet {
+    ghost tables: { ℕ → Table };
+
+    /// How many tables there are.
+    ghost count: { ℕ };
+
+    /// The rule of peers.
+    ghost peer: { Peer };
+
+    /// Link info as a payload.
+    ghost info: { Payload };
+
+    /// The rows of all tables, in rising order of table and kind.
+    fn rows(&self) -> &[Row]
+        ensures rise { keys_rise result.now ≡ true }
+        ensures known { are_known count result.now ≡ true }
+        ensures built { tables_below (λ t. build tables info t result.now) count
+            ≡ tables_below tables count }
+        ensures bounded { all_bounded tables count ≡ true }
+        ensures lawful_peer { LawfulPeer peer };
+
+    /// Whether a peer's payload is accepted, and its measure.
+    fn measure_peer(&self, payload: &[u8]) -> Option<Measured>
+        ensures measure { option_map view result ≡ measure (peer_rule peer) payload.now }
+        ensures own { IfSome result
+            (λ m. m.is_own ≡ true → (peer_rule peer).canonical payload.now ≡ payload.now) };
+
+    /// Whether a payload is accepted as link info, and its measure.
+    fn measure_info(&self, payload: &[u8]) -> Option<Measured>
+        ensures measure { option_map view result ≡ measure (payload_rule peer info) payload.now }
+        ensures own { IfSome result
+            (λ m. m.is_own ≡ true → (payload_rule peer info).canonical payload.now ≡ payload.now) };
+}
+
+/// What the row of an attribute's kind says.
+#[derive(Clone, Copy)]
+pub struct Found {
+    /// What the payload holds; bytes where the table has no row for the kind.
+    pub held: Held,
+    /// Whether the kind is written as it stands, flag bits and all.
+    pub keeps_kind: bool,
+}
+
+// Whether the kind of a typed attribute is written as it stands.
+fn is_written_kind(is_nested: bool, kind: u16) -> bool
+    ensures { result ≡ (proper_kind kind + cond is_nested 0x8000 0 == kind) }
+{
+    let flag = if is_nested { 0x8000 } else { 0 };
+    kind % 0x4000 + flag == kind
+}
+
+/// What a table says of an attribute's kind, which may have its flag bits.
+pub fn find<T: TableSet>(set: &T, table: u8, kind: u16) -> Found
+    requires { table < T.count }
+    ensures rule { payload_rule T.peer (payload_of T.tables T.info result.held)
+        ≡ (table_row T.peer (T.tables table) (proper_kind kind)).rule }
+    ensures known { is_below T.count result.held ≡ true }
+    ensures lawful { Lawful (table_row T.peer (T.tables table) (proper_kind kind)).rule }
+    ensures written { result.keeps_kind ≡ true
+        → written_kind (table_row T.peer (T.tables table) (proper_kind kind)) kind ≡ kind }
+{
+    table_rows_are_lawful();
+    match look_up(set.rows(), table, kind % 0x4000) {
+        Some(row) => Found {
+            held: row.3,
+            keeps_kind: is_written_kind(row.2, kind),
+        },
+        None => Found {
+            held: Held::Plain(Shape::Raw),
+            keeps_kind: true,
+        },
+    }
+}

@@ -7,3 +7,4 @@ pub mod Together
 pub mod ReadAgain
 pub mod Cases
 pub mod NestedCases
+pub mod Measures

@@ -10,7 +10,7 @@ use Rattle.link_message_grammar.specs.Laws.{BodiesAreHeadersAndAttributes, Attri
 
 pub bodies_are_headers_and_attributes : BodiesAreHeadersAndAttributes
 unfolding attributes_rule body_rule link_body
-bodies_are_headers_and_attributes b = record { accepted = refl; canonical = refl; fits = refl; empty_ports = refl }
+bodies_are_headers_and_attributes b = record { accepted = refl; canonical = refl; attributes = refl; fits = refl; empty_ports = refl }
 
 pub attributes_are_looked_up : AttributesAreLookedUp
 unfolding attributes_rule rows_rule
@@ -18,7 +18,7 @@ attributes_are_looked_up f = ap (list_rule any) (attributes-grammar f)
 
 some_info : (b : List ℕ) → 0 < length b → InfoParts b
 unfolding link_info_of info_grammar_under info_rule_under
-some_info b l = let a = non_empty_alike info_grammar b l in record { accepted = a.accepted; canonical = a.canonical; fits = a.fits }
+some_info b l = let a = non_empty_alike info_grammar b l in record { accepted = a.accepted; canonical = a.canonical; attributes = a.attributes; fits = a.fits }
 
 pub info_is_a_list_inside : InfoIsAListInside
 unfolding link_info_of info_grammar_under

@@ -7,6 +7,7 @@ use Rattle.attribute_tables_grammar.specs.Lists.{Row, any}
 use Rattle.attribute_tables_grammar.specs.LookUps.{payload_rule, row_of_line}
 use Rattle.attribute_tables_grammar.specs.Peers.{Peer, bytes_peer}
 use Rattle.attribute_tables_grammar.specs.Tables.{Payload.list, rule}
+use Rattle.attribute_tables_grammar.specs.Walks.{Measure}
 use Rattle.link_message_grammar.specs.LinkMessage.{Family, family_of, info, link_line, link_table}
 
 abbrev pub layer_types : List ℕ
@@ -80,3 +81,7 @@ info_payload_rule = payload_rule bytes_peer info
 -- an attribute is IFLA_VF_PORTS without an entry, which no payload of that kind is read as, save one of which no entry is kept
 abbrev pub is_emptied : Attribute → Bool
 is_emptied e = e.kind == 24 && length e.payload == 0
+
+-- the measure of a body, from that of its attributes
+abbrev pub behind_header : Measure → Measure
+behind_header m = record { size = 16 + m.size; attributes = m.attributes; fits = m.fits; empty_ports = m.empty_ports }

@@ -1,5 +1,5 @@
 -- The laws of the definitions, as the functions of `laws` state them.
-use Rattle.std.specs.Prelude.{◌≡◌, ℕ, ◌*◌, ◌≤◌, ◌<◌, ◌&&◌, ◌++◌, nat_le, true, false, List, length, Option, Some}
+use Rattle.std.specs.Prelude.{◌≡◌, ℕ, ◌*◌, ◌≤◌, ◌<◌, ◌&&◌, ◌++◌, nat_le, true, false, List, length, take, Option, Some, None, option_map}
 use Rattle.attribute_tables_grammar.specs.Rules.{Lawful, Renews}
 use Rattle.std.specs.List.{list_any}
 use Rattle.attribute_tables_grammar.specs.Lists.{any, without_context}
@@ -7,10 +7,11 @@ use Rattle.attribute_tables_grammar.specs.Readings.{Written, reading_as}
 use Rattle.attribute_tables_grammar.specs.LookUps.{line_at, rows_rule}
 use Rattle.attribute_tables_grammar.specs.Peers.{Peer, LawfulPeer, bytes_peer}
 use Rattle.attribute_tables_grammar.specs.Tables.{Payload.list, rule, rising}
+use Rattle.attribute_tables_grammar.specs.Walks.{Measure, measure}
 use Rattle.attribute_tables_grammar.specs.Laws.{OneTextEach, KeepsMeaning}
 use Rattle.link_info_grammar.specs.LinkInfo.{info_rule}
 use Rattle.link_message_grammar.specs.LinkMessage.{Family, link_line, link_table}
-use Rattle.link_message_grammar.specs.Body.{attribute_bytes, attribute_row, attributes_rule, body_rule, family, header_text, info_payload_rule, is_emptied, link_body, link_peer}
+use Rattle.link_message_grammar.specs.Body.{attribute_bytes, attribute_row, attributes_rule, behind_header, body_rule, family, header_text, info_payload_rule, is_emptied, link_body, link_peer, list_rule_of}
 
 abbrev pub AttributesAreLawful : Type 0
 AttributesAreLawful = (p : Peer) → LawfulPeer p → (f : Family) → Lawful (rule p (list any (link_table f)))
@@ -44,6 +45,7 @@ OldBodiesAreRenewed = (p : Peer) → Renews (body_rule bytes_peer) (body_rule p)
 pub record BodyParts (b : List ℕ) : Type 0 where
   pub accepted : link_body.accepted b ≡ nat_le 16 (length b) && (attributes_rule (family b)).accepted (attribute_bytes b)
   pub canonical : link_body.canonical b ≡ header_text b ++ (attributes_rule (family b)).canonical (attribute_bytes b)
+  pub attributes : link_body.attributes b ≡ (attributes_rule (family b)).attributes (attribute_bytes b)
   pub fits : link_body.fits b ≡ (attributes_rule (family b)).fits (attribute_bytes b)
   pub empty_ports : link_body.empty_ports b ≡ (attributes_rule (family b)).empty_ports (attribute_bytes b)
 
@@ -79,8 +81,15 @@ EmptyPortsAreTold = (f : Family) (b : List ℕ) (ws : List Written) → reading_
 pub record InfoParts (b : List ℕ) : Type 0 where
   pub accepted : info_payload_rule.accepted b ≡ info_rule.accepted b
   pub canonical : info_payload_rule.canonical b ≡ info_rule.canonical b
+  pub attributes : info_payload_rule.attributes b ≡ info_rule.attributes b
   pub fits : info_payload_rule.fits b ≡ info_rule.fits b
 
 pub record InfoIsAListInside : Type 0 where
   pub of_some_bytes : (b : List ℕ) → 0 < length b → InfoParts b
   pub of_no_bytes : (b : List ℕ) → length b ≡ 0 → info_payload_rule.accepted b ≡ false
+
+-- a body has the measure of its attributes behind a header of 16 bytes, under every rule of peers; it is its own text where header and attributes are theirs
+pub record BodiesAreMeasured : Type 0 where
+  pub short : (p : Peer) (b : List ℕ) → length b < 16 → None ≡ measure (body_rule p) b
+  pub long : (p : Peer) (b : List ℕ) (o : Option Measure) → 16 ≤ length b → o ≡ measure (list_rule_of p (family b)) (attribute_bytes b) → option_map behind_header o ≡ measure (body_rule p) b
+  pub own : (p : Peer) (b : List ℕ) → header_text b ≡ take 16 b → (list_rule_of p (family b)).canonical (attribute_bytes b) ≡ attribute_bytes b → (body_rule p).canonical b ≡ b

@@ -4,7 +4,7 @@ ghost use Rattle.link_message_grammar.specs.Laws.{AttributesAreLawful, KindsRise
 ghost use Rattle.link_message_grammar.specs.Laws.{LinkPeersAreLawful, BodiesTellMeanings, BodiesKeepMeanings, OldBodiesAreRenewed};
 ghost use Rattle.link_message_grammar.specs.Laws.{BodiesAreHeadersAndAttributes, KindsAreLookedUp};
 ghost use Rattle.link_message_grammar.specs.Laws.{AttributesAreLookedUp, InfoIsAListInside};
-ghost use Rattle.link_message_grammar.specs.Laws.{EmptyPortsAreTold, CanonicalTextsAreReadAgain};
+ghost use Rattle.link_message_grammar.specs.Laws.{EmptyPortsAreTold, CanonicalTextsAreReadAgain, BodiesAreMeasured};
 
 use attribute_tables_grammar::laws::{
     lists_are_read_again, peers_that_are_bytes_are_lawful, table_grammars_are_lawful,
@@ -83,4 +83,10 @@ pub fn empty_ports_are_told()
 /// Link info in an attribute is the list of link info, and is refused where it is empty.
 pub fn info_is_a_list_inside()
     ensures { InfoIsAListInside }
+{}
+
+/// A body has the measure of its attributes behind a header of 16 bytes, and is its own text where
+/// header and attributes are theirs.
+pub fn bodies_are_measured()
+    ensures { BodiesAreMeasured }
 {}

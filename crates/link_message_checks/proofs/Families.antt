@@ -1,0 +1,33 @@
+-- Families by number, and link info that wants an attribute.
+use Rattle.std.proofs.Common.{◌≡◌, ℕ, ◌<◌, Bool, true, false, cond, List, length, Option, Some, None, refl, sym, ap, ◌∙◌}
+use Rattle.std.specs.Prelude.{◌==◌}
+use Rattle.std.proofs.lemmas.Bool.{ne_eqb}
+use Rattle.attribute_tables_grammar.specs.Lists.{any, non_empty, list_rule}
+use Rattle.attribute_tables_grammar.specs.LookUps.{link_info_of}
+use Rattle.attribute_tables_grammar.specs.Peers.{bytes_peer}
+use Rattle.attribute_tables_grammar.specs.Tables.{named, names_grammar}
+use Rattle.attribute_tables_grammar.specs.Laws.{MeasuresTellRules}
+use Rattle.attribute_tables_grammar.specs.Walks.{measure}
+use Rattle.link_info_grammar.specs.Families.{kinds, port_kinds}
+use Rattle.link_info_grammar.specs.LinkInfo.{info_rule, info_rule_under, info_grammar_under}
+use Rattle.link_message_grammar.specs.LinkMessage.{family_of, other, bridge, inet_6, unspec}
+use Rattle.link_message_grammar.specs.Laws.{InfoIsAListInside}
+
+pub family_other : (n : ℕ) → (n ≡ 0 → ⊥) → (n ≡ 7 → ⊥) → (n ≡ 10 → ⊥) → other ≡ family_of n
+family_other n a b c =
+    sym (ap (λ x. cond x unspec (cond (n == 7) bridge (cond (n == 10) inet_6 other))) (ne_eqb n 0 a)
+    ∙ ap (λ x. cond x bridge (cond (n == 10) inet_6 other)) (ne_eqb n 7 b)
+    ∙ ap (λ x. cond x inet_6 other) (ne_eqb n 10 c))
+
+-- link info in an attribute, from the laws of measures
+pub info_none : MeasuresTellRules → (b : List ℕ) → length b ≡ 0 → None ≡ measure (link_info_of bytes_peer non_empty kinds port_kinds) b
+unfolding link_info_of
+info_none laws b l = laws.no_bytes non_empty (names_grammar (named bytes_peer kinds) (named bytes_peer port_kinds)) b l tt
+
+pub info_some : MeasuresTellRules → (b : List ℕ) → 0 < length b → measure info_rule b ≡ measure (link_info_of bytes_peer non_empty kinds port_kinds) b
+unfolding link_info_of info_rule_under info_grammar_under
+info_some laws b l = sym (laws.non_empty (names_grammar (named bytes_peer kinds) (named bytes_peer port_kinds)) b l)
+
+-- its canonical text, by what its length and an own text need
+pub info_canonical : InfoIsAListInside → (b : List ℕ) → 0 < length b → info_rule.canonical b ≡ b → (link_info_of bytes_peer non_empty kinds port_kinds).canonical b ≡ b
+info_canonical law b l h = (law.of_some_bytes b l).canonical ∙ h

@@ -1,0 +1,7 @@
+// Link messages judged on their bytes.
+#![tactic(auto)]
+
+mod message;
+mod rows;
+
+pub use message::{BodyMeasure, check, measure_body};

@@ -1,0 +1,152 @@
+//! Checks of link messages, without memory and without a typed value.
+
+ghost use Rattle.std.specs.Prelude.{◌≡◌, ◌≤◌, ◌<◌, true, false, length, take, is_ok, option_map, IfSome, IfOk, IfErr};
+ghost use Rattle.std.specs.List.{list_any};
+ghost use Rattle.attribute_tables_grammar.specs.Peers.{bytes_peer};
+ghost use Rattle.attribute_tables_grammar.specs.Walks.{measure};
+ghost use Rattle.netlink_packet_core_numbers.specs.Errors.{is_memory};
+ghost use Rattle.link_message_grammar.specs.LinkMessage.{family_of, info, link_table};
+ghost use Rattle.link_message_grammar.specs.Body.{attributes_rule, header_text, link_body};
+ghost use Rattle.attribute_checks.specs.Measures.{view};
+ghost use Rattle.link_message_checks.specs.Tables.{table_of, IsBodyMeasure};
+
+use crate::rows::{LAYER_TYPES, ROWS};
+use attribute_checks::{Form, Held, Measured, Row, Shape, TableSet, measure_held, measure_shape};
+use attribute_tables_grammar::laws::{measures_tell_rules, peers_that_are_bytes_are_lawful};
+use link_info_checks::measure_list;
+use link_message_grammar::laws::{bodies_are_measured, bodies_are_small, info_is_a_list_inside};
+use netlink_packet_core_numbers::DecodeError;
+
+/// The bytes of a body's header (if_link.h, struct ifinfomsg).
+const HEADER_LEN: usize = 16;
+
+// The tables of link messages.
+#[derive(Clone, Copy)]
+struct MessageTables;
+
+impl TableSet for MessageTables {
+    ghost tables = { table_of };
+
+    ghost count = { 19 };
+
+    ghost peer = { bytes_peer };
+
+    ghost info = { info };
+
+    fn rows(&self) -> &[Row] {
+        peers_that_are_bytes_are_lawful();
+        &ROWS
+    }
+
+    // No row of these is a peer's.
+    fn measure_peer(&self, payload: &[u8]) -> Option<Measured> {
+        measure_shape(Shape::Raw, payload)
+    }
+
+    fn measure_info(&self, payload: &[u8]) -> Option<Measured> {
+        measures_tell_rules();
+        info_is_a_list_inside();
+        if payload.is_empty() {
+            None
+        } else {
+            measure_list(payload)
+        }
+    }
+}
+
+// The number of a family's table.
+fn table_of_family(family: u8) -> u8
+    ensures known { result < 19 }
+    ensures table { table_of result ≡ link_table (family_of family) }
+{
+    if family == 0 {
+        return 15;
+    }
+    if family == 7 {
+        return 16;
+    }
+    if family == 10 {
+        return 17;
+    }
+    18
+}
+
+// Whether the bytes are attributes of a family, and their measure.
+fn measure_attributes(family: u8, bytes: &[u8]) -> Option<Measured>
+    ensures measure { option_map view result
+        ≡ measure (attributes_rule (family_of family)) bytes.now }
+    ensures own { IfSome result
+        (λ m. m.is_own ≡ true
+        → (attributes_rule (family_of family)).canonical bytes.now ≡ bytes.now) }
+{
+    let held = Held::List(Form::Any, table_of_family(family));
+    measure_held(&MessageTables, held, bytes)
+}
+
+// Whether a body's header is written as it stands: its second byte is zero, and its layer type has
+// a name.
+fn is_own_header(bytes: &[u8]) -> bool
+    requires { 16 ≤ length bytes.now }
+    ensures { result ≡ true → header_text bytes.now ≡ take 16 bytes.now }
+{
+    let layer_type = bytes[2] as u16 + 256 * bytes[3] as u16;
+    bytes[1] == 0 && LAYER_TYPES.contains(&layer_type)
+}
+
+/// What the body of a link message is written as.
+#[derive(Clone, Copy, Debug, PartialEq, Eq)]
+pub struct BodyMeasure {
+    /// The length of the canonical text in bytes, with the 16 of the header.
+    pub text_len: u128,
+    /// The attribute headers, at all depths.
+    pub attributes: u64,
+    /// Whether each length in the text is at most 65535.
+    pub fits: bool,
+    /// Whether a list of ports keeps nothing, which has no text.
+    pub empty_ports: bool,
+}
+
+/// Whether the bytes are the body of a link message, and what is found in one walk of them; for the
+/// crates that check captures.
+pub fn measure_body(bytes: &[u8]) -> Option<Measured>
+    ensures measure { option_map view result ≡ measure link_body bytes.now }
+    ensures own { IfSome result
+        (λ m. m.is_own ≡ true → link_body.canonical bytes.now ≡ bytes.now) }
+{
+    bodies_are_measured();
+    if bytes.len() < HEADER_LEN {
+        return None;
+    }
+    let Some(found) = measure_attributes(bytes[0], &bytes[HEADER_LEN..]) else {
+        return None;
+    };
+    measures_tell_rules();
+    bodies_are_small();
+    peers_that_are_bytes_are_lawful();
+    Some(Measured {
+        text_len: 16 + found.text_len,
+        attributes: found.attributes,
+        fits: found.fits,
+        empty_ports: found.empty_ports,
+        is_own: found.is_own & is_own_header(bytes),
+    })
+}
+
+/// Whether the bytes are the body of a link message, a header of 16 bytes and attributes, and what
+/// it is written as. It takes no memory. A body that isn't accepted is refused.
+pub fn check(bytes: &[u8]) -> Result<BodyMeasure, DecodeError>
+    ensures ok { is_ok result ≡ link_body.accepted bytes.now }
+    ensures measure { IfOk result (λ m. IsBodyMeasure link_body bytes.now m) }
+    ensures err { IfErr result (λ e. is_memory e ≡ false) }
+{
+    measures_tell_rules();
+    let Some(measured) = measure_body(bytes) else {
+        return Err(DecodeError::from("not the body of a link message"));
+    };
+    Ok(BodyMeasure {
+        text_len: measured.text_len,
+        attributes: measured.attributes,
+        fits: measured.fits,
+        empty_ports: measured.empty_ports,
+    })
+}

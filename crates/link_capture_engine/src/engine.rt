@@ -11,8 +11,9 @@ use link_capture_grammar::laws::texts_of_a_prefix_stay;
 use link_capture_reader::CaptureReader;
 use std::alloc::Global;
 
-/// Writes all of these bytes, after so many. The answer is how many were written then; `u64::MAX` stands for more.
-fn write_all<K: Sink>(sink: &mut K, bytes: &[u8], written: u64) -> Result<u64, CaptureFault>
+/// Writes all of these bytes, after so many. The answer is how many were written then; `u64::MAX` stands for more. A
+/// failed write is told at the number of bytes taken, those before counted.
+pub fn write_all<K: Sink>(sink: &mut K, bytes: &[u8], written: u64) -> Result<u64, CaptureFault>
     ensures ok { IfOk result (λ total. (total ≡ min (written + length bytes.now) (2 ^ 64 - 1))
         × Appends (K.holds sink.old) (K.holds sink.new) bytes.now
         × (K.failures sink.new ≡ K.failures sink.old)) }

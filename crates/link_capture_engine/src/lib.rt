@@ -7,6 +7,6 @@ mod sinks;
 mod sources;
 
 pub use devices::{DeviceFailed, Sink, Source};
-pub use engine::{normalize, read_all};
+pub use engine::{normalize, read_all, write_all};
 pub use sinks::{VecSink, WriteSink};
 pub use sources::{ReadSource, SliceSource};

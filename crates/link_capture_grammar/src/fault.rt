@@ -1,8 +1,10 @@
 //! Faults of captures: their kinds, their places and their words.
 
-ghost use Rattle.std.specs.Prelude.{Some};
+ghost use Rattle.std.specs.Prelude.{◌≡◌, ◌≤◌, ◌<◌, Some, length};
 ghost use Rattle.link_capture_grammar.specs.Faults.{words, fault_text};
 
+use arrayvec::ArrayString;
+use itoa::Buffer;
 use std::fmt;
 
 /// What is wrong with a capture, or with a run over one. The kinds that a frame itself can have stand in the
@@ -44,33 +46,61 @@ pub struct CaptureFault {
     pub offset: u64,
 }
 
+impl FaultKind {
+    /// What is told of it, in ASCII.
+    pub fn words(self) -> &'static str
+        ensures words { result.now ≡ words self }
+        ensures short { length result.now ≤ 40 }
+    {
+        match self {
+            FaultKind::Cut => "cut frame",
+            FaultKind::ShortLength => "length under 16",
+            FaultKind::OverLimit => "frame over the limit",
+            FaultKind::Refused => "refused body",
+            FaultKind::EmptyPorts => "ports with foreign entries alone",
+            FaultKind::Unfit => "attribute over 65535",
+            FaultKind::TextOverLimit => "normal text over the limit",
+            FaultKind::Memory => "no memory",
+            FaultKind::Read => "read failed",
+            FaultKind::Write => "write failed",
+            FaultKind::TooLong => "capture too long",
+            FaultKind::Failed => "failed before",
+        }
+    }
+}
+
+impl CaptureFault {
+    /// The words of its kind, ` at `, and the place in decimal. It takes no memory.
+    pub fn text(self) -> ArrayString<96>
+        ensures text { result.bytes ≡ fault_text self }
+        ensures room { length result.bytes < 96 }
+    {
+        let mut digits = Buffer::new();
+        let mut text = ArrayString::new();
+        text.push_str(self.kind.words());
+        text.push_str(" at ");
+        text.push_str(digits.format(self.offset));
+        text
+    }
+}
+
+// Whatever options a format gives, the words are the same.
 impl fmt::Display for FaultKind {
     ghost output = { λ k. Some (words k) };
 
+    ghost styled_output = { λ k _. Some (words k) };
+
     fn fmt<W: fmt::Write>(&self, f: &mut fmt::Formatter<W>) -> fmt::Result {
-        match self {
-            FaultKind::Cut => f.write_str("cut frame"),
-            FaultKind::ShortLength => f.write_str("length under 16"),
-            FaultKind::OverLimit => f.write_str("frame over the limit"),
-            FaultKind::Refused => f.write_str("refused body"),
-            FaultKind::EmptyPorts => f.write_str("ports with foreign entries alone"),
-            FaultKind::Unfit => f.write_str("attribute over 65535"),
-            FaultKind::TextOverLimit => f.write_str("normal text over the limit"),
-            FaultKind::Memory => f.write_str("no memory"),
-            FaultKind::Read => f.write_str("read failed"),
-            FaultKind::Write => f.write_str("write failed"),
-            FaultKind::TooLong => f.write_str("capture too long"),
-            FaultKind::Failed => f.write_str("failed before"),
-        }
+        f.write_str(self.words())
     }
 }
 
 impl fmt::Display for CaptureFault {
     ghost output = { λ x. Some (fault_text x) };
 
+    ghost styled_output = { λ x _. Some (fault_text x) };
+
     fn fmt<W: fmt::Write>(&self, f: &mut fmt::Formatter<W>) -> fmt::Result {
-        let kind = self.kind;
-        let offset = self.offset;
-        write!(f, "{kind} at {offset}")
+        f.write_str(self.text().as_str())
     }
 }

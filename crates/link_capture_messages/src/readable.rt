@@ -28,8 +28,12 @@ pub enum NotReadable {
 }
 
 impl ReadableLink {
-    /// Takes a message. It succeeds exactly where the message fits and is read back equal from what it
-    /// is written as, memory aside; otherwise it gives the message back unchanged.
+    /// Takes a message that fits and is read back equal from what it is written as; otherwise it gives
+    /// the message back unchanged.
+    ///
+    /// What is promised: a message that is taken is readable; `Unfit` is told exactly where it doesn't
+    /// fit, and `ReadsOtherwise` only where it isn't readable. `Memory` may be told of any message that
+    /// fits: it is written and read to find out.
     pub fn new(
         alloc: Global,
         message: LinkMessage,

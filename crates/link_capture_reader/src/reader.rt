@@ -1,6 +1,6 @@
 //! The reader of captures that come in pieces.
 
-ghost use Rattle.std.specs.Prelude.{◌≡◌, ◌+◌, ◌^◌, ◌<◌, ◌≤◌, ◌++◌, ℕ, List, [], length, OnOk, IfErr, IfSome, None, Some, Err};
+ghost use Rattle.std.specs.Prelude.{◌≡◌, ◌+◌, ◌^◌, ◌<◌, ◌≤◌, ◌++◌, ℕ, List, [], length, OnOk, OnErr, IfErr, IfSome, None, Some, Err};
 ghost use Rattle.link_capture_grammar.specs.Captures.{first_fault};
 ghost use Rattle.link_capture_reader.specs.Readers.{ReaderState, IsReader, StandsFor, Gains, FeedFault};
 
@@ -76,6 +76,8 @@ impl CaptureReader {
             fault.kind fault.offset) }
         // A fault is one for good.
         ensures failed { IfErr result (λ fault. self.new.failed ≡ Some fault.offset) }
+        // Nothing of a piece with a fault is counted, nor any piece after it.
+        ensures accepted { OnErr result (self.new.accepted ≡ self.old.accepted) }
         ensures again { IfSome self.old.failed (λ offset.
             (result ≡ Err (record { kind = FaultKind.Failed; offset = offset }))
             × (out.new.items ≡ out.old.items)) }
@@ -138,7 +140,7 @@ impl CaptureReader {
         })
     }
 
-    /// How many bytes were accepted.
+    /// How many bytes were accepted: those of all pieces, or of the pieces before that with a fault.
     pub fn accepted(&self) -> u64
         ensures { result ≡ self.now.accepted }
     {

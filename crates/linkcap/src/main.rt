@@ -1,10 +1,9 @@
 // linkcap: the normal text of a netlink link capture, from standard input to standard output.
 #![tactic(auto)]
 
-use linkcap_program::{outcome, report};
+use linkcap_program::outcome;
 use std::process::ExitCode;
 
 fn main(rt: HostRuntime) -> ExitCode {
-    let outcome = outcome(&rt);
-    report(&rt, outcome)
+    outcome(&rt)
 }

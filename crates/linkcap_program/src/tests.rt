@@ -1,6 +1,7 @@
-//! What no clause says: that a run succeeds where no device fails, and tells a failure where one does.
+//! What no clause says: that a run succeeds where no device fails, and tells a failure where one does; the words told,
+//! in full.
 
-use super::{norm, run};
+use super::{norm, report, run};
 use link_capture::{CaptureFault, FaultKind, ReadSource, WriteSink};
 use std::alloc::Global;
 use std::io::{self, ErrorKind, Read, Write};
@@ -200,10 +201,11 @@ fn devices_are_followed(rt: HostRuntime) {
     }
 }
 
-/// Words behind the program's name, what their run over the capture comes to, and how many bytes of its text it writes.
-const WORDS: [(&[&str], Option<Result<(), CaptureFault>>, usize); 4] = [
-    (&["norm"], Some(Ok(())), 68),
-    (&["norm", "48"], Some(Ok(())), 68),
+/// Words behind the program's name, what their run over the capture comes to, how many bytes of its text it writes, and
+/// what is told.
+const WORDS: [(&[&str], Option<Result<(), CaptureFault>>, usize, &str); 5] = [
+    (&["norm"], Some(Ok(())), 68, ""),
+    (&["norm", "48"], Some(Ok(())), 68, ""),
     (
         &["norm", "47"],
         Some(Err(CaptureFault {
@@ -211,30 +213,37 @@ const WORDS: [(&[&str], Option<Result<(), CaptureFault>>, usize); 4] = [
             offset: 0,
         })),
         0,
+        "frame over the limit at 0\n",
     ),
-    (&["norm", "15"], None, 0),
+    (&["norm", "15"], None, 0, USAGE_LINE),
+    (&["norm", "48", "48"], None, 0, USAGE_LINE),
 ];
 
-/// The program's arguments with these words.
-fn arguments(alloc: Global, words: &[&str]) -> Result<Vec<String>, Fail> {
-    let mut args = Vec::new(alloc);
-    args.push("linkcap".to_string(alloc)?)?;
+const USAGE_LINE: &str = "usage: linkcap norm [LIMIT] or linkcap same FILE FILE [LIMIT]\n";
+
+/// The words as the program has them.
+fn strings(alloc: Global, words: &[&str]) -> Result<Vec<String>, Fail> {
+    let mut strings = Vec::new(alloc);
     for word in words {
-        args.push(word.to_string(alloc)?)?;
+        strings.push(word.to_string(alloc)?)?;
     }
-    Ok(args)
+    Ok(strings)
 }
 
 #[test]
 fn words_are_followed(rt: HostRuntime) -> Result<(), Fail> {
-    for (words, wanted, written) in WORDS {
-        let args = arguments(rt.alloc(), words)?;
+    for (words, wanted, written, line) in WORDS {
+        let words = strings(rt.alloc(), words)?;
         let mut source = ReadSource::new(CAPTURE.as_slice());
         let mut text = Vec::new(rt.alloc());
         let mut sink = WriteSink::new(&mut text);
-        let outcome = run(rt.alloc(), args.as_slice(), &mut source, &mut sink);
+        let outcome = run(rt.alloc(), words.as_slice(), &mut source, &mut sink);
         assert_eq!(rt; outcome, wanted, "{words:?}");
         assert_eq!(rt; text.as_slice(), &TEXT[..written.min(68)], "{words:?}");
+        let mut told = Vec::new(rt.alloc());
+        let mut errors = WriteSink::new(&mut told);
+        report(&mut errors, outcome);
+        assert_eq!(rt; told.as_slice(), line.as_bytes(), "{words:?}");
     }
     Ok(())
 }

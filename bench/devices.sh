@@ -1,0 +1,108 @@
+#!/usr/bin/env bash
+# Runs `linkcap norm` where the machine has to play along: on devices that fail, under a name that is no text, and with
+# little memory; and compares status, output and what is told with what docs/frames.md says.
+#
+#     bench/devices.sh [PROGRAM]
+#
+# PROGRAM is crates/linkcap/out/linkcap where none is given. It builds nothing, and no gate runs it: the gate compares
+# neither standard error nor what a device does.
+set -uo pipefail
+cd "$(dirname "$0")/.."
+
+program=$(realpath "${1:-crates/linkcap/out/linkcap}")
+[ -x "$program" ] || { echo "no program at $program: build it first" >&2; exit 1; }
+work=$(mktemp -d)
+trap 'rm -rf "$work"' EXIT
+request=samples/lo-request.bin
+usage='usage: linkcap norm [LIMIT] or linkcap same FILE FILE [LIMIT]'
+failed=0
+
+# One frame that claims 4294967295 bytes, of which these many have come.
+claimed() {
+    python3 - "$1" <<'PYTHON'
+import struct, sys
+sys.stdout.buffer.write(struct.pack("<IHHII", 4294967295, 16, 0, 1, 0))
+left = int(sys.argv[1]) - 16
+while left > 0:
+    sys.stdout.buffer.write(bytes(min(left, 1 << 20)))
+    left -= 1 << 20
+PYTHON
+}
+
+# wants NAME STATUS TOLD WRITTEN: compares the run of before, whose status is in `status`, with these. TOLD is the line on
+# standard error, WRITTEN the size of the output.
+wants() {
+    local told written
+    told=$(cat "$work/told")
+    written=$(stat -c %s "$work/text")
+    if [ "$status" = "$2" ] && [ "$told" = "$3" ] && [ "$written" = "$4" ]; then
+        echo "ok      $1"
+    else
+        echo "WRONG   $1: status $status and not $2, '$told' and not '$3', $written bytes and not $4"
+        failed=1
+    fi
+}
+
+# run WORD..: the program with these words, from the input that is given
+run() {
+    : > "$work/text"
+    "$program" "$@" > "$work/text" 2> "$work/told"
+    status=$?
+}
+
+run norm < "$request"
+wants "a legal capture" 0 "" 48
+run norm 47 < "$request"
+wants "a fault is told with its place" 2 "frame over the limit at 0" 0
+cat "$request" <(head -c 20 "$request") > "$work/cut"
+run norm < "$work/cut"
+wants "the texts before a fault are written" 2 "cut frame at 48" 48
+for ((i = 0; i < 1400; i++)); do cat "$request"; done > "$work/long"
+head -c 10 "$request" >> "$work/long"
+run norm < "$work/long"
+wants "a fault behind the first piece" 2 "cut frame at 67200" 67200
+for words in "" "norm 15" "norm +48" "norm 48 48" "norm 4294967296" "Norm" "same a b"; do
+    # shellcheck disable=SC2086
+    run $words < "$request"
+    wants "wrong words: '$words'" 3 "$usage" 0
+done
+run norm $'\xff' < "$request"
+wants "a word that is no text" 3 "$usage" 0
+
+# The program's own name needs be no text.
+name=$work/$'link\xffcap'
+cp "$program" "$name"
+: > "$work/text"
+"$name" norm 48 < "$request" > "$work/text" 2> "$work/told"
+status=$?
+wants "a name that is no text" 0 "" 48
+
+# Devices that fail.
+run norm < "$work"
+wants "a directory can't be read" 2 "read failed at 0" 0
+: > "$work/text"
+"$program" norm < "$request" > /dev/full 2> "$work/told"
+status=$?
+wants "a full device" 2 "write failed at 0" 0
+{ "$program" norm < "$work/long" 2> "$work/told"; echo $? > "$work/status"; } | true
+status=$(cat "$work/status")
+case $status:$(cat "$work/told") in
+    "2:write failed at "*) echo "ok      a reader that has gone" ;;
+    *) echo "WRONG   a reader that has gone: status $status, '$(cat "$work/told")'"; failed=1 ;;
+esac
+: > "$work/told"
+"$program" norm 47 < "$request" > "$work/text" 2> /dev/full
+status=$?
+wants "a full device for what is told" 2 "" 0
+
+# Memory.
+claimed 100 > "$work/claimed"
+: > "$work/text"
+(ulimit -v 65536 && exec "$program" norm 4294967295) < "$work/claimed" > "$work/text" 2> "$work/told"
+status=$?
+wants "a claimed frame of 4 GiB takes what has come" 2 "cut frame at 0" 0
+: > "$work/text"
+claimed 300000000 | (ulimit -v 65536 && exec "$program" norm 4294967295) > "$work/text" 2> "$work/told"
+status=$?
+wants "a frame that has no room" 2 "no memory at 0" 0
+exit $failed

@@ -141,7 +141,13 @@ pub fn outcome(rt: &HostRuntime) -> ExitCode {
     let mut source = ReadSource::new(rt.reader());
     let mut sink = WriteSink::new(io::writer(rt));
     let mut errors = WriteSink::new(rt.stderr());
-    answer(rt.alloc(), words.as_slice(), &mut source, &mut sink, &mut errors)
+    answer(
+        rt.alloc(),
+        words.as_slice(),
+        &mut source,
+        &mut sink,
+        &mut errors,
+    )
 }
 
 #[cfg(test)]

@@ -1,0 +1,7 @@
+// Worked cases of checks, as tests. The wanted values come from outside this project's code.
+#![tactic(auto)]
+
+#[cfg(test)]
+mod bodies;
+#[cfg(test)]
+mod lists;

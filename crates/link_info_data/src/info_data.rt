@@ -101,6 +101,16 @@ pub enum InfoData {
     Other(Vec<u8>),
 }
 
+/// A variant of what was read.
+macro_rules! data {
+    ($variant:ident, $read:expr) => {
+        match $read {
+            Ok(value) => Ok(Self::$variant(value)),
+            Err(error) => Err(error),
+        }
+    };
+}
+
 impl InfoData {
     /// Reads the data of a kind.
     ///
@@ -123,43 +133,44 @@ impl InfoData {
             (λ e. is_memory e ≡ true → data_may_want_memory kind.now payload.now ≡ true) }
     {
         match kind {
-            InfoKind::Bridge => Ok(Self::Bridge(parse_family(alloc, payload)?)),
-            InfoKind::Can => Ok(Self::Can(parse_family(alloc, payload)?)),
-            InfoKind::Tun => Ok(Self::Tun(parse_family(alloc, payload)?)),
-            InfoKind::Vlan => Ok(Self::Vlan(parse_family(alloc, payload)?)),
-            InfoKind::Veth => Ok(Self::Veth(parse_first(alloc, payload)?)),
-            InfoKind::Vxlan => Ok(Self::Vxlan(parse_family(alloc, payload)?)),
-            InfoKind::Bond => Ok(Self::Bond(parse_family(alloc, payload)?)),
-            InfoKind::IpVlan => Ok(Self::IpVlan(parse_family(alloc, payload)?)),
-            InfoKind::IpVtap => Ok(Self::IpVtap(parse_family(alloc, payload)?)),
-            InfoKind::MacVlan => Ok(Self::MacVlan(parse_mac_vlan(alloc, payload)?)),
-            InfoKind::MacVtap => Ok(Self::MacVtap(parse_mac_vlan(alloc, payload)?)),
-            InfoKind::GreTap => Ok(Self::GreTap(parse_family(alloc, payload)?)),
-            InfoKind::GreTap6 => Ok(Self::GreTap6(parse_family(alloc, payload)?)),
-            InfoKind::GreTun => Ok(Self::GreTun(parse_family(alloc, payload)?)),
-            InfoKind::GreTun6 => Ok(Self::GreTun6(parse_family(alloc, payload)?)),
-            InfoKind::Vti | InfoKind::Vti6 => Ok(Self::Vti(parse_family(alloc, payload)?)),
-            InfoKind::Vrf => Ok(Self::Vrf(parse_family(alloc, payload)?)),
-            InfoKind::Gtp => Ok(Self::Gtp(parse_family(alloc, payload)?)),
-            InfoKind::Ipoib => Ok(Self::Ipoib(parse_family(alloc, payload)?)),
-            InfoKind::Xfrm => Ok(Self::Xfrm(parse_family(alloc, payload)?)),
-            InfoKind::MacSec => Ok(Self::MacSec(parse_family(alloc, payload)?)),
-            InfoKind::Hsr => Ok(Self::Hsr(parse_family(alloc, payload)?)),
-            InfoKind::Geneve => Ok(Self::Geneve(parse_family(alloc, payload)?)),
-            InfoKind::IpIp | InfoKind::Ip6Tnl | InfoKind::SitTun => Ok(Self::IpTunnel(
-                parse_ip_tunnel(alloc, payload, kind)?,
-            )),
-            InfoKind::Netkit => Ok(Self::Netkit(parse_family(alloc, payload)?)),
-            InfoKind::Vxcan => Ok(Self::Vxcan(parse_first(alloc, payload)?)),
-            InfoKind::Amt => Ok(Self::Amt(parse_family(alloc, payload)?)),
-            InfoKind::BatAdv => Ok(Self::BatAdv(parse_family(alloc, payload)?)),
-            InfoKind::BareUdp => Ok(Self::BareUdp(parse_family(alloc, payload)?)),
-            InfoKind::Dsa => Ok(Self::Dsa(parse_family(alloc, payload)?)),
-            InfoKind::Wwan => Ok(Self::Wwan(parse_family(alloc, payload)?)),
-            InfoKind::RmNet => Ok(Self::RmNet(parse_family(alloc, payload)?)),
-            InfoKind::ErSpan => Ok(Self::ErSpan(parse_family(alloc, payload)?)),
-            InfoKind::Ip6ErSpan => Ok(Self::Ip6ErSpan(parse_family(alloc, payload)?)),
-            InfoKind::Wireguard => Ok(Self::Wireguard(parse_family(alloc, payload)?)),
+            InfoKind::Bridge => data!(Bridge, parse_family(alloc, payload)),
+            InfoKind::Can => data!(Can, parse_family(alloc, payload)),
+            InfoKind::Tun => data!(Tun, parse_family(alloc, payload)),
+            InfoKind::Vlan => data!(Vlan, parse_family(alloc, payload)),
+            InfoKind::Veth => data!(Veth, parse_first(alloc, payload)),
+            InfoKind::Vxlan => data!(Vxlan, parse_family(alloc, payload)),
+            InfoKind::Bond => data!(Bond, parse_family(alloc, payload)),
+            InfoKind::IpVlan => data!(IpVlan, parse_family(alloc, payload)),
+            InfoKind::IpVtap => data!(IpVtap, parse_family(alloc, payload)),
+            InfoKind::MacVlan => data!(MacVlan, parse_mac_vlan(alloc, payload)),
+            InfoKind::MacVtap => data!(MacVtap, parse_mac_vlan(alloc, payload)),
+            InfoKind::GreTap => data!(GreTap, parse_family(alloc, payload)),
+            InfoKind::GreTap6 => data!(GreTap6, parse_family(alloc, payload)),
+            InfoKind::GreTun => data!(GreTun, parse_family(alloc, payload)),
+            InfoKind::GreTun6 => data!(GreTun6, parse_family(alloc, payload)),
+            InfoKind::Vti | InfoKind::Vti6 => data!(Vti, parse_family(alloc, payload)),
+            InfoKind::Vrf => data!(Vrf, parse_family(alloc, payload)),
+            InfoKind::Gtp => data!(Gtp, parse_family(alloc, payload)),
+            InfoKind::Ipoib => data!(Ipoib, parse_family(alloc, payload)),
+            InfoKind::Xfrm => data!(Xfrm, parse_family(alloc, payload)),
+            InfoKind::MacSec => data!(MacSec, parse_family(alloc, payload)),
+            InfoKind::Hsr => data!(Hsr, parse_family(alloc, payload)),
+            InfoKind::Geneve => data!(Geneve, parse_family(alloc, payload)),
+            InfoKind::IpIp | InfoKind::Ip6Tnl | InfoKind::SitTun => data!(
+                IpTunnel,
+                parse_ip_tunnel(alloc, payload, kind)
+            ),
+            InfoKind::Netkit => data!(Netkit, parse_family(alloc, payload)),
+            InfoKind::Vxcan => data!(Vxcan, parse_first(alloc, payload)),
+            InfoKind::Amt => data!(Amt, parse_family(alloc, payload)),
+            InfoKind::BatAdv => data!(BatAdv, parse_family(alloc, payload)),
+            InfoKind::BareUdp => data!(BareUdp, parse_family(alloc, payload)),
+            InfoKind::Dsa => data!(Dsa, parse_family(alloc, payload)),
+            InfoKind::Wwan => data!(Wwan, parse_family(alloc, payload)),
+            InfoKind::RmNet => data!(RmNet, parse_family(alloc, payload)),
+            InfoKind::ErSpan => data!(ErSpan, parse_family(alloc, payload)),
+            InfoKind::Ip6ErSpan => data!(Ip6ErSpan, parse_family(alloc, payload)),
+            InfoKind::Wireguard => data!(Wireguard, parse_family(alloc, payload)),
             InfoKind::Dummy
             | InfoKind::Ifb
             | InfoKind::Nlmon

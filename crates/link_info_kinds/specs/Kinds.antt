@@ -56,14 +56,22 @@ info_kind_text Kind.Pfcp = codes "pfcp"
 info_kind_text Kind.RmNet = codes "rmnet"
 info_kind_text (Kind.Other s) = string_bytes s
 
--- the kinds that have a name of their own, as `kind_names` has these names
-abbrev pub listed_kinds : List InfoKind
-listed_kinds =
+-- the kinds that have a name of their own, in two parts
+abbrev pub early_kinds : List InfoKind
+early_kinds =
     Kind.Dummy ∷ Kind.Ifb ∷ Kind.Bridge ∷ Kind.Tun ∷ Kind.Nlmon ∷ Kind.Vlan ∷ Kind.Veth ∷ Kind.Vxlan ∷ Kind.Bond ∷ Kind.IpVlan ∷ Kind.IpVtap ∷
     Kind.MacVlan ∷ Kind.MacVtap ∷ Kind.GreTap ∷ Kind.GreTap6 ∷ Kind.IpIp ∷ Kind.Ip6Tnl ∷ Kind.SitTun ∷ Kind.GreTun ∷ Kind.GreTun6 ∷ Kind.Vti ∷
-    Kind.Vti6 ∷ Kind.Vrf ∷ Kind.Gtp ∷ Kind.Ipoib ∷ Kind.Wireguard ∷ Kind.Xfrm ∷ Kind.MacSec ∷ Kind.Hsr ∷ Kind.Geneve ∷ Kind.Netkit ∷ Kind.Vcan ∷
-    Kind.Vxcan ∷ Kind.Amt ∷ Kind.BatAdv ∷ Kind.BareUdp ∷ Kind.Netdevsim ∷ Kind.VirtWifi ∷ Kind.Wwan ∷ Kind.Can ∷ Kind.Dsa ∷ Kind.Team ∷ Kind.ErSpan ∷
-    Kind.Ip6ErSpan ∷ Kind.Pfcp ∷ Kind.RmNet ∷ []
+    Kind.Vti6 ∷ Kind.Vrf ∷ []
+
+abbrev pub late_kinds : List InfoKind
+late_kinds =
+    Kind.Gtp ∷ Kind.Ipoib ∷ Kind.Wireguard ∷ Kind.Xfrm ∷ Kind.MacSec ∷ Kind.Hsr ∷ Kind.Geneve ∷ Kind.Netkit ∷ Kind.Vcan ∷ Kind.Vxcan ∷ Kind.Amt ∷
+    Kind.BatAdv ∷ Kind.BareUdp ∷ Kind.Netdevsim ∷ Kind.VirtWifi ∷ Kind.Wwan ∷ Kind.Can ∷ Kind.Dsa ∷ Kind.Team ∷ Kind.ErSpan ∷ Kind.Ip6ErSpan ∷
+    Kind.Pfcp ∷ Kind.RmNet ∷ []
+
+-- as `kind_names` has their names
+abbrev pub listed_kinds : List InfoKind
+listed_kinds = early_kinds ++ late_kinds
 
 -- the kind, where it isn't `Other`
 abbrev pub listed_kind : InfoKind → Option InfoKind

@@ -8,7 +8,7 @@ ghost use Rattle.netlink_packet_core.specs.NlaBuffers.{storage};
 ghost use Rattle.netlink_packet_core.specs.Texts.{without_nul};
 ghost use Rattle.link_info_grammar.specs.KindNames.{kind_names, is_unlisted};
 ghost use Rattle.link_info_kinds.specs.Kinds.{info_kind_accepted, info_kind_takes_memory, info_kind_entry};
-ghost use Rattle.link_info_kinds.specs.Kinds.{info_kind_text, info_kind_is_named, listed_kinds, IsNamedBy};
+ghost use Rattle.link_info_kinds.specs.Kinds.{info_kind_text, info_kind_is_named, early_kinds, late_kinds, listed_kinds, IsNamedBy};
 
 use netlink_packet_core::{DecodeError, Nla, NlaBuffer, Parseable, fill_text, parse_str};
 use std::alloc::Global;
@@ -225,6 +225,16 @@ impl InfoKind {
     fn with_name(name: &str) -> Option<InfoKind>
         ensures { result ≡ named_by info_kind_text listed_kinds name.now }
     {
+        match Self::with_early_name(name) {
+            Some(kind) => Some(kind),
+            None => Self::with_late_name(name),
+        }
+    }
+
+    // The variant with this name, up to `Vrf`.
+    fn with_early_name(name: &str) -> Option<InfoKind>
+        ensures { result ≡ named_by info_kind_text early_kinds name.now }
+    {
         match name {
             DUMMY => Some(Self::Dummy),
             IFB => Some(Self::Ifb),
@@ -249,6 +259,15 @@ impl InfoKind {
             VTI => Some(Self::Vti),
             VTI6 => Some(Self::Vti6),
             VRF => Some(Self::Vrf),
+            _ => None,
+        }
+    }
+
+    // The variant with this name, from `Gtp` on.
+    fn with_late_name(name: &str) -> Option<InfoKind>
+        ensures { result ≡ named_by info_kind_text late_kinds name.now }
+    {
+        match name {
             GTP => Some(Self::Gtp),
             IPOIB => Some(Self::Ipoib),
             WIREGUARD => Some(Self::Wireguard),

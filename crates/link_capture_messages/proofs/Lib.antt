@@ -1,1 +1,4 @@
 pub mod ReadAgain
+pub mod ReadBodies
+pub mod WrittenBodies
+pub mod Judging

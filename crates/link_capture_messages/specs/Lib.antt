@@ -3,3 +3,4 @@ pub mod Readable
 pub mod Views
 pub mod Routes
 pub mod RoundTrips
+pub mod Texts

@@ -3,9 +3,9 @@
 ghost use Rattle.std.specs.Prelude.{◌≡◌, ◌≢◌, ◌+◌, ◌≤◌, ◌<◌, ◌%◌, ◌++◌, length, take, None, Some, IfErr, OnOk};
 ghost use Rattle.link_capture_grammar.specs.Captures.{first_fault, texts, StopsAt};
 
-use link_capture_frames::push_frame;
 use link_capture_grammar::fault::{CaptureFault, FaultKind};
 use link_capture_grammar::laws::captures_go_by_frames;
+use link_capture_messages::push_frame;
 use netlink_packet_core::nla_align;
 use std::alloc::Global;
 

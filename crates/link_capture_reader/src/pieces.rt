@@ -9,11 +9,11 @@ ghost use Rattle.link_capture_reader.specs.Readers.{IsReader, Resumes, Gains, Fe
 ghost use Rattle.link_capture_reader.specs.Walks.{Goes, Faults, Lacks};
 
 use super::frames::push_frames;
-use link_capture_frames::push_frame;
 use link_capture_grammar::fault::{CaptureFault, FaultKind};
 use link_capture_grammar::laws::{
     captures_go_by_frames, faults_stand_at_frames, frames_stand_alone,
 };
+use link_capture_messages::push_frame;
 use netlink_packet_core::{NETLINK_HEADER_LEN, NetlinkBuffer, nla_align};
 use netlink_packet_core_grammar::laws::numbers_stand_alone;
 use std::alloc::{AllocError, Global};

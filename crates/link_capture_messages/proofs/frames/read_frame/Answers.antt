@@ -5,10 +5,10 @@ use Rattle.link_capture_grammar.specs.declared.fault.FaultKind.TheVariants.{Memo
 use Rattle.link_capture_grammar.specs.Bodies.{body_text}
 use Rattle.link_capture_grammar.specs.Captures.{faulty}
 use Rattle.link_capture_messages.specs.Routes.{route_entry, typed_text}
-use Rattle.link_capture_frames.specs.Texts.{kind_of}
-use Rattle.link_capture_frames.proofs.ReadBodies.{read_text, refused_is}
-use Rattle.link_capture_frames.proofs.WrittenBodies.{one_body, body_written}
-use Rattle.link_capture_frames.proofs.frames.read_frame.Goals as goal
+use Rattle.link_capture_messages.specs.Texts.{kind_of}
+use Rattle.link_capture_messages.proofs.ReadBodies.{read_text, refused_is}
+use Rattle.link_capture_messages.proofs.WrittenBodies.{one_body, body_written}
+use Rattle.link_capture_messages.proofs.frames.read_frame.Goals as goal
 
 pub returns-in-Ok-clause-text : goal.returns-in-Ok-clause-text
 returns-in-Ok-clause-text c =

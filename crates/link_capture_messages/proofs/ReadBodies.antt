@@ -18,7 +18,7 @@ use Rattle.netlink_packet_core_messages.specs.declared.frame_error.FrameError.{F
 use Rattle.netlink_packet_core_messages.specs.Refusals.{wants_memory, Tells}
 use Rattle.link_capture_messages.specs.declared.fault.RouteFault.{RouteFault}
 use Rattle.link_capture_messages.specs.Routes.{typed_text, reads_route, route_tells, route_wants_memory}
-use Rattle.link_capture_frames.specs.Texts.{kind_of}
+use Rattle.link_capture_messages.specs.Texts.{kind_of}
 
 -- the chain of tests
 pub guard : {A : Type 0} (b : Bool) (x y z : A) → cond b x y ≡ z → ((b ≡ true) × (x ≡ z)) ⊎ ((b ≡ false) × (y ≡ z))

@@ -18,8 +18,8 @@ use Rattle.netlink_packet_core.specs.Payloads.{written_body, payload_entry, OfIn
 use Rattle.netlink_packet_core.specs.TypedBodies.{TypedBody}
 use Rattle.link_message_grammar.specs.Body.{link_body}
 use Rattle.link_capture_grammar.specs.Bodies.{Refusal, error_text, ruled_text, is_link_type, body_text}
-use Rattle.link_capture_frames.specs.Texts.{padded_text}
-use Rattle.link_capture_frames.proofs.ReadBodies.{guard, overrun}
+use Rattle.link_capture_messages.specs.Texts.{padded_text}
+use Rattle.link_capture_messages.proofs.ReadBodies.{guard, overrun}
 
 pub one_body : (x y : TypedBody) → Some x ≡ Some y → y ≡ x
 one_body x y e = cc

@@ -5,10 +5,10 @@ use Rattle.netlink_packet_core.specs.Messages.{message_text, message_size}
 use Rattle.link_capture_grammar.specs.declared.fault.FaultKind.TheVariants.{Memory}
 use Rattle.link_capture_grammar.specs.Captures.{first_frame}
 use Rattle.link_capture_messages.specs.Routes.{route_entry}
-use Rattle.link_capture_frames.specs.Texts.{padded_text}
-use Rattle.link_capture_frames.proofs.Judging.{header_fault, body_fault, text_fault, judged_ok}
-use Rattle.link_capture_frames.proofs.WrittenBodies.{size_of_text, small_size, length-unpadded_text, padded}
-use Rattle.link_capture_frames.proofs.frames.push_frame.Goals as goal
+use Rattle.link_capture_messages.specs.Texts.{padded_text}
+use Rattle.link_capture_messages.proofs.Judging.{header_fault, body_fault, text_fault, judged_ok}
+use Rattle.link_capture_messages.proofs.WrittenBodies.{size_of_text, small_size, length-unpadded_text, padded}
+use Rattle.link_capture_messages.proofs.frames.push_frame.Goals as goal
 
 pub returns-in_err-size-clause-refused : goal.returns-in_err-size-clause-refused
 returns-in_err-size-clause-refused c =

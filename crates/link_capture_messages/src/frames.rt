@@ -4,10 +4,11 @@ ghost use Rattle.std.specs.Prelude.{◌≡◌, ◌≢◌, ◌+◌, ◌≤◌, �
 ghost use Rattle.netlink_packet_core.specs.Frames.{IsFrame, frame_length, frame_type, frame_body, frame_text};
 ghost use Rattle.link_capture_grammar.specs.Bodies.{body_text};
 ghost use Rattle.link_capture_grammar.specs.Captures.{Judged, faulty, first_frame, tested};
-ghost use Rattle.link_capture_frames.specs.Texts.{kind_of, HasTextOf, padded_text};
+ghost use Rattle.link_capture_messages.specs.Texts.{kind_of, HasTextOf, padded_text};
 
+use super::fault::RouteFault;
+use super::route::RouteLink;
 use link_capture_grammar::fault::FaultKind;
-use link_capture_messages::{RouteFault, RouteLink};
 use netlink_packet_core::laws::{
     finalized_messages_tell, frames_are_tested, read_frames_keep_their_header,
 };

@@ -1,3 +1,0 @@
-pub mod ReadBodies
-pub mod WrittenBodies
-pub mod Judging

@@ -1,4 +1,5 @@
-// Calls of link messages that the pages quote, and worked cases of link messages, as tests. The wanted values come from outside this project's code.
+// Calls of link messages that the pages quote, and worked cases of link messages, as tests. The wanted values come
+// from outside this project's code.
 #![tactic(auto)]
 
 #[cfg(test)]

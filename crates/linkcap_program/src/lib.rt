@@ -149,6 +149,3 @@ pub fn outcome(rt: &HostRuntime) -> ExitCode {
         &mut errors,
     )
 }
-
-#[cfg(test)]
-mod tests;

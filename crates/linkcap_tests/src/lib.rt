@@ -14,6 +14,8 @@ mod messages;
 #[cfg(test)]
 mod pieces;
 #[cfg(test)]
+mod program;
+#[cfg(test)]
 mod program_words;
 #[cfg(test)]
 mod readers;

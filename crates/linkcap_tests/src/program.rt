@@ -1,8 +1,8 @@
 //! What no clause says: that a run succeeds where no device fails, and tells a failure where one does; the words told,
 //! in full.
 
-use super::{norm, report, run};
 use link_capture::{CaptureFault, FaultKind, ReadSource, WriteSink};
+use linkcap_program::{norm, report, run};
 use std::alloc::Global;
 use std::io::{self, ErrorKind, Read, Write};
 use std::test::Fail;

@@ -1,9 +1,9 @@
 #!/usr/bin/env python3
 """Leaves messages of a capture out, by the places where they start or by their types.
 
-    linkcap norm < CAPTURE                                  tells: refused body at 80
+    linkcap norm < CAPTURE > TEXT                           # refused body at 80
     samples/leave_out.py 80 < CAPTURE > REST
-    samples/leave_out.py --type 15 < CAPTURE > REST         the time stamps of rtmon
+    samples/leave_out.py --type 15 < CAPTURE > REST         # the time stamps of rtmon
 
 A place is counted in bytes from the start of the capture that is read. All else is written as it is, and the last
 message padded. Where a message's length is under 16, or more than is left, nobody can tell where the next one starts: all

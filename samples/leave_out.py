@@ -6,8 +6,8 @@
     samples/leave_out.py --type 15 < CAPTURE > REST         # the time stamps of rtmon
 
 A place is counted in bytes from the start of the capture that is read. All else is written as it is, and the last
-message padded. Where a message's length is under 16, or more than is left, nobody can tell where the next one starts: all
-from there on is one message, as far as this script goes. Standard library alone.
+message padded. Where a message's length is under 16, or more than is left, nobody can tell where the next one starts:
+all from there on is one message, as far as this script goes. Standard library alone.
 """
 import argparse
 import sys

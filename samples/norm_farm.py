@@ -5,9 +5,10 @@
     samples/norm_farm.py --scheduler tcp://HOST:8786 captures/*.bin > report.tsv  a farm that is there
     find captures -name '*.bin' | samples/norm_farm.py --workers 2 - > report.tsv
 
-Each task runs `norm_one.sh`, which stands beside this script, on one file, and gives back its line: the status, the file
-and the fault. So each worker has to see this folder and the files under the same names, and has the program. Lines come
-as the tasks end, in any order. The status is 0 where every file's is. Needs Dask's distributed (python3-distributed).
+Each task runs `norm_one.sh`, which stands beside this script, on one file, and gives back its line: the status, the
+file and the fault. So each worker has to see this folder and the files under the same names, and has the program. Lines
+come as the tasks end, in any order. The status is 0 where every file's is. Needs Dask's distributed, as in Debian's
+python3-distributed.
 """
 import argparse
 import os

@@ -4,10 +4,11 @@
     samples/split_capture.py CAPTURE SIZE FOLDER
     for piece in FOLDER/piece-*.bin; do linkcap norm < "$piece"; done > TEXT
 
-Of the messages their headers alone are read. A piece ends with the first message that brings it to SIZE bytes, so it is
-longer by less than one message. What is no whole message goes to the end of the last piece, where `linkcap` tells it.
-Standard output has a line for each piece: the place where it starts in the capture, and its file. A fault's place in the
-whole is its place in the piece and that number. Standard library alone.
+FOLDER is made, and must not be there.
+Of the messages their headers alone are read. A piece ends with the first message that brings it to SIZE bytes, so it
+is longer by less than one message. What is no whole message goes to the end of the last piece, where `linkcap` tells
+it. Standard output has a line for each piece: the place where it starts in the capture, and its file. A fault's place
+in the whole is its place in the piece and that number, added. Standard library alone.
 """
 import mmap
 import os
@@ -48,7 +49,9 @@ def split(source, size, folder):
 def main():
     if len(sys.argv) != 4 or not sys.argv[2].isdigit() or int(sys.argv[2]) < 1:
         sys.exit(__doc__)
-    os.makedirs(sys.argv[3], exist_ok=True)
+    if os.path.exists(sys.argv[3]):
+        sys.exit(f"{sys.argv[3]} is there already: pieces of another capture would be joined too")
+    os.makedirs(sys.argv[3])
     with open(sys.argv[1], "rb") as source:
         if os.fstat(source.fileno()).st_size:
             split(source, int(sys.argv[2]), sys.argv[3])

@@ -3,3 +3,5 @@ pub mod Normal
 pub mod Small
 pub mod Together
 pub mod Same
+pub mod Numbers
+pub mod Judging

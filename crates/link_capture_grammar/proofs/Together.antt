@@ -1,7 +1,7 @@
 -- The laws that want more than one lemma.
 use Rattle.std.proofs.Common.{◌≡◌, ℕ, ◌%◌, Option, Some, None, Err, List, ◌++◌, take, drop, refl, sym, ap, subst, ◌∙◌, length, inl, inr, arith}
 use Rattle.link_capture_grammar.specs.declared.fault.CaptureFault.{CaptureFault}
-use Rattle.link_capture_grammar.specs.Captures.{raised, first_frame, first_fault, texts, reach, IsLegal}
+use Rattle.link_capture_grammar.specs.Captures.{raised, first_frame, first_fault, texts, IsLegal}
 use Rattle.link_capture_grammar.specs.Laws.{TextsAreLegal, TextsAreNormal, JoinedLegal, PrefixTexts, TextsAreSmall, FaultsStand, FramesStandAlone, CapturesGoByFrames}
 use Rattle.link_capture_grammar.proofs.Frames.{accepted, cut_cases, first_frame-more, one_fault, one_text, fault_stop, texts_stop, stops, place_start, base_fault, base_texts, reach_place, joined_fault, fault-append, texts-append, fault_inside, fault_kinds}
 use Rattle.link_capture_grammar.proofs.Normal.{texts_legal, texts_again}

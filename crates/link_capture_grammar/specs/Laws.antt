@@ -1,11 +1,13 @@
 -- The laws of captures, as the functions of `laws` state them.
-use Rattle.std.specs.Prelude.{◌≡◌, ◌≢◌, ℕ, ◌*◌, ◌%◌, ◌^◌, ◌<◌, ◌≤◌, ◌↔◌, ◌⊎◌, List, [], ◌++◌, length, take, drop, Some, Ok, Err}
+use Rattle.std.specs.Prelude.{◌≡◌, ◌≢◌, ℕ, ◌+◌, ◌*◌, ◌%◌, ◌^◌, ◌<◌, ◌≤◌, ◌↔◌, ◌⊎◌, List, [], ◌++◌, length, take, drop, None, Some, Ok, Err}
 use Rattle.netlink_packet_core_grammar.specs.Attributes.{nla_align}
+use Rattle.netlink_packet_core_grammar.specs.Frames.{IsFrame, frame_length, frame_type, frame_body, frame_text}
 use Rattle.link_capture_grammar.specs.declared.fault.FaultKind.{FaultKind}
 use Rattle.link_capture_grammar.specs.declared.fault.CaptureFault.{CaptureFault}
-use Rattle.link_capture_grammar.specs.declared.fault.FaultKind.TheVariants.{Cut}
+use Rattle.link_capture_grammar.specs.declared.fault.FaultKind.TheVariants.{Cut, TextOverLimit}
 use Rattle.link_capture_grammar.specs.Bodies.{body_text}
-use Rattle.link_capture_grammar.specs.Captures.{Accepted, CutInBody, first_frame, first_fault, texts, raised, reach, IsLegal, IsOfFrames}
+use Rattle.link_capture_grammar.specs.Captures.{Judged, Accepted, CutInBody, faulty, tested, first_frame, first_fault, texts, raised, reach, IsLegal, IsOfFrames}
+use Rattle.link_capture_grammar.specs.Numbers.{frame_attributes, frames, attributes}
 use Rattle.link_capture_grammar.specs.Same.{SameCapture}
 
 -- a limit is a number of 32 bits
@@ -86,3 +88,28 @@ pub record CapturesGoByFrames : Type 0 where
   -- and all behind it is judged and written by itself
   pub rest_fault : (limit : ℕ) (c more : List ℕ) → first_fault limit (c ++ more) ≡ raised (reach limit c) (first_fault limit (drop (reach limit c) (c ++ more)))
   pub rest_texts : (limit : ℕ) (c more : List ℕ) → texts limit (c ++ more) ≡ texts limit c ++ texts limit (drop (reach limit c) (c ++ more))
+
+-- the frame in front is judged by its header, then by its body, then by the size of its text
+pub record FramesAreJudged : Type 0 where
+  pub header : (limit : ℕ) (c : List ℕ) (kind : FaultKind) → ((judged : Judged) → tested limit (length c) (frame_length c) judged ≡ Err kind) → first_frame limit c ≡ Err kind
+  pub body : (limit : ℕ) (c : List ℕ) (kind : FaultKind) → IsFrame c → frame_length c ≤ limit → faulty (body_text (frame_type c) (frame_body c)) ≡ Err kind → first_frame limit c ≡ Err kind
+  pub over : (limit : ℕ) (c text : List ℕ) → IsFrame c → frame_length c ≤ limit → body_text (frame_type c) (frame_body c) ≡ Ok text → limit < 16 + length text → first_frame limit c ≡ Err TextOverLimit
+  pub ok : (limit : ℕ) (c text : List ℕ) → IsFrame c → frame_length c ≤ limit → body_text (frame_type c) (frame_body c) ≡ Ok text → 16 + length text ≤ limit → first_frame limit c ≡ Ok (frame_length c, frame_text c text)
+  -- the text of a frame is its header, the body's text, and padding
+  pub size : (c text : List ℕ) → 16 ≤ length c → length (frame_text c text) ≡ nla_align (16 + length text)
+
+-- a capture is counted frame by frame
+pub record CapturesAreCounted : Type 0 where
+  -- behind an accepted frame and its padding, or the end
+  pub next_fault : (limit start : ℕ) (c : List ℕ) (frame : ℕ × List ℕ) → first_frame limit c ≡ Ok frame → raised start (first_fault limit c) ≡ raised (start + nla_align frame.0) (first_fault limit (drop (nla_align frame.0) c))
+  pub next_text : (limit : ℕ) (c : List ℕ) (frame : ℕ × List ℕ) → first_frame limit c ≡ Ok frame → texts limit c ≡ frame.1 ++ texts limit (drop (nla_align frame.0) c)
+  pub next_frames : (limit : ℕ) (c : List ℕ) (frame : ℕ × List ℕ) → first_frame limit c ≡ Ok frame → frames limit c ≡ 1 + frames limit (drop (nla_align frame.0) c)
+  pub next_attributes : (limit : ℕ) (c : List ℕ) (frame : ℕ × List ℕ) → first_frame limit c ≡ Ok frame → attributes limit c ≡ frame_attributes c + attributes limit (drop (nla_align frame.0) c)
+  -- of nothing
+  pub no_fault : (limit : ℕ) → first_fault limit [] ≡ None
+  pub no_text : (limit : ℕ) → texts limit [] ≡ []
+  pub no_frames : (limit : ℕ) → frames limit [] ≡ 0
+  pub no_attributes : (limit : ℕ) → attributes limit [] ≡ 0
+  -- an attribute takes 4 bytes or more
+  pub frame_counted : (limit : ℕ) (c : List ℕ) (frame : ℕ × List ℕ) → first_frame limit c ≡ Ok frame → 4 * frame_attributes c ≤ frame.0
+  pub counted : (limit : ℕ) (c : List ℕ) → 4 * attributes limit c ≤ length c

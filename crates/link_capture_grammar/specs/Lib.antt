@@ -1,5 +1,6 @@
 pub mod Faults
 pub mod Bodies
 pub mod Captures
+pub mod Numbers
 pub mod Same
 pub mod Laws

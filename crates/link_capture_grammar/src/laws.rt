@@ -4,6 +4,7 @@ ghost use Rattle.link_capture_grammar.specs.Laws.{TextsAreLegal, TextsAreNormal,
 ghost use Rattle.link_capture_grammar.specs.Laws.{JoinedTexts, PrefixFaults, PrefixTexts, TextsAreSmall, FaultsStand};
 ghost use Rattle.link_capture_grammar.specs.Laws.{BodiesAreNormal, TextsMeanTheSame, SameAreLegal};
 ghost use Rattle.link_capture_grammar.specs.Laws.{FramesStandAlone, CapturesGoByFrames};
+ghost use Rattle.link_capture_grammar.specs.Laws.{FramesAreJudged, CapturesAreCounted};
 
 /// The texts of any bytes are legal under the same limit.
 pub fn texts_are_legal()
@@ -75,4 +76,16 @@ pub fn frames_stand_alone()
 /// first bytes reach is legal and written, whatever follows, and what stands behind it is judged by itself.
 pub fn captures_go_by_frames()
     ensures { CapturesGoByFrames }
+{}
+
+/// The frame in front is judged by its header, then by its body, then by the size of its text, which is the header's,
+/// the body's, and padding.
+pub fn frames_are_judged()
+    ensures { FramesAreJudged }
+{}
+
+/// A capture is counted frame by frame: its frames, their attributes and its text. Four times the attributes are at
+/// most its length.
+pub fn captures_are_counted()
+    ensures { CapturesAreCounted }
 {}

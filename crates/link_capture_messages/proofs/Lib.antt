@@ -1,4 +1,3 @@
 pub mod ReadAgain
 pub mod ReadBodies
 pub mod WrittenBodies
-pub mod Judging

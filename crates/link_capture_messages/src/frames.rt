@@ -1,20 +1,20 @@
 //! One frame: judged, and written as its normal text.
 
 ghost use Rattle.std.specs.Prelude.{◌≡◌, ◌≢◌, ◌+◌, ◌≤◌, ◌<◌, ◌^◌, ◌++◌, ℕ, List, length, IfOk, IfErr, OnOk, OnErr, Ok, Err};
-ghost use Rattle.netlink_packet_core.specs.Frames.{IsFrame, frame_length, frame_type, frame_body, frame_text};
+ghost use Rattle.netlink_packet_core.specs.Frames.{IsFrame, frame_type, frame_body};
 ghost use Rattle.link_capture_grammar.specs.Bodies.{body_text};
-ghost use Rattle.link_capture_grammar.specs.Captures.{Judged, faulty, first_frame, tested};
+ghost use Rattle.link_capture_grammar.specs.Captures.{faulty, first_frame};
 ghost use Rattle.link_capture_messages.specs.Texts.{kind_of, HasTextOf, padded_text};
 
 use super::fault::RouteFault;
 use super::route::RouteLink;
+use link_capture_checks::frame_len;
 use link_capture_grammar::fault::FaultKind;
+use link_capture_grammar::laws::frames_are_judged;
 use netlink_packet_core::laws::{
     finalized_messages_tell, frames_are_tested, read_frames_keep_their_header,
 };
-use netlink_packet_core::{
-    Emitable, FrameError, NETLINK_HEADER_LEN, NetlinkBuffer, NetlinkMessage, nla_align,
-};
+use netlink_packet_core::{Emitable, FrameError, NetlinkMessage, nla_align};
 use std::alloc::{AllocError, Global};
 
 /// Writes a value at the end.
@@ -83,29 +83,6 @@ fn read_frame(alloc: Global, frame: &[u8]) -> Result<NetlinkMessage<RouteLink>, 
     }
 }
 
-/// Judges the header of the frame in front of these bytes. The answer is its length.
-fn frame_len(bytes: &[u8], limit: u32) -> Result<usize, FaultKind>
-    ensures ok { IfOk result (λ n. (n ≡ frame_length bytes.now) × (n ≤ limit) × IsFrame bytes.now) }
-    ensures err { IfErr result
-        (λ kind. (judged : Judged) → tested limit (length bytes.now) (frame_length bytes.now) judged
-        ≡ Err kind) }
-{
-    if bytes.len() < NETLINK_HEADER_LEN {
-        return Err(FaultKind::Cut);
-    }
-    let size = NetlinkBuffer::new(bytes).length();
-    if (size as usize) < NETLINK_HEADER_LEN {
-        return Err(FaultKind::ShortLength);
-    }
-    if size > limit {
-        return Err(FaultKind::OverLimit);
-    }
-    if size as usize > bytes.len() {
-        return Err(FaultKind::Cut);
-    }
-    Ok(size as usize)
-}
-
 /// Judges the frame in front of these bytes. Its text goes to the end of `out`, and its length is the answer.
 pub fn push_frame(
     alloc: Global,
@@ -121,6 +98,7 @@ pub fn push_frame(
         (λ kind. kind ≢ FaultKind.Memory → first_frame limit bytes.now ≡ Err kind) }
     ensures err { OnErr result (out.new.items ≡ out.old.items) }
 {
+    frames_are_judged();
     let size = frame_len(bytes, limit)?;
     let mut message = read_frame(alloc, bytes)?;
     if message.buffer_len() > limit as usize {

@@ -1,10 +1,12 @@
 -- The rules of a link's attributes, and of link info in one of them.
-use Rattle.std.proofs.Common.{◌≡◌, ℕ, ◌<◌, List, false, length}
+use Rattle.std.proofs.Common.{◌≡◌, ◌==◌, ◌<◌, ℕ, List, [], ◌∷◌, true, false, length, refl, sym, arith}
+use Rattle.std.proofs.lemmas.Bool.{eqb-true}
+use Rattle.netlink_packet_core_grammar.specs.Attributes as Attributes
 use Rattle.attribute_tables_grammar.specs.Lists.{any}
+use Rattle.attribute_tables_grammar.specs.LookUps as LookUps
 use Rattle.attribute_tables_grammar.specs.LookUps.{rows_rule}
-use Rattle.link_info_grammar.specs.LinkInfo.{info_rule}
 use Rattle.link_message_grammar.specs.Body.{attribute_row, attributes_rule, info_payload_rule}
-use Rattle.link_message_grammar.specs.Laws.{AttributesAreLookedUp, InfoIsAListInside}
+use Rattle.link_message_grammar.specs.Laws.{AttributesAreLookedUp}
 use Rattle.link_message_grammar.specs.LinkMessage.{Family}
 
 pub attributes-rule : AttributesAreLookedUp → (f : Family) → attributes_rule f ≡ rows_rule any (attribute_row f)
@@ -12,17 +14,12 @@ attributes-rule law = law
 
 pub ruleset attribute_rules = (attributes-rule)
 
--- link info that holds an attribute
-pub info-accepted : InfoIsAListInside → (b : List ℕ) → 0 < length b → info_payload_rule.accepted b ≡ info_rule.accepted b
-info-accepted law b l = (law.of_some_bytes b l).accepted
+-- no bytes are no link info
+pub no_info : (b : List ℕ) → true ≡ length b == 0 → info_payload_rule.accepted b ≡ false
+unfolding LookUps.link_info_of Attributes.attributes_within
+no_info [] h = refl
+no_info (x ∷ b) h = absurd (omega (arith, eqb-true (length (x ∷ b)) 0 (sym h)))
 
-pub info-canonical : InfoIsAListInside → (b : List ℕ) → 0 < length b → info_payload_rule.canonical b ≡ info_rule.canonical b
-info-canonical law b l = (law.of_some_bytes b l).canonical
-
-pub info-fits : InfoIsAListInside → (b : List ℕ) → 0 < length b → info_payload_rule.fits b ≡ info_rule.fits b
-info-fits law b l = (law.of_some_bytes b l).fits
-
-pub info-refused : InfoIsAListInside → (b : List ℕ) → length b ≡ 0 → info_payload_rule.accepted b ≡ false
-info-refused law = law.of_no_bytes
-
-pub ruleset info_rules = (info-accepted, info-canonical, info-fits, info-refused)
+pub some_bytes : (b : List ℕ) → false ≡ length b == 0 → 0 < length b
+some_bytes [] h = absurd cc
+some_bytes (x ∷ b) h = omega arith

@@ -165,7 +165,6 @@ pub(crate) fn parse_extent_masks(
 
 /// Reads link info. It succeeds exactly where the list is legal and there is an attribute in it,
 /// memory aside.
-#[tactic(auto, using(crate::proofs::Rules::info_rules))]
 pub(crate) fn parse_link_info(alloc: Global, payload: &[u8]) -> Result<Vec<LinkInfo>, DecodeError>
     ensures ok { OnOk result (IsTrue (info_payload_rule.accepted payload.now)) }
     ensures text { IfOk result
@@ -181,9 +180,9 @@ pub(crate) fn parse_link_info(alloc: Global, payload: &[u8]) -> Result<Vec<LinkI
     ensures memory { IfErr result
         (λ e. is_memory e ≡ true → info_begins_accepted payload.now ≡ true) }
 {
-    info_is_a_list_inside();
     if payload.is_empty() {
         return Err(DecodeError::from("IFLA_LINKINFO without an attribute"));
     }
+    info_is_a_list_inside();
     LinkInfo::parse_list(alloc, payload)
 }

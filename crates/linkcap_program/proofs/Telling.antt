@@ -17,8 +17,3 @@ told held holds failed A B C D text (Err fault) h k =
 -- nothing was to be told
 pub told_nothing : (held : Option (List ℕ)) (failed : Type 0) → Tells held held failed []
 told_nothing held failed = ([], Appends-nil held, ([], refl), inl refl)
-
--- a run comes to what its answer says
-pub answered : (words : List (List ℕ)) (S K : Type 0) (Normal : ℕ → Result ⊤ CaptureFault → Type 0) (r : Option (Result ⊤ CaptureFault)) → IfSome r (λ outcome. AsksFor words (λ limit. Normal limit outcome)) → IfNone r (AsksForNothing words × S × K) → Answers words (S × K) Normal r
-answered words S K Normal None h k = (k.0, (k.1, k.2))
-answered words S K Normal (Some outcome) h k = h

@@ -1,15 +1,21 @@
 -- How a capture is answered.
-use Rattle.std.specs.Prelude.{ℕ, List, ◌++◌, codes, Option, None, Some}
+use Rattle.std.specs.Prelude.{ℕ, List, ◌++◌, codes, length, Option, None, Some}
+use Rattle.std.specs.Fmt.{decimal}
 use Rattle.hex.specs.Hex.{encode_lower}
 use Rattle.link_capture_grammar.specs.declared.fault.CaptureFault.{CaptureFault}
 use Rattle.link_capture.specs.Captures.{first_fault, texts}
 use Rattle.link_capture.specs.Faults.{fault_text}
+use Rattle.link_capture.specs.Numbers.{attributes, frames}
 
 -- the words behind the texts
-abbrev pub outcome_text : Option CaptureFault → List ℕ
-outcome_text None = codes "ok"
-outcome_text (Some fault) = fault_text fault
+abbrev pub outcome_text : ℕ → List ℕ → Option CaptureFault → List ℕ
+outcome_text limit capture None = decimal (frames limit capture) ++ (codes " " ++ (decimal (attributes limit capture) ++ (codes " " ++ decimal (length (texts limit capture)))))
+outcome_text limit capture (Some fault) = fault_text fault
 
--- the texts of the frames before the first fault in hex, a space, and that fault
+-- the numbers of a legal capture, or the first fault
+abbrev pub measure_text : ℕ → List ℕ → List ℕ
+measure_text limit capture = outcome_text limit capture (first_fault limit capture)
+
+-- the texts of the frames before the first fault in hex, a space, and what is measured
 abbrev pub answer : ℕ → List ℕ → List ℕ
-answer limit capture = encode_lower (texts limit capture) ++ (codes " " ++ outcome_text (first_fault limit capture))
+answer limit capture = encode_lower (texts limit capture) ++ (codes " " ++ measure_text limit capture)

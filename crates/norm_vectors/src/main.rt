@@ -1,12 +1,14 @@
-// norm_vectors: answers captures on standard input, one in a line, by their normal texts and faults. Each is read in
-// pieces too, and has to be answered alike.
+// norm_vectors: answers captures on standard input, one in a line, by their normal texts, and their numbers or faults.
+// Each is read in pieces too, and checked, and has to be answered alike.
 #![tactic(auto)]
 
 ghost use Rattle.std.specs.Prelude.{◌≡◌, ◌<◌, ◌≤◌, IfOk, IfSome, string_bytes};
-ghost use Rattle.norm_vectors.specs.Answers.{answer};
+ghost use Rattle.norm_vectors.specs.Answers.{answer, measure_text};
 
 use hex::{decode, encode};
-use link_capture::{CaptureFault, CaptureReader, FaultKind, normalize_bytes};
+use link_capture::{
+    CaptureFault, CaptureReader, FaultKind, Measure, check, measure, normalize_bytes,
+};
 use std::alloc::{AllocError, Global};
 use std::io::{self, BufRead, BufReader, BufWriter, ErrorKind, Write};
 
@@ -31,7 +33,26 @@ fn read_case(alloc: Global, line: &str) -> Option<Case>
     Some(Case { limit, capture })
 }
 
-/// The texts of a capture in hex, a space, and `ok` or its first fault.
+/// The numbers of a capture, with spaces between: frames, attributes, and the bytes of its normal text. Else its first
+/// fault.
+fn measure_case(alloc: Global, case: &Case) -> Result<String, AllocError>
+    ensures { IfOk result
+        (λ line. string_bytes line ≡ measure_text case.now.limit case.now.capture.items) }
+{
+    match measure(case.capture.as_slice(), case.limit) {
+        Ok(numbers) => {
+            let Measure {
+                frames,
+                attributes,
+                text_len,
+            } = numbers;
+            format!(in alloc; "{frames} {attributes} {text_len}")
+        }
+        Err(fault) => format!(in alloc; "{fault}"),
+    }
+}
+
+/// The texts of a capture in hex, a space, and its numbers or its first fault.
 fn answer_case(alloc: Global, case: &Case) -> Result<String, AllocError>
     requires { 16 ≤ case.now.limit }
     ensures { IfOk result
@@ -39,12 +60,12 @@ fn answer_case(alloc: Global, case: &Case) -> Result<String, AllocError>
 {
     let mut text = Vec::new(alloc);
     let outcome = normalize_bytes(alloc, case.capture.as_slice(), case.limit, &mut text);
-    let text = encode(alloc, text.as_slice())?;
-    match outcome {
-        Ok(()) => format!(in alloc; "{text} ok"),
-        Err(fault) if fault.kind == FaultKind::Memory => Err(AllocError),
-        Err(fault) => format!(in alloc; "{text} {fault}"),
+    if outcome.is_err_and(|fault| fault.kind == FaultKind::Memory) {
+        return Err(AllocError);
     }
+    let text = encode(alloc, text.as_slice())?;
+    let numbers = measure_case(alloc, case)?;
+    format!(in alloc; "{text} {numbers}")
 }
 
 /// The sizes of pieces, in bytes.
@@ -67,12 +88,15 @@ fn read_pieces(
     reader.finish()
 }
 
-/// Whether a capture is answered in pieces as it is in one.
-fn agrees_in_pieces(alloc: Global, case: &Case) -> bool
+/// Whether a capture is answered in pieces, and when it is checked, as it is in one.
+fn agrees(alloc: Global, case: &Case) -> bool
     requires { 16 ≤ case.now.limit }
 {
     let mut text = Vec::new(alloc);
     let whole = normalize_bytes(alloc, case.capture.as_slice(), case.limit, &mut text);
+    if check(case.capture.as_slice(), case.limit) != whole {
+        return false;
+    }
     for size in PIECES {
         let mut out = Vec::new(alloc);
         let outcome = read_pieces(alloc, case, size.max(1), &mut out);
@@ -90,7 +114,7 @@ fn main(rt: HostRuntime) -> io::Result<()> {
         let Some(case) = read_case(alloc, line?.as_str()) else {
             return Err(io::Error::from(ErrorKind::InvalidInput));
         };
-        if !agrees_in_pieces(alloc, &case) {
+        if !agrees(alloc, &case) {
             return Err(io::Error::from(ErrorKind::InvalidData));
         }
         let answer = answer_case(alloc, &case)?;

@@ -6,20 +6,19 @@ use Rattle.link_capture_grammar.specs.declared.fault.FaultKind.TheVariants.{Memo
 use Rattle.link_capture_grammar.specs.Captures.{first_frame}
 use Rattle.link_capture_messages.specs.Routes.{route_entry}
 use Rattle.link_capture_messages.specs.Texts.{padded_text}
-use Rattle.link_capture_messages.proofs.Judging.{header_fault, body_fault, text_fault, judged_ok}
 use Rattle.link_capture_messages.proofs.WrittenBodies.{size_of_text, small_size, length-unpadded_text, padded}
 use Rattle.link_capture_messages.proofs.frames.push_frame.Goals as goal
 
 pub returns-in_err-size-clause-refused : goal.returns-in_err-size-clause-refused
 returns-in_err-size-clause-refused c =
-    let k = header_fault c.args.limit c.args.bytes.now c.in_err-size.field-0.0 c.in_err-size.ensures.err in
+    let k = c.frames_are_judged.ensures.header c.args.limit c.args.bytes.now c.in_err-size.field-0.0 c.in_err-size.ensures.err in
     search rules
 
 pub returns-in_err-message-clause-refused : goal.returns-in_err-message-clause-refused
 returns-in_err-message-clause-refused c =
     let ok = c.in_ok-size.ensures.ok in
     let l : frame_length c.args.bytes.now ≤ c.args.limit = omega (arith, ok.0, ok.1) in
-    let k : (c.in_err-message.field-0.0 ≡ Memory → ⊥) → first_frame c.args.limit c.args.bytes.now ≡ Err c.in_err-message.field-0.0 = λ h. body_fault c.args.limit c.args.bytes.now c.in_err-message.field-0.0 ok.2 l (c.in_err-message.ensures.err h) in
+    let k : (c.in_err-message.field-0.0 ≡ Memory → ⊥) → first_frame c.args.limit c.args.bytes.now ≡ Err c.in_err-message.field-0.0 = λ h. c.frames_are_judged.ensures.body c.args.limit c.args.bytes.now c.in_err-message.field-0.0 ok.2 l (c.in_err-message.ensures.err h) in
     search rules
 
 pub returns-then-buffer_len-limit-clause-refused : goal.returns-then-buffer_len-limit-clause-refused
@@ -29,7 +28,7 @@ returns-then-buffer_len-limit-clause-refused c =
     let t = c.in_ok-message.ensures.text in
     let n = size_of_text c.args.bytes.now c.in_ok-message.message t.0 ok.2.has_header t.2 in
     let m = min-le_left (message_size route_entry c.in_ok-message.message) 18446744073709551615 in
-    λ _. text_fault c.args.limit c.args.bytes.now t.0 ok.2 l t.1 (omega (arith, n, m, c.buffer_len.ensures, c.if-buffer_len-limit.true))
+    λ _. c.frames_are_judged.ensures.over c.args.limit c.args.bytes.now t.0 ok.2 l t.1 (omega (arith, n, m, c.buffer_len.ensures, c.if-buffer_len-limit.true))
 
 pub returns-in-Ok-clause-ok : goal.returns-in-Ok-clause-ok
 returns-in-Ok-clause-ok c =
@@ -40,7 +39,7 @@ returns-in-Ok-clause-ok c =
     let n = size_of_text bytes c.in_ok-message.message t.0 ok.2.has_header t.2 in
     let m = small_size (message_size route_entry c.in_ok-message.message) c.args.limit (omega (arith, c.ranges.limit.fits)) (omega (arith, c.buffer_len.ensures, c.if-buffer_len-limit.false)) in
     let text = frame_text bytes t.0 in
-    let j = judged_ok c.args.limit bytes t.0 ok.2 l t.1 (omega (arith, n, m)) in
+    let j = c.frames_are_judged.ensures.ok c.args.limit bytes t.0 ok.2 l t.1 (omega (arith, n, m)) in
     let w = ap (message_text route_entry) c.finalize.ensures ∙ t.2 in
     (text, j ∙ ap (λ n. Ok (n, text)) (sym ok.0), c.in-Ok.ensures.ok ∙ ap (λ x. c.args.out.now.items ++ x) (ap padded_text w ∙ padded bytes t.0 ok.2.has_header))
 

@@ -1,18 +1,16 @@
 -- The judgement of the frame in front, from those of its header, its body and its text.
 use Rattle.std.proofs.Common.{◌≡◌, ℕ, ◌+◌, ◌<◌, ◌≤◌, List, length, Result, Ok, Err, cond, refl, ap, ◌∙◌}
 use Rattle.std.proofs.lemmas.Bool.{le-ltb, lt-ltb}
-use Rattle.netlink_packet_core.specs.Frames.{IsFrame, frame_length, frame_type, frame_body, frame_text}
+use Rattle.netlink_packet_core_grammar.specs.Frames.{IsFrame, frame_length, frame_type, frame_body, frame_text}
 use Rattle.link_capture_grammar.specs.declared.fault.FaultKind.{FaultKind}
 use Rattle.link_capture_grammar.specs.declared.fault.FaultKind.TheVariants.{TextOverLimit}
 use Rattle.link_capture_grammar.specs.Bodies.{Refusal, body_text}
 use Rattle.link_capture_grammar.specs.Captures.{Judged, faulty, judged_text, tested, first_frame}
-
--- a type and a body that are those of the frame in front
-pub same_body : {t : ℕ} {b : List ℕ} (c : List ℕ) → t ≡ frame_type c → b ≡ frame_body c → body_text t b ≡ body_text (frame_type c) (frame_body c)
-same_body {b = b} c p q = ap (λ t. body_text t b) p ∙ ap (body_text (frame_type c)) q
+use Rattle.link_capture_grammar.specs.Laws.{FramesAreJudged}
+use Rattle.link_capture_grammar.proofs.Normal.{frame_text_size}
 
 -- a fault of the header
-pub header_fault : (limit : ℕ) (c : List ℕ) (kind : FaultKind) → ((j : Judged) → tested limit (length c) (frame_length c) j ≡ Err kind) → first_frame limit c ≡ Err kind
+header_fault : (limit : ℕ) (c : List ℕ) (kind : FaultKind) → ((j : Judged) → tested limit (length c) (frame_length c) j ≡ Err kind) → first_frame limit c ≡ Err kind
 unfolding first_frame
 header_fault limit c kind h = h (judged_text limit c (body_text (frame_type c) (frame_body c)))
 
@@ -25,15 +23,18 @@ faulty_text limit c (Ok text) kind h = absurd cc
 faulty_text limit c (Err why) kind h = cc
 
 -- a fault of the body
-pub body_fault : (limit : ℕ) (c : List ℕ) (kind : FaultKind) → IsFrame c → frame_length c ≤ limit → faulty (body_text (frame_type c) (frame_body c)) ≡ Err kind → first_frame limit c ≡ Err kind
+body_fault : (limit : ℕ) (c : List ℕ) (kind : FaultKind) → IsFrame c → frame_length c ≤ limit → faulty (body_text (frame_type c) (frame_body c)) ≡ Err kind → first_frame limit c ≡ Err kind
 body_fault limit c kind f l h = whole limit c f l ∙ faulty_text limit c (body_text (frame_type c) (frame_body c)) kind h
 
 -- a text over the limit
-pub text_fault : (limit : ℕ) (c text : List ℕ) → IsFrame c → frame_length c ≤ limit → body_text (frame_type c) (frame_body c) ≡ Ok text → limit < 16 + length text → first_frame limit c ≡ Err TextOverLimit
+text_fault : (limit : ℕ) (c text : List ℕ) → IsFrame c → frame_length c ≤ limit → body_text (frame_type c) (frame_body c) ≡ Ok text → limit < 16 + length text → first_frame limit c ≡ Err TextOverLimit
 text_fault limit c text f l h o =
     whole limit c f l ∙ ap (judged_text limit c) h ∙ ap (λ b. cond b (Err TextOverLimit) (Ok (frame_length c, frame_text c text))) (lt-ltb limit (16 + length text) o)
 
 -- no fault
-pub judged_ok : (limit : ℕ) (c text : List ℕ) → IsFrame c → frame_length c ≤ limit → body_text (frame_type c) (frame_body c) ≡ Ok text → 16 + length text ≤ limit → first_frame limit c ≡ Ok (frame_length c, frame_text c text)
+judged_ok : (limit : ℕ) (c text : List ℕ) → IsFrame c → frame_length c ≤ limit → body_text (frame_type c) (frame_body c) ≡ Ok text → 16 + length text ≤ limit → first_frame limit c ≡ Ok (frame_length c, frame_text c text)
 judged_ok limit c text f l h o =
     whole limit c f l ∙ ap (judged_text limit c) h ∙ ap (λ b. cond b (Err TextOverLimit) (Ok (frame_length c, frame_text c text))) (le-ltb limit (16 + length text) o)
+
+pub frames_are_judged : FramesAreJudged
+frames_are_judged = record { header = header_fault; body = body_fault; over = text_fault; ok = judged_ok; size = frame_text_size }

@@ -1,0 +1,55 @@
+-- What the bodies of each type are written as.
+use Rattle.std.proofs.Common.{◌≡◌, ◌≢◌, ℕ, false, ◌<◌, ◌≤◌, ◌⊎◌, inl, inr, Result, List, [], Ok, Err, IfOk, IfErr, refl, sym, subst, arith}
+use Rattle.std.proofs.lemmas.Bool.{le-leb, lt-leb, ne_eqb}
+use Rattle.link_message_grammar.specs.Body.{link_body}
+use Rattle.link_capture_grammar.specs.declared.fault.FaultKind.{FaultKind}
+use Rattle.link_capture_grammar.specs.Bodies.{Refusal, body_text, done_text, error_text, is_link_type, ruled_text}
+use Rattle.link_capture_grammar.specs.Captures.{faulty}
+use Rattle.link_capture_grammar.specs.Numbers.{body_attributes}
+use Rattle.link_capture_checks.specs.declared.texts.BodyText.{BodyText}
+use Rattle.link_capture_checks.specs.Measures.{IsBodyText}
+
+-- what a type makes of a body
+pub record Judges (t : ℕ) (b : List ℕ) (judged : Result (List ℕ) Refusal) (inside : ℕ) : Type 0 where
+  pub text : body_text t b ≡ judged
+  pub attributes : body_attributes t b ≡ inside
+
+at_type : (t k : ℕ) (b : List ℕ) (judged : Result (List ℕ) Refusal) → t ≡ k → Judges k b judged 0 → Judges t b judged 0
+at_type t k b judged e = subst (λ t. Judges t b judged 0) (sym e)
+
+pub noop : (t : ℕ) (b : List ℕ) → t ≡ 1 → Judges t b (Ok []) 0
+unfolding body_text
+noop t b e = at_type t 1 b (Ok []) e (record { text = refl; attributes = refl })
+
+pub error : (t : ℕ) (b : List ℕ) → t ≡ 2 → Judges t b (error_text b) 0
+unfolding body_text
+error t b e = at_type t 2 b (error_text b) e (record { text = refl; attributes = refl })
+
+pub done : (t : ℕ) (b : List ℕ) → t ≡ 3 → Judges t b (done_text b) 0
+unfolding body_text
+done t b e = at_type t 3 b (done_text b) e (record { text = refl; attributes = refl })
+
+pub link : (t : ℕ) (b : List ℕ) → 16 ≤ t → t ≤ 19 → Judges t b (ruled_text link_body b) (link_body.attributes b)
+unfolding body_text
+link t b l h = record {
+  text = rw (ne_eqb t 1 (λ e. omega (arith, e, l)), ne_eqb t 2 (λ e. omega (arith, e, l)), ne_eqb t 3 (λ e. omega (arith, e, l)), le-leb 16 t l, le-leb t 19 h) refl;
+  attributes = rw (le-leb 16 t l, le-leb t 19 h) refl;
+}
+
+outside : (t : ℕ) → (t < 16) ⊎ (19 < t) → is_link_type t ≡ false
+outside t (inl l) = rw (lt-leb 16 t l) refl
+outside t (inr l) = rw (le-leb 16 t (omega (arith, l)), lt-leb t 19 l) refl
+
+pub other : (t : ℕ) (b : List ℕ) → t ≢ 1 → t ≢ 2 → t ≢ 3 → (t < 16) ⊎ (19 < t) → Judges t b (Ok b) 0
+unfolding body_text
+other t b n m k o = record {
+  text = rw (ne_eqb t 1 n, ne_eqb t 2 m, ne_eqb t 3 k, outside t o) refl;
+  attributes = rw (outside t o) refl;
+}
+
+-- a measure of what is judged is one of the body, and so is a refusal
+pub measured : (t : ℕ) (b : List ℕ) (judged : Result (List ℕ) Refusal) (inside : ℕ) → Judges t b judged inside → (r : Result BodyText FaultKind) → IfOk r (λ m. IsBodyText judged inside m) → IfOk r (λ m. IsBodyText (body_text t b) (body_attributes t b) m)
+measured t b judged inside j r h = rw (j.text, j.attributes) h
+
+pub refused : (t : ℕ) (b : List ℕ) (judged : Result (List ℕ) Refusal) (inside : ℕ) → Judges t b judged inside → (r : Result BodyText FaultKind) → IfErr r (λ kind. faulty judged ≡ Err kind) → IfErr r (λ kind. faulty (body_text t b) ≡ Err kind)
+refused t b judged inside j r h = rw j.text h

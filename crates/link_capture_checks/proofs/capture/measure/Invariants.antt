@@ -1,0 +1,18 @@
+-- what is left of the capture has the rest of its numbers and the first fault
+use Rattle.std.proofs.Common.{◌≡◌, ◌+◌, ◌-◌, ◌≤◌, length, drop}
+use Rattle.link_capture_grammar.specs.Captures.{first_fault, raised, texts}
+use Rattle.link_capture_grammar.specs.Numbers.{attributes, frames}
+use Rattle.link_capture_checks.proofs.capture.measure.Given as goal
+
+abbrev pub invariant-loop-at : goal.invariant-loop-at
+invariant-loop-at l = record {
+  near : l.at ≤ length l.bytes + 3;
+  fault : first_fault l.limit l.bytes ≡ raised l.at (first_fault l.limit (drop l.at l.bytes));
+  frames : frames l.limit l.bytes ≡ l.measure.frames + frames l.limit (drop l.at l.bytes);
+  few : l.measure.frames ≤ l.at;
+  attributes : attributes l.limit l.bytes ≡ l.measure.attributes + attributes l.limit (drop l.at l.bytes);
+  text_len : length (texts l.limit l.bytes) ≡ l.measure.text_len + length (texts l.limit (drop l.at l.bytes));
+}
+
+abbrev pub decreases-loop-at : goal.decreases-loop-at
+decreases-loop-at l = length l.bytes - l.at

@@ -1,0 +1,65 @@
+//! Whole captures.
+
+ghost use Rattle.std.specs.Prelude.{◌≡◌, IfOk, IfErr, None, Some, length};
+ghost use Rattle.link_capture_grammar.specs.Captures.{first_fault, texts, IsLegal};
+ghost use Rattle.link_capture_checks.specs.Measures.{IsMeasure};
+
+use crate::frames::measure_frame;
+use crate::texts::Measure;
+use link_capture_grammar::fault::CaptureFault;
+use link_capture_grammar::laws::{captures_are_counted, captures_go_by_frames, texts_are_small};
+use netlink_packet_core::nla_align;
+
+/// Whether a capture is legal under a limit on the bytes of a frame and of its text, and then its
+/// numbers; else its first fault. It takes no memory.
+pub fn measure(bytes: &[u8], limit: u32) -> Result<Measure, CaptureFault>
+    ensures legal { IfOk result (λ m. IsLegal limit bytes.now) }
+    ensures numbers { IfOk result (λ m. IsMeasure limit bytes.now m) }
+    ensures fault { IfErr result (λ fault. first_fault limit bytes.now ≡ Some fault) }
+{
+    captures_are_counted();
+    captures_go_by_frames();
+    texts_are_small();
+    let mut measure = Measure {
+        frames: 0,
+        attributes: 0,
+        text_len: 0,
+    };
+    let mut at = 0usize;
+    while at < bytes.len() {
+        match measure_frame(&bytes[at..], limit) {
+            Ok(frame) => {
+                at += nla_align(frame.len);
+                measure.frames += 1;
+                measure.attributes += frame.attributes;
+                measure.text_len += frame.text_len as u128;
+            }
+            Err(kind) => {
+                return Err(CaptureFault {
+                    kind,
+                    offset: at as u64,
+                });
+            }
+        }
+    }
+    Ok(measure)
+}
+
+/// Whether a capture is legal under a limit, or its first fault. It takes no memory.
+pub fn check(bytes: &[u8], limit: u32) -> Result<(), CaptureFault>
+    ensures legal { IfOk result (λ _. IsLegal limit bytes.now) }
+    ensures fault { IfErr result (λ fault. first_fault limit bytes.now ≡ Some fault) }
+{
+    measure(bytes, limit)?;
+    Ok(())
+}
+
+/// The length in bytes of a legal capture's normal text, or the capture's first fault. It takes no
+/// memory.
+pub fn normal_len(bytes: &[u8], limit: u32) -> Result<u128, CaptureFault>
+    ensures legal { IfOk result (λ _. IsLegal limit bytes.now) }
+    ensures len { IfOk result (λ n. n ≡ length (texts limit bytes.now)) }
+    ensures fault { IfErr result (λ fault. first_fault limit bytes.now ≡ Some fault) }
+{
+    Ok(measure(bytes, limit)?.text_len)
+}

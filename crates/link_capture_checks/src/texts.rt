@@ -1,0 +1,32 @@
+//! The numbers of texts: of a body's, a frame's and a capture's.
+
+/// What a body is written as.
+#[derive(Clone, Copy)]
+pub(crate) struct BodyText {
+    /// Its length in bytes.
+    pub len: u128,
+    /// The attribute headers inside, at all depths.
+    pub attributes: u64,
+}
+
+/// What a frame is written as.
+#[derive(Clone, Copy)]
+pub(crate) struct FrameText {
+    /// The length that its header tells, in bytes.
+    pub len: usize,
+    /// The length of its text in bytes, with the padding.
+    pub text_len: usize,
+    /// The attribute headers inside, at all depths.
+    pub attributes: u64,
+}
+
+/// The numbers of a legal capture.
+#[derive(Clone, Copy, Debug, PartialEq, Eq)]
+pub struct Measure {
+    /// Its frames.
+    pub frames: u64,
+    /// The attribute headers in the bodies of its link messages, at all depths.
+    pub attributes: u64,
+    /// The length of its normal text, in bytes.
+    pub text_len: u128,
+}

@@ -1,0 +1,36 @@
+-- link info that holds an attribute is a list
+use Rattle.std.proofs.Common.{◌≡◌, false, IsTrue, IfOk, IfErr, OnOk, sym, subst}
+use Rattle.netlink_packet_core.specs.Errors.{is_memory}
+use Rattle.netlink_packet_core.specs.Lists.{text_by, all_fit_by}
+use Rattle.link_info.specs.LinkInfo.{link_info_entry, link_info_fits}
+use Rattle.link_message_attributes.proofs.Rules.{no_info, some_bytes}
+use Rattle.link_message_attributes.proofs.payload.parse_link_info.Goals as goal
+
+pub returns-then-is_empty-clause-err : goal.returns-then-is_empty-clause-err
+returns-then-is_empty-clause-err c = λ _. no_info c.args.payload.now c.if-is_empty.ensures
+
+pub returns-clause-ok : goal.returns-clause-ok
+returns-clause-ok c =
+    let parts = c.info_is_a_list_inside.ensures.of_some_bytes c.args.payload.now (some_bytes c.args.payload.now c.if-is_empty.ensures) in
+    subst (λ b. OnOk c.parse_list.result (IsTrue b)) (sym parts.accepted) c.parse_list.ensures.ok
+
+pub returns-clause-text : goal.returns-clause-text
+returns-clause-text c =
+    let parts = c.info_is_a_list_inside.ensures.of_some_bytes c.args.payload.now (some_bytes c.args.payload.now c.if-is_empty.ensures) in
+    subst (λ t. IfOk c.parse_list.result (λ v. text_by link_info_entry v.items ≡ t)) (sym parts.canonical) c.parse_list.ensures.text
+
+pub returns-clause-fits : goal.returns-clause-fits
+returns-clause-fits c =
+    let parts = c.info_is_a_list_inside.ensures.of_some_bytes c.args.payload.now (some_bytes c.args.payload.now c.if-is_empty.ensures) in
+    subst (λ b. IfOk c.parse_list.result (λ v. all_fit_by link_info_entry link_info_fits v.items ≡ b)) (sym parts.fits) c.parse_list.ensures.fits
+
+pub returns-clause-names_row : goal.returns-clause-names_row
+returns-clause-names_row c = c.parse_list.ensures.names_row
+
+pub returns-clause-err : goal.returns-clause-err
+returns-clause-err c =
+    let parts = c.info_is_a_list_inside.ensures.of_some_bytes c.args.payload.now (some_bytes c.args.payload.now c.if-is_empty.ensures) in
+    subst (λ b. IfErr c.parse_list.result (λ e. is_memory e ≡ false → b ≡ false)) (sym parts.accepted) c.parse_list.ensures.err
+
+pub returns-clause-memory : goal.returns-clause-memory
+returns-clause-memory c = c.parse_list.ensures.memory

@@ -1,6 +1,4 @@
 use Rattle.std.proofs.Common.{subst}
-use Rattle.link_capture.specs.Devices.{Rises}
-use Rattle.link_capture.specs.Known.{sink_failures, sink_writer}
 use Rattle.linkcap_program.specs.Runs.{Tells}
 use Rattle.linkcap_program.proofs.Telling.{told}
 use Rattle.linkcap_program.proofs.tell.Goals as goal

@@ -132,7 +132,7 @@ after_length : (c body r : List ℕ) → drop 4 (frame_text c body ++ r) ≡ tak
 unfolding frame_text
 after_length c body r = ap (drop 4) (append_assoc (le4 (16 + length body)) _ r) ∙ drop_at (le4 (16 + length body)) _ 4 (length-le4 (16 + length body)) ∙ simp append_assoc
 
-header_size : (c : List ℕ) → 16 ≤ length c → length (take 12 (drop 4 c)) ≡ 12
+pub header_size : (c : List ℕ) → 16 ≤ length c → length (take 12 (drop 4 c)) ≡ 12
 header_size c h = length-take 12 (drop 4 c) ∙ omega (arith, length-drop 4 c)
 
 pub text_header : (c body r : List ℕ) → 16 ≤ length c → take 12 (drop 4 (frame_text c body ++ r)) ≡ take 12 (drop 4 c)

@@ -1,4 +1,4 @@
--- A legal capture and its normal text mean the same; captures that mean the same are legal, and have one normal text.
+-- A legal capture and its normal text mean the same; captures that mean the same are legal.
 use Rattle.std.proofs.Common.{◌≡◌, ℕ, zero, suc, ◌-◌, ◌^◌, ◌<◌, ◌≤◌, eqb, ltb, true, false, cond, List, [], ◌∷◌, ◌++◌, length, drop, Option, None, Some, Ok, refl, sym, ap, subst, ◌∙◌, inl, inr, arith}
 use Rattle.std.specs.Prelude.{bytes_eq}
 use Rattle.std.proofs.lemmas.Bool.{eqb-true}
@@ -24,10 +24,10 @@ link_keeps : KeepsMeaning link_body
 unfolding link_body
 link_keeps = bodies_keep_meanings bytes_peer bytes_peer_lawful
 
-equal_bytes : (a b : List ℕ) → a ≡ b → bytes_eq a b ≡ true
+pub equal_bytes : (a b : List ℕ) → a ≡ b → bytes_eq a b ≡ true
 equal_bytes a b h = (bytes_eq-Decides a b).1 h
 
-error_is : (b text : List ℕ) → error_text b ≡ Ok text → b ≡ text
+pub error_is : (b text : List ℕ) → error_text b ≡ Ok text → b ≡ text
 error_is b text h =
     elim (guard (ltb (length b) 4) _ _ _ h) [
       | inl k ↦ (let f = k.1 in absurd cc)
@@ -55,7 +55,7 @@ last_same t b text h =
     ]
 
 -- ERROR is none of the types of links
-error_type : (t : ℕ) → eqb t 2 ≡ true → (eqb t 3 ≡ false) × (is_link_type t ≡ false)
+pub error_type : (t : ℕ) → eqb t 2 ≡ true → (eqb t 3 ≡ false) × (is_link_type t ≡ false)
 error_type t h = let e : t ≡ 2 = eqb-true t 2 h in rw e (refl, refl)
 
 pub text_same : (t : ℕ) (b text : List ℕ) → body_text t b ≡ Ok text → same_body t b text ≡ true

@@ -57,6 +57,15 @@ BodiesAreNormal = (t : ℕ) (b text : List ℕ) → body_text t b ≡ Ok text �
 abbrev pub TextsMeanTheSame : Type 0
 TextsMeanTheSame = (limit : ℕ) (c : List ℕ) → IsLimit limit → IsLegal limit c → SameCapture limit c (texts limit c)
 
+-- captures mean the same exactly where they are legal and have one normal text
+pub record TextsTellMeanings : Type 0 where
+  pub one_text : (limit : ℕ) (a b : List ℕ) → SameCapture limit a b → texts limit a ≡ texts limit b
+  pub one_meaning : (limit : ℕ) (a b : List ℕ) → IsLimit limit → IsLegal limit a → IsLegal limit b → texts limit a ≡ texts limit b → SameCapture limit a b
+  -- so a legal capture means what it means itself, and meaning the same goes both ways and on
+  pub itself : (limit : ℕ) (a : List ℕ) → IsLimit limit → IsLegal limit a → SameCapture limit a a
+  pub turned : (limit : ℕ) (a b : List ℕ) → SameCapture limit a b → SameCapture limit b a
+  pub followed : (limit : ℕ) (a b c : List ℕ) → SameCapture limit a b → SameCapture limit b c → SameCapture limit a c
+
 -- captures that mean the same are legal
 abbrev pub SameAreLegal : Type 0
 SameAreLegal = (limit : ℕ) (a b : List ℕ) → SameCapture limit a b → IsLegal limit a × IsLegal limit b

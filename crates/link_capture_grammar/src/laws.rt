@@ -4,7 +4,7 @@ ghost use Rattle.link_capture_grammar.specs.Laws.{TextsAreLegal, TextsAreNormal,
 ghost use Rattle.link_capture_grammar.specs.Laws.{JoinedTexts, PrefixFaults, PrefixTexts, TextsAreSmall, FaultsStand};
 ghost use Rattle.link_capture_grammar.specs.Laws.{BodiesAreNormal, TextsMeanTheSame, SameAreLegal};
 ghost use Rattle.link_capture_grammar.specs.Laws.{FramesStandAlone, CapturesGoByFrames};
-ghost use Rattle.link_capture_grammar.specs.Laws.{FramesAreJudged, CapturesAreCounted};
+ghost use Rattle.link_capture_grammar.specs.Laws.{FramesAreJudged, CapturesAreCounted, TextsTellMeanings};
 
 /// The texts of any bytes are legal under the same limit.
 pub fn texts_are_legal()
@@ -64,6 +64,12 @@ pub fn texts_mean_the_same()
 /// Captures that mean the same are legal.
 pub fn same_captures_are_legal()
     ensures { SameAreLegal }
+{}
+
+/// Captures mean the same exactly where they are legal and have one normal text. A legal capture means what it means
+/// itself, and meaning the same goes both ways and on.
+pub fn texts_tell_meanings()
+    ensures { TextsTellMeanings }
 {}
 
 /// A frame is judged by its own bytes: one that isn't cut is judged so whatever follows, and one that is has no

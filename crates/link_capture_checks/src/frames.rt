@@ -44,7 +44,10 @@ pub(crate) fn measure_frame(bytes: &[u8], limit: u32) -> Result<FrameText, Fault
     let len = frame_len(bytes, limit)?;
     let message_type = NetlinkBuffer::new(bytes).message_type();
     let body = &bytes[NETLINK_HEADER_LEN..len];
-    let BodyText { len: body_len, attributes } = measure_body(message_type, body)?;
+    let BodyText {
+        len: body_len,
+        attributes,
+    } = measure_body(message_type, body)?;
     if body_len > (limit as usize - NETLINK_HEADER_LEN) as u128 {
         return Err(FaultKind::TextOverLimit);
     }

@@ -21,33 +21,107 @@ ghost use Rattle.link_message_attributes.specs.LinkAttributes.{link_attribute_fi
 ghost use Rattle.link_message_attributes.specs.LinkAttributes.{IsReadAsNumber, row_may_want_memory, link_attribute_may_want_memory};
 ghost use Rattle.link_message_attributes.specs.Payloads.{link_payload_bytes, link_payload_fits};
 
-use super::kinds::{
-    IFLA_ADDRESS, IFLA_AF_SPEC, IFLA_ALLMULTI, IFLA_BROADCAST, IFLA_CARRIER, IFLA_CARRIER_CHANGES,
-    IFLA_CARRIER_DOWN_COUNT, IFLA_CARRIER_UP_COUNT, IFLA_DEVLINK_PORT, IFLA_DPLL_PIN, IFLA_EVENT,
-    IFLA_EXT_MASK, IFLA_GRO_IPV4_MAX_SIZE, IFLA_GRO_MAX_SIZE, IFLA_GROUP, IFLA_GSO_IPV4_MAX_SIZE,
-    IFLA_GSO_MAX_SEGS, IFLA_GSO_MAX_SIZE, IFLA_IF_NETNSID, IFLA_IFALIAS, IFLA_IFNAME, IFLA_LINK,
-    IFLA_LINK_NETNSID, IFLA_LINKINFO, IFLA_LINKMODE, IFLA_MAP, IFLA_MASTER, IFLA_MAX_MTU,
-    IFLA_MIN_MTU, IFLA_MTU, IFLA_NET_NS_FD, IFLA_NET_NS_PID, IFLA_NEW_IFINDEX, IFLA_NEW_NETNSID,
-    IFLA_NUM_RX_QUEUES, IFLA_NUM_TX_QUEUES, IFLA_NUM_VF, IFLA_OPERSTATE, IFLA_PARENT_DEV_BUS_NAME,
-    IFLA_PARENT_DEV_NAME, IFLA_PERM_ADDRESS, IFLA_PHYS_PORT_ID, IFLA_PHYS_PORT_NAME,
-    IFLA_PHYS_SWITCH_ID, IFLA_PORT_SELF, IFLA_PROMISCUITY, IFLA_PROP_LIST, IFLA_PROTINFO,
-    IFLA_PROTO_DOWN, IFLA_PROTO_DOWN_REASON, IFLA_QDISC, IFLA_STATS, IFLA_STATS64,
-    IFLA_TSO_MAX_SEGS, IFLA_TSO_MAX_SIZE, IFLA_TXQLEN, IFLA_VF_PORTS, IFLA_VFINFO_LIST, IFLA_XDP,
-};
-use super::payload::{LinkPayload, parse_bytes, parse_extent_masks, parse_link_info};
-use attribute_tables::{Reader, parse_family, parse_list, typed};
+use super::kinds::IFLA_ADDRESS;
+use super::kinds::IFLA_AF_SPEC;
+use super::kinds::IFLA_ALLMULTI;
+use super::kinds::IFLA_BROADCAST;
+use super::kinds::IFLA_CARRIER;
+use super::kinds::IFLA_CARRIER_CHANGES;
+use super::kinds::IFLA_CARRIER_DOWN_COUNT;
+use super::kinds::IFLA_CARRIER_UP_COUNT;
+use super::kinds::IFLA_DEVLINK_PORT;
+use super::kinds::IFLA_DPLL_PIN;
+use super::kinds::IFLA_EVENT;
+use super::kinds::IFLA_EXT_MASK;
+use super::kinds::IFLA_GRO_IPV4_MAX_SIZE;
+use super::kinds::IFLA_GRO_MAX_SIZE;
+use super::kinds::IFLA_GROUP;
+use super::kinds::IFLA_GSO_IPV4_MAX_SIZE;
+use super::kinds::IFLA_GSO_MAX_SEGS;
+use super::kinds::IFLA_GSO_MAX_SIZE;
+use super::kinds::IFLA_IF_NETNSID;
+use super::kinds::IFLA_IFALIAS;
+use super::kinds::IFLA_IFNAME;
+use super::kinds::IFLA_LINK;
+use super::kinds::IFLA_LINK_NETNSID;
+use super::kinds::IFLA_LINKINFO;
+use super::kinds::IFLA_LINKMODE;
+use super::kinds::IFLA_MAP;
+use super::kinds::IFLA_MASTER;
+use super::kinds::IFLA_MAX_MTU;
+use super::kinds::IFLA_MIN_MTU;
+use super::kinds::IFLA_MTU;
+use super::kinds::IFLA_NET_NS_FD;
+use super::kinds::IFLA_NET_NS_PID;
+use super::kinds::IFLA_NEW_IFINDEX;
+use super::kinds::IFLA_NEW_NETNSID;
+use super::kinds::IFLA_NUM_RX_QUEUES;
+use super::kinds::IFLA_NUM_TX_QUEUES;
+use super::kinds::IFLA_NUM_VF;
+use super::kinds::IFLA_OPERSTATE;
+use super::kinds::IFLA_PARENT_DEV_BUS_NAME;
+use super::kinds::IFLA_PARENT_DEV_NAME;
+use super::kinds::IFLA_PERM_ADDRESS;
+use super::kinds::IFLA_PHYS_PORT_ID;
+use super::kinds::IFLA_PHYS_PORT_NAME;
+use super::kinds::IFLA_PHYS_SWITCH_ID;
+use super::kinds::IFLA_PORT_SELF;
+use super::kinds::IFLA_PROMISCUITY;
+use super::kinds::IFLA_PROP_LIST;
+use super::kinds::IFLA_PROTINFO;
+use super::kinds::IFLA_PROTO_DOWN;
+use super::kinds::IFLA_PROTO_DOWN_REASON;
+use super::kinds::IFLA_QDISC;
+use super::kinds::IFLA_STATS;
+use super::kinds::IFLA_STATS64;
+use super::kinds::IFLA_TSO_MAX_SEGS;
+use super::kinds::IFLA_TSO_MAX_SIZE;
+use super::kinds::IFLA_TXQLEN;
+use super::kinds::IFLA_VF_PORTS;
+use super::kinds::IFLA_VFINFO_LIST;
+use super::kinds::IFLA_XDP;
+use super::payload::LinkPayload;
+use super::payload::parse_bytes;
+use super::payload::parse_extent_masks;
+use super::payload::parse_link_info;
+use attribute_tables::Reader;
+use attribute_tables::parse_family;
+use attribute_tables::parse_list;
+use attribute_tables::typed;
 use link_info::LinkInfo;
-use link_message_af_spec::{AfSpecUnspec, parse_families};
+use link_message_af_spec::AfSpecUnspec;
+use link_message_af_spec::parse_families;
 use link_message_grammar::laws::attributes_are_looked_up;
-use link_message_lists::{
-    DevlinkPort, DpllPin, LinkProtoInfoInet6, LinkProtocolDownReason, LinkXdp, Prop, parse_raw,
-};
-use link_message_records::{FieldRecord, Map, Stats, Stats64, read_settings};
-use link_message_types::{AddressFamily, LinkEvent, LinkExtentMask, LinkMode, LinkPhysId, State};
-use link_message_virtual_functions::{LinkVfInfo, LinkVfPort, parse_vf_infos, parse_vf_ports};
-use netlink_packet_core::{
-    DecodeError, DefaultNla, Field, NLA_F_NESTED, Nla, NlaBuffer, Parseable, parse_string,
-};
+use link_message_lists::DevlinkPort;
+use link_message_lists::DpllPin;
+use link_message_lists::LinkProtoInfoInet6;
+use link_message_lists::LinkProtocolDownReason;
+use link_message_lists::LinkXdp;
+use link_message_lists::Prop;
+use link_message_lists::parse_raw;
+use link_message_records::FieldRecord;
+use link_message_records::Map;
+use link_message_records::Stats;
+use link_message_records::Stats64;
+use link_message_records::read_settings;
+use link_message_types::AddressFamily;
+use link_message_types::LinkEvent;
+use link_message_types::LinkExtentMask;
+use link_message_types::LinkMode;
+use link_message_types::LinkPhysId;
+use link_message_types::State;
+use link_message_virtual_functions::LinkVfInfo;
+use link_message_virtual_functions::LinkVfPort;
+use link_message_virtual_functions::parse_vf_infos;
+use link_message_virtual_functions::parse_vf_ports;
+use netlink_packet_core::DecodeError;
+use netlink_packet_core::DefaultNla;
+use netlink_packet_core::Field;
+use netlink_packet_core::NLA_F_NESTED;
+use netlink_packet_core::Nla;
+use netlink_packet_core::NlaBuffer;
+use netlink_packet_core::Parseable;
+use netlink_packet_core::parse_string;
 use std::alloc::Global;
 
 /// An attribute of a link.

@@ -7,7 +7,7 @@ ghost use Rattle.norm_vectors.specs.Answers.{answer, measure_text};
 
 use hex::{decode, encode};
 use link_capture::{
-    CaptureFault, CaptureReader, FaultKind, Measure, check, measure, normalize_bytes,
+    CaptureFault, CaptureReader, FaultKind, Measure, check, measure, normal_len, normalize_bytes,
 };
 use std::alloc::{AllocError, Global};
 use std::io::{self, BufRead, BufReader, BufWriter, ErrorKind, Write};
@@ -95,6 +95,13 @@ fn agrees(alloc: Global, case: &Case) -> bool
     let mut text = Vec::new(alloc);
     let whole = normalize_bytes(alloc, case.capture.as_slice(), case.limit, &mut text);
     if check(case.capture.as_slice(), case.limit) != whole {
+        return false;
+    }
+    let len = match whole {
+        Ok(()) => Ok(text.len() as u128),
+        Err(fault) => Err(fault),
+    };
+    if normal_len(case.capture.as_slice(), case.limit) != len {
         return false;
     }
     for size in PIECES {

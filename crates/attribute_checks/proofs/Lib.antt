@@ -4,3 +4,5 @@ pub mod Loop
 pub mod InfoRows
 pub mod NameRows
 pub mod OwnText
+pub mod SameShapes
+pub mod Sameness

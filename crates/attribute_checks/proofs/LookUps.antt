@@ -1,9 +1,9 @@
 -- The row that is found is the line of the table that the rows build.
-use Rattle.std.proofs.Common.{◌≡◌, ℕ, zero, suc, ◌+◌, ◌*◌, ◌<◌, Bool, true, false, cond, List, [], ◌∷◌, drop, get_or, Option, Some, None, refl, sym, ap, subst, ◌∙◌, inl, inr, arith}
-use Rattle.std.specs.Prelude.{◌&&◌, ◌==◌, nat_lt, option_map}
+use Rattle.std.proofs.Common.{◌≡◌, ℕ, zero, suc, ◌+◌, ◌*◌, ◌<◌, Bool, true, false, cond, List, [], ◌∷◌, drop, get_or, Option, Some, None, refl, sym, ap, ◌∙◌, inl, inr, arith}
+use Rattle.std.specs.Prelude.{◌&&◌, nat_lt, option_map}
 use Rattle.std.proofs.lemmas.Bool.{ltb-true, eq-eqb, ne_eqb}
 use Rattle.std.proofs.lemmas.Bool.Decides.{eqb_tells}
-use Rattle.attribute_tables_grammar.specs.LookUps.{Line, line_at, payload_rule, row_of_line, table_row, rows_rule}
+use Rattle.attribute_tables_grammar.specs.LookUps.{line_at, payload_rule, row_of_line, table_row, rows_rule}
 use Rattle.attribute_tables_grammar.specs.Rules.{Rule, raw_rule}
 use Rattle.attribute_tables_grammar.specs.Lists.{list_rule, written_kind}
 use Rattle.netlink_packet_core_grammar.specs.Attributes.{proper_kind}
@@ -114,3 +114,10 @@ written_some p tables info n rs t k kind r h l b f e = ap (λ o. written_kind (r
 
 pub written_none : (p : Peer) (tables : ℕ → Table) (info : Payload) (n : ℕ) (rs : List Row) (t k kind : ℕ) → are_known n rs ≡ true → k < 65536 → build tables info t rs ≡ tables t → None ≡ find_row (t * 65536 + k) rs → written_kind (table_row p (tables t) k) kind ≡ kind
 written_none p tables info n rs t k kind h l b f = ap (λ o. written_kind (row_of_line p o) kind) (sym (ap (option_map (line_of tables info)) f ∙ found_line tables info n rs t k h l ∙ ap (λ x. line_at x k) b))
+
+-- a kind is of a type where its row is found
+pub typed_some : (p : Peer) (tables : ℕ → Table) (info : Payload) (n : ℕ) (rs : List Row) (t k : ℕ) (r : Row) → are_known n rs ≡ true → k < 65536 → build tables info t rs ≡ tables t → Some r ≡ find_row (t * 65536 + k) rs → true ≡ (table_row p (tables t) k).is_typed
+typed_some p tables info n rs t k r h l b f = ap (λ o. (row_of_line p o).is_typed) (ap (option_map (line_of tables info)) f ∙ found_line tables info n rs t k h l ∙ ap (λ x. line_at x k) b)
+
+pub typed_none : (p : Peer) (tables : ℕ → Table) (info : Payload) (n : ℕ) (rs : List Row) (t k : ℕ) → are_known n rs ≡ true → k < 65536 → build tables info t rs ≡ tables t → None ≡ find_row (t * 65536 + k) rs → false ≡ (table_row p (tables t) k).is_typed
+typed_none p tables info n rs t k h l b f = ap (λ o. (row_of_line p o).is_typed) (ap (option_map (line_of tables info)) f ∙ found_line tables info n rs t k h l ∙ ap (λ x. line_at x k) b)

@@ -1,5 +1,5 @@
 -- Padding, names, and what is in force, as the code finds them.
-use Rattle.std.proofs.Common.{◌≡◌, ℕ, zero, suc, ◌+◌, ◌-◌, ◌*◌, ◌<◌, ◌≤◌, ◌++◌, List, [], ◌∷◌, length, take, drop, get_or, Option, Some, refl, sym, ap, ◌∙◌, arith}
+use Rattle.std.proofs.Common.{◌≡◌, ℕ, zero, suc, ◌+◌, ◌-◌, ◌*◌, ◌<◌, ◌++◌, List, [], ◌∷◌, length, take, drop, Option, Some, refl, sym, ap, ◌∙◌, arith}
 use Rattle.std.specs.Prelude.{slice_index}
 use Rattle.netlink_packet_core_grammar.specs.Attributes.{nla_align, zeros, Attribute}
 use Rattle.netlink_packet_core_grammar.specs.AttributeViews.{viewed_length, viewed_kind, viewed_attribute, after_first}

@@ -1,8 +1,8 @@
 //! Link info: a list in which a kind's name tells the data, and a port kind's name the port data
 //! (if_link.h, IFLA_INFO_*).
 
-ghost use Rattle.std.specs.Prelude.{◌≡◌, ◌%◌, true, option_map, IfSome, IfNone};
-ghost use Rattle.attribute_tables_grammar.specs.Lists.{any, list_rule, LawfulGrammar, written_kind};
+ghost use Rattle.std.specs.Prelude.{◌≡◌, ◌%◌, ◌==◌, ◌&&◌, ◌||◌, not, nat_lt, true, option_map, IfSome, IfNone};
+ghost use Rattle.attribute_tables_grammar.specs.Lists.{any, list_rule, LawfulGrammar, row_of, same_attribute, written_kind};
 ghost use Rattle.attribute_tables_grammar.specs.LookUps.{payload_rule, payload_at, rule_or_raw};
 ghost use Rattle.attribute_tables_grammar.specs.Rules.{shape_rule};
 ghost use Rattle.attribute_tables_grammar.specs.Shapes.{never};
@@ -10,15 +10,19 @@ ghost use Rattle.attribute_tables_grammar.specs.Tables.{Names, named, names_gram
 ghost use Rattle.attribute_tables_grammar.specs.Walks.{measure};
 ghost use Rattle.attribute_checks.specs.Rows.{is_below, payload_of};
 ghost use Rattle.attribute_checks.specs.Measures.{view, in_force};
+ghost use Rattle.attribute_checks.specs.Sameness.{attribute_of};
 
-use crate::attribute::{first_attribute, is_own_attribute};
+use crate::attribute::{Attribute, first_attribute, is_own_attribute};
 use crate::measure::{measure_held, with_attribute};
 use crate::rows::{Held, Shape};
+use crate::same::same_held;
 use crate::shapes::{Measured, NOTHING_YET};
 use crate::tables::TableSet;
 use attribute_tables_grammar::laws::{
-    measures_go_by_steps, names_are_looked_up, own_texts_go_by_steps,
+    attributes_are_compared, measures_go_by_steps, names_are_looked_up, own_texts_go_by_steps,
+    sameness_goes_by_steps, what_is_kept_goes_by_steps,
 };
+use netlink_packet_core_grammar::laws::first_attributes_are_within;
 use netlink_packet_core_numbers::without_nul;
 
 /// What the data of a kind, and of a port kind, hold.
@@ -149,4 +153,75 @@ pub fn measure_info<T: NameSet>(set: &T, bytes: &[u8]) -> Option<Measured>
         rest = after;
     }
     Some(total)
+}
+
+// Whether the kinds of two attributes are the same in link info, of which kinds 1 to 5 have no flag
+// bits that count.
+fn same_kinds(left: u16, right: u16) -> bool
+    ensures { result
+        ≡ (left == right
+        || (nat_lt 0 (left % 0x4000)
+        && nat_lt (left % 0x4000) 6 && left % 0x4000 == right % 0x4000)) }
+{
+    match left % 0x4000 {
+        1 | 2 | 3 | 4 | 5 => left % 0x4000 == right % 0x4000,
+        _ => left == right,
+    }
+}
+
+// Whether two attributes of link info say the same, where this is in force before both.
+fn same_in_force<T: NameSet>(
+    set: &T,
+    force: InForce<'_>,
+    left: Attribute<'_>,
+    right: Attribute<'_>,
+) -> bool
+    ensures { result ≡ same_attribute
+        (row_of (names_grammar (named T.peer T.kinds) (named T.peer T.port_kinds))
+        (in_force force.entry.kind force.entry.port_kind) (attribute_of left.entry))
+        (row_of (names_grammar (named T.peer T.kinds) (named T.peer T.port_kinds))
+        (in_force force.entry.kind force.entry.port_kind) (attribute_of right.entry))
+        (attribute_of left.entry) (attribute_of right.entry) }
+{
+    attributes_are_compared();
+    if !same_kinds(left.kind, right.kind) {
+        return false;
+    }
+    match info_held(set, force, left.kind % 0x4000) {
+        Some(held) => same_held(set, held, left.payload, right.payload),
+        None => left.payload == right.payload,
+    }
+}
+
+/// Whether two lists of link info mean the same. It is of use where both are accepted.
+pub fn same_info<T: NameSet>(set: &T, left: &[u8], right: &[u8]) -> bool
+    ensures { result
+        ≡ (list_rule any (names_grammar (named T.peer T.kinds) (named T.peer T.port_kinds))).same
+        left.now right.now }
+{
+    what_is_kept_goes_by_steps();
+    sameness_goes_by_steps();
+    attributes_are_compared();
+    first_attributes_are_within();
+    let mut rest = left;
+    let mut other = right;
+    let mut force = InForce {
+        kind: None,
+        port_kind: None,
+    };
+    while !rest.is_empty() {
+        let Some((a, after)) = first_attribute(rest) else {
+            return false;
+        };
+        let Some((b, behind)) = first_attribute(other) else {
+            return false;
+        };
+        if !same_in_force(set, force, a, b) {
+            return false;
+        }
+        force = next_force(force, a.kind % 0x4000, a.payload);
+        rest = after;
+        other = behind;
+    }
+    other.is_empty()
 }

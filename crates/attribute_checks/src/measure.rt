@@ -16,8 +16,8 @@ use attribute_tables_grammar::laws::{
 };
 use netlink_packet_core_grammar::laws::first_attributes_are_within;
 
-// Whether a list of this form keeps an attribute.
-fn is_kept(form: Form, attribute: Attribute<'_>) -> bool
+/// Whether a list of this form keeps an attribute.
+pub fn is_kept(form: Form, attribute: Attribute<'_>) -> bool
     ensures { result ≡ is_kept (form_of form)
         (record { kind = attribute.entry.kind; payload = attribute.entry.payload.now }) }
 {

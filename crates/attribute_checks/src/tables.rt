@@ -48,6 +48,14 @@ pub trait TableSet {
         ensures measure { option_map view result ≡ measure (payload_rule peer info) payload.now }
         ensures own { IfSome result
             (λ m. m.is_own ≡ true → (payload_rule peer info).canonical payload.now ≡ payload.now) };
+
+    /// Whether two peers' payloads mean the same.
+    fn same_peer(&self, left: &[u8], right: &[u8]) -> bool
+        ensures { result ≡ (peer_rule peer).same left.now right.now };
+
+    /// Whether two payloads mean the same as link info.
+    fn same_info(&self, left: &[u8], right: &[u8]) -> bool
+        ensures { result ≡ (payload_rule peer info).same left.now right.now };
 }
 
 /// What the row of an attribute's kind says.
@@ -55,6 +63,8 @@ pub trait TableSet {
 pub struct Found {
     /// What the payload holds; bytes where the table has no row for the kind.
     pub held: Held,
+    /// Whether the table has a row for the kind.
+    pub is_typed: bool,
     /// Whether the kind is written as it stands, flag bits and all.
     pub keeps_kind: bool,
 }
@@ -73,6 +83,8 @@ pub fn find<T: TableSet>(set: &T, table: u8, kind: u16) -> Found
     ensures rule { payload_rule T.peer (payload_of T.tables T.info result.held)
         ≡ (table_row T.peer (T.tables table) (proper_kind kind)).rule }
     ensures known { is_below T.count result.held ≡ true }
+    ensures typed { result.is_typed
+        ≡ (table_row T.peer (T.tables table) (proper_kind kind)).is_typed }
     ensures lawful { Lawful (table_row T.peer (T.tables table) (proper_kind kind)).rule }
     ensures written { result.keeps_kind ≡ true
         → written_kind (table_row T.peer (T.tables table) (proper_kind kind)) kind ≡ kind }
@@ -81,10 +93,12 @@ pub fn find<T: TableSet>(set: &T, table: u8, kind: u16) -> Found
     match look_up(set.rows(), table, kind % 0x4000) {
         Some(row) => Found {
             held: row.3,
+            is_typed: true,
             keeps_kind: is_written_kind(row.2, kind),
         },
         None => Found {
             held: Held::Plain(Shape::Raw),
+            is_typed: false,
             keeps_kind: true,
         },
     }

@@ -15,5 +15,6 @@ pub mod Texts
 pub mod Walks
 pub mod MeasureSteps
 pub mod OwnTexts
+pub mod SameSteps
 pub mod TableText
 mod Facts

@@ -1,5 +1,5 @@
 -- What a loop over a list measures, attribute by attribute: over any rows, in the context where the rest begins.
-use Rattle.std.proofs.Common.{◌≡◌, ℕ, ◌+◌, ◌*◌, ◌≤◌, ◌<◌, Bool, true, false, cond, List, [], ◌∷◌, length, Option, Some, None, refl, sym, ap, ◌∙◌, arith}
+use Rattle.std.proofs.Common.{◌≡◌, ℕ, ◌+◌, ◌<◌, Bool, true, false, cond, List, [], ◌∷◌, length, Option, Some, None, refl, sym, ap, ◌∙◌, arith}
 use Rattle.std.specs.Prelude.{◌==◌, option_map}
 use Rattle.std.proofs.Math.Bool.{and-true, or-false}
 use Rattle.std.proofs.Math.Nat.{add-zero, zero-add}
@@ -7,7 +7,7 @@ use Rattle.std.proofs.lemmas.Bool.{ne_eqb}
 use Rattle.netlink_packet_core_grammar.specs.Attributes.{nla_align, list_text, Attribute, first_attribute, if_some, attributes_within, attributes_of}
 use Rattle.netlink_packet_core_grammar.proofs.Attributes.{sized}
 use Rattle.attribute_tables_grammar.specs.Rules.{Rule, Lawful}
-use Rattle.attribute_tables_grammar.specs.Lists.{Context, nothing, Grammar, ListForm, any, non_empty, of_kind_one, ports, first_alone, is_kept, kept, is_empty_ports, not_empty, row_of, list_rule, if_read, all_accepted, rewritten, attributes_inside, all_fit, some_empty_ports}
+use Rattle.attribute_tables_grammar.specs.Lists.{Context, nothing, Grammar, ListForm, any, non_empty, of_kind_one, ports, first_alone, is_kept, kept, is_empty_ports, row_of, list_rule, if_read, all_accepted, rewritten, attributes_inside, all_fit, some_empty_ports}
 use Rattle.attribute_tables_grammar.specs.Walks.{Measure, measure, plus, none_yet, dropped, with_header, both, measures, walk, or_empty, walk_as, MeasuredSoFar, closed, IsWalked, WantsAttribute, IsSmall, IsMeasure}
 use Rattle.attribute_tables_grammar.specs.Laws.{MeasuresGoBySteps, MeasuresTellRules}
 use Rattle.attribute_tables_grammar.proofs.Kept.{kept_more, kept_past}

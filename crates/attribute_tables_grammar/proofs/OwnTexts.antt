@@ -1,11 +1,11 @@
 -- An attribute that is padded with zeros is its own text, and a list is where its attributes are.
-use Rattle.std.proofs.Common.{◌≡◌, ℕ, ◌+◌, ◌-◌, ◌*◌, ◌/◌, ◌%◌, ◌<◌, ◌≤◌, ◌++◌, true, List, [], ◌∷◌, length, take, drop, get_or, Option, Some, None, refl, sym, ap, subst, ◌∙◌, append_assoc, arith}
+use Rattle.std.proofs.Common.{◌≡◌, ℕ, ◌+◌, ◌-◌, ◌*◌, ◌/◌, ◌%◌, ◌<◌, ◌++◌, true, List, [], ◌∷◌, length, take, drop, get_or, Option, Some, None, refl, sym, ap, subst, ◌∙◌, append_assoc, arith}
 use Rattle.std.specs.Prelude.{option_map}
-use Rattle.std.proofs.lemmas.List.{append-nil, take-append-drop, drop-drop, length-take-le}
-use Rattle.netlink_packet_core_grammar.specs.Attributes.{nla_align, zeros, Attribute, attribute_length, attribute_text, list_text, first_attribute, if_some, attributes_within, attributes_of}
+use Rattle.std.proofs.lemmas.List.{take-append-drop, drop-drop, length-take-le}
+use Rattle.netlink_packet_core_grammar.specs.Attributes.{nla_align, zeros, Attribute, attribute_length, attribute_text, list_text, first_attribute, attributes_within, attributes_of}
 use Rattle.netlink_packet_core_grammar.proofs.Attributes.{IsCut, headed}
 use Rattle.netlink_packet_core_grammar.proofs.FirstAttribute.{attributes_step}
-use Rattle.attribute_tables_grammar.specs.Lists.{Context, nothing, Row, Grammar, row_of, rewrite, rewritten, written_kind, ListForm, any, non_empty, of_kind_one, ports, first_alone, is_kept, kept, if_read, list_rule}
+use Rattle.attribute_tables_grammar.specs.Lists.{Context, nothing, Grammar, row_of, rewrite, rewritten, written_kind, ListForm, any, non_empty, of_kind_one, ports, first_alone, is_kept, kept, if_read, list_rule}
 use Rattle.attribute_tables_grammar.specs.Walks.{IsWalked}
 use Rattle.attribute_tables_grammar.specs.OwnTexts.{text_from, OwnSoFar}
 use Rattle.attribute_tables_grammar.specs.Laws.{OwnTextsGoBySteps}

@@ -7,7 +7,7 @@ use Rattle.netlink_packet_core_grammar.specs.Attributes.{nla_align, Attribute, l
 use Rattle.netlink_packet_core_grammar.proofs.FirstAttribute.{attributes_step, attributes_stop}
 use Rattle.netlink_packet_core_grammar.proofs.Sizes.{length-list_text}
 use Rattle.attribute_tables_grammar.specs.Rules.{Rule, Lawful}
-use Rattle.attribute_tables_grammar.specs.Lists.{Context, nothing, Grammar, row_of, rewritten, all_accepted, all_fit, attributes_inside, some_empty_ports, ListForm, any, of_kind_one, read_as, is_kept, kept, is_empty_ports, if_read, list_rule}
+use Rattle.attribute_tables_grammar.specs.Lists.{Context, nothing, Grammar, row_of, rewritten, all_accepted, all_fit, attributes_inside, some_empty_ports, ListForm, read_as, is_kept, kept, is_empty_ports, if_read, list_rule}
 use Rattle.attribute_tables_grammar.specs.Walks.{Measure, measure, plus, none_yet, dropped, with_header, both, measures, walk, or_empty, walk_as}
 use Rattle.attribute_tables_grammar.proofs.Kept.{kept_more, kept_past, kept_none}
 

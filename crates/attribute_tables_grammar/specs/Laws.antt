@@ -1,15 +1,16 @@
 -- The laws of the definitions, as the functions of `laws` state them.
-use Rattle.std.specs.Prelude.{◌≡◌, ℕ, ◌-◌, ◌<◌, ◌↔◌, Bool, true, false, List, [], ◌∷◌, ◌++◌, length, take, drop, get_or, Option, Some, None, option_map}
+use Rattle.std.specs.Prelude.{◌≡◌, ℕ, ◌-◌, ◌<◌, ◌&&◌, ◌↔◌, Bool, true, false, List, [], ◌∷◌, ◌++◌, length, take, drop, get_or, Option, Some, None, option_map}
 use Rattle.netlink_packet_core_grammar.specs.Attributes.{nla_align, zeros, Attribute, attribute_length, attribute_text, first_attribute, attributes_of}
 use Rattle.netlink_packet_core_grammar.specs.AttributeViews.{IsAttribute, viewed_attribute, after_first}
 use Rattle.attribute_tables_grammar.specs.Rules.{Rule, Lawful, Renews}
-use Rattle.attribute_tables_grammar.specs.Lists.{Grammar, Context, Row, nothing, rewrite, rewritten, written_kind, row_of, without_context, ListForm, any, non_empty, of_kind_one, ports, first_alone, read_as, is_kept, kept, list_rule, all_accepted, all_same, context_after, LawfulGrammar}
+use Rattle.attribute_tables_grammar.specs.Lists.{Grammar, Context, Row, nothing, rewrite, rewritten, written_kind, row_of, row_at, same_attribute, without_context, ListForm, any, non_empty, of_kind_one, ports, first_alone, read_as, is_kept, kept, list_rule, all_accepted, all_same, context_after, LawfulGrammar}
 use Rattle.attribute_tables_grammar.specs.Peers.{Peer, LawfulPeer, bytes_peer}
-use Rattle.attribute_tables_grammar.specs.Tables.{Payload, Payload.list, Table, Table.end, Table.row, Names, rule, named, grammar, payload_bounded, rows_bounded}
+use Rattle.attribute_tables_grammar.specs.Tables.{Payload, Payload.list, Table, Table.end, Table.row, Names, rule, named, names_grammar, grammar, payload_bounded, rows_bounded}
 use Rattle.attribute_tables_grammar.specs.LookUps.{list_of, row_of_line, rows_rule, table_row, only_one, holds_no_lists, payload_at, rule_or_raw}
 use Rattle.attribute_tables_grammar.specs.Readings.{Written, written_by, reading, reading_as, SoFar, Tells}
 use Rattle.attribute_tables_grammar.specs.Walks.{Measure, measure, plus, none_yet, dropped, with_header, walk_as, MeasuredSoFar, closed, IsWalked, WantsAttribute, IsSmall, IsMeasure}
 use Rattle.attribute_tables_grammar.specs.OwnTexts.{OwnSoFar}
+use Rattle.attribute_tables_grammar.specs.Sameness.{kept_of, same_walk, goes_on, same_kinds}
 
 -- a canonical text is cut into the written kinds and canonical payloads of what was kept
 abbrev pub CanonicalIsCut : Type 0
@@ -158,3 +159,38 @@ pub record OwnTextsGoBySteps : Type 0 where
   pub done : (form : ListForm) (g : Grammar) (bytes rest : List ℕ) (c : Context) → IsWalked form bytes → length rest ≡ 0 → OwnSoFar form g bytes c rest → (list_rule form g).canonical bytes ≡ bytes
   pub alone : (g : Grammar) (bytes : List ℕ) (e : Attribute) (after : List ℕ) → first_attribute bytes ≡ Some (e, after) → length after ≡ 0 → written_kind (row_of g nothing e) e.kind ≡ e.kind →
       (row_of g nothing e).rule.canonical e.payload ≡ e.payload → bytes ≡ attribute_text e ++ after → (list_rule first_alone g).canonical bytes ≡ bytes
+
+-- what a list keeps is found by steps: an attribute that its form keeps, and then what is kept behind it; one that the form drops adds nothing; no bytes keep nothing, and bytes that begin with no attribute are no list
+pub record KeptBySteps : Type 0 where
+  pub more : (form : ListForm) (rest : List ℕ) (e : Attribute) (after : List ℕ) → first_attribute rest ≡ Some (e, after) → is_kept form e ≡ true → kept_of form rest ≡ goes_on form e after
+  pub past : (form : ListForm) (rest : List ℕ) (e : Attribute) (after : List ℕ) → first_attribute rest ≡ Some (e, after) → is_kept form e ≡ false → kept_of form rest ≡ kept_of form after
+  pub ended : (form : ListForm) (rest : List ℕ) → length rest ≡ 0 → kept_of form rest ≡ Some []
+  pub stopped : (form : ListForm) (rest : List ℕ) → first_attribute rest ≡ None → 0 < length rest → kept_of form rest ≡ None
+
+-- whether two lists mean the same is found by steps: they do as far as what each keeps next says the same, and as what is behind it does; where one ends they do as far as both end.
+-- Nothing needs to be accepted. A form that wants an attribute has no list of no bytes, and of a first attribute alone nothing else is looked at
+pub record SamenessGoesBySteps : Type 0 where
+  pub whole : (form : ListForm) (g : Grammar) (a b : List ℕ) → IsWalked form a → IsWalked form b → same_walk form g nothing a b ≡ (list_rule form g).same a b
+  pub more : (form : ListForm) (g : Grammar) (c : Context) (a b : List ℕ) (e f : Attribute) (x y : List ℕ) → kept_of form a ≡ goes_on form e x → kept_of form b ≡ goes_on form f y →
+      same_attribute (row_of g c e) (row_of g c f) e f ≡ true → g.next c e ≡ g.next c f → same_walk form g (g.next c e) x y ≡ same_walk form g c a b
+  pub differs : (form : ListForm) (g : Grammar) (c : Context) (a b : List ℕ) (e f : Attribute) (x y : List ℕ) → kept_of form a ≡ goes_on form e x → kept_of form b ≡ goes_on form f y →
+      same_attribute (row_of g c e) (row_of g c f) e f ≡ false → false ≡ same_walk form g c a b
+  pub ended : (form : ListForm) (g : Grammar) (c : Context) (a b : List ℕ) → kept_of form a ≡ Some [] → kept_of form b ≡ Some [] → true ≡ same_walk form g c a b
+  pub left_ended : (form : ListForm) (g : Grammar) (c : Context) (a b : List ℕ) (f : Attribute) (y : List ℕ) → kept_of form a ≡ Some [] → kept_of form b ≡ goes_on form f y → false ≡ same_walk form g c a b
+  pub right_ended : (form : ListForm) (g : Grammar) (c : Context) (a b : List ℕ) (e : Attribute) (x : List ℕ) → kept_of form a ≡ goes_on form e x → kept_of form b ≡ Some [] → false ≡ same_walk form g c a b
+  pub left_stopped : (form : ListForm) (g : Grammar) (c : Context) (a b : List ℕ) → kept_of form a ≡ None → false ≡ same_walk form g c a b
+  pub right_stopped : (form : ListForm) (g : Grammar) (c : Context) (a b : List ℕ) → kept_of form b ≡ None → false ≡ same_walk form g c a b
+  pub no_left : (form : ListForm) (g : Grammar) (a b : List ℕ) → length a ≡ 0 → WantsAttribute form → false ≡ (list_rule form g).same a b
+  pub no_right : (form : ListForm) (g : Grammar) (a b : List ℕ) → length b ≡ 0 → WantsAttribute form → false ≡ (list_rule form g).same a b
+  pub first_both : (g : Grammar) (a b : List ℕ) (e f : Attribute) (x y : List ℕ) → first_attribute a ≡ Some (e, x) → first_attribute b ≡ Some (f, y) →
+      same_attribute (row_of g nothing e) (row_of g nothing f) e f ≡ (list_rule first_alone g).same a b
+  pub no_first_left : (g : Grammar) (a b : List ℕ) → first_attribute a ≡ None → false ≡ (list_rule first_alone g).same a b
+  pub non_empty : (g : Grammar) (a b : List ℕ) → 0 < length a → 0 < length b → (list_rule any g).same a b ≡ (list_rule non_empty g).same a b
+  pub ports : (g : Grammar) (a b : List ℕ) → 0 < length a → 0 < length b → (list_rule of_kind_one g).same a b ≡ (list_rule ports g).same a b
+  pub no_first_right : (g : Grammar) (a b : List ℕ) → first_attribute b ≡ None → false ≡ (list_rule first_alone g).same a b
+
+-- two attributes under one look-up say the same exactly where their kinds do and the first one's row says that the payloads do; what they leave in force of link info is then the same
+pub record AttributesAreCompared : Type 0 where
+  pub by_kind : (f : ℕ → Row) (e h : Attribute) → (same_kinds (row_at f e) e.kind h.kind && (row_at f e).rule.same e.payload h.payload) ≡ same_attribute (row_at f e) (row_at f h) e h
+  pub one_context : (data' ports : List ℕ → Rule) (c : Context) (e h : Attribute) → same_attribute (row_of (names_grammar data' ports) c e) (row_of (names_grammar data' ports) c h) e h ≡ true →
+      (names_grammar data' ports).next c e ≡ (names_grammar data' ports).next c h

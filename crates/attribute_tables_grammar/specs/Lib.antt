@@ -8,4 +8,5 @@ pub mod LookUps
 pub mod Readings
 pub mod Walks
 pub mod OwnTexts
+pub mod Sameness
 pub mod Laws

@@ -6,6 +6,7 @@ ghost use Rattle.attribute_tables_grammar.specs.Laws.{TableGrammarsAreLawful, Ro
 ghost use Rattle.attribute_tables_grammar.specs.Laws.{ReadingsGoBySteps, ReadingsTellRules, FirstAloneIsRead, PortsAreEntries};
 ghost use Rattle.attribute_tables_grammar.specs.Laws.{ContextsGoBySteps, ListsAreReadAgain, RowsWithoutListsFit};
 ghost use Rattle.attribute_tables_grammar.specs.Laws.{TableRowsAreLawful, MeasuresGoBySteps, MeasuresTellRules, OwnTextsGoBySteps};
+ghost use Rattle.attribute_tables_grammar.specs.Laws.{KeptBySteps, SamenessGoesBySteps, AttributesAreCompared};
 
 /// A canonical text is cut into the kept attributes, each in its canonical form.
 pub fn canonical_texts_are_cut_again()
@@ -124,4 +125,23 @@ pub fn measures_tell_rules()
 /// behind it.
 pub fn own_texts_go_by_steps()
     ensures { OwnTextsGoBySteps }
+{}
+
+/// What a list keeps is found by steps: an attribute that its form keeps stands in front of what is
+/// kept behind it, and one that the form drops adds nothing. Bytes that begin with no attribute are
+/// no list.
+pub fn what_is_kept_goes_by_steps()
+    ensures { KeptBySteps }
+{}
+
+/// Whether two lists mean the same is found by steps over what each keeps, whatever is accepted: as
+/// far as the next two attributes say the same, and the rest does.
+pub fn sameness_goes_by_steps()
+    ensures { SamenessGoesBySteps }
+{}
+
+/// Two attributes under one look-up say the same exactly where their kinds do, and their payloads
+/// under the first one's row. In link info they then leave the same in force.
+pub fn attributes_are_compared()
+    ensures { AttributesAreCompared }
 {}

@@ -1,4 +1,4 @@
-use link_message_checks::{BodyMeasure, check};
+use link_message_checks::{BodyMeasure, check, same};
 use std::test::Fail;
 
 // A name and a mask.
@@ -80,5 +80,39 @@ fn bodies_are_counted(rt: HostRuntime) -> Result<(), Fail> {
         assert!(rt; check(bytes)? == measure);
     }
     assert!(rt; check(EMPTY_INFO).is_err());
+    Ok(())
+}
+
+// Two layer types without a name, and that of Ethernet.
+const LAYER_9: &[u8] = b"\0\x05\x09\0\0\0\0\0\0\0\0\0\0\0\0\0";
+
+const LAYER_10: &[u8] = b"\0\0\x0a\0\0\0\0\0\0\0\0\0\0\0\0\0";
+
+const ETHERNET: &[u8] = b"\0\0\x01\0\0\0\0\0\0\0\0\0\0\0\0\0";
+
+// The data of a tunnel as they are written.
+const VXLAN_WRITTEN: &[u8] =
+    b"\0\0\0\0\0\0\0\0\0\0\0\0\0\0\0\0\x20\0\x12\0\x0a\0\x01\0vxlan\0\0\0\x10\0\x02\0\x05\0\
+    \x07\0\x01\0\0\0\x04\0\x17\0";
+
+// Virtual functions without the attribute that is dropped.
+const KEPT: &[u8] = b"\0\0\0\0\0\0\0\0\0\0\0\0\0\0\0\0\x08\0\x16\0\x04\0\x01\0";
+
+// A name and a mask, exchanged.
+const EXCHANGED: &[u8] =
+    b"\0\0\0\0\0\0\0\0\0\0\0\0\0\0\0\0\x07\0\x03\0lo\0\0\x08\0\x1d\0\x09\0\0\0";
+
+#[test]
+fn bodies_are_compared(rt: HostRuntime) -> Result<(), Fail> {
+    for (left, right, is_same) in [
+        (LAYER_9, LAYER_10, true),
+        (LAYER_9, ETHERNET, false),
+        (VXLAN, VXLAN_WRITTEN, true),
+        (DROPPED, KEPT, true),
+        (NAMED, EXCHANGED, false),
+    ] {
+        assert!(rt; left.len() >= 16 && right.len() >= 16);
+        assert!(rt; same(left, right) == is_same);
+    }
     Ok(())
 }

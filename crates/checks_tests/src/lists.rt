@@ -1,4 +1,4 @@
-use link_info_checks::{ListMeasure, check_list};
+use link_info_checks::{ListMeasure, check_list, same_list};
 use std::test::Fail;
 
 // A link of IPsec, with its data.
@@ -26,5 +26,40 @@ fn lists_are_counted(rt: HostRuntime) -> Result<(), Fail> {
         assert!(rt; check_list(bytes)? == measure);
     }
     assert!(rt; check_list(NO_KIND).is_err());
+    Ok(())
+}
+
+// The same link without the NUL behind its name, and with flag bits.
+const XFRM_OTHERWISE: &[u8] = b"\x08\0\x01\0xfrm\
+    \x14\0\x02\0\x08\0\x01\x40\x02\0\0\0\x08\0\x02\x80\x0a\0\0\0";
+
+// One whose data stand the other way round.
+const XFRM_EXCHANGED: &[u8] = b"\x08\0\x01\0xfrm\
+    \x14\0\x02\0\x08\0\x02\0\x0a\0\0\0\x08\0\x01\0\x02\0\0\0";
+
+// An attribute that no table lists, with two flag bits and with one.
+const UNLISTED: &[u8] = b"\x05\0\x46\xc0\x01\0\0\0";
+
+const UNLISTED_NESTED: &[u8] = b"\x05\0\x46\x80\x01\0\0\0";
+
+// A tunnel whose lifetime is inherited by a flag, and by a byte.
+const TTL_FLAG: &[u8] = b"\x0a\0\x01\0vxlan\0\0\0\x08\0\x02\0\x04\0\x1c\0";
+
+const TTL_BYTE: &[u8] = b"\x0a\0\x01\0vxlan\0\0\0\x0c\0\x02\0\x05\0\x1c\0\0\0\0\0";
+
+#[test]
+fn lists_are_compared(rt: HostRuntime) -> Result<(), Fail> {
+    for (left, right, is_same) in [
+        (b"".as_slice(), b"".as_slice(), true),
+        (b"".as_slice(), XFRM, false),
+        (XFRM, XFRM_OTHERWISE, true),
+        (XFRM, XFRM_EXCHANGED, false),
+        (XFRM, &XFRM_OTHERWISE[..8], false),
+        (UNLISTED, UNLISTED_NESTED, false),
+        (TTL_FLAG, TTL_BYTE, false),
+    ] {
+        assert!(rt; same_list(left, right) == is_same);
+        assert!(rt; same_list(right, left) == is_same);
+    }
     Ok(())
 }

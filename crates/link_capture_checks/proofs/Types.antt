@@ -1,10 +1,15 @@
 -- What the bodies of each type are written as.
-use Rattle.std.proofs.Common.{◌≡◌, ◌≢◌, ℕ, false, ◌<◌, ◌≤◌, ◌⊎◌, inl, inr, Result, List, [], Ok, Err, IfOk, IfErr, refl, sym, subst, arith}
+use Rattle.std.proofs.Common.{◌≡◌, ◌≢◌, ℕ, true, false, ◌<◌, ◌≤◌, ◌⊎◌, inl, inr, Result, List, [], length, take, drop, Ok, Err, IfOk, IfErr, refl, sym, ap, subst, ◌∙◌, arith}
+use Rattle.std.specs.Prelude.{bytes_eq}
 use Rattle.std.proofs.lemmas.Bool.{le-leb, lt-leb, ne_eqb}
+use Rattle.netlink_packet_core_grammar.specs.Frames.{frame_type}
+use Rattle.netlink_packet_core_grammar.specs.Numbers.{u16_at}
 use Rattle.link_message_grammar.specs.Body.{link_body}
 use Rattle.link_capture_grammar.specs.declared.fault.FaultKind.{FaultKind}
 use Rattle.link_capture_grammar.specs.Bodies.{Refusal, body_text, done_text, error_text, is_link_type, ruled_text}
 use Rattle.link_capture_grammar.specs.Captures.{faulty}
+use Rattle.link_capture_grammar.specs.Same.{done_body, same_body}
+use Rattle.link_capture_grammar.proofs.Meanings.{type_at}
 use Rattle.link_capture_grammar.specs.Numbers.{body_attributes}
 use Rattle.link_capture_checks.specs.declared.texts.BodyText.{BodyText}
 use Rattle.link_capture_checks.specs.Measures.{IsBodyText}
@@ -53,3 +58,24 @@ measured t b judged inside j r h = rw (j.text, j.attributes) h
 
 pub refused : (t : ℕ) (b : List ℕ) (judged : Result (List ℕ) Refusal) (inside : ℕ) → Judges t b judged inside → (r : Result BodyText FaultKind) → IfErr r (λ kind. faulty judged ≡ Err kind) → IfErr r (λ kind. faulty (body_text t b) ≡ Err kind)
 refused t b judged inside j r h = rw j.text h
+
+-- what two bodies of a type are compared by
+pub same_noop : (t : ℕ) (a b : List ℕ) → t ≡ 1 → true ≡ same_body t a b
+unfolding same_body
+same_noop t a b e = subst (λ t. true ≡ same_body t a b) (sym e) refl
+
+pub same_done : (t : ℕ) (a b : List ℕ) → t ≡ 3 → bytes_eq (done_body a) (done_body b) ≡ same_body t a b
+unfolding same_body
+same_done t a b e = subst (λ t. bytes_eq (done_body a) (done_body b) ≡ same_body t a b) (sym e) refl
+
+pub same_link : (t : ℕ) (a b : List ℕ) → 16 ≤ t → t ≤ 19 → link_body.same a b ≡ same_body t a b
+unfolding same_body
+same_link t a b l h = rw (ne_eqb t 1 (λ e. omega (arith, e, l)), ne_eqb t 3 (λ e. omega (arith, e, l)), le-leb 16 t l, le-leb t 19 h) refl
+
+pub same_other : (t : ℕ) (a b : List ℕ) → t ≢ 1 → t ≢ 3 → (t < 16) ⊎ (19 < t) → bytes_eq a b ≡ same_body t a b
+unfolding same_body
+same_other t a b n k o = rw (ne_eqb t 1 n, ne_eqb t 3 k, outside t o) refl
+
+-- headers that are the same have one type
+pub one_type : (a b : List ℕ) → 16 ≤ length a → 16 ≤ length b → take 12 (drop 4 a) ≡ take 12 (drop 4 b) → frame_type a ≡ frame_type b
+one_type a b l k h = type_at a l ∙ ap (u16_at 0) h ∙ sym (type_at b k)

@@ -4,8 +4,10 @@
 mod bodies;
 mod capture;
 mod frames;
+mod sameness;
 mod texts;
 
 pub use capture::{check, measure, normal_len};
 pub use frames::frame_len;
+pub use sameness::{SideFault, same};
 pub use texts::Measure;

@@ -6,3 +6,4 @@ pub mod Same
 pub mod Meanings
 pub mod Numbers
 pub mod Judging
+pub mod SameFrames

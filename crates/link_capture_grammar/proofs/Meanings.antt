@@ -1,5 +1,5 @@
 -- Captures that mean the same have one normal text, and legal captures with one normal text mean the same.
-use Rattle.std.proofs.Common.{◌≡◌, ℕ, zero, suc, ◌+◌, ◌-◌, ◌^◌, ◌<◌, ◌≤◌, eqb, Bool, true, false, cond, List, [], ◌∷◌, ◌++◌, length, take, drop, Ok, refl, sym, ap, subst, ◌∙◌, inl, inr, arith}
+use Rattle.std.proofs.Common.{◌≡◌, ℕ, zero, suc, ◌+◌, ◌-◌, ◌^◌, ◌<◌, ◌≤◌, eqb, Bool, true, false, cond, List, [], ◌++◌, length, take, drop, Ok, refl, sym, ap, subst, ◌∙◌, inl, inr, arith}
 use Rattle.std.specs.Prelude.{bytes_eq}
 use Rattle.std.proofs.lemmas.Bool.{cases_Bool}
 use Rattle.std.proofs.lemmas.List.{take-append-drop}
@@ -18,10 +18,10 @@ use Rattle.link_capture_grammar.proofs.Normal.{header_size, link_body_lawful, ru
 use Rattle.link_capture_grammar.proofs.Same.{equal_bytes, error_is, error_type, texts_mean_the_same}
 
 -- a test that was decided
-yes : {A : Type 0} (b : Bool) (x y z : A) → b ≡ true → cond b x y ≡ z → x ≡ z
+pub yes : {A : Type 0} (b : Bool) (x y z : A) → b ≡ true → cond b x y ≡ z → x ≡ z
 yes b x y z k h = subst (λ c. cond c x y ≡ z) k h
 
-no : {A : Type 0} (b : Bool) (x y z : A) → b ≡ false → cond b x y ≡ z → y ≡ z
+pub no : {A : Type 0} (b : Bool) (x y z : A) → b ≡ false → cond b x y ≡ z → y ≡ z
 no b x y z k h = subst (λ c. cond c x y ≡ z) k h
 
 -- ---- the texts of two bodies tell whether they mean the same
@@ -120,7 +120,7 @@ body_tells t a b x y h g z =
 
 -- ---- frames in front
 
-type_at : (c : List ℕ) → 16 ≤ length c → frame_type c ≡ u16_at 0 (take 12 (drop 4 c))
+pub type_at : (c : List ℕ) → 16 ≤ length c → frame_type c ≡ u16_at 0 (take 12 (drop 4 c))
 type_at c h =
     u16_at-drop_4 c ∙ ap (u16_at 0) (sym (take-append-drop 12 (drop 4 c)))
     ∙ u16_at-append (take 12 (drop 4 c)) (drop 12 (drop 4 c)) (omega (arith, header_size c h))

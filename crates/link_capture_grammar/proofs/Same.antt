@@ -86,7 +86,7 @@ frame_same limit c frame r l h =
 
 -- ---- a capture and its normal text
 
-not_raised : (k : ℕ) (f : Option CaptureFault) → raised k f ≡ None → f ≡ None
+pub not_raised : (k : ℕ) (f : Option CaptureFault) → raised k f ≡ None → f ≡ None
 not_raised k None h = refl
 not_raised k (Some fault) h = absurd cc
 

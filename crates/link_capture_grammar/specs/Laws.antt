@@ -1,14 +1,14 @@
 -- The laws of captures, as the functions of `laws` state them.
-use Rattle.std.specs.Prelude.{◌≡◌, ◌≢◌, ℕ, ◌+◌, ◌*◌, ◌%◌, ◌^◌, ◌<◌, ◌≤◌, ◌↔◌, ◌⊎◌, List, [], ◌++◌, length, take, drop, None, Some, Ok, Err}
+use Rattle.std.specs.Prelude.{◌≡◌, ◌≢◌, ℕ, ◌+◌, ◌*◌, ◌%◌, ◌^◌, ◌<◌, ◌≤◌, ◌↔◌, ◌⊎◌, true, List, [], ◌++◌, length, take, drop, None, Some, Ok, Err}
 use Rattle.netlink_packet_core_grammar.specs.Attributes.{nla_align}
 use Rattle.netlink_packet_core_grammar.specs.Frames.{IsFrame, frame_length, frame_type, frame_body, frame_text}
 use Rattle.link_capture_grammar.specs.declared.fault.FaultKind.{FaultKind}
 use Rattle.link_capture_grammar.specs.declared.fault.CaptureFault.{CaptureFault}
 use Rattle.link_capture_grammar.specs.declared.fault.FaultKind.TheVariants.{Cut, TextOverLimit}
-use Rattle.link_capture_grammar.specs.Bodies.{body_text}
+use Rattle.link_capture_grammar.specs.Bodies.{body_text, is_link_type}
 use Rattle.link_capture_grammar.specs.Captures.{Judged, Accepted, CutInBody, faulty, tested, first_frame, first_fault, texts, raised, reach, IsLegal, IsOfFrames}
 use Rattle.link_capture_grammar.specs.Numbers.{frame_attributes, frames, attributes}
-use Rattle.link_capture_grammar.specs.Same.{SameCapture}
+use Rattle.link_capture_grammar.specs.Same.{SameFrame, SameCapture}
 
 -- a limit is a number of 32 bits
 abbrev pub IsLimit : ℕ → Type 0
@@ -69,6 +69,24 @@ pub record TextsTellMeanings : Type 0 where
 -- captures that mean the same are legal
 abbrev pub SameAreLegal : Type 0
 SameAreLegal = (limit : ℕ) (a b : List ℕ) → SameCapture limit a b → IsLegal limit a × IsLegal limit b
+
+-- what stands in front of a legal capture's bytes: a whole frame, whose body has a header where it is a link's, and behind it a legal capture
+pub record LegalFront (limit : ℕ) (c : List ℕ) : Type 0 where
+  pub text : List ℕ
+  pub is : first_frame limit c ≡ Ok (frame_length c, text)
+  pub frame : IsFrame c
+  pub body : is_link_type (frame_type c) ≡ true → 16 ≤ length (frame_body c)
+  pub behind : IsLegal limit (drop (nla_align (frame_length c)) c)
+
+-- whether legal captures mean the same is found frame by frame
+pub record SamenessGoesByFrames : Type 0 where
+  pub front : (limit : ℕ) (c : List ℕ) → IsLegal limit c → 0 < length c → LegalFront limit c
+  pub more : (limit : ℕ) (a b : List ℕ) → LegalFront limit a → LegalFront limit b → SameFrame a b →
+      SameCapture limit (drop (nla_align (frame_length a)) a) (drop (nla_align (frame_length b)) b) ↔ SameCapture limit a b
+  pub differs : (limit : ℕ) (a b : List ℕ) → LegalFront limit a → LegalFront limit b → SameCapture limit a b → SameFrame a b
+  pub ended : (limit : ℕ) (a b : List ℕ) → length a ≡ 0 → length b ≡ 0 → SameCapture limit a b
+  pub left_longer : (limit : ℕ) (a b : List ℕ) → 0 < length a → length b ≡ 0 → SameCapture limit a b → ⊥
+  pub right_longer : (limit : ℕ) (a b : List ℕ) → length a ≡ 0 → 0 < length b → SameCapture limit a b → ⊥
 
 -- a frame is judged by its own bytes
 pub record FramesStandAlone : Type 0 where

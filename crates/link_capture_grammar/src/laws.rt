@@ -4,7 +4,7 @@ ghost use Rattle.link_capture_grammar.specs.Laws.{TextsAreLegal, TextsAreNormal,
 ghost use Rattle.link_capture_grammar.specs.Laws.{JoinedTexts, PrefixFaults, PrefixTexts, TextsAreSmall, FaultsStand};
 ghost use Rattle.link_capture_grammar.specs.Laws.{BodiesAreNormal, TextsMeanTheSame, SameAreLegal};
 ghost use Rattle.link_capture_grammar.specs.Laws.{FramesStandAlone, CapturesGoByFrames};
-ghost use Rattle.link_capture_grammar.specs.Laws.{FramesAreJudged, CapturesAreCounted, TextsTellMeanings};
+ghost use Rattle.link_capture_grammar.specs.Laws.{FramesAreJudged, CapturesAreCounted, TextsTellMeanings, SamenessGoesByFrames};
 
 /// The texts of any bytes are legal under the same limit.
 pub fn texts_are_legal()
@@ -94,4 +94,10 @@ pub fn frames_are_judged()
 /// most its length.
 pub fn captures_are_counted()
     ensures { CapturesAreCounted }
+{}
+
+/// Whether legal captures mean the same is found frame by frame: they do as far as the frames in front do, and what
+/// is behind these; where one ends, both end.
+pub fn sameness_goes_by_frames()
+    ensures { SamenessGoesByFrames }
 {}

@@ -2,7 +2,7 @@
 use Rattle.std.proofs.Common.{◌≡◌, true, refl}
 use Rattle.attribute_tables_grammar.specs.Tables.{Payload.peer}
 use Rattle.attribute_checks.specs.Rows.{build, keys_rise, are_known, tables_below, all_bounded}
-use Rattle.attribute_checks.specs.Names.{names_of, names_fit, names_known}
+use Rattle.attribute_checks.specs.Names.{names_of, names_known}
 use Rattle.link_info_grammar.specs.Families.{kinds, port_kinds}
 use Rattle.link_info_checks.specs.declared.rows.TheConstants.{ROWS, KINDS, PORT_KINDS}
 use Rattle.link_info_checks.specs.Tables.{table_of}

@@ -13,6 +13,7 @@ ghost use Rattle.link_info_checks.specs.Tables.{table_of, IsListMeasure};
 use crate::rows::{KINDS, PORT_KINDS, ROWS};
 use attribute_checks::{
     Held, Measured, NameSet, Row, Shape, TableSet, held_by_name, measure_info, measure_shape,
+    same_info,
 };
 use attribute_tables_grammar::laws::{measures_tell_rules, peers_that_are_bytes_are_lawful};
 use link_info_grammar::laws::info_grammar_is_lawful;
@@ -43,6 +44,14 @@ impl TableSet for InfoTables {
 
     fn measure_info(&self, payload: &[u8]) -> Option<Measured> {
         measure_shape(Shape::Raw, payload)
+    }
+
+    fn same_peer(&self, left: &[u8], right: &[u8]) -> bool {
+        left == right
+    }
+
+    fn same_info(&self, left: &[u8], right: &[u8]) -> bool {
+        left == right
     }
 }
 
@@ -102,4 +111,13 @@ pub fn check_list(bytes: &[u8]) -> Result<ListMeasure, DecodeError>
         attributes: found.attributes,
         fits: found.fits,
     })
+}
+
+/// Whether two lists of link info mean the same: each attribute of the one that of the other, kinds
+/// and names, data and port data by the tables of the kinds in force, whatever bytes spell them. It
+/// takes no memory, and builds no value. It is of use where `check_list` accepts both.
+pub fn same_list(left: &[u8], right: &[u8]) -> bool
+    ensures { result ≡ info_rule.same left.now right.now }
+{
+    same_info(&InfoTables, left, right)
 }

@@ -1,12 +1,12 @@
 -- Families by number, and link info that wants an attribute.
-use Rattle.std.proofs.Common.{◌≡◌, ℕ, ◌<◌, Bool, true, false, cond, List, length, Option, Some, None, refl, sym, ap, ◌∙◌}
+use Rattle.std.proofs.Common.{◌≡◌, ℕ, ◌<◌, false, cond, List, length, None, sym, ap, ◌∙◌}
 use Rattle.std.specs.Prelude.{◌==◌}
 use Rattle.std.proofs.lemmas.Bool.{ne_eqb}
-use Rattle.attribute_tables_grammar.specs.Lists.{any, non_empty, list_rule}
+use Rattle.attribute_tables_grammar.specs.Lists.{non_empty}
 use Rattle.attribute_tables_grammar.specs.LookUps.{link_info_of}
 use Rattle.attribute_tables_grammar.specs.Peers.{bytes_peer}
 use Rattle.attribute_tables_grammar.specs.Tables.{named, names_grammar}
-use Rattle.attribute_tables_grammar.specs.Laws.{MeasuresTellRules}
+use Rattle.attribute_tables_grammar.specs.Laws.{MeasuresTellRules, SamenessGoesBySteps}
 use Rattle.attribute_tables_grammar.specs.Walks.{measure}
 use Rattle.link_info_grammar.specs.Families.{kinds, port_kinds}
 use Rattle.link_info_grammar.specs.LinkInfo.{info_rule, info_rule_under, info_grammar_under}
@@ -31,3 +31,12 @@ info_some laws b l = sym (laws.non_empty (names_grammar (named bytes_peer kinds)
 -- its canonical text, by what its length and an own text need
 pub info_canonical : InfoIsAListInside → (b : List ℕ) → 0 < length b → info_rule.canonical b ≡ b → (link_info_of bytes_peer non_empty kinds port_kinds).canonical b ≡ b
 info_canonical law b l h = (law.of_some_bytes b l).canonical ∙ h
+
+-- no bytes are link info, so they mean the same as none
+pub info_no_left : SamenessGoesBySteps → (a b : List ℕ) → length a ≡ 0 → false ≡ (link_info_of bytes_peer non_empty kinds port_kinds).same a b
+unfolding link_info_of
+info_no_left laws a b l = laws.no_left non_empty (names_grammar (named bytes_peer kinds) (named bytes_peer port_kinds)) a b l tt
+
+pub info_no_right : SamenessGoesBySteps → (a b : List ℕ) → length b ≡ 0 → false ≡ (link_info_of bytes_peer non_empty kinds port_kinds).same a b
+unfolding link_info_of
+info_no_right laws a b l = laws.no_right non_empty (names_grammar (named bytes_peer kinds) (named bytes_peer port_kinds)) a b l tt

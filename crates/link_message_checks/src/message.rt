@@ -1,24 +1,34 @@
 //! Checks of link messages, without memory and without a typed value.
 
-ghost use Rattle.std.specs.Prelude.{◌≡◌, ◌≤◌, ◌<◌, true, false, length, take, is_ok, option_map, IfSome, IfOk, IfErr};
+ghost use Rattle.std.specs.Prelude.{◌≡◌, ◌≤◌, ◌<◌, ◌%◌, ◌/◌, ◌∷◌, [], true, false, length, take, bytes_eq};
+ghost use Rattle.std.specs.Prelude.{slice_index, is_ok, option_map, IfSome, IfOk, IfErr};
 ghost use Rattle.std.specs.List.{list_any};
 ghost use Rattle.attribute_tables_grammar.specs.Peers.{bytes_peer};
 ghost use Rattle.attribute_tables_grammar.specs.Walks.{measure};
 ghost use Rattle.netlink_packet_core_numbers.specs.Errors.{is_memory};
 ghost use Rattle.link_message_grammar.specs.LinkMessage.{family_of, info, link_table};
-ghost use Rattle.link_message_grammar.specs.Body.{attributes_rule, header_text, link_body};
+ghost use Rattle.link_message_grammar.specs.Body.{attributes_rule, header_text, layer_type_text, link_body};
 ghost use Rattle.attribute_checks.specs.Measures.{view};
 ghost use Rattle.link_message_checks.specs.Tables.{table_of, IsBodyMeasure};
 
 use crate::rows::{LAYER_TYPES, ROWS};
-use attribute_checks::{Form, Held, Measured, Row, Shape, TableSet, measure_held, measure_shape};
-use attribute_tables_grammar::laws::{measures_tell_rules, peers_that_are_bytes_are_lawful};
-use link_info_checks::measure_list;
-use link_message_grammar::laws::{bodies_are_measured, bodies_are_small, info_is_a_list_inside};
+use attribute_checks::{
+    Form, Held, Measured, Row, Shape, TableSet, measure_held, measure_shape, same_held,
+};
+use attribute_tables_grammar::laws::{
+    measures_tell_rules, peers_that_are_bytes_are_lawful, sameness_goes_by_steps,
+};
+use link_info_checks::{measure_list, same_list};
+use link_message_grammar::laws::{
+    bodies_are_headers_and_attributes, bodies_are_measured, bodies_are_small, info_is_a_list_inside,
+};
 use netlink_packet_core_numbers::DecodeError;
 
 /// The bytes of a body's header (if_link.h, struct ifinfomsg).
 const HEADER_LEN: usize = 16;
+
+/// The layer type without a name (if_arp.h, ARPHRD_VOID).
+const VOID_LAYER: u16 = 0xffff;
 
 // The tables of link messages.
 #[derive(Clone, Copy)]
@@ -50,6 +60,21 @@ impl TableSet for MessageTables {
             None
         } else {
             measure_list(payload)
+        }
+    }
+
+    // No row of these is a peer's.
+    fn same_peer(&self, left: &[u8], right: &[u8]) -> bool {
+        left == right
+    }
+
+    fn same_info(&self, left: &[u8], right: &[u8]) -> bool {
+        sameness_goes_by_steps();
+        info_is_a_list_inside();
+        if left.is_empty() || right.is_empty() {
+            false
+        } else {
+            same_list(left, right)
         }
     }
 }
@@ -149,4 +174,50 @@ pub fn check(bytes: &[u8]) -> Result<BodyMeasure, DecodeError>
         fits: measured.fits,
         empty_ports: measured.empty_ports,
     })
+}
+
+// The layer type of a header (if_arp.h, ARPHRD_*); void where it has no name.
+fn layer_type(bytes: &[u8]) -> u16
+    requires { 16 ≤ length bytes.now }
+    ensures { result % 256 ∷ result / 256 ∷ []
+        ≡ layer_type_text (slice_index bytes.now 2) (slice_index bytes.now 3) }
+{
+    let layer_type = bytes[2] as u16 + 256 * bytes[3] as u16;
+    if LAYER_TYPES.contains(&layer_type) {
+        layer_type
+    } else {
+        VOID_LAYER
+    }
+}
+
+// Whether two headers mean the same: their second byte is no matter, and layer types without a name
+// are one.
+fn same_header(left: &[u8], right: &[u8]) -> bool
+    requires left { 16 ≤ length left.now }
+    requires right { 16 ≤ length right.now }
+    ensures { result ≡ bytes_eq (header_text left.now) (header_text right.now) }
+{
+    left[0] == right[0]
+        && layer_type(left) == layer_type(right)
+        && &left[4..HEADER_LEN] == &right[4..HEADER_LEN]
+}
+
+// Whether two lists of attributes of a family mean the same.
+fn same_attributes(family: u8, left: &[u8], right: &[u8]) -> bool
+    ensures { result ≡ (attributes_rule (family_of family)).same left.now right.now }
+{
+    let held = Held::List(Form::Any, table_of_family(family));
+    same_held(&MessageTables, held, left, right)
+}
+
+/// Whether two bodies of link messages mean the same: their headers, and each attribute of the one
+/// that of the other, whatever bytes spell them. It takes no memory, and builds no value. It is of
+/// use where `check` accepts both; each has at least the 16 bytes of a header.
+pub fn same(left: &[u8], right: &[u8]) -> bool
+    requires left { 16 ≤ length left.now }
+    requires right { 16 ≤ length right.now }
+    ensures { result ≡ link_body.same left.now right.now }
+{
+    bodies_are_headers_and_attributes();
+    same_header(left, right) && same_attributes(left[0], &left[HEADER_LEN..], &right[HEADER_LEN..])
 }

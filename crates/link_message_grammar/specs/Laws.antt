@@ -1,5 +1,5 @@
 -- The laws of the definitions, as the functions of `laws` state them.
-use Rattle.std.specs.Prelude.{◌≡◌, ℕ, ◌*◌, ◌≤◌, ◌<◌, ◌&&◌, ◌++◌, nat_le, true, false, List, length, take, Option, Some, None, option_map}
+use Rattle.std.specs.Prelude.{◌≡◌, ℕ, ◌*◌, ◌≤◌, ◌<◌, ◌&&◌, ◌++◌, nat_le, true, false, List, length, take, bytes_eq, Option, Some, None, option_map}
 use Rattle.attribute_tables_grammar.specs.Rules.{Lawful, Renews}
 use Rattle.std.specs.List.{list_any}
 use Rattle.attribute_tables_grammar.specs.Lists.{any, without_context}
@@ -48,6 +48,7 @@ pub record BodyParts (b : List ℕ) : Type 0 where
   pub attributes : link_body.attributes b ≡ (attributes_rule (family b)).attributes (attribute_bytes b)
   pub fits : link_body.fits b ≡ (attributes_rule (family b)).fits (attribute_bytes b)
   pub empty_ports : link_body.empty_ports b ≡ (attributes_rule (family b)).empty_ports (attribute_bytes b)
+  pub same : (c : List ℕ) → link_body.same b c ≡ bytes_eq (header_text b) (header_text c) && (attributes_rule (family b)).same (attribute_bytes b) (attribute_bytes c)
 
 abbrev pub BodiesAreHeadersAndAttributes : Type 0
 BodiesAreHeadersAndAttributes = (b : List ℕ) → BodyParts b
@@ -87,6 +88,7 @@ pub record InfoParts (b : List ℕ) : Type 0 where
 pub record InfoIsAListInside : Type 0 where
   pub of_some_bytes : (b : List ℕ) → 0 < length b → InfoParts b
   pub of_no_bytes : (b : List ℕ) → length b ≡ 0 → info_payload_rule.accepted b ≡ false
+  pub same : (a b : List ℕ) → 0 < length a → 0 < length b → info_rule.same a b ≡ info_payload_rule.same a b
 
 -- a body has the measure of its attributes behind a header of 16 bytes, under every rule of peers; it is its own text where header and attributes are theirs
 pub record BodiesAreMeasured : Type 0 where

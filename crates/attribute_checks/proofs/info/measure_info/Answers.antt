@@ -1,12 +1,12 @@
-use Rattle.std.proofs.Common.{◌≡◌, ◌<◌, ◌%◌, ℕ, Bool, eqb, true, false, List, length, Some, None, refl, sym, ap, subst, ◌∙◌, arith}
+use Rattle.std.proofs.Common.{◌%◌, length, Some, None, refl, sym, ap, subst, ◌∙◌, arith}
 use Rattle.std.proofs.lemmas.Bool.{eqb-true, and_parts}
 use Rattle.netlink_packet_core_grammar.specs.Attributes.{Attribute}
 use Rattle.attribute_tables_grammar.specs.Rules.{shape_rule}
 use Rattle.attribute_tables_grammar.specs.Shapes.{never}
-use Rattle.attribute_tables_grammar.specs.Lists.{Grammar, Context, any}
+use Rattle.attribute_tables_grammar.specs.Lists.{Grammar, any}
 use Rattle.attribute_tables_grammar.specs.OwnTexts.{OwnSoFar}
-use Rattle.attribute_tables_grammar.specs.Tables.{named, names_grammar, info_row, info_next}
-use Rattle.attribute_tables_grammar.specs.Walks.{Measure, MeasuredSoFar, measure}
+use Rattle.attribute_tables_grammar.specs.Tables.{named, names_grammar, info_next}
+use Rattle.attribute_tables_grammar.specs.Walks.{Measure, MeasuredSoFar}
 use Rattle.attribute_checks.specs.Measures.{view, in_force}
 use Rattle.attribute_checks.proofs.LookUps.{measured_as}
 use Rattle.attribute_checks.proofs.Loop.{some_bytes}

@@ -1,12 +1,10 @@
-use Rattle.std.proofs.Common.{rules, ◌≡◌, ◌<◌, ◌+◌, ◌%◌, ◌++◌, ℕ, Bool, eqb, true, false, List, [], ◌∷◌, length, Some, None, refl, sym, ap, subst, ◌∙◌, arith}
-use Rattle.std.specs.Prelude.{◌&&◌, option_map}
+use Rattle.std.proofs.Common.{◌≡◌, true, false, length, Some, None, sym, ap, subst, ◌∙◌, arith}
+use Rattle.std.specs.Prelude.{◌&&◌}
 use Rattle.std.proofs.lemmas.Bool.{eqb-true, and_parts}
-use Rattle.netlink_packet_core_grammar.specs.Attributes.{Attribute, attribute_text, first_attribute}
-use Rattle.attribute_tables_grammar.specs.Lists.{nothing, first_alone, list_rule}
-use Rattle.attribute_tables_grammar.specs.LookUps.{payload_rule, table_row}
-use Rattle.attribute_tables_grammar.specs.OwnTexts.{OwnSoFar}
-use Rattle.attribute_tables_grammar.specs.Walks.{Measure, MeasuredSoFar, measure, plus, with_header, none_yet}
-use Rattle.attribute_checks.specs.Rows.{form_of, payload_of}
+use Rattle.netlink_packet_core_grammar.specs.Attributes.{Attribute}
+use Rattle.attribute_tables_grammar.specs.Lists.{nothing, list_rule}
+use Rattle.attribute_tables_grammar.specs.Walks.{Measure, MeasuredSoFar, measure}
+use Rattle.attribute_checks.specs.Rows.{form_of}
 use Rattle.attribute_checks.specs.Measures.{view, rows_of}
 use Rattle.attribute_checks.proofs.LookUps.{list_held, measured_as, known_list}
 use Rattle.attribute_checks.proofs.Loop.{walked_any, walked_some, wanted, some_bytes, plus_start}

@@ -1,6 +1,5 @@
-use Rattle.std.proofs.Common.{◌<◌, length, ap, arith}
+use Rattle.std.proofs.Common.{length, ap, arith}
 use Rattle.std.proofs.lemmas.Bool.{ltb-true}
-use Rattle.netlink_packet_core_grammar.specs.Texts.{without_nul}
 use Rattle.attribute_checks.proofs.OwnText.{own_name}
 use Rattle.attribute_checks.proofs.shapes.measure_text.Goals as goal
 

@@ -1,7 +1,7 @@
 use Rattle.std.proofs.Common.{◌<◌, length, sym, ◌∙◌, arith}
 use Rattle.std.proofs.lemmas.Bool.{eqb-true}
 use Rattle.std.proofs.lemmas.Bool.Decides.{nat_tests}
-use Rattle.link_message_checks.proofs.Families.{info_none, info_some, info_canonical}
+use Rattle.link_message_checks.proofs.Families.{info_none, info_some}
 use Rattle.link_message_checks.proofs.message.MessageTablesTableSet.measure_info.Goals as goal
 
 pub returns-then-is_empty-clause-measure : goal.returns-then-is_empty-clause-measure

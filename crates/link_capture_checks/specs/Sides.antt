@@ -1,0 +1,10 @@
+-- The words of the fault of one of two captures.
+use Rattle.std.specs.Prelude.{ℕ, Bool, List, ◌++◌, cond, codes}
+use Rattle.link_capture_grammar.specs.Faults.{fault_text}
+use Rattle.link_capture_checks.specs.declared.sameness.SideFault.{SideFault}
+
+abbrev pub side_word : Bool → List ℕ
+side_word second = cond second (codes "second: ") (codes "first: ")
+
+abbrev pub side_text : SideFault → List ℕ
+side_text x = side_word x.second ++ fault_text x.fault

@@ -1,0 +1,84 @@
+// same_vectors: answers pairs of captures on standard input, one in a line, by `same`, `different`, or the first fault
+// and whose it is. Each pair is judged the other way round too, and each legal capture with itself and its normal text.
+#![tactic(auto)]
+
+ghost use Rattle.std.specs.Prelude.{◌≡◌, ◌≤◌, IfSome};
+
+use hex::decode;
+use link_capture::{SideFault, normalize_bytes, same};
+use std::alloc::{AllocError, Global};
+use std::io::{self, BufRead, BufReader, BufWriter, ErrorKind, Write};
+
+/// Two captures, and the greatest length in bytes that a message in them may have.
+#[derive(Drop)]
+struct Pair {
+    limit: u32,
+    first: Vec<u8>,
+    second: Vec<u8>,
+}
+
+/// Reads a line: a limit from 16 to 4294967295 in decimal, and two captures in hex, with spaces between. None where it
+/// is anything else, or memory runs out.
+fn read_pair(alloc: Global, line: &str) -> Option<Pair>
+    ensures { IfSome result (λ pair. 16 ≤ pair.limit) }
+{
+    let (limit, captures) = line.split_once(' ')?;
+    let limit = limit.parse::<u32>().ok()?;
+    if limit < 16 {
+        return None;
+    }
+    let (first, second) = captures.split_once(' ')?;
+    let first = decode(alloc, first).ok()?;
+    let second = decode(alloc, second).ok()?;
+    Some(Pair {
+        limit,
+        first,
+        second,
+    })
+}
+
+/// Whether the answer is the same the other way round. A fault then is the other capture's, where both have one.
+fn agrees_turned(pair: &Pair, answer: Result<bool, SideFault>) -> bool {
+    match same(pair.second.as_slice(), pair.first.as_slice(), pair.limit) {
+        Ok(is_same) => answer == Ok(is_same),
+        Err(_) => answer.is_err(),
+    }
+}
+
+/// Whether a legal capture means what it means itself, and what its normal text means.
+fn agrees_with_its_text(alloc: Global, capture: &[u8], limit: u32) -> bool
+    requires { 16 ≤ limit }
+{
+    let mut text = Vec::new(alloc);
+    if normalize_bytes(alloc, capture, limit, &mut text).is_err() {
+        return same(capture, capture, limit).is_err();
+    }
+    same(capture, capture, limit) == Ok(true) && same(capture, text.as_slice(), limit) == Ok(true)
+}
+
+fn answer_pair(alloc: Global, answer: Result<bool, SideFault>) -> Result<String, AllocError> {
+    match answer {
+        Ok(true) => format!(in alloc; "same"),
+        Ok(false) => format!(in alloc; "different"),
+        Err(fault) => format!(in alloc; "{fault}"),
+    }
+}
+
+fn main(rt: HostRuntime) -> io::Result<()> {
+    let alloc = rt.alloc();
+    let mut out = BufWriter::new(alloc, io::writer(&rt))?;
+    for line in BufReader::new(alloc, rt.reader())?.lines(alloc) {
+        let Some(pair) = read_pair(alloc, line?.as_str()) else {
+            return Err(io::Error::from(ErrorKind::InvalidInput));
+        };
+        let answer = same(pair.first.as_slice(), pair.second.as_slice(), pair.limit);
+        if !agrees_turned(&pair, answer)
+            || !agrees_with_its_text(alloc, pair.first.as_slice(), pair.limit)
+        {
+            return Err(io::Error::from(ErrorKind::InvalidData));
+        }
+        let answer = answer_pair(alloc, answer)?;
+        writeln!(out, "{answer}")?;
+    }
+    out.flush()
+}

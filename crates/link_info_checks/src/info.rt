@@ -116,6 +116,7 @@ pub fn check_list(bytes: &[u8]) -> Result<ListMeasure, DecodeError>
 /// Whether two lists of link info mean the same: each attribute of the one that of the other, kinds
 /// and names, data and port data by the tables of the kinds in force, whatever bytes spell them. It
 /// takes no memory, and builds no value. It is of use where `check_list` accepts both.
+#[tactic(auto, unfolding(link_info_grammar::specs::LinkInfo::info_rule_under, link_info_grammar::specs::LinkInfo::info_grammar_under))]
 pub fn same_list(left: &[u8], right: &[u8]) -> bool
     ensures { result ≡ info_rule.same left.now right.now }
 {

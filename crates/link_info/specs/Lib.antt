@@ -53,6 +53,7 @@ pub use Rattle.link_info_raw.specs.RawData
 pub use Rattle.link_info_kinds.specs.Kinds
 pub use Rattle.link_info_kinds.specs.Laws as KindLaws
 pub use Rattle.link_info_kinds.specs.PortKinds
+pub use Rattle.link_info_checks.specs.Tables as CheckTables
 pub use Rattle.link_info_data.specs.Data
 pub use Rattle.link_info_data.specs.PortData
 pub use Rattle.link_info_data.specs.Xstats

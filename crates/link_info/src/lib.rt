@@ -9,6 +9,7 @@ pub mod laws;
 
 pub use attribute_tables::{FamilyReader, Reader, parse_family, parse_first, parse_list};
 pub use infos::LinkInfo;
+pub use link_info_checks::{ListMeasure, check_list, same_list};
 pub use link_info_data::{InfoData, InfoPortData, InfoVrfPort, LinkXstats};
 pub use link_info_devices::{
     InfoBatAdv, InfoIpVlan, InfoIpVtap, InfoIpoib, InfoRmNet, InfoRmNetFlags, InfoVrf, InfoWwan,

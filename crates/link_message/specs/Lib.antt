@@ -18,6 +18,7 @@ pub use Rattle.link_message_types.specs.VlanTypes
 pub use Rattle.link_message_types.specs.XdpTypes
 pub use Rattle.link_message_attributes.specs.LinkAttributes
 pub use Rattle.link_message_messages.specs.LinkMessages
+pub use Rattle.link_message_checks.specs.Tables as CheckTables
 pub use Rattle.link_message_grammar.specs.NestedTables
 pub use Rattle.link_message_af_spec.specs.AddressFamilies as SpecificFamilies
 pub use Rattle.link_message_af_spec.specs.InetSettings

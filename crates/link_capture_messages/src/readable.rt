@@ -15,15 +15,19 @@ use link_message_grammar::laws::bodies_are_headers_and_attributes;
 use link_message_messages::LinkMessage;
 use netlink_packet_core::Emitable;
 use std::alloc::Global;
+use thiserror::Error;
 
 /// Why a message isn't readable.
-#[derive(Clone, Copy, Debug, PartialEq, Eq, Drop)]
+#[derive(Clone, Copy, Debug, PartialEq, Eq, Drop, Error)]
 pub enum NotReadable {
     /// A length inside doesn't fit the 2 bytes of its header.
+    #[error("attribute over 65535")]
     Unfit,
     /// What it is written as is refused, or read as another message.
+    #[error("refused or read as another message")]
     ReadsOtherwise,
     /// No memory was to be had to find out.
+    #[error("no memory")]
     Memory,
 }
 

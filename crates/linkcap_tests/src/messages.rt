@@ -79,5 +79,16 @@ fn refusals_have_their_words(rt: HostRuntime) -> Result<(), Fail> {
     for (fault, words) in &cases {
         assert_eq!(rt; format!(in rt.alloc(); "{fault}")?.as_str(), *words);
     }
+    let cases = [
+        (NotReadable::Unfit, "attribute over 65535"),
+        (
+            NotReadable::ReadsOtherwise,
+            "refused or read as another message",
+        ),
+        (NotReadable::Memory, "no memory"),
+    ];
+    for (why, words) in &cases {
+        assert_eq!(rt; format!(in rt.alloc(); "{why}")?.as_str(), *words);
+    }
     Ok(())
 }

@@ -4,9 +4,9 @@ use Rattle.std.specs.Prelude.{◌==◌, bytes_eq, get_or}
 use Rattle.std.proofs.Math.Bool.{beq}
 use Rattle.std.proofs.lemmas.Bool.{ne_eqb, eq-eqb, eqb-true}
 use Rattle.std.proofs.lemmas.Bool.Decides.{leb_tells}
-use Rattle.std.proofs.lemmas.List.{take-append-drop, take-append-le, drop-append-le, length-drop, take-replicate, replicate-append-replicate}
+use Rattle.std.proofs.lemmas.List.{take-append-drop, take-append-le, drop-append-le, length-drop, take_rest, take-replicate, replicate-append-replicate}
 use Rattle.std.proofs.Math.ListN.{drop_of_length-le}
-use Rattle.std.proofs.Math.Seq.{drop-append_seam, take-length}
+use Rattle.std.proofs.Math.Seq.{drop-append_seam}
 use Rattle.std.proofs.lemmas.Slice.Eq.{bytes_eq-Decides}
 use Rattle.netlink_packet_core_grammar.specs.Attributes.{zeros}
 use Rattle.netlink_packet_core_grammar.specs.Truths.{truth_of}
@@ -79,9 +79,6 @@ zero_by zero (suc n) h = absurd (omega (arith, h))
 zero_by (suc m) zero h = absurd (omega (arith, h))
 zero_by (suc m) (suc n) h = suc_not m ∙ sym (suc_not n)
 
-whole_rest : (c : ℕ) (x : List ℕ) → take (length x - c) (drop c x) ≡ drop c x
-whole_rest c x = ap (λ n. take n (drop c x)) (sym (length-drop c x)) ∙ take-length (drop c x)
-
 beq-true : (r s : Bool) → beq r s ≡ true → r ≡ s
 beq-true true true h = refl
 beq-true true false h = absurd cc
@@ -106,7 +103,7 @@ alike_truths a b x y e h = (bytes_eq-Decides _ _).1 (λ i. e i ++ (truth_by (num
 cut_truth : (p a x : List ℕ) → a ≡ take 4 p → x ≡ take 4 (take (length p - length a) (drop (length a) p)) → x ≡ take 4 (drop 4 p)
 cut_truth p a x e h =
     h ∙ ap (λ a. take 4 (take (length p - length a) (drop (length a) p))) e
-    ∙ ap (take 4) (whole_rest (length (take 4 p)) p ∙ after_four p)
+    ∙ ap (take 4) (take_rest p (length (take 4 p)) ∙ after_four p)
 
 pub same_after : (p q : List ℕ) (r s : Bool) (a b x y : List ℕ) → a ≡ take 4 p → b ≡ take 4 q →
     x ≡ take 4 (take (length p - length a) (drop (length a) p)) → y ≡ take 4 (take (length q - length b) (drop (length b) q)) → a ≡ b → r ≡ (number x == 0) → s ≡ (number y == 0) →
@@ -205,12 +202,12 @@ module _ (n c : ℕ) (p q x y : List ℕ) (ex : x ≡ take n p) (ey : y ≡ take
   -- the fronts are the same and the left rest is zero: the right rest tells
   pub by_right : bytes_eq (take c x) (take c y) ≡ true → (number (take (length x - c) (drop c x)) == 0) ≡ true → (number (take (length y - c) (drop c y)) == 0) ≡ equal
   by_right t a =
-      let zx = ap number (sym (whole_rest c x)) ∙ eqb-true _ _ a in
-      ap (λ z. number z == 0) (whole_rest c y)
+      let zx = ap number (sym (take_rest x c)) ∙ eqb-true _ _ a in
+      ap (λ z. number z == 0) (take_rest y c)
       ∙ alike _ _ (λ b. if_zero ((bytes_eq-Decides _ _).0 t) zx (eqb-true _ _ b)) (λ h. eq-eqb _ _ (right_zero h))
 
   pub by_left : (number (take (length x - c) (drop c x)) == 0) ≡ false → false ≡ equal
-  by_left a = no_by equal (λ h. apart (sym (eq-eqb _ _ (ap number (whole_rest c x) ∙ left_zero h)) ∙ a))
+  by_left a = no_by equal (λ h. apart (sym (eq-eqb _ _ (ap number (take_rest x c) ∙ left_zero h)) ∙ a))
 
   pub by_front : bytes_eq (take c x) (take c y) ≡ false → false ≡ equal
   by_front t = no_by equal (λ h. apart (sym ((bytes_eq-Decides _ _).1 (same_front h)) ∙ t))

@@ -16,6 +16,5 @@ pub use measure::measure_held;
 pub use names::{NameRow, held_by_name};
 pub use rows::{Form, Held, Row, Shape};
 pub use same::same_held;
-pub use same_shapes::same_shape;
 pub use shapes::{Measured, measure_shape};
 pub use tables::TableSet;

@@ -1,3 +1,4 @@
 pub mod ReadAgain
+pub mod Others
 pub mod ReadBodies
 pub mod WrittenBodies

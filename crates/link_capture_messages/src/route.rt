@@ -86,7 +86,7 @@ impl NetlinkDeserializable for RouteLink {
 
     ghost tells = { route_tells };
 
-    #[tactic(auto, using(crate::specs::RoundTrips::other_text, crate::specs::RoundTrips::other_wants), unfolding(link_capture_grammar::specs::Bodies::body_text))]
+    #[tactic(auto, using(crate::proofs::Others::others), unfolding(link_capture_grammar::specs::Bodies::body_text))]
     fn deserialize(
         alloc: Global,
         header: &NetlinkHeader,

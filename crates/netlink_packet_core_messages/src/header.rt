@@ -54,7 +54,7 @@ impl Emitable for NetlinkHeader {
         NETLINK_HEADER_LEN
     }
 
-    #[tactic(auto, using(crate::proofs::Headers::header_sizes), unfolding(crate::specs::Headers::header_text, netlink_packet_core_grammar::specs::Numbers::le2, netlink_packet_core_grammar::specs::Numbers::le4))]
+    #[tactic(auto, using(crate::proofs::Headers::header_sizes))]
     fn emit(&self, buffer: &mut [u8]) {
         let (front, _) = buffer.split_at_mut(NETLINK_HEADER_LEN);
         let (length, rest) = front.split_at_mut(4);

@@ -1,16 +1,14 @@
 -- The words of the program.
-use Rattle.std.proofs.Common.{◌≡◌, ℕ, ◌<◌, ◌≤◌, List, [], ◌∷◌, length, map, get_or, codes, refl, sym, ap, subst, ◌∙◌, arith}
-use Rattle.std.specs.Str.Parse.{digits_value}
-use Rattle.link_capture.specs.declared.command.Command.TheVariants.{Norm}
-use Rattle.link_capture.specs.Commands.{IsLimitWord, IsCommand}
+use Rattle.std.proofs.Common.{◌≡◌, ℕ, ◌-◌, ◌≤◌, List, [], ◌∷◌, length, map, take, drop, get_or, codes, sym, ap, subst, ◌∙◌, arith}
+use Rattle.std.proofs.lemmas.List.{take_rest}
+use Rattle.link_capture.specs.Commands.{IsLimit, IsNorm, IsSame}
 
-pub one_word : {A : Type 0} (f : A → List ℕ) (ws : List A) (w : A) → 1 ≤ length ws → length ws < 2 → w ≡ get_or ws 0 w → f w ≡ codes "norm" → IsCommand (map f ws) (Norm 1048576)
-one_word f [] w l m e h = absurd (omega arith)
-one_word f (x ∷ []) w l m e h = (ap f (sym e) ∙ h, refl)
-one_word f (x ∷ y ∷ ws) w l m e h = absurd (omega arith)
+pub norm_words : {A : Type 0} (f : A → List ℕ) (ws : List A) (w : A) (n : ℕ) → 1 ≤ length ws → w ≡ get_or ws 0 w → f w ≡ codes "norm" → IsLimit (map f (take (length ws - 1) (drop 1 ws))) n → IsNorm (map f ws) n
+norm_words f [] w n m e h i = absurd (omega arith)
+norm_words f (x ∷ last) w n m e h i = (ap f (sym e) ∙ h, subst (λ t. IsLimit (map f t) n) (take_rest (x ∷ last) 1) i)
 
-pub two_words : {A : Type 0} (f : A → List ℕ) (ws : List A) (w v : A) (n : ℕ) → 2 ≤ length ws → length ws < 3 → w ≡ get_or ws 0 w → v ≡ get_or ws 1 v → f w ≡ codes "norm" → IsLimitWord (f v) → n ≡ digits_value 10 (f v) → IsCommand (map f ws) (Norm n)
-two_words f [] w v n l m e d h i k = absurd (omega arith)
-two_words f (x ∷ []) w v n l m e d h i k = absurd (omega arith)
-two_words f (x ∷ y ∷ []) w v n l m e d h i k = (ap f (sym e) ∙ h, subst IsLimitWord (ap f d) i, k ∙ ap (λ t. digits_value 10 t) (ap f d))
-two_words f (x ∷ y ∷ z ∷ ws) w v n l m e d h i k = absurd (omega arith)
+pub same_words : {A : Type 0} (f : A → List ℕ) (ws : List A) (w a b : A) (first second : List ℕ) (n : ℕ) → 3 ≤ length ws → w ≡ get_or ws 0 w → a ≡ get_or ws 1 a → b ≡ get_or ws 2 b → f w ≡ codes "same" → first ≡ f a → second ≡ f b → IsLimit (map f (take (length ws - 3) (drop 3 ws))) n → IsSame (map f ws) first second n
+same_words f [] w a b first second n m e d k h p q i = absurd (omega arith)
+same_words f (x ∷ []) w a b first second n m e d k h p q i = absurd (omega arith)
+same_words f (x ∷ y ∷ []) w a b first second n m e d k h p q i = absurd (omega arith)
+same_words f (x ∷ y ∷ z ∷ last) w a b first second n m e d k h p q i = (ap f (sym e) ∙ h, p ∙ ap f d, q ∙ ap f k, subst (λ t. IsLimit (map f t) n) (take_rest (x ∷ y ∷ z ∷ last) 3) i)

@@ -3,7 +3,7 @@
 
 mod command;
 
-pub use command::{Command, DEFAULT_LIMIT, read_words, status_norm};
+pub use command::{Command, DEFAULT_LIMIT, read_words, status_norm, status_same};
 pub use link_capture_checks::{Measure, SideFault, check, measure, normal_len, same};
 pub use link_capture_engine::{
     DeviceFailed, ReadSource, Sink, SliceSource, Source, VecSink, WriteSink, normalize, read_all,

@@ -11,7 +11,7 @@ ghost use Rattle.link_capture_checks.specs.Sides.{side_text};
 use crate::capture::check;
 use arrayvec::ArrayString;
 use link_capture_grammar::fault::CaptureFault;
-use link_capture_grammar::laws::sameness_goes_by_frames;
+use link_capture_grammar::laws::{sameness_goes_by_frames, texts_tell_meanings};
 use link_message_checks::same as same_link;
 use netlink_packet_core::{NETLINK_HEADER_LEN, NLMSG_DONE, NLMSG_NOOP, NetlinkBuffer, nla_align};
 use std::fmt;
@@ -105,6 +105,25 @@ fn same_frame(left: &[u8], right: &[u8]) -> bool
         && same_body(message_type, body(left), body(right))
 }
 
+// Whether two legal captures mean the same, frame by frame.
+fn same_frames(left: &[u8], right: &[u8], limit: u32) -> bool
+    requires left { IsLegal limit left.now }
+    requires right { IsLegal limit right.now }
+    ensures { (result ≡ true) ↔ SameCapture limit left.now right.now }
+{
+    sameness_goes_by_frames();
+    let mut rest = left;
+    let mut other = right;
+    while !rest.is_empty() && !other.is_empty() {
+        if !same_frame(rest, other) {
+            return false;
+        }
+        rest = behind(rest);
+        other = behind(other);
+    }
+    rest.is_empty() && other.is_empty()
+}
+
 /// Whether two captures mean the same: where both are legal under the limit, whether they have as
 /// many frames, and pairwise one type, flags, sequence number and port number, and bodies that mean
 /// the same. Else the first fault of the first capture, or of the second where the first is legal.
@@ -117,12 +136,15 @@ pub fn same(left: &[u8], right: &[u8], limit: u32) -> Result<bool, SideFault>
         (λ e. first_fault limit (cond e.second right.now left.now) ≡ Some e.fault) }
     ensures in_turn { IfErr result (λ e. e.second ≡ true → IsLegal limit left.now) }
 {
-    sameness_goes_by_frames();
+    texts_tell_meanings();
     if let Err(fault) = check(left, limit) {
         return Err(SideFault {
             second: false,
             fault,
         });
+    }
+    if left == right {
+        return Ok(true);
     }
     if let Err(fault) = check(right, limit) {
         return Err(SideFault {
@@ -130,14 +152,5 @@ pub fn same(left: &[u8], right: &[u8], limit: u32) -> Result<bool, SideFault>
             fault,
         });
     }
-    let mut rest = left;
-    let mut other = right;
-    while !rest.is_empty() && !other.is_empty() {
-        if !same_frame(rest, other) {
-            return Ok(false);
-        }
-        rest = behind(rest);
-        other = behind(other);
-    }
-    Ok(rest.is_empty() && other.is_empty())
+    Ok(same_frames(left, right, limit))
 }

@@ -11,7 +11,7 @@ use Rattle.netlink_packet_core_grammar.proofs.Numbers.{u16_at-append, u16_at-dro
 use Rattle.link_message_grammar.specs.Body.{link_body}
 use Rattle.link_capture_grammar.specs.Bodies.{done_text, ruled_text, is_link_type, body_text}
 use Rattle.link_capture_grammar.specs.Captures.{first_frame, texts, IsLegal}
-use Rattle.link_capture_grammar.specs.Laws.{TextsTellMeanings}
+use Rattle.link_capture_grammar.specs.Laws.{BodiesTellMeanings, TextsTellMeanings}
 use Rattle.link_capture_grammar.specs.Same.{done_body, same_body, SameFrame, SameFrames, SameCapture}
 use Rattle.link_capture_grammar.proofs.Frames.{accepted, guard, texts_step}
 use Rattle.link_capture_grammar.proofs.Normal.{header_size, link_body_lawful, ruled, texted}
@@ -223,3 +223,6 @@ texts_tell_meanings = record {
   turned = λ limit a b s. (s.0, turned limit s.0 a b s.1);
   followed = λ limit a b c s r. (s.0, followed limit s.0 r.0 a b c s.1 r.1);
 }
+
+pub bodies_tell_meanings : BodiesTellMeanings
+bodies_tell_meanings t a b x y p q = (body_told t a b x y p q, body_tells t a b x y p q)

@@ -8,7 +8,7 @@ use Rattle.link_capture_grammar.specs.declared.fault.FaultKind.TheVariants.{Cut,
 use Rattle.link_capture_grammar.specs.Bodies.{body_text, is_link_type}
 use Rattle.link_capture_grammar.specs.Captures.{Judged, Accepted, CutInBody, faulty, tested, first_frame, first_fault, texts, raised, reach, IsLegal, IsOfFrames}
 use Rattle.link_capture_grammar.specs.Numbers.{frame_attributes, frames, attributes}
-use Rattle.link_capture_grammar.specs.Same.{SameFrame, SameCapture}
+use Rattle.link_capture_grammar.specs.Same.{same_body, SameFrame, SameCapture}
 
 -- a limit is a number of 32 bits
 abbrev pub IsLimit : ℕ → Type 0
@@ -65,6 +65,10 @@ pub record TextsTellMeanings : Type 0 where
   pub itself : (limit : ℕ) (a : List ℕ) → IsLimit limit → IsLegal limit a → SameCapture limit a a
   pub turned : (limit : ℕ) (a b : List ℕ) → SameCapture limit a b → SameCapture limit b a
   pub followed : (limit : ℕ) (a b c : List ℕ) → SameCapture limit a b → SameCapture limit b c → SameCapture limit a c
+
+-- two bodies of a type that have texts mean the same exactly where they have one text
+abbrev pub BodiesTellMeanings : Type 0
+BodiesTellMeanings = (t : ℕ) (a b x y : List ℕ) → body_text t a ≡ Ok x → body_text t b ≡ Ok y → (same_body t a b ≡ true) ↔ (x ≡ y)
 
 -- captures that mean the same are legal
 abbrev pub SameAreLegal : Type 0

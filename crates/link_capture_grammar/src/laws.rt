@@ -4,7 +4,7 @@ ghost use Rattle.link_capture_grammar.specs.Laws.{TextsAreLegal, TextsAreNormal,
 ghost use Rattle.link_capture_grammar.specs.Laws.{JoinedTexts, PrefixFaults, PrefixTexts, TextsAreSmall, FaultsStand};
 ghost use Rattle.link_capture_grammar.specs.Laws.{BodiesAreNormal, TextsMeanTheSame, SameAreLegal};
 ghost use Rattle.link_capture_grammar.specs.Laws.{FramesStandAlone, CapturesGoByFrames};
-ghost use Rattle.link_capture_grammar.specs.Laws.{FramesAreJudged, CapturesAreCounted, TextsTellMeanings, SamenessGoesByFrames};
+ghost use Rattle.link_capture_grammar.specs.Laws.{FramesAreJudged, CapturesAreCounted, BodiesTellMeanings, TextsTellMeanings, SamenessGoesByFrames};
 
 /// The texts of any bytes are legal under the same limit.
 pub fn texts_are_legal()
@@ -70,6 +70,11 @@ pub fn same_captures_are_legal()
 /// itself, and meaning the same goes both ways and on.
 pub fn texts_tell_meanings()
     ensures { TextsTellMeanings }
+{}
+
+/// Two bodies of messages of one type that have texts mean the same exactly where these are equal.
+pub fn same_bodies_have_one_text()
+    ensures { BodiesTellMeanings }
 {}
 
 /// A frame is judged by its own bytes: one that isn't cut is judged so whatever follows, and one that is has no

@@ -1,18 +1,22 @@
--- What has come to the error writer, and what a run comes to.
-use Rattle.std.proofs.Common.{◌≤◌, ℕ, List, [], length, take, drop, Option, Result, Ok, Err, IfOk, IfErr, refl, sym, inl, inr}
-use Rattle.std.proofs.lemmas.List.{append-nil, take-append-drop}
-use Rattle.std.proofs.KnownBytes.{Appends-nil}
+-- What has come to a writer.
+use Rattle.std.proofs.Common.{◌≡◌, ◌≤◌, ℕ, Bool, true, false, List, [], ◌∷◌, ◌++◌, length, take, drop, Option, Result, Ok, sym, ap, subst, ◌∙◌}
+use Rattle.std.proofs.lemmas.List.{take-append-drop}
 use Rattle.std.specs.Io.KnownBytes.{Appends}
-use Rattle.link_capture_grammar.specs.declared.fault.CaptureFault.{CaptureFault}
-use Rattle.linkcap_program.specs.Runs.{Tells}
+use Rattle.link_capture_grammar.specs.declared.fault.FaultKind.TheVariants.{Write}
+use Rattle.link_capture_grammar.specs.Faults.{fault_text}
+use Rattle.link_capture_checks.specs.declared.sameness.SideFault.{SideFault}
+use Rattle.linkcap_program.specs.Runs.{IsTold, Tells, same_line, same_error}
 
--- all of the text was written, or the writer failed behind the front of it
-pub told : (held holds : Option (List ℕ)) (failed : Type 0) (A B : ℕ → Type 0) (C : CaptureFault → Type 0) (D : CaptureFault → ℕ → Type 0) (text : List ℕ) (r : Result ℕ CaptureFault) → IfOk r (λ n. A n × Appends held holds text × B n) → IfErr r (λ fault. C fault × failed × ((n : ℕ) × (n ≤ length text) × D fault n × Appends held holds (take n text))) → Tells held holds failed text
-told held holds failed A B C D text (Ok n) h k = (text, h.1, ([], sym (append-nil text)), inl refl)
-told held holds failed A B C D text (Err fault) h k =
-    let z = k.2 in
-    (take z.0 text, z.3, (drop z.0 text, sym (take-append-drop z.0 text)), inr k.1)
+-- the writer failed behind the front of the text
+pub untold : (held holds : Option (List ℕ)) (failed : Type 0) (D : ℕ → Type 0) (bytes text : List ℕ) → bytes ≡ text → failed → ((n : ℕ) × (n ≤ length bytes) × D n × Appends held holds (take n bytes)) → IsTold held holds failed text false
+untold held holds failed D bytes text e f z =
+    subst (λ t. IsTold held holds failed t false) e (f, (take z.0 bytes, (drop z.0 bytes, sym (take-append-drop z.0 bytes)), z.3))
 
--- nothing was to be told
-pub told_nothing : (held : Option (List ℕ)) (failed : Type 0) → Tells held held failed []
-told_nothing held failed = ([], Appends-nil held, ([], refl), inl refl)
+-- the answer of a comparison couldn't be printed
+pub unprinted : (held holds : Option (List ℕ)) (failed : Type 0) (line : List ℕ) (o : Result Bool SideFault) (is_same : Bool) → IsTold held holds failed line false → line ≡ same_line (Ok is_same) → o ≡ Ok is_same → IsTold held holds failed (same_line o) false
+unprinted held holds failed line o is_same h l q = subst (λ t. IsTold held holds failed t false) (l ∙ sym (ap same_line q)) h
+
+-- and that is told
+pub unprinted_told : (held holds : Option (List ℕ)) (failed : Type 0) (line text : List ℕ) (told : Bool) (o : Result Bool SideFault) (is_same : Bool) → IsTold held holds failed line told → line ≡ text ++ 10 ∷ [] → text ≡ fault_text (record { kind = Write; offset = 0 }) → o ≡ Ok is_same → Tells held holds failed (same_error false o)
+unprinted_told held holds failed line text told o is_same h e t q =
+    (told, subst (λ x. IsTold held holds failed x told) (e ∙ ap (λ x. x ++ 10 ∷ []) t ∙ sym (ap (same_error false) q)) h)

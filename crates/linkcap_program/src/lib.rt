@@ -1,23 +1,28 @@
 //! What the program `linkcap` does: the normal text of a netlink link capture, from standard input
-//! to standard output.
+//! to standard output; or whether the captures in two files mean the same.
 #![tactic(auto)]
 
-ghost use Rattle.std.specs.Prelude.{◌≡◌, ◌≤◌, ◌++◌, ℕ, Option, Result, ⊤, ◌∷◌, [], length, map, IfSome, IfNone, string_bytes};
+ghost use Rattle.std.specs.Prelude.{◌≡◌, ◌++◌, ◌∷◌, [], codes, map, string_bytes};
 ghost use Rattle.std.specs.Process.{exit_status};
-ghost use Rattle.link_capture_grammar.specs.declared.fault.CaptureFault.{CaptureFault};
-ghost use Rattle.link_capture_grammar.specs.Faults.{fault_text};
 ghost use Rattle.link_capture.specs.Devices.{Rises, TellsItsEnd};
 ghost use Rattle.link_capture.specs.Known.{source_reader, source_failures, source_ends_told, sink_writer, sink_failures};
 ghost use Rattle.link_capture.specs.Outcomes.{Normalizes};
-ghost use Rattle.linkcap_program.specs.Runs.{AsksFor, AsksForNothing, Answers, Tells, run_line, status_of_run};
+ghost use Rattle.linkcap_program.specs.Runs.{Answers, NormAnswer, SameAnswer, UsageAnswer, IsTold, Tells};
+ghost use Rattle.linkcap_program.specs.Comparisons.{Compares};
 
+mod comparing;
 mod environment;
+mod files;
+mod lines;
+mod normalizing;
 
-use arrayvec::ArrayString;
+pub use comparing::{answer_same, compare};
 use environment::words;
-use link_capture::{
-    CaptureFault, Command, ReadSource, WriteSink, normalize, read_words, status_norm, write_all,
-};
+pub use files::FileSystem;
+use files::HostFiles;
+use lines::tell;
+use link_capture::{Command, ReadSource, WriteSink, read_words};
+pub use normalizing::{answer_norm, norm};
 use std::alloc::Global;
 use std::io::{self, Read, Write};
 use std::process::ExitCode;
@@ -25,117 +30,62 @@ use std::process::ExitCode;
 /// What is told of wrong words, as a line.
 const USAGE: &str = "usage: linkcap norm [LIMIT] or linkcap same FILE FILE [LIMIT]\n";
 
-/// Writes the normal text of all that a source has, as its frames come. A failed write is told in place of any other
-/// fault.
-pub fn norm<R: Read, W: Write>(
-    alloc: Global,
-    source: &mut ReadSource<R>,
-    sink: &mut WriteSink<W>,
-    limit: u32,
-) -> Result<(), CaptureFault>
-    requires { 16 ≤ limit }
-    ensures { Normalizes
-        (R.remaining (source_reader source.old)) (R.remaining (source_reader source.new))
-        (W.contents (sink_writer sink.old)) (W.contents (sink_writer sink.new))
-        (TellsItsEnd (source_ends_told source.old) (source_ends_told source.new)
-        (R.remaining (source_reader source.new)))
-        (Rises (source_failures source.old) (source_failures source.new))
-        (Rises (sink_failures sink.old) (sink_failures sink.new)) limit result }
+/// Tells on the error writer how the program is used. The answer is the program's status.
+fn answer_usage<E: Write>(errors: &mut WriteSink<E>) -> ExitCode
+    ensures { UsageAnswer (Tells (E.contents (sink_writer errors.old))
+        (E.contents (sink_writer errors.new))
+        (Rises (sink_failures errors.old) (sink_failures errors.new))) (exit_status result) }
 {
-    normalize(alloc, source, sink, limit)
-}
-
-/// Does what the words behind the program's name ask for. Where they ask for nothing, nothing is read or written.
-pub fn run<R: Read, W: Write>(
-    alloc: Global,
-    words: &[String],
-    source: &mut ReadSource<R>,
-    sink: &mut WriteSink<W>,
-) -> Option<Result<(), CaptureFault>>
-    ensures some { IfSome result (λ outcome. AsksFor (map string_bytes words.now)
-        (λ limit. Normalizes
-        (R.remaining (source_reader source.old)) (R.remaining (source_reader source.new))
-        (W.contents (sink_writer sink.old)) (W.contents (sink_writer sink.new))
-        (TellsItsEnd (source_ends_told source.old) (source_ends_told source.new)
-        (R.remaining (source_reader source.new)))
-        (Rises (source_failures source.old) (source_failures source.new))
-        (Rises (sink_failures sink.old) (sink_failures sink.new)) limit outcome)) }
-    ensures none { IfNone result (AsksForNothing (map string_bytes words.now)
-        × (source.new ≡ source.old) × (sink.new ≡ sink.old)) }
-{
-    let Command::Norm { limit } = read_words(words)?;
-    Some(norm(alloc, source, sink, limit))
-}
-
-/// What is told of a fault, as a line.
-fn line_of(fault: CaptureFault) -> ArrayString<97>
-    ensures { result.bytes ≡ fault_text fault ++ 10 ∷ [] }
-{
-    let mut line = ArrayString::new();
-    line.push_str(fault.text().as_str());
-    line.push_str("\n");
-    line
-}
-
-/// Writes a text. Where the writer fails, the rest of it isn't told.
-fn tell<E: Write>(errors: &mut WriteSink<E>, text: &str)
-    ensures { Tells (E.contents (sink_writer errors.old)) (E.contents (sink_writer errors.new))
-        (Rises (sink_failures errors.old) (sink_failures errors.new)) text.now }
-{
-    let _ = write_all(errors, text.as_bytes(), 0);
-}
-
-/// Tells in one line what went wrong, and nothing where nothing did. The answer is the program's status.
-pub fn report<E: Write>(
-    errors: &mut WriteSink<E>,
-    outcome: Option<Result<(), CaptureFault>>,
-) -> ExitCode
-    ensures status { exit_status result ≡ status_of_run outcome }
-    ensures told { Tells
-        (E.contents (sink_writer errors.old)) (E.contents (sink_writer errors.new))
-        (Rises (sink_failures errors.old) (sink_failures errors.new)) (run_line outcome) }
-{
-    match outcome {
-        None => {
-            tell(errors, USAGE);
-            ExitCode::from(3)
-        }
-        Some(Ok(())) => ExitCode::from(status_norm(&Ok(()))),
-        Some(Err(fault)) => {
-            tell(errors, line_of(fault).as_str());
-            ExitCode::from(status_norm(&Err(fault)))
-        }
-    }
+    tell(errors, USAGE);
+    ExitCode::from(3)
 }
 
 /// The program: does what the words behind its name ask for, tells on the error writer what went wrong, and answers
-/// with its status.
-pub fn answer<R: Read, W: Write, E: Write>(
+/// with its status. Where the words ask for nothing, nothing is read or printed; where they ask whether two files mean
+/// the same, the source isn't read.
+pub fn answer<F: FileSystem, R: Read, W: Write, E: Write>(
     alloc: Global,
     words: &[String],
+    files: &F,
     source: &mut ReadSource<R>,
     sink: &mut WriteSink<W>,
     errors: &mut WriteSink<E>,
 ) -> ExitCode
-    ensures { (outcome : Option (Result ⊤ CaptureFault))
-        × Answers (map string_bytes words.now)
-        ((source.new ≡ source.old) × (sink.new ≡ sink.old))
-        (λ limit. Normalizes
+    ensures { Answers (map string_bytes words.now)
+        ((source.new ≡ source.old) × (sink.new ≡ sink.old)
+        × UsageAnswer (Tells (E.contents (sink_writer errors.old))
+        (E.contents (sink_writer errors.new))
+        (Rises (sink_failures errors.old) (sink_failures errors.new))) (exit_status result))
+        (λ limit. NormAnswer (Normalizes
         (R.remaining (source_reader source.old)) (R.remaining (source_reader source.new))
         (W.contents (sink_writer sink.old)) (W.contents (sink_writer sink.new))
         (TellsItsEnd (source_ends_told source.old) (source_ends_told source.new)
         (R.remaining (source_reader source.new)))
         (Rises (source_failures source.old) (source_failures source.new))
-        (Rises (sink_failures sink.old) (sink_failures sink.new)) limit) outcome
-        × Tells (E.contents (sink_writer errors.old)) (E.contents (sink_writer errors.new))
-        (Rises (sink_failures errors.old) (sink_failures errors.new)) (run_line outcome)
-        × (exit_status result ≡ status_of_run outcome) }
+        (Rises (sink_failures sink.old) (sink_failures sink.new)) limit)
+        (Tells (E.contents (sink_writer errors.old)) (E.contents (sink_writer errors.new))
+        (Rises (sink_failures errors.old) (sink_failures errors.new))) (exit_status result))
+        (λ first second limit. (source.new ≡ source.old)
+        × SameAnswer (Compares (F.contents files.now first) (F.contents files.now second) limit)
+        (IsTold (W.contents (sink_writer sink.old)) (W.contents (sink_writer sink.new))
+        (Rises (sink_failures sink.old) (sink_failures sink.new)))
+        (Tells (E.contents (sink_writer errors.old)) (E.contents (sink_writer errors.new))
+        (Rises (sink_failures errors.old) (sink_failures errors.new))) (exit_status result)) }
 {
-    let outcome = run(alloc, words, source, sink);
-    report(errors, outcome)
+    match read_words(words) {
+        None => answer_usage(errors),
+        Some(Command::Norm { limit }) => answer_norm(alloc, source, sink, errors, limit),
+        Some(
+            Command::Same {
+                first,
+                second,
+                limit,
+            },
+        ) => answer_same(alloc, files, sink, errors, first, second, limit),
+    }
 }
 
-/// Runs on standard input, output and error, and the process's words. It hands them on, and does nothing else.
+/// Runs on standard input, output and error, the process's files and its words. It hands them on, and does nothing else.
 pub fn outcome(rt: &HostRuntime) -> ExitCode {
     let words = words(rt).unwrap_or(Vec::new(rt.alloc()));
     let mut source = ReadSource::new(rt.reader());
@@ -144,6 +94,7 @@ pub fn outcome(rt: &HostRuntime) -> ExitCode {
     answer(
         rt.alloc(),
         words.as_slice(),
+        &HostFiles { rt },
         &mut source,
         &mut sink,
         &mut errors,

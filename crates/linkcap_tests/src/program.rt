@@ -1,8 +1,10 @@
 //! What no clause says: that a run succeeds where no device fails, and tells a failure where one does; the words told,
 //! in full.
 
-use link_capture::{CaptureFault, FaultKind, ReadSource, WriteSink};
-use linkcap_program::{norm, report, run};
+ghost use Rattle.std.specs.Prelude.{None};
+
+use link_capture::{CaptureFault, DeviceFailed, FaultKind, ReadSource, WriteSink};
+use linkcap_program::{FileSystem, answer, answer_same, norm};
 use std::alloc::Global;
 use std::io::{self, ErrorKind, Read, Write};
 use std::test::Fail;
@@ -201,25 +203,54 @@ fn devices_are_followed(rt: HostRuntime) {
     }
 }
 
-/// Words behind the program's name, what their run over the capture comes to, how many bytes of its text it writes, and
-/// what is told.
-const WORDS: [(&[&str], Option<Result<(), CaptureFault>>, usize, &str); 5] = [
-    (&["norm"], Some(Ok(())), 68, ""),
-    (&["norm", "48"], Some(Ok(())), 68, ""),
-    (
-        &["norm", "47"],
-        Some(Err(CaptureFault {
-            kind: FaultKind::OverLimit,
-            offset: 0,
-        })),
-        0,
-        "frame over the limit at 0\n",
-    ),
-    (&["norm", "15"], None, 0, USAGE_LINE),
-    (&["norm", "48", "48"], None, 0, USAGE_LINE),
-];
+/// Files by their names.
+#[derive(Drop)]
+struct SampleFiles;
+
+impl FileSystem for SampleFiles {
+    type File = SlowReader;
+
+    ghost contents = { λ _ _. None };
+
+    fn open(&self, name: &str) -> Result<SlowReader, DeviceFailed> {
+        let rest: &'static [u8] = match name {
+            "capture" => &CAPTURE,
+            "text" => &TEXT,
+            "front" => &TEXT[..48],
+            "cut" => &CAPTURE[..63],
+            _ => return Err(DeviceFailed),
+        };
+        Ok(SlowReader { rest, fails: false })
+    }
+}
 
 const USAGE_LINE: &str = "usage: linkcap norm [LIMIT] or linkcap same FILE FILE [LIMIT]\n";
+
+/// Words behind the program's name, what is written of the capture and of such files, and what is told.
+const WORDS: [(&[&str], &[u8], &str); 14] = [
+    (&["norm"], &TEXT, ""),
+    (&["norm", "48"], &TEXT, ""),
+    (&["norm", "47"], b"", "frame over the limit at 0\n"),
+    (&["norm", "15"], b"", USAGE_LINE),
+    (&["norm", "48", "48"], b"", USAGE_LINE),
+    (&["same", "capture", "text"], b"same\n", ""),
+    (&["same", "text", "capture", "48"], b"same\n", ""),
+    (&["same", "text", "text"], b"same\n", ""),
+    (&["same", "text", "front"], b"different\n", ""),
+    (
+        &["same", "cut", "missing"],
+        b"",
+        "second: read failed at 0\n",
+    ),
+    (&["same", "cut", "text"], b"", "first: cut frame at 48\n"),
+    (&["same", "text", "cut"], b"", "second: cut frame at 48\n"),
+    (
+        &["same", "text", "text", "47"],
+        b"",
+        "first: frame over the limit at 0\n",
+    ),
+    (&["same", "text"], b"", USAGE_LINE),
+];
 
 /// The words as the program has them.
 fn strings(alloc: Global, words: &[&str]) -> Result<Vec<String>, Fail> {
@@ -232,18 +263,47 @@ fn strings(alloc: Global, words: &[&str]) -> Result<Vec<String>, Fail> {
 
 #[test]
 fn words_are_followed(rt: HostRuntime) -> Result<(), Fail> {
-    for (words, wanted, written, line) in WORDS {
-        let words = strings(rt.alloc(), words)?;
+    for (words, written, line) in WORDS {
+        let strings = strings(rt.alloc(), words)?;
         let mut source = ReadSource::new(CAPTURE.as_slice());
         let mut text = Vec::new(rt.alloc());
         let mut sink = WriteSink::new(&mut text);
-        let outcome = run(rt.alloc(), words.as_slice(), &mut source, &mut sink);
-        assert_eq!(rt; outcome, wanted, "{words:?}");
-        assert_eq!(rt; text.as_slice(), &TEXT[..written.min(68)], "{words:?}");
         let mut told = Vec::new(rt.alloc());
         let mut errors = WriteSink::new(&mut told);
-        report(&mut errors, outcome);
+        answer(
+            rt.alloc(),
+            strings.as_slice(),
+            &SampleFiles,
+            &mut source,
+            &mut sink,
+            &mut errors,
+        );
+        assert_eq!(rt; text.as_slice(), written, "{words:?}");
         assert_eq!(rt; told.as_slice(), line.as_bytes(), "{words:?}");
     }
     Ok(())
+}
+
+/// An answer that the writer takes but in part.
+#[test]
+fn an_answer_that_is_not_printed_is_told(rt: HostRuntime) {
+    let mut writer = SmallWriter {
+        taken: Vec::new(rt.alloc()),
+        room: 4,
+        fails: true,
+    };
+    let mut sink = WriteSink::new(&mut writer);
+    let mut told = Vec::new(rt.alloc());
+    let mut errors = WriteSink::new(&mut told);
+    answer_same(
+        rt.alloc(),
+        &SampleFiles,
+        &mut sink,
+        &mut errors,
+        "capture",
+        "text",
+        1000,
+    );
+    assert_eq!(rt; writer.taken.as_slice(), b"same".as_slice());
+    assert_eq!(rt; told.as_slice(), b"write failed at 0\n".as_slice());
 }

@@ -1,15 +1,20 @@
 //! The words and the statuses of the program.
 
-use link_capture::{CaptureFault, Command, FaultKind, read_words, status_norm};
+use link_capture::{
+    CaptureFault, Command, FaultKind, SideFault, read_words, status_norm, status_same,
+};
 use std::alloc::Global;
 use std::test::Fail;
 
-/// Words behind the program's name, and the limit in bytes that they ask for; None where they are wrong.
-const WORDS: [(&[&str], Option<u32>); 15] = [
-    (&["norm"], Some(1048576)),
-    (&["norm", "16"], Some(16)),
-    (&["norm", "0016"], Some(16)),
-    (&["norm", "4294967295"], Some(4294967295)),
+/// Words behind the program's name, and what they ask for; None where they are wrong.
+const WORDS: [(&[&str], Option<Command<'static>>); 21] = [
+    (&["norm"], Some(Command::Norm { limit: 1048576 })),
+    (&["norm", "16"], Some(Command::Norm { limit: 16 })),
+    (&["norm", "0016"], Some(Command::Norm { limit: 16 })),
+    (
+        &["norm", "4294967295"],
+        Some(Command::Norm { limit: 4294967295 }),
+    ),
     (&["norm", "15"], None),
     (&["norm", "4294967296"], None),
     (&["norm", ""], None),
@@ -19,26 +24,44 @@ const WORDS: [(&[&str], Option<u32>); 15] = [
     (&["norm", "16", "16"], None),
     (&["16", "norm"], None),
     (&["NORM"], None),
+    (
+        &["same", "a", "b"],
+        Some(Command::Same {
+            first: "a",
+            second: "b",
+            limit: 1048576,
+        }),
+    ),
+    (
+        &["same", "same", "16", "17"],
+        Some(Command::Same {
+            first: "same",
+            second: "16",
+            limit: 17,
+        }),
+    ),
+    (&["same", "a", "b", "15"], None),
+    (&["same", "a", "b", "16", "16"], None),
+    (&["same", "a"], None),
+    (&["norm", "a", "b"], None),
     (&["same"], None),
     (&[], None),
 ];
 
-/// The limit that words ask for.
-fn limit_of(alloc: Global, words: &[&str]) -> Result<Option<u32>, Fail> {
+/// The words as the program has them.
+fn strings(alloc: Global, words: &[&str]) -> Result<Vec<String>, Fail> {
     let mut strings = Vec::new(alloc);
     for word in words {
         strings.push(String::from_str(alloc, word)?)?;
     }
-    Ok(match read_words(strings.as_slice()) {
-        Some(Command::Norm { limit }) => Some(limit),
-        None => None,
-    })
+    Ok(strings)
 }
 
 #[test]
-fn words_ask_for_limits(rt: HostRuntime) -> Result<(), Fail> {
-    for (words, limit) in WORDS {
-        assert_eq!(rt; limit_of(rt.alloc(), words)?, limit, "{words:?}");
+fn words_ask_for_commands(rt: HostRuntime) -> Result<(), Fail> {
+    for (words, wanted) in WORDS {
+        let strings = strings(rt.alloc(), words)?;
+        assert_eq!(rt; read_words(strings.as_slice()), wanted, "{words:?}");
     }
     Ok(())
 }
@@ -51,4 +74,8 @@ fn a_run_without_a_fault_has_status_0(rt: HostRuntime) {
     };
     assert_eq!(rt; status_norm(&Ok(())), 0);
     assert_eq!(rt; status_norm(&Err(fault)), 2);
+    let second = false;
+    assert_eq!(rt; status_same(&Ok(true)), 0);
+    assert_eq!(rt; status_same(&Ok(false)), 1);
+    assert_eq!(rt; status_same(&Err(SideFault { second, fault })), 2);
 }

@@ -3,7 +3,7 @@ use Rattle.std.proofs.Common.{length}
 use Rattle.std.specs.Prelude.{◌↔◌}
 use Rattle.link_capture_grammar.specs.Captures.{IsLegal}
 use Rattle.link_capture_grammar.specs.Same.{SameCapture}
-use Rattle.link_capture_checks.proofs.sameness.same.Given as goal
+use Rattle.link_capture_checks.proofs.sameness.same_frames.Given as goal
 
 abbrev pub invariant-loop-rest : goal.invariant-loop-rest
 invariant-loop-rest l = record {

@@ -1,0 +1,132 @@
+//! Whether the captures in two files mean the same.
+
+ghost use Rattle.std.specs.Prelude.{◌≡◌, Bool, Ok, IfOk, IfErr, cond};
+ghost use Rattle.std.specs.Process.{exit_status};
+ghost use Rattle.link_capture.specs.Commands.{status_of_same};
+ghost use Rattle.link_capture.specs.Devices.{Rises};
+ghost use Rattle.link_capture.specs.Known.{sink_writer, sink_failures};
+ghost use Rattle.linkcap_program.specs.Comparisons.{Holds, IsUnread, Compares};
+ghost use Rattle.linkcap_program.specs.Runs.{SameAnswer, IsTold, Tells, same_line, same_error};
+
+use super::files::FileSystem;
+use super::lines::{line, tell};
+use link_capture::{
+    CaptureFault, FaultKind, ReadSource, SideFault, WriteSink, read_all, same, status_same,
+};
+use std::alloc::Global;
+use std::io::Write;
+use std::process::ExitCode;
+
+/// What is told where the answer can't be printed.
+const NOT_PRINTED: CaptureFault = CaptureFault {
+    kind: FaultKind::Write,
+    offset: 0,
+};
+
+/// All bytes of a file. A file that can't be opened is one whose reading failed at 0.
+fn read_file<F: FileSystem>(alloc: Global, files: &F, name: &str) -> Result<Vec<u8>, CaptureFault>
+    ensures ok { IfOk result (λ bytes. Holds (F.contents files.now name.now) bytes.items) }
+    ensures fault { IfErr result (λ fault. IsUnread (F.contents files.now name.now) fault) }
+{
+    let Ok(file) = files.open(name) else {
+        return Err(CaptureFault {
+            kind: FaultKind::Read,
+            offset: 0,
+        });
+    };
+    read_all(alloc, &mut ReadSource::new(file))
+}
+
+/// All bytes of the first or the second of two files.
+fn read_side<F: FileSystem>(
+    alloc: Global,
+    files: &F,
+    name: &str,
+    second: bool,
+) -> Result<Vec<u8>, SideFault>
+    ensures ok { IfOk result (λ bytes. Holds (F.contents files.now name.now) bytes.items) }
+    ensures side { IfErr result (λ e. e.second ≡ second) }
+    ensures fault { IfErr result (λ e. IsUnread (F.contents files.now name.now) e.fault) }
+{
+    match read_file(alloc, files, name) {
+        Ok(bytes) => Ok(bytes),
+        Err(fault) => Err(SideFault { second, fault }),
+    }
+}
+
+/// Whether the captures in the files of two names mean the same under a limit. Both are read, the first one first,
+/// before one is judged.
+///
+/// Else the first thing that went wrong: a file that couldn't be read, at the number of bytes that were, or for whose
+/// bytes memory was wanting; or the first fault of the first capture, or of the second where the first is legal.
+pub fn compare<F: FileSystem>(
+    alloc: Global,
+    files: &F,
+    first: &str,
+    second: &str,
+    limit: u32,
+) -> Result<bool, SideFault>
+    ensures { Compares (F.contents files.now first.now) (F.contents files.now second.now) limit result }
+{
+    let left = read_side(alloc, files, first, false)?;
+    let right = read_side(alloc, files, second, true)?;
+    same(left.as_slice(), right.as_slice(), limit)
+}
+
+// The line that is printed of two captures.
+fn line_of(is_same: bool) -> &'static str
+    ensures { result.now ≡ same_line (Ok is_same) }
+{
+    if is_same { "same\n" } else { "different\n" }
+}
+
+/// Prints in one line whether two captures mean the same, or tells in one line what went wrong. The answer is the
+/// program's status.
+fn report<W: Write, E: Write>(
+    sink: &mut WriteSink<W>,
+    errors: &mut WriteSink<E>,
+    outcome: Result<bool, SideFault>,
+) -> ExitCode
+    ensures { (printed : Bool)
+        × IsTold (W.contents (sink_writer sink.old)) (W.contents (sink_writer sink.new))
+        (Rises (sink_failures sink.old) (sink_failures sink.new)) (same_line outcome) printed
+        × Tells (E.contents (sink_writer errors.old)) (E.contents (sink_writer errors.new))
+        (Rises (sink_failures errors.old) (sink_failures errors.new)) (same_error printed outcome)
+        × (exit_status result ≡ cond printed (status_of_same outcome) 2) }
+{
+    match outcome {
+        Ok(is_same) => {
+            if tell(sink, line_of(is_same)) {
+                return ExitCode::from(status_same(&outcome));
+            }
+            tell(errors, line(NOT_PRINTED.text().as_str()).as_str());
+            ExitCode::from(2)
+        }
+        Err(fault) => {
+            tell(errors, line(fault.text().as_str()).as_str());
+            ExitCode::from(status_same(&outcome))
+        }
+    }
+}
+
+/// Prints in one line whether the captures in the files of two names mean the same, and tells on the error writer what
+/// went wrong. The answer is the program's status.
+pub fn answer_same<F: FileSystem, W: Write, E: Write>(
+    alloc: Global,
+    files: &F,
+    sink: &mut WriteSink<W>,
+    errors: &mut WriteSink<E>,
+    first: &str,
+    second: &str,
+    limit: u32,
+) -> ExitCode
+    ensures { SameAnswer
+        (Compares (F.contents files.now first.now) (F.contents files.now second.now) limit)
+        (IsTold (W.contents (sink_writer sink.old)) (W.contents (sink_writer sink.new))
+        (Rises (sink_failures sink.old) (sink_failures sink.new)))
+        (Tells (E.contents (sink_writer errors.old)) (E.contents (sink_writer errors.new))
+        (Rises (sink_failures errors.old) (sink_failures errors.new))) (exit_status result) }
+{
+    let outcome = compare(alloc, files, first, second, limit);
+    report(sink, errors, outcome)
+}

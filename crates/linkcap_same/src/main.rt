@@ -1,0 +1,9 @@
+// The program linkcap once more, for a stored run over two files that mean the same in unequal bytes.
+#![tactic(auto)]
+
+use linkcap_program::outcome;
+use std::process::ExitCode;
+
+fn main(rt: HostRuntime) -> ExitCode {
+    outcome(&rt)
+}

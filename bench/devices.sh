@@ -1,5 +1,5 @@
 #!/usr/bin/env bash
-# Runs `linkcap norm` where the machine has to play along: on devices that fail, under a name that is no text, and with
+# Runs `linkcap norm` and `linkcap same` where the machine has to play along: on devices that fail, under a name that is no text, and with
 # little memory; and compares status, output and what is told with what docs/frames.md says.
 #
 #     bench/devices.sh [PROGRAM]
@@ -61,7 +61,7 @@ for ((i = 0; i < 1400; i++)); do cat "$request"; done > "$work/long"
 head -c 10 "$request" >> "$work/long"
 run norm < "$work/long"
 wants "a fault behind the first piece" 2 "cut frame at 67200" 67200
-for words in "" "norm 15" "norm +48" "norm 48 48" "norm 4294967296" "Norm" "same a b"; do
+for words in "" "norm 15" "norm +48" "norm 48 48" "norm 4294967296" "Norm" "same a" "same a b 15"; do
     # shellcheck disable=SC2086
     run $words < "$request"
     wants "wrong words: '$words'" 3 "$usage" 0
@@ -94,6 +94,42 @@ esac
 "$program" norm 47 < "$request" > "$work/text" 2> /dev/full
 status=$?
 wants "a full device for what is told" 2 "" 0
+
+# Two files.
+"$program" norm < "$request" > "$work/normal"
+run same "$request" "$work/normal"
+wants "files that mean the same" 0 "" 5
+run same "$work/normal" "$work/normal" 48
+wants "equal files" 0 "" 5
+cat "$request" "$request" > "$work/twice"
+run same "$request" "$work/twice"
+wants "files that don't mean the same" 1 "" 10
+run same "$work/cut" "$request"
+wants "a fault of the first" 2 "first: cut frame at 48" 0
+run same "$request" "$work/cut"
+wants "a fault of the second" 2 "second: cut frame at 48" 0
+run same "$work/missing" "$request"
+wants "a first that is missing" 2 "first: read failed at 0" 0
+run same "$work/cut" "$work/missing"
+wants "a second that is missing is told before a fault" 2 "second: read failed at 0" 0
+run same "$request" "$work"
+wants "a directory as the second" 2 "second: read failed at 0" 0
+run same "$request" ""
+wants "no name" 2 "second: read failed at 0" 0
+run same "$request" /dev/stdin < "$work/normal"
+wants "standard input by its name" 0 "" 5
+: > "$work/text"
+"$program" same "$request" "$request" > /dev/full 2> "$work/told"
+status=$?
+wants "an answer that can't be printed" 2 "write failed at 0" 0
+run same "$request" $'\xff'
+wants "a name of a file that is no text" 3 "$usage" 0
+(ulimit -v 65536 && exec "$program" same "$request" /dev/zero) > "$work/text" 2> "$work/told"
+status=$?
+case $status:$(cat "$work/told") in
+    "2:second: no memory at "*) echo "ok      a file without an end" ;;
+    *) echo "WRONG   a file without an end: status $status, '$(cat "$work/told")'"; failed=1 ;;
+esac
 
 # Memory.
 claimed 100 > "$work/claimed"

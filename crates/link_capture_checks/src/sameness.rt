@@ -4,7 +4,8 @@ ghost use Rattle.std.specs.Prelude.{◌≡◌, ◌≤◌, ◌<◌, ◌↔◌, tr
 ghost use Rattle.netlink_packet_core_grammar.specs.Attributes.{nla_align};
 ghost use Rattle.netlink_packet_core.specs.Frames.{IsFrame, frame_length, frame_type, frame_body};
 ghost use Rattle.link_capture_grammar.specs.Bodies.{is_link_type};
-ghost use Rattle.link_capture_grammar.specs.Captures.{first_fault, IsLegal};
+ghost use Rattle.link_capture_grammar.specs.Captures.{first_fault, texts, IsLegal};
+ghost use Rattle.link_capture_grammar.specs.Laws.{LegalFront};
 ghost use Rattle.link_capture_grammar.specs.Same.{done_body, same_body, SameFrame, SameCapture};
 ghost use Rattle.link_capture_checks.specs.Sides.{side_text};
 
@@ -90,19 +91,18 @@ fn same_body(message_type: u16, left: &[u8], right: &[u8]) -> bool
     }
 }
 
-// Whether the frames in front of these bytes mean the same.
-fn same_frame(left: &[u8], right: &[u8]) -> bool
-    requires left { IsFrame left.now }
-    requires right { IsFrame right.now }
-    requires left_body { is_link_type (frame_type left.now) ≡ true
-        → 16 ≤ length (frame_body left.now) }
-    requires right_body { is_link_type (frame_type right.now) ≡ true
-        → 16 ≤ length (frame_body right.now) }
+// Whether the frames in front of two legal captures mean the same. Those of equal bodies do, whatever the bodies hold.
+fn same_frame(left: &[u8], right: &[u8], limit: u32) -> bool
+    requires left { LegalFront limit left.now }
+    requires right { LegalFront limit right.now }
     ensures { (result ≡ true) ↔ SameFrame left.now right.now }
 {
+    sameness_goes_by_frames();
     let message_type = NetlinkBuffer::new(left).message_type();
-    &left[4..NETLINK_HEADER_LEN] == &right[4..NETLINK_HEADER_LEN]
-        && same_body(message_type, body(left), body(right))
+    if &left[4..NETLINK_HEADER_LEN] == &right[4..NETLINK_HEADER_LEN] {
+        return body(left) == body(right) || same_body(message_type, body(left), body(right));
+    }
+    false
 }
 
 // Whether two legal captures mean the same, frame by frame.
@@ -115,7 +115,7 @@ fn same_frames(left: &[u8], right: &[u8], limit: u32) -> bool
     let mut rest = left;
     let mut other = right;
     while !rest.is_empty() && !other.is_empty() {
-        if !same_frame(rest, other) {
+        if !same_frame(rest, other, limit) {
             return false;
         }
         rest = behind(rest);
@@ -132,6 +132,8 @@ pub fn same(left: &[u8], right: &[u8], limit: u32) -> Result<bool, SideFault>
     ensures legal { OnOk result (IsLegal limit left.now × IsLegal limit right.now) }
     ensures same { IfOk result
         (λ is_same. (is_same ≡ true) ↔ SameCapture limit left.now right.now) }
+    ensures texts { IfOk result
+        (λ is_same. (is_same ≡ true) ↔ (texts limit left.now ≡ texts limit right.now)) }
     ensures fault { IfErr result
         (λ e. first_fault limit (cond e.second right.now left.now) ≡ Some e.fault) }
     ensures in_turn { IfErr result (λ e. e.second ≡ true → IsLegal limit left.now) }

@@ -96,7 +96,7 @@ body_told t a b x y h g s =
           ]
     ]
 
-body_tells : (t : ℕ) (a b x y : List ℕ) → body_text t a ≡ Ok x → body_text t b ≡ Ok y → x ≡ y → same_body t a b ≡ true
+pub body_tells : (t : ℕ) (a b x y : List ℕ) → body_text t a ≡ Ok x → body_text t b ≡ Ok y → x ≡ y → same_body t a b ≡ true
 unfolding body_text same_body
 body_tells t a b x y h g z =
     elim (cases_Bool (eqb t 1)) [

@@ -1,5 +1,5 @@
 -- Legal captures mean the same frame by frame.
-use Rattle.std.proofs.Common.{◌≡◌, ℕ, zero, suc, ◌<◌, ◌≤◌, eqb, true, List, [], ◌∷◌, length, drop, Ok, inl, inr, refl, sym, ap, subst, ◌∙◌, arith}
+use Rattle.std.proofs.Common.{◌≡◌, ℕ, zero, suc, ◌<◌, ◌≤◌, eqb, true, List, [], ◌∷◌, length, take, drop, Ok, inl, inr, refl, sym, ap, subst, ◌∙◌, arith}
 use Rattle.std.specs.Prelude.{nat_le}
 use Rattle.std.proofs.lemmas.Bool.{ne_eqb, leb-true, and_parts}
 use Rattle.netlink_packet_core_grammar.specs.Attributes.{nla_align}
@@ -9,9 +9,9 @@ use Rattle.link_message_grammar.proofs.Parts.{bodies_are_headers_and_attributes}
 use Rattle.link_capture_grammar.specs.Bodies.{ruled_text, is_link_type, body_text}
 use Rattle.link_capture_grammar.specs.Captures.{first_frame, IsLegal}
 use Rattle.link_capture_grammar.specs.Laws.{LegalFront, SamenessGoesByFrames}
-use Rattle.link_capture_grammar.specs.Same.{SameFrame, SameFrames, SameCapture}
+use Rattle.link_capture_grammar.specs.Same.{same_body, SameFrame, SameFrames, SameCapture}
 use Rattle.link_capture_grammar.proofs.Frames.{accepted, fault_step, fault_stop, seen}
-use Rattle.link_capture_grammar.proofs.Meanings.{yes, no}
+use Rattle.link_capture_grammar.proofs.Meanings.{yes, no, body_tells}
 use Rattle.link_capture_grammar.proofs.Normal.{ruled, texted}
 use Rattle.link_capture_grammar.proofs.Same.{not_raised}
 
@@ -43,6 +43,8 @@ front limit c h l =
             is = w.1 ∙ ap (λ n. Ok (n, frame.1)) (sym a.is);
             frame = record { has_header = a.header; covers_header = omega (arith, a.low, a.is); within = omega (arith, a.whole, a.is) };
             body = link_header (frame_type c) (frame_body c) t.body t.body_is;
+            written = t.body;
+            is_written = t.body_is;
             behind = subst (λ n. IsLegal limit (drop (nla_align n) c)) (sym a.is) (not_raised (nla_align frame.0) _ (sym (fault_step limit c frame w.1) ∙ h));
           }
       | inr w ↦ (let e = sym (fault_stop limit c w.0 l w.1) ∙ h in absurd cc)
@@ -58,6 +60,12 @@ module _ (limit : ℕ) (a b : List ℕ) (p : LegalFront limit a) (q : LegalFront
       let x = accepted limit a s.0 s.2 in
       let y = accepted limit b s.1 s.3 in
       (s.4, (n, subst (λ k. SameFrames limit n (drop (nla_align k) a) (drop (nla_align (frame_length b)) b)) (sym x.is) (subst (λ k. SameFrames limit n (drop (nla_align s.0.0) a) (drop (nla_align k) b)) (sym y.is) s.5)))
+
+alike : (limit : ℕ) (a b : List ℕ) → LegalFront limit a → LegalFront limit b → take 12 (drop 4 a) ≡ take 12 (drop 4 b) → frame_body a ≡ frame_body b → SameFrame a b
+alike limit a b p q h e = record {
+  header = h;
+  body = subst (λ x. same_body (frame_type a) (frame_body a) x ≡ true) e (body_tells (frame_type a) (frame_body a) (frame_body a) p.written p.written p.is_written p.is_written refl);
+}
 
 no_bytes : (a : List ℕ) → length a ≡ 0 → a ≡ []
 no_bytes [] l = refl
@@ -75,6 +83,7 @@ pub sameness_goes_by_frames : SamenessGoesByFrames
 sameness_goes_by_frames = record {
   front = front;
   more = λ limit a b p q h. (onto limit a b p q h, λ s. (apart limit a b p q s).1);
+  alike = alike;
   differs = λ limit a b p q s. (apart limit a b p q s).0;
   ended = λ limit a b l k. (0, (no_bytes a l, no_bytes b k));
   left_longer = left_longer;

@@ -74,12 +74,14 @@ BodiesTellMeanings = (t : ℕ) (a b x y : List ℕ) → body_text t a ≡ Ok x �
 abbrev pub SameAreLegal : Type 0
 SameAreLegal = (limit : ℕ) (a b : List ℕ) → SameCapture limit a b → IsLegal limit a × IsLegal limit b
 
--- what stands in front of a legal capture's bytes: a whole frame, whose body has a header where it is a link's, and behind it a legal capture
+-- what stands in front of a legal capture's bytes: a whole frame, whose body has a text, and a header where it is a link's, and behind it a legal capture
 pub record LegalFront (limit : ℕ) (c : List ℕ) : Type 0 where
   pub text : List ℕ
   pub is : first_frame limit c ≡ Ok (frame_length c, text)
   pub frame : IsFrame c
   pub body : is_link_type (frame_type c) ≡ true → 16 ≤ length (frame_body c)
+  pub written : List ℕ
+  pub is_written : body_text (frame_type c) (frame_body c) ≡ Ok written
   pub behind : IsLegal limit (drop (nla_align (frame_length c)) c)
 
 -- whether legal captures mean the same is found frame by frame
@@ -87,6 +89,8 @@ pub record SamenessGoesByFrames : Type 0 where
   pub front : (limit : ℕ) (c : List ℕ) → IsLegal limit c → 0 < length c → LegalFront limit c
   pub more : (limit : ℕ) (a b : List ℕ) → LegalFront limit a → LegalFront limit b → SameFrame a b →
       SameCapture limit (drop (nla_align (frame_length a)) a) (drop (nla_align (frame_length b)) b) ↔ SameCapture limit a b
+  -- frames of one type, flags, sequence number, port number and body do
+  pub alike : (limit : ℕ) (a b : List ℕ) → LegalFront limit a → LegalFront limit b → take 12 (drop 4 a) ≡ take 12 (drop 4 b) → frame_body a ≡ frame_body b → SameFrame a b
   pub differs : (limit : ℕ) (a b : List ℕ) → LegalFront limit a → LegalFront limit b → SameCapture limit a b → SameFrame a b
   pub ended : (limit : ℕ) (a b : List ℕ) → length a ≡ 0 → length b ≡ 0 → SameCapture limit a b
   pub left_longer : (limit : ℕ) (a b : List ℕ) → 0 < length a → length b ≡ 0 → SameCapture limit a b → ⊥

@@ -1,0 +1,73 @@
+#!/usr/bin/env python3
+"""Compares `linkcap same` with `cmp` and `linkcap norm` over link messages, in one run.
+
+    bench/same.py [PROGRAM [MEGABYTES]]
+
+PROGRAM is crates/linkcap/out/linkcap where none is given, and MEGABYTES 50. A capture of the samples is compared with
+a copy of itself, with its normal text, and with a copy that has another sequence number in its last message. Of five
+rounds the best time counts. Reading both files is timed apart, by a first file that is refused at its first byte, and
+taken off: MB/s of one side, 1 MB is 1,000,000 bytes. It builds nothing and no gate runs it.
+"""
+import os
+import subprocess
+import sys
+import tempfile
+import time
+
+TOP = os.path.join(os.path.dirname(os.path.abspath(__file__)), "..")
+SAMPLES = ["get-veth", "notify-vrf", "get-veth", "notify-vrf", "req-veth"]
+ROUNDS = 5
+
+
+def last_frame(capture):
+    at = 0
+    while True:
+        after = at + (int.from_bytes(capture[at:at + 4], "little") + 3) // 4 * 4
+        if after >= len(capture):
+            return at
+        at = after
+
+
+def captures(megabytes):
+    """The captures by their names: one, its copies, and one that is refused at once."""
+    group = b"".join(open(os.path.join(TOP, "samples", name + ".bin"), "rb").read() for name in SAMPLES)
+    one = group * max(1, megabytes * 1000000 // len(group))
+    last = bytearray(one)
+    last[len(one) - len(group) + last_frame(group) + 8] ^= 1
+    return {"one": one, "copy": one, "last": bytes(last), "refused": bytes(4) + one[4:]}
+
+
+def best(words, statuses, source=None, sink=None):
+    times = []
+    for _ in range(ROUNDS):
+        with open(source or os.devnull, "rb") as given, open(sink or os.devnull, "wb") as taken:
+            begin = time.perf_counter()
+            status = subprocess.run(words, stdin=given, stdout=taken, stderr=subprocess.DEVNULL).returncode
+            times.append(time.perf_counter() - begin)
+        if status not in statuses:
+            sys.exit("%s ended with status %d" % (" ".join(words), status))
+    return min(times)
+
+
+def main():
+    program = os.path.realpath(sys.argv[1] if len(sys.argv) > 1 else os.path.join(TOP, "crates/linkcap/out/linkcap"))
+    megabytes = int(sys.argv[2]) if len(sys.argv) > 2 else 50
+    limit = "4294967295"
+    with tempfile.TemporaryDirectory() as work:
+        at = lambda name: os.path.join(work, name)
+        for name, capture in captures(megabytes).items():
+            with open(at(name), "wb") as file:
+                file.write(capture)
+        size = os.path.getsize(at("one"))
+        norm = best([program, "norm", limit], [0], at("one"), at("text"))
+        read = best([program, "same", at("refused"), at("one"), limit], [2])
+        print("%d bytes a side; reading both files %.0f MB/s" % (size, size / read / 1e6))
+        print("%-34s %8.0f MB/s" % ("norm", size / norm / 1e6))
+        print("%-34s %8.0f MB/s" % ("cmp with a copy", size / best(["cmp", at("one"), at("copy")], [0]) / 1e6))
+        for name, told, status in [("copy", "a copy", 0), ("text", "its normal text", 0), ("last", "another last message", 1)]:
+            took = best([program, "same", at("one"), at(name), limit], [status]) - read
+            print("%-34s %8.0f MB/s, %.1f times norm" % ("same with " + told, size / took / 1e6, norm / took))
+
+
+if __name__ == "__main__":
+    main()

@@ -4,7 +4,8 @@ ghost use Rattle.link_capture_grammar.specs.Laws.{TextsAreLegal, TextsAreNormal,
 ghost use Rattle.link_capture_grammar.specs.Laws.{JoinedTexts, PrefixFaults, PrefixTexts, TextsAreSmall, FaultsStand};
 ghost use Rattle.link_capture_grammar.specs.Laws.{BodiesAreNormal, TextsMeanTheSame, SameAreLegal};
 ghost use Rattle.link_capture_grammar.specs.Laws.{FramesStandAlone, CapturesGoByFrames};
-ghost use Rattle.link_capture_grammar.specs.Laws.{FramesAreJudged, CapturesAreCounted, BodiesTellMeanings, TextsTellMeanings, SamenessGoesByFrames};
+ghost use Rattle.link_capture_grammar.specs.Laws.{FramesAreJudged, CapturesAreCounted};
+ghost use Rattle.link_capture_grammar.specs.Laws.{BodiesTellMeanings, TextsTellMeanings, SamenessGoesByFrames};
 
 /// The texts of any bytes are legal under the same limit.
 pub fn texts_are_legal()

@@ -1,4 +1,4 @@
-// The program linkcap once more, for a stored run over two files that mean the same in unequal bytes.
+// The program linkcap once more, for a stored run over two files that mean the same up to their last message.
 #![tactic(auto)]
 
 use linkcap_program::outcome;

@@ -1,40 +1,49 @@
 -- One frame further in two captures, and their ends.
-use Rattle.std.proofs.Common.{◌≡◌, ℕ, ◌<◌, Bool, true, false, eqb, List, [], ◌∷◌, length, drop, refl, sym, subst, ◌∙◌, arith}
-use Rattle.std.specs.Prelude.{◌↔◌}
-use Rattle.std.proofs.lemmas.Bool.{ne_eqb}
+use Rattle.std.proofs.Common.{◌≡◌, ℕ, ◌<◌, Bool, true, false, eqb, List, [], ◌∷◌, length, take, drop, inl, inr, refl, sym, ap, subst, ◌∙◌, arith}
+use Rattle.std.specs.Prelude.{◌↔◌, bytes_eq}
+use Rattle.std.proofs.lemmas.Bool.{ne_eqb, cases_lt}
+use Rattle.std.proofs.lemmas.Slice.Eq.{bytes_eq-Decides}
 use Rattle.netlink_packet_core_grammar.specs.Attributes.{nla_align}
 use Rattle.netlink_packet_core_grammar.specs.Frames.{frame_length}
-use Rattle.link_capture_grammar.specs.Laws.{LegalFront, SamenessGoesByFrames}
+use Rattle.link_capture_grammar.specs.Captures.{IsLegal}
+use Rattle.link_capture_grammar.specs.Laws.{LegalFrame, SamenessGoesByFrames}
 use Rattle.link_capture_grammar.specs.Same.{SameFrame, SameCapture}
+use Rattle.link_capture_checks.specs.Partings.{Part}
 
 pub apart : true ≡ false → ⊥
 apart h = absurd cc
+
+-- a frame of the bytes of a legal one
+pub of_one_bytes : (law : SamenessGoesByFrames) (limit : ℕ) (a b : List ℕ) (n : ℕ) → LegalFrame limit a → n ≡ frame_length a → bytes_eq (take n a) (take n b) ≡ true → LegalFrame limit b × SameFrame a b
+of_one_bytes law limit a b n p e h = law.equal limit a b p (subst (λ k. take k b ≡ take k a) e (sym ((bytes_eq-Decides _ _).0 h)))
 
 pub some_bytes : (xs : List ℕ) (b : Bool) → b ≡ false → b ≡ eqb (length xs) 0 → 0 < length xs
 some_bytes [] b p q = absurd (apart (sym q ∙ p))
 some_bytes (x ∷ xs) b p q = omega arith
 
 module _ (law : SamenessGoesByFrames) (limit : ℕ) (a b l r : List ℕ) (so_far : SameCapture limit a b ↔ SameCapture limit l r) where
-  pub one_further : LegalFront limit a → LegalFront limit b → SameFrame a b → (x y : List ℕ) → x ≡ drop (nla_align (frame_length a)) a → y ≡ drop (nla_align (frame_length b)) b → SameCapture limit x y ↔ SameCapture limit l r
+  pub one_further : LegalFrame limit a → LegalFrame limit b → SameFrame a b → (x y : List ℕ) → x ≡ drop (nla_align (frame_length a)) a → y ≡ drop (nla_align (frame_length b)) b → SameCapture limit x y ↔ SameCapture limit l r
   one_further p q same x y e f =
       let more = law.more limit a b p q same in (
         λ s. so_far.0 (more.0 (subst (λ z. SameCapture limit z (drop (nla_align (frame_length b)) b)) e (subst (λ z. SameCapture limit x z) f s))),
         λ s. subst (λ z. SameCapture limit z y) (sym e) (subst (λ z. SameCapture limit (drop (nla_align (frame_length a)) a) z) (sym f) (more.1 (so_far.1 s))),
       )
 
-  pub frames_differ : LegalFront limit a → LegalFront limit b → (SameFrame a b → ⊥) → (false ≡ true) ↔ SameCapture limit l r
-  frames_differ p q other = (λ h. absurd (apart (sym h)), λ s. absurd (other (law.differs limit a b p q (so_far.1 s))))
+  -- both have a frame further on, and these aren't legal and of one meaning
+  pub frames_differ : IsLegal limit a → IsLegal limit b → Part limit a b → 0 < length b → SameCapture limit l r → ⊥
+  frames_differ h k parts n s =
+      let t = so_far.1 s in
+      elim (cases_lt 0 (length a)) [
+        | inl m ↦ (let p = law.front limit a h m in let q = law.front limit b k n in parts m n q (law.differs limit a b p q t))
+        | inr m ↦ law.right_longer limit a b (omega (arith, m)) n t
+      ]
 
-  -- the left one has ended: the answer is whether the right one has
-  pub left_ended : length a ≡ 0 → (answer : Bool) → answer ≡ eqb (length b) 0 → (answer ≡ true) ↔ SameCapture limit l r
-  left_ended k answer is = by b refl where
-    by : (z : List ℕ) → z ≡ b → (answer ≡ true) ↔ SameCapture limit l r
-    by [] e = (λ _. so_far.0 (subst (λ z. SameCapture limit a z) e (law.ended limit a [] k refl)), λ _. is ∙ subst (λ z. eqb (length z) 0 ≡ true) e refl)
+  -- the right one has ended: the answer is whether the left one has
+  pub right_ended : length b ≡ 0 → (answer : Bool) → answer ≡ eqb (length a) 0 → (answer ≡ true) ↔ SameCapture limit l r
+  right_ended k answer is = by a refl where
+    by : (z : List ℕ) → z ≡ a → (answer ≡ true) ↔ SameCapture limit l r
+    by [] e = (λ _. so_far.0 (law.ended limit a b (sym (ap length e)) k), λ _. is ∙ ap (λ z. eqb (length z) 0) (sym e))
     by (x ∷ z) e =
-        let n : 0 < length b = subst (λ y. 0 < length y) e (omega arith) in
-        let other : answer ≡ false = is ∙ ne_eqb (length b) 0 (λ h. absurd (omega (arith, h, n))) in
-        (λ h. absurd (apart (sym h ∙ other)), λ s. absurd (law.right_longer limit a b k n (so_far.1 s)))
-
-  -- the right one alone has ended
-  pub right_ended : 0 < length a → length b ≡ 0 → (answer : Bool) → answer ≡ false → (answer ≡ true) ↔ SameCapture limit l r
-  right_ended n k answer other = (λ h. absurd (apart (sym h ∙ other)), λ s. absurd (law.left_longer limit a b n k (so_far.1 s)))
+        let n : 0 < length a = subst (λ y. 0 < length y) e (omega arith) in
+        let other : answer ≡ false = is ∙ ne_eqb (length a) 0 (λ h. absurd (omega (arith, h, n))) in
+        (λ h. absurd (apart (sym h ∙ other)), λ s. absurd (law.left_longer limit a b n k (so_far.1 s)))

@@ -5,14 +5,18 @@ ghost use Rattle.netlink_packet_core_grammar.specs.Attributes.{nla_align};
 ghost use Rattle.netlink_packet_core.specs.Frames.{IsFrame, frame_length, frame_type, frame_body};
 ghost use Rattle.link_capture_grammar.specs.Bodies.{is_link_type};
 ghost use Rattle.link_capture_grammar.specs.Captures.{first_fault, texts, IsLegal};
-ghost use Rattle.link_capture_grammar.specs.Laws.{LegalFront};
+ghost use Rattle.link_capture_grammar.specs.Laws.{LegalFrame};
 ghost use Rattle.link_capture_grammar.specs.Same.{done_body, same_body, SameFrame, SameCapture};
+ghost use Rattle.link_capture_checks.specs.Partings.{IsAlike, Part};
 ghost use Rattle.link_capture_checks.specs.Sides.{side_text};
 
 use crate::capture::check;
+use crate::frames::measure_frame;
 use arrayvec::ArrayString;
 use link_capture_grammar::fault::CaptureFault;
-use link_capture_grammar::laws::{sameness_goes_by_frames, texts_tell_meanings};
+use link_capture_grammar::laws::{
+    captures_are_counted, faults_stand_at_frames, sameness_goes_by_frames, texts_tell_meanings,
+};
 use link_message_checks::same as same_link;
 use netlink_packet_core::{NETLINK_HEADER_LEN, NLMSG_DONE, NLMSG_NOOP, NetlinkBuffer, nla_align};
 use std::fmt;
@@ -91,43 +95,85 @@ fn same_body(message_type: u16, left: &[u8], right: &[u8]) -> bool
     }
 }
 
-// Whether the frames in front of two legal captures mean the same. Those of equal bodies do, whatever the bodies hold.
+// Whether two legal frames mean the same.
 fn same_frame(left: &[u8], right: &[u8], limit: u32) -> bool
-    requires left { LegalFront limit left.now }
-    requires right { LegalFront limit right.now }
+    requires left { LegalFrame limit left.now }
+    requires right { LegalFrame limit right.now }
     ensures { (result ≡ true) ↔ SameFrame left.now right.now }
 {
-    sameness_goes_by_frames();
     let message_type = NetlinkBuffer::new(left).message_type();
-    if &left[4..NETLINK_HEADER_LEN] == &right[4..NETLINK_HEADER_LEN] {
-        return body(left) == body(right) || same_body(message_type, body(left), body(right));
-    }
-    false
+    &left[4..NETLINK_HEADER_LEN] == &right[4..NETLINK_HEADER_LEN]
+        && same_body(message_type, body(left), body(right))
 }
 
-// Whether two legal captures mean the same, frame by frame.
-fn same_frames(left: &[u8], right: &[u8], limit: u32) -> bool
-    requires left { IsLegal limit left.now }
-    requires right { IsLegal limit right.now }
-    ensures { (result ≡ true) ↔ SameCapture limit left.now right.now }
+// Whether the frame in front of some bytes is legal and means the same as this legal one. One of the same bytes isn't
+// judged again.
+fn is_same_frame(left: &[u8], right: &[u8], limit: u32) -> bool
+    requires { LegalFrame limit left.now }
+    ensures { (result ≡ true) ↔ (LegalFrame limit right.now × SameFrame left.now right.now) }
 {
     sameness_goes_by_frames();
-    let mut rest = left;
-    let mut other = right;
-    while !rest.is_empty() && !other.is_empty() {
-        if !same_frame(rest, other, limit) {
-            return false;
-        }
-        rest = behind(rest);
-        other = behind(other);
+    let len = NetlinkBuffer::new(left).length() as usize;
+    if right.len() >= len && &left[..len] == &right[..len] {
+        return true;
     }
-    rest.is_empty() && other.is_empty()
+    match measure_frame(right, limit) {
+        Ok(_) => same_frame(left, right, limit),
+        Err(_) => false,
+    }
+}
+
+// The frames in front of a capture that are legal and pairwise mean the same as those of a legal one: what the legal
+// one has behind them, and the place behind them in the other.
+fn parting<'a>(left: &'a [u8], right: &[u8], limit: u32) -> (&'a [u8], usize)
+    requires { IsLegal limit left.now }
+    ensures alike { IsAlike limit left.now right.now result.0.now result.1 }
+    ensures parts { Part limit result.0.now (drop result.1 right.now) }
+{
+    sameness_goes_by_frames();
+    captures_are_counted();
+    let mut rest = left;
+    let mut at = 0;
+    while !rest.is_empty() && at < right.len() {
+        let other = &right[at..];
+        if !is_same_frame(rest, other, limit) {
+            return (rest, at);
+        }
+        at += nla_align(NetlinkBuffer::new(other).length() as usize);
+        rest = behind(rest);
+    }
+    (rest, at)
+}
+
+// Whether a capture means the same as a legal one, or its first fault.
+fn same_as(left: &[u8], right: &[u8], limit: u32) -> Result<bool, CaptureFault>
+    requires { IsLegal limit left.now }
+    ensures legal { OnOk result (IsLegal limit right.now) }
+    ensures same { IfOk result
+        (λ is_same. (is_same ≡ true) ↔ SameCapture limit left.now right.now) }
+    ensures fault { IfErr result (λ fault. first_fault limit right.now ≡ Some fault) }
+{
+    sameness_goes_by_frames();
+    faults_stand_at_frames();
+    let (rest, at) = parting(left, right, limit);
+    if at >= right.len() {
+        return Ok(rest.is_empty());
+    }
+    match check(&right[at..], limit) {
+        Ok(()) => Ok(false),
+        Err(CaptureFault { kind, offset }) => Err(CaptureFault {
+            kind,
+            offset: at as u64 + offset,
+        }),
+    }
 }
 
 /// Whether two captures mean the same: where both are legal under the limit, whether they have as
 /// many frames, and pairwise one type, flags, sequence number and port number, and bodies that mean
 /// the same. Else the first fault of the first capture, or of the second where the first is legal.
 /// It takes no memory, and builds no message.
+///
+/// The second capture's frames are judged as far as they aren't the first one's in the same order, byte by byte.
 pub fn same(left: &[u8], right: &[u8], limit: u32) -> Result<bool, SideFault>
     ensures legal { OnOk result (IsLegal limit left.now × IsLegal limit right.now) }
     ensures same { IfOk result
@@ -145,14 +191,11 @@ pub fn same(left: &[u8], right: &[u8], limit: u32) -> Result<bool, SideFault>
             fault,
         });
     }
-    if left == right {
-        return Ok(true);
-    }
-    if let Err(fault) = check(right, limit) {
-        return Err(SideFault {
+    match same_as(left, right, limit) {
+        Ok(is_same) => Ok(is_same),
+        Err(fault) => Err(SideFault {
             second: true,
             fault,
-        });
+        }),
     }
-    Ok(same_frames(left, right, limit))
 }

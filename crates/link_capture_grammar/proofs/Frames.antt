@@ -62,19 +62,19 @@ accepted limit c frame h =
           ]
     ]
 
+pub frame_header-more : (c d : List ℕ) → 16 ≤ length c → take 12 (drop 4 (c ++ d)) ≡ take 12 (drop 4 c)
+frame_header-more c d h = ap (take 12) (drop-append-le 4 c d (omega arith)) ∙ take-append-le 12 (drop 4 c) d (omega (arith, length-drop 4 c))
+
 frame_text-more : (c d body : List ℕ) → 16 ≤ length c → frame_text (c ++ d) body ≡ frame_text c body
 unfolding frame_text
-frame_text-more c d body h =
-    let e : drop 4 (c ++ d) ≡ drop 4 c ++ d = drop-append-le 4 c d (omega arith) in
-    let f : take 12 (drop 4 c ++ d) ≡ take 12 (drop 4 c) = take-append-le 12 (drop 4 c) d (omega (arith, length-drop 4 c)) in
-    rw (e, f)
+frame_text-more c d body h = rw (frame_header-more c d h)
 
 frame_type-more : (c d : List ℕ) → 16 ≤ length c → frame_type (c ++ d) ≡ frame_type c
 frame_type-more c d h =
     let e : drop 4 (c ++ d) ≡ drop 4 c ++ d = drop-append-le 4 c d (omega arith) in
     u16_at-drop_4 (c ++ d) ∙ ap (u16_at 0) e ∙ u16_at-append (drop 4 c) d (omega (arith, length-drop 4 c)) ∙ sym (u16_at-drop_4 c)
 
-frame_body-more : (c d : List ℕ) → 16 ≤ length c → frame_length c ≤ length c → frame_body (c ++ d) ≡ frame_body c
+pub frame_body-more : (c d : List ℕ) → 16 ≤ length c → frame_length c ≤ length c → frame_body (c ++ d) ≡ frame_body c
 frame_body-more c d h k =
     let e : drop 16 (c ++ d) ≡ drop 16 c ++ d = drop-append-le 16 c d h in
     let n : u32_at 0 (c ++ d) ≡ u32_at 0 c = u32_at-append c d (omega arith) in

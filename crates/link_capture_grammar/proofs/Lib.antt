@@ -7,3 +7,4 @@ pub mod Meanings
 pub mod Numbers
 pub mod Judging
 pub mod SameFrames
+pub mod Keeping

@@ -123,7 +123,7 @@ unfolding frame_text
 frame_text_size c body h =
     simp (length-append, length-le4, length-take, length-drop, length-replicate) (omega arith)
 
-text_length : (c body r : List ℕ) → 16 + length body < 2 ^ 32 → frame_length (frame_text c body ++ r) ≡ 16 + length body
+pub text_length : (c body r : List ℕ) → 16 + length body < 2 ^ 32 → frame_length (frame_text c body ++ r) ≡ 16 + length body
 unfolding frame_text
 text_length c body r h = ap (u32_at 0) (append_assoc (le4 (16 + length body)) _ r) ∙ u32_at-le4 (16 + length body) _ h
 

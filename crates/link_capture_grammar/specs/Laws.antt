@@ -1,5 +1,5 @@
 -- The laws of captures, as the functions of `laws` state them.
-use Rattle.std.specs.Prelude.{◌≡◌, ◌≢◌, ℕ, ◌+◌, ◌*◌, ◌%◌, ◌^◌, ◌<◌, ◌≤◌, ◌↔◌, ◌⊎◌, true, List, [], ◌++◌, length, take, drop, None, Some, Ok, Err}
+use Rattle.std.specs.Prelude.{◌≡◌, ◌≢◌, ℕ, ◌+◌, ◌*◌, ◌%◌, ◌^◌, ◌<◌, ◌≤◌, ◌↔◌, ◌⊎◌, true, false, List, [], ◌++◌, length, take, drop, None, Some, Ok, Err}
 use Rattle.netlink_packet_core_grammar.specs.Attributes.{nla_align}
 use Rattle.netlink_packet_core_grammar.specs.Frames.{IsFrame, frame_length, frame_type, frame_body, frame_text}
 use Rattle.link_capture_grammar.specs.declared.fault.FaultKind.{FaultKind}
@@ -74,27 +74,42 @@ BodiesTellMeanings = (t : ℕ) (a b x y : List ℕ) → body_text t a ≡ Ok x �
 abbrev pub SameAreLegal : Type 0
 SameAreLegal = (limit : ℕ) (a b : List ℕ) → SameCapture limit a b → IsLegal limit a × IsLegal limit b
 
--- what stands in front of a legal capture's bytes: a whole frame, whose body has a text, and a header where it is a link's, and behind it a legal capture
-pub record LegalFront (limit : ℕ) (c : List ℕ) : Type 0 where
+-- The frame in front of some bytes is legal: it is whole, its body has a text, and it has a header where it is a link's.
+pub record LegalFrame (limit : ℕ) (c : List ℕ) : Type 0 where
   pub text : List ℕ
   pub is : first_frame limit c ≡ Ok (frame_length c, text)
   pub frame : IsFrame c
   pub body : is_link_type (frame_type c) ≡ true → 16 ≤ length (frame_body c)
-  pub written : List ℕ
-  pub is_written : body_text (frame_type c) (frame_body c) ≡ Ok written
-  pub behind : IsLegal limit (drop (nla_align (frame_length c)) c)
 
--- whether legal captures mean the same is found frame by frame
+-- whether captures mean the same is found frame by frame
 pub record SamenessGoesByFrames : Type 0 where
-  pub front : (limit : ℕ) (c : List ℕ) → IsLegal limit c → 0 < length c → LegalFront limit c
-  pub more : (limit : ℕ) (a b : List ℕ) → LegalFront limit a → LegalFront limit b → SameFrame a b →
+  -- a frame that is judged so is legal
+  pub judged : (limit : ℕ) (c : List ℕ) (frame : ℕ × List ℕ) → first_frame limit c ≡ Ok frame → LegalFrame limit c
+  -- in front of a legal capture's bytes stands a legal frame, and behind it a legal capture
+  pub front : (limit : ℕ) (c : List ℕ) → IsLegal limit c → 0 < length c → LegalFrame limit c
+  pub behind : (limit : ℕ) (c : List ℕ) → IsLegal limit c → LegalFrame limit c → IsLegal limit (drop (nla_align (frame_length c)) c)
+  pub more : (limit : ℕ) (a b : List ℕ) → LegalFrame limit a → LegalFrame limit b → SameFrame a b →
       SameCapture limit (drop (nla_align (frame_length a)) a) (drop (nla_align (frame_length b)) b) ↔ SameCapture limit a b
-  -- frames of one type, flags, sequence number, port number and body do
-  pub alike : (limit : ℕ) (a b : List ℕ) → LegalFront limit a → LegalFront limit b → take 12 (drop 4 a) ≡ take 12 (drop 4 b) → frame_body a ≡ frame_body b → SameFrame a b
-  pub differs : (limit : ℕ) (a b : List ℕ) → LegalFront limit a → LegalFront limit b → SameCapture limit a b → SameFrame a b
+  -- a frame of the bytes of a legal one is legal, and means the same
+  pub equal : (limit : ℕ) (a b : List ℕ) → LegalFrame limit a → take (frame_length a) b ≡ take (frame_length a) a → LegalFrame limit b × SameFrame a b
+  pub differs : (limit : ℕ) (a b : List ℕ) → LegalFrame limit a → LegalFrame limit b → SameCapture limit a b → SameFrame a b
   pub ended : (limit : ℕ) (a b : List ℕ) → length a ≡ 0 → length b ≡ 0 → SameCapture limit a b
   pub left_longer : (limit : ℕ) (a b : List ℕ) → 0 < length a → length b ≡ 0 → SameCapture limit a b → ⊥
   pub right_longer : (limit : ℕ) (a b : List ℕ) → length a ≡ 0 → 0 < length b → SameCapture limit a b → ⊥
+
+-- a body that is its own text as long as it is legal: not a NOOP's, nor of a DONE without a code, nor a link's
+pub record IsBodyKept (t : ℕ) (b : List ℕ) : Type 0 where
+  pub no_noop : t ≢ 1
+  pub has_code : t ≡ 3 → 0 < length b
+  pub no_link : is_link_type t ≡ false
+
+-- what the text of a legal frame keeps of it
+pub record TextsKeepFrames : Type 0 where
+  -- its type, flags, sequence number and port number, the bytes 4 to 16
+  pub header : (limit : ℕ) (c : List ℕ) (frame : ℕ × List ℕ) → first_frame limit c ≡ Ok frame → take 12 (drop 4 frame.1) ≡ take 12 (drop 4 c)
+  -- and with such a body its length and its body
+  pub length : (limit : ℕ) (c : List ℕ) (frame : ℕ × List ℕ) → IsLimit limit → IsBodyKept (frame_type c) (frame_body c) → first_frame limit c ≡ Ok frame → frame_length frame.1 ≡ frame_length c
+  pub body : (limit : ℕ) (c : List ℕ) (frame : ℕ × List ℕ) → IsLimit limit → IsBodyKept (frame_type c) (frame_body c) → first_frame limit c ≡ Ok frame → frame_body frame.1 ≡ frame_body c
 
 -- a frame is judged by its own bytes
 pub record FramesStandAlone : Type 0 where

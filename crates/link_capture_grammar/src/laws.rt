@@ -4,7 +4,7 @@ ghost use Rattle.link_capture_grammar.specs.Laws.{TextsAreLegal, TextsAreNormal,
 ghost use Rattle.link_capture_grammar.specs.Laws.{JoinedTexts, PrefixFaults, PrefixTexts, TextsAreSmall, FaultsStand};
 ghost use Rattle.link_capture_grammar.specs.Laws.{BodiesAreNormal, TextsMeanTheSame, SameAreLegal};
 ghost use Rattle.link_capture_grammar.specs.Laws.{FramesStandAlone, CapturesGoByFrames};
-ghost use Rattle.link_capture_grammar.specs.Laws.{FramesAreJudged, CapturesAreCounted};
+ghost use Rattle.link_capture_grammar.specs.Laws.{FramesAreJudged, CapturesAreCounted, TextsKeepFrames};
 ghost use Rattle.link_capture_grammar.specs.Laws.{BodiesTellMeanings, TextsTellMeanings, SamenessGoesByFrames};
 
 /// The texts of any bytes are legal under the same limit.
@@ -78,6 +78,12 @@ pub fn same_bodies_have_one_text()
     ensures { BodiesTellMeanings }
 {}
 
+/// The text of a legal frame keeps its type, flags, sequence number and port number; its length and its body, too, but
+/// for a NOOP, a DONE without a code, and the messages of links.
+pub fn texts_keep_frames()
+    ensures { TextsKeepFrames }
+{}
+
 /// A frame is judged by its own bytes: one that isn't cut is judged so whatever follows, and one that is has no
 /// header, or less than the length that its header tells.
 pub fn frames_stand_alone()
@@ -102,8 +108,8 @@ pub fn captures_are_counted()
     ensures { CapturesAreCounted }
 {}
 
-/// Whether legal captures mean the same is found frame by frame: they do as far as the frames in front do, and what
-/// is behind these; where one ends, both end.
+/// Whether captures mean the same is found frame by frame: they do as far as the frames in front are legal and do, and
+/// what is behind these; where one ends, both end. Frames of the same bytes do where one is legal.
 pub fn sameness_goes_by_frames()
     ensures { SamenessGoesByFrames }
 {}

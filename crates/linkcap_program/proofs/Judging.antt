@@ -10,5 +10,5 @@ pub judged : (left right : List ℕ) (limit : ℕ) (r : Result Bool SideFault) �
 judged left right limit (Ok is_same) l s f t = (l.0, l.1, s)
 judged left right limit (Err e) l s f t = (f, t)
 
-pub compared : (first second : Option (List ℕ)) (left right : List ℕ) (limit : ℕ) (r : Result Bool SideFault) → Holds first left → Holds second right → Judges left right limit r → Compares first second limit r
-compared first second left right limit r a b j = inl (left, right, a, b, j)
+pub compared : (first second : Option (List ℕ)) (unopened failed : Type 0) (left right : List ℕ) (limit : ℕ) (r : Result Bool SideFault) → Holds first left → Holds second right → Judges left right limit r → Compares first second unopened failed limit r
+compared first second unopened failed left right limit r a b j = inl (left, right, a, b, j)

@@ -5,17 +5,21 @@ ghost use Rattle.std.specs.Process.{exit_status};
 ghost use Rattle.link_capture.specs.Commands.{status_of_same};
 ghost use Rattle.link_capture.specs.Devices.{Rises};
 ghost use Rattle.link_capture.specs.Known.{sink_writer, sink_failures};
-ghost use Rattle.linkcap_program.specs.Comparisons.{Holds, IsUnread, Compares};
+ghost use Rattle.linkcap_program.specs.Comparisons.{Fails, Holds, IsUnread, Compares};
 ghost use Rattle.linkcap_program.specs.Runs.{SameAnswer, IsTold, Tells, same_line, same_error};
 
 use super::files::FileSystem;
 use super::lines::{line, tell};
-use link_capture::{
-    CaptureFault, FaultKind, ReadSource, SideFault, WriteSink, read_all, same, status_same,
-};
+use link_capture::{CaptureFault, FaultKind, SideFault, WriteSink, read_all, same, status_same};
 use std::alloc::Global;
 use std::io::Write;
 use std::process::ExitCode;
+
+/// What is told of a file that can't be opened.
+const NOT_OPENED: CaptureFault = CaptureFault {
+    kind: FaultKind::Read,
+    offset: 0,
+};
 
 /// What is told where the answer can't be printed.
 const NOT_PRINTED: CaptureFault = CaptureFault {
@@ -23,32 +27,28 @@ const NOT_PRINTED: CaptureFault = CaptureFault {
     offset: 0,
 };
 
-/// All bytes of a file. A file that can't be opened is one whose reading failed at 0.
-fn read_file<F: FileSystem>(alloc: Global, files: &F, name: &str) -> Result<Vec<u8>, CaptureFault>
-    ensures ok { IfOk result (λ bytes. Holds (F.contents files.now name.now) bytes.items) }
-    ensures fault { IfErr result (λ fault. IsUnread (F.contents files.now name.now) fault) }
-{
-    let Ok(file) = files.open(name) else {
-        return Err(CaptureFault {
-            kind: FaultKind::Read,
-            offset: 0,
-        });
-    };
-    read_all(alloc, &mut ReadSource::new(file))
-}
-
-/// All bytes of the first or the second of two files.
+/// All bytes of the first or the second of two files. A file that can't be opened is one whose reading failed at 0.
 fn read_side<F: FileSystem>(
     alloc: Global,
-    files: &F,
+    files: &mut F,
     name: &str,
     second: bool,
 ) -> Result<Vec<u8>, SideFault>
-    ensures ok { IfOk result (λ bytes. Holds (F.contents files.now name.now) bytes.items) }
+    ensures ok { IfOk result (λ bytes. Holds (F.contents files.old name.now) bytes.items) }
+    ensures opened { IfOk result (λ _. F.failures files.new ≡ F.failures files.old) }
     ensures side { IfErr result (λ e. e.second ≡ second) }
-    ensures fault { IfErr result (λ e. IsUnread (F.contents files.now name.now) e.fault) }
+    ensures fault { IfErr result (λ e. IsUnread (F.contents files.old name.now)
+        (Rises (F.failures files.old) (F.failures files.new))
+        (Fails F.File.failures) e.fault) }
+    ensures contents { F.contents files.new ≡ F.contents files.old }
 {
-    match read_file(alloc, files, name) {
+    let Ok(mut file) = files.open(name) else {
+        return Err(SideFault {
+            second,
+            fault: NOT_OPENED,
+        });
+    };
+    match read_all(alloc, &mut file) {
         Ok(bytes) => Ok(bytes),
         Err(fault) => Err(SideFault { second, fault }),
     }
@@ -57,16 +57,18 @@ fn read_side<F: FileSystem>(
 /// Whether the captures in the files of two names mean the same under a limit. Both are read, the first one first,
 /// before one is judged.
 ///
-/// Else the first thing that went wrong: a file that couldn't be read, at the number of bytes that were, or for whose
-/// bytes memory was wanting; or the first fault of the first capture, or of the second where the first is legal.
+/// Else the first thing that went wrong: a file that couldn't be opened, at 0, or read, at the number of bytes that
+/// were, or for whose bytes memory was wanting; or the first fault of the first capture, or of the second where the
+/// first is legal.
 pub fn compare<F: FileSystem>(
     alloc: Global,
-    files: &F,
+    files: &mut F,
     first: &str,
     second: &str,
     limit: u32,
 ) -> Result<bool, SideFault>
-    ensures { Compares (F.contents files.now first.now) (F.contents files.now second.now) limit result }
+    ensures { Compares (F.contents files.old first.now) (F.contents files.old second.now)
+        (Rises (F.failures files.old) (F.failures files.new)) (Fails F.File.failures) limit result }
 {
     let left = read_side(alloc, files, first, false)?;
     let right = read_side(alloc, files, second, true)?;
@@ -113,7 +115,7 @@ fn report<W: Write, E: Write>(
 /// went wrong. The answer is the program's status.
 pub fn answer_same<F: FileSystem, W: Write, E: Write>(
     alloc: Global,
-    files: &F,
+    files: &mut F,
     sink: &mut WriteSink<W>,
     errors: &mut WriteSink<E>,
     first: &str,
@@ -121,7 +123,8 @@ pub fn answer_same<F: FileSystem, W: Write, E: Write>(
     limit: u32,
 ) -> ExitCode
     ensures { SameAnswer
-        (Compares (F.contents files.now first.now) (F.contents files.now second.now) limit)
+        (Compares (F.contents files.old first.now) (F.contents files.old second.now)
+        (Rises (F.failures files.old) (F.failures files.new)) (Fails F.File.failures) limit)
         (IsTold (W.contents (sink_writer sink.old)) (W.contents (sink_writer sink.new))
         (Rises (sink_failures sink.old) (sink_failures sink.new)))
         (Tells (E.contents (sink_writer errors.old)) (E.contents (sink_writer errors.new))

@@ -8,7 +8,7 @@ ghost use Rattle.link_capture.specs.Devices.{Rises, TellsItsEnd};
 ghost use Rattle.link_capture.specs.Known.{source_reader, source_failures, source_ends_told, sink_writer, sink_failures};
 ghost use Rattle.link_capture.specs.Outcomes.{Normalizes};
 ghost use Rattle.linkcap_program.specs.Runs.{Answers, NormAnswer, SameAnswer, UsageAnswer, IsTold, Tells};
-ghost use Rattle.linkcap_program.specs.Comparisons.{Compares};
+ghost use Rattle.linkcap_program.specs.Comparisons.{Compares, Fails};
 
 mod comparing;
 mod environment;
@@ -46,7 +46,7 @@ fn answer_usage<E: Write>(errors: &mut WriteSink<E>) -> ExitCode
 pub fn answer<F: FileSystem, R: Read, W: Write, E: Write>(
     alloc: Global,
     words: &[String],
-    files: &F,
+    files: &mut F,
     source: &mut ReadSource<R>,
     sink: &mut WriteSink<W>,
     errors: &mut WriteSink<E>,
@@ -66,7 +66,8 @@ pub fn answer<F: FileSystem, R: Read, W: Write, E: Write>(
         (Tells (E.contents (sink_writer errors.old)) (E.contents (sink_writer errors.new))
         (Rises (sink_failures errors.old) (sink_failures errors.new))) (exit_status result))
         (λ first second limit. (source.new ≡ source.old)
-        × SameAnswer (Compares (F.contents files.now first) (F.contents files.now second) limit)
+        × SameAnswer (Compares (F.contents files.old first) (F.contents files.old second)
+        (Rises (F.failures files.old) (F.failures files.new)) (Fails F.File.failures) limit)
         (IsTold (W.contents (sink_writer sink.old)) (W.contents (sink_writer sink.new))
         (Rises (sink_failures sink.old) (sink_failures sink.new)))
         (Tells (E.contents (sink_writer errors.old)) (E.contents (sink_writer errors.new))
@@ -94,7 +95,7 @@ pub fn outcome(rt: &HostRuntime) -> ExitCode {
     answer(
         rt.alloc(),
         words.as_slice(),
-        &HostFiles { rt },
+        &mut HostFiles { rt, failures: 0 },
         &mut source,
         &mut sink,
         &mut errors,

@@ -203,31 +203,42 @@ fn devices_are_followed(rt: HostRuntime) {
     }
 }
 
-/// Files by their names.
+/// Files by their names, and how often one of another name was asked for.
 #[derive(Drop)]
-struct SampleFiles;
+struct SampleFiles {
+    failures: u64,
+}
 
 impl FileSystem for SampleFiles {
-    type File = SlowReader;
+    type File = ReadSource<SlowReader>;
 
     ghost contents = { λ _ _. None };
 
-    fn open(&self, name: &str) -> Result<SlowReader, DeviceFailed> {
+    ghost failures = { λ s. s.failures };
+
+    fn open(&mut self, name: &str) -> Result<ReadSource<SlowReader>, DeviceFailed> {
         let rest: &'static [u8] = match name {
             "capture" => &CAPTURE,
             "text" => &TEXT,
             "front" => &TEXT[..48],
             "cut" => &CAPTURE[..63],
-            _ => return Err(DeviceFailed),
+            "broken" => &CAPTURE[..16],
+            _ => {
+                self.failures = self.failures.saturating_add(1);
+                return Err(DeviceFailed);
+            }
         };
-        Ok(SlowReader { rest, fails: false })
+        Ok(ReadSource::new(SlowReader {
+            rest,
+            fails: name == "broken",
+        }))
     }
 }
 
 const USAGE_LINE: &str = "usage: linkcap norm [LIMIT] or linkcap same FILE FILE [LIMIT]\n";
 
 /// Words behind the program's name, what is written of the capture and of such files, and what is told.
-const WORDS: [(&[&str], &[u8], &str); 14] = [
+const WORDS: [(&[&str], &[u8], &str); 15] = [
     (&["norm"], &TEXT, ""),
     (&["norm", "48"], &TEXT, ""),
     (&["norm", "47"], b"", "frame over the limit at 0\n"),
@@ -241,6 +252,11 @@ const WORDS: [(&[&str], &[u8], &str); 14] = [
         &["same", "cut", "missing"],
         b"",
         "second: read failed at 0\n",
+    ),
+    (
+        &["same", "broken", "missing"],
+        b"",
+        "first: read failed at 16\n",
     ),
     (&["same", "cut", "text"], b"", "first: cut frame at 48\n"),
     (&["same", "text", "cut"], b"", "second: cut frame at 48\n"),
@@ -273,7 +289,7 @@ fn words_are_followed(rt: HostRuntime) -> Result<(), Fail> {
         answer(
             rt.alloc(),
             strings.as_slice(),
-            &SampleFiles,
+            &mut SampleFiles { failures: 0 },
             &mut source,
             &mut sink,
             &mut errors,
@@ -297,7 +313,7 @@ fn an_answer_that_is_not_printed_is_told(rt: HostRuntime) {
     let mut errors = WriteSink::new(&mut told);
     answer_same(
         rt.alloc(),
-        &SampleFiles,
+        &mut SampleFiles { failures: 0 },
         &mut sink,
         &mut errors,
         "capture",

@@ -1,0 +1,10 @@
+-- What is left of both captures means the same exactly where the captures do, and the first fault is what is left's.
+use Rattle.std.proofs.Common.{length}
+use Rattle.link_capture_checks.specs.Partings.{IsAlike}
+use Rattle.link_capture_checks.proofs.sameness.parting.Given as goal
+
+abbrev pub invariant-loop-other : goal.invariant-loop-other
+invariant-loop-other l = IsAlike l.limit l.left l.right l.rest l.at
+
+abbrev pub decreases-loop-other : goal.decreases-loop-other
+decreases-loop-other l = length l.rest

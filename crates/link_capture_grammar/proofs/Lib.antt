@@ -8,3 +8,4 @@ pub mod Numbers
 pub mod Judging
 pub mod SameFrames
 pub mod Keeping
+pub mod Unlisted

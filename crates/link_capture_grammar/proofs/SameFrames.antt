@@ -17,7 +17,7 @@ use Rattle.link_capture_grammar.proofs.Normal.{ruled, texted}
 use Rattle.link_capture_grammar.proofs.Same.{not_raised}
 
 -- a link's body that has a text has a header
-link_ruled : (t : ℕ) (b x : List ℕ) → is_link_type t ≡ true → body_text t b ≡ Ok x → ruled_text link_body b ≡ Ok x
+pub link_ruled : (t : ℕ) (b x : List ℕ) → is_link_type t ≡ true → body_text t b ≡ Ok x → ruled_text link_body b ≡ Ok x
 unfolding body_text
 link_ruled t b x h g =
     let l = leb-true 16 t (and_parts (nat_le 16 t) (nat_le t 19) h).0 in

@@ -1,7 +1,9 @@
 -- The laws of captures, as the functions of `laws` state them.
 use Rattle.std.specs.Prelude.{◌≡◌, ◌≢◌, ℕ, ◌+◌, ◌*◌, ◌%◌, ◌^◌, ◌<◌, ◌≤◌, ◌↔◌, ◌⊎◌, true, false, List, [], ◌++◌, length, take, drop, None, Some, Ok, Err}
-use Rattle.netlink_packet_core_grammar.specs.Attributes.{nla_align}
+use Rattle.netlink_packet_core_grammar.specs.Attributes.{Attribute, nla_align}
 use Rattle.netlink_packet_core_grammar.specs.Frames.{IsFrame, frame_length, frame_type, frame_body, frame_text}
+use Rattle.attribute_tables_grammar.specs.Lists.{Grammar, LawfulGrammar, ListForm, any, list_rule, without_context}
+use Rattle.link_message_grammar.specs.Body.{attribute_bytes, attribute_row, family}
 use Rattle.link_capture_grammar.specs.declared.fault.FaultKind.{FaultKind}
 use Rattle.link_capture_grammar.specs.declared.fault.CaptureFault.{CaptureFault}
 use Rattle.link_capture_grammar.specs.declared.fault.FaultKind.TheVariants.{Cut, TextOverLimit}
@@ -9,6 +11,7 @@ use Rattle.link_capture_grammar.specs.Bodies.{body_text, is_link_type}
 use Rattle.link_capture_grammar.specs.Captures.{Judged, Accepted, CutInBody, faulty, tested, first_frame, first_fault, texts, raised, reach, IsLegal, IsOfFrames}
 use Rattle.link_capture_grammar.specs.Numbers.{frame_attributes, frames, attributes}
 use Rattle.link_capture_grammar.specs.Same.{same_body, SameFrame, SameCapture}
+use Rattle.link_capture_grammar.specs.Unlisted.{HoldsUnlisted}
 
 -- a limit is a number of 32 bits
 abbrev pub IsLimit : ℕ → Type 0
@@ -110,6 +113,16 @@ pub record TextsKeepFrames : Type 0 where
   -- and with such a body its length and its body
   pub length : (limit : ℕ) (c : List ℕ) (frame : ℕ × List ℕ) → IsLimit limit → IsBodyKept (frame_type c) (frame_body c) → first_frame limit c ≡ Ok frame → frame_length frame.1 ≡ frame_length c
   pub body : (limit : ℕ) (c : List ℕ) (frame : ℕ × List ℕ) → IsLimit limit → IsBodyKept (frame_type c) (frame_body c) → first_frame limit c ≡ Ok frame → frame_body frame.1 ≡ frame_body c
+
+-- what no table lists is kept as it is, with its kind, flag bits and payload
+pub record UnlistedAttributesAreKept : Type 0 where
+  -- in the text of an accepted list
+  pub of_lists : (depth : ℕ) (form : ListForm) (g : Grammar) (bytes : List ℕ) (e : Attribute) → LawfulGrammar g → (list_rule form g).accepted bytes ≡ true →
+      HoldsUnlisted depth form g bytes e → HoldsUnlisted depth form g ((list_rule form g).canonical bytes) e
+  -- and of a link's frame
+  pub of_frames : (limit : ℕ) (c : List ℕ) (frame : ℕ × List ℕ) → IsLimit limit → is_link_type (frame_type c) ≡ true → first_frame limit c ≡ Ok frame → (depth : ℕ) (e : Attribute) →
+      HoldsUnlisted depth any (without_context (attribute_row (family (frame_body c)))) (attribute_bytes (frame_body c)) e →
+      HoldsUnlisted depth any (without_context (attribute_row (family (frame_body c)))) (attribute_bytes (frame_body frame.1)) e
 
 -- a frame is judged by its own bytes
 pub record FramesStandAlone : Type 0 where

@@ -3,4 +3,5 @@ pub mod Bodies
 pub mod Captures
 pub mod Numbers
 pub mod Same
+pub mod Unlisted
 pub mod Laws

@@ -5,6 +5,7 @@ ghost use Rattle.link_capture_grammar.specs.Laws.{JoinedTexts, PrefixFaults, Pre
 ghost use Rattle.link_capture_grammar.specs.Laws.{BodiesAreNormal, TextsMeanTheSame, SameAreLegal};
 ghost use Rattle.link_capture_grammar.specs.Laws.{FramesStandAlone, CapturesGoByFrames};
 ghost use Rattle.link_capture_grammar.specs.Laws.{FramesAreJudged, CapturesAreCounted, TextsKeepFrames};
+ghost use Rattle.link_capture_grammar.specs.Laws.{UnlistedAttributesAreKept};
 ghost use Rattle.link_capture_grammar.specs.Laws.{BodiesTellMeanings, TextsTellMeanings, SamenessGoesByFrames};
 
 /// The texts of any bytes are legal under the same limit.
@@ -82,6 +83,12 @@ pub fn same_bodies_have_one_text()
 /// for a NOOP, a DONE without a code, and the messages of links.
 pub fn texts_keep_frames()
     ensures { TextsKeepFrames }
+{}
+
+/// An attribute that no table lists is kept with its kind, flag bits and payload, at any depth: one that a list keeps,
+/// or a list inside that is kept, stands in the text of the list, and of a link's frame, as it does in its bytes.
+pub fn unlisted_attributes_are_kept()
+    ensures { UnlistedAttributesAreKept }
 {}
 
 /// A frame is judged by its own bytes: one that isn't cut is judged so whatever follows, and one that is has no

@@ -1,0 +1,127 @@
+-- The text of a list holds the attributes that no table lists as the list does.
+use Rattle.std.proofs.Common.{◌≡◌, ℕ, zero, suc, true, false, List, [], ◌∷◌, ◌++◌, length, Ok, refl, sym, ap, subst, ◌∙◌, arith}
+use Rattle.std.specs.Prelude.{nat_le}
+use Rattle.std.proofs.lemmas.Bool.{and_parts}
+use Rattle.std.proofs.lemmas.List.{append-nil}
+use Rattle.netlink_packet_core_grammar.specs.Attributes.{Attribute, proper_kind, list_text}
+use Rattle.netlink_packet_core_grammar.specs.Frames.{frame_type, frame_body, frame_text}
+use Rattle.attribute_tables_grammar.specs.Lists.{Context, nothing, Row, raw_row, Grammar, LawfulGrammar, row_of, context_after, all_accepted, rewrite, rewritten, written_kind, without_context, ListForm, any, non_empty, of_kind_one, ports, first_alone, read_as, kept, is_empty_ports, if_read, list_rule}
+use Rattle.attribute_tables_grammar.specs.LookUps.{rows_rule}
+use Rattle.attribute_tables_grammar.specs.Peers.{bytes_peer}
+use Rattle.attribute_tables_grammar.specs.Rules.{Rule}
+use Rattle.attribute_tables_grammar.proofs.Attributes.{proper_kind-written}
+use Rattle.attribute_tables_grammar.proofs.Lists.{read_again}
+use Rattle.attribute_tables_grammar.proofs.Named.{next_rewritten}
+use Rattle.attribute_tables_grammar.proofs.Tables.{bytes_peer_lawful, table_lawful}
+use Rattle.link_message_grammar.specs.Body.{attribute_bytes, attribute_row, attributes_rule, family, link_body}
+use Rattle.link_message_grammar.specs.LinkMessage.{Family, link_table}
+use Rattle.link_message_grammar.proofs.Body.{WrittenHeader, written_header}
+use Rattle.link_message_grammar.proofs.Lines.{attributes-grammar}
+use Rattle.link_message_grammar.proofs.Parts.{attributes_are_looked_up, bodies_are_headers_and_attributes}
+use Rattle.link_message_grammar.proofs.Tables.{table_bounded}
+use Rattle.link_capture_grammar.specs.Bodies.{is_link_type}
+use Rattle.link_capture_grammar.specs.Captures.{first_frame}
+use Rattle.link_capture_grammar.specs.Laws.{IsLimit, UnlistedAttributesAreKept}
+use Rattle.link_capture_grammar.specs.Unlisted.{Keeps, row_there, HoldsUnlisted}
+use Rattle.link_capture_grammar.proofs.Frames.{accepted}
+use Rattle.link_capture_grammar.proofs.Normal.{ruled, text_body, texted}
+use Rattle.link_capture_grammar.proofs.SameFrames.{link_ruled}
+
+-- what becomes of an attribute that stands behind some and before others
+record Rewritten (g : Grammar) (c : Context) (before after : List Attribute) (x : Attribute) : Type 0 where
+  pub accepted : (row_of g (context_after g c before) x).rule.accepted x.payload ≡ true
+  pub is : rewritten g c (before ++ x ∷ after) ≡ rewritten g c before ++ rewrite (row_of g (context_after g c before) x) x ∷ rewritten g (g.next (context_after g c before) x) after
+  pub context : context_after g c (rewritten g c before) ≡ context_after g c before
+
+module _ (g : Grammar) (lawful : LawfulGrammar g) where
+  rewritten_there : (c : Context) (before after : List Attribute) (x : Attribute) → all_accepted g c (before ++ x ∷ after) ≡ true → Rewritten g c before after x
+  unfolding all_accepted rewritten context_after
+  rewritten_there c [] after x h = record { accepted = (and_parts ((row_of g c x).rule.accepted x.payload) _ h).0; is = refl; context = refl }
+  rewritten_there c (e ∷ before) after x h =
+      let s = and_parts ((row_of g c e).rule.accepted e.payload) _ h in
+      let r = rewritten_there (g.next c e) before after x s.1 in
+      record {
+        accepted = r.accepted;
+        is = ap (λ es. rewrite (row_of g c e) e ∷ es) r.is;
+        context = ap (λ d. context_after g d (rewritten g (g.next c e) before)) (next_rewritten g lawful c e s.0) ∙ r.context;
+      }
+
+not_empty_ports : (form : ListForm) (before after : List Attribute) (x : Attribute) → is_empty_ports form (before ++ x ∷ after) ≡ false
+not_empty_ports any before after x = refl
+not_empty_ports non_empty before after x = refl
+not_empty_ports of_kind_one before after x = refl
+not_empty_ports first_alone before after x = refl
+not_empty_ports ports [] after x = refl
+not_empty_ports ports (e ∷ before) after x = refl
+
+-- what is kept of a list stands in its text, rewritten, under the row that it has
+record Again (form : ListForm) (g : Grammar) (bytes : List ℕ) (x : Attribute) (k : Keeps form bytes x) : Type 0 where
+  pub accepted : (row_there g k).rule.accepted x.payload ≡ true
+  pub keeps : Keeps form ((list_rule form g).canonical bytes) (rewrite (row_there g k) x)
+  pub row : row_there g keeps ≡ row_there g k
+
+again : (form : ListForm) (g : Grammar) (bytes : List ℕ) (x : Attribute) (k : Keeps form bytes x) → LawfulGrammar g → (list_rule form g).accepted bytes ≡ true → Again form g bytes x k
+again form g bytes x k lawful a =
+    let all : all_accepted g nothing (kept form k.read) ≡ true = sym (ap (if_read false (λ es. all_accepted g nothing (kept form es))) k.is_read) ∙ a in
+    let r = rewritten_there g lawful nothing k.before k.after x (subst (λ es. all_accepted g nothing es ≡ true) k.is_kept all) in
+    let text : (list_rule form g).canonical bytes ≡ list_text (rewritten g nothing (kept form k.read)) = ap (if_read [] (λ es. list_text (rewritten g nothing (kept form es)))) k.is_read in
+    let s = read_again g form nothing bytes k.read k.is_read (ap (is_empty_ports form) k.is_kept ∙ not_empty_ports form k.before k.after x) in
+    record {
+      accepted = r.accepted;
+      keeps = record {
+        read = rewritten g nothing (kept form k.read);
+        is_read = ap (read_as form) text ∙ s.0;
+        before = rewritten g nothing k.before;
+        after = rewritten g (g.next (context_after g nothing k.before) x) k.after;
+        is_kept = s.1 ∙ ap (rewritten g nothing) k.is_kept ∙ r.is;
+      };
+      row = ap (λ d. g.row d (proper_kind (written_kind (row_there g k) x.kind))) r.context ∙ ap (g.row (context_after g nothing k.before)) (proper_kind-written (row_there g k) x.kind);
+    }
+
+pub unlisted_again : (depth : ℕ) (form : ListForm) (g : Grammar) (bytes : List ℕ) (e : Attribute) → LawfulGrammar g → (list_rule form g).accepted bytes ≡ true → HoldsUnlisted depth form g bytes e → HoldsUnlisted depth form g ((list_rule form g).canonical bytes) e
+unlisted_again zero form g bytes e lawful a w =
+    let k = w.0 in
+    let n = again form g bytes e k lawful a in
+    let itself : rewrite (row_there g k) e ≡ e = ap (λ r. rewrite r e) w.1 in
+    subst (λ x. (m : Keeps form ((list_rule form g).canonical bytes) x) × (row_there g m ≡ raw_row)) itself (n.keeps, n.row ∙ w.1)
+unlisted_again (suc depth) form g bytes e lawful a w =
+    let outer = w.0 in
+    let k = w.1 in
+    let inner = w.2 in
+    let h = w.3 in
+    let is = w.5 in
+    let n = again form g bytes outer k lawful a in
+    let accepted : (list_rule inner h).accepted outer.payload ≡ true = sym (ap (λ (r : Rule). r.accepted outer.payload) is) ∙ n.accepted in
+    let deeper = unlisted_again depth inner h outer.payload e w.4 accepted w.6 in
+    let payload : (list_rule inner h).canonical outer.payload ≡ (row_there g k).rule.canonical outer.payload = sym (ap (λ (r : Rule). r.canonical outer.payload) is) in
+    (rewrite (row_there g k) outer, n.keeps, inner, h, w.4, ap (λ (r : Row). r.rule) n.row ∙ is, subst (λ p. HoldsUnlisted depth inner h p e) payload deeper)
+
+-- ---- of frames
+
+rows_lawful : (f : Family) → LawfulGrammar (without_context (attribute_row f))
+rows_lawful f = subst LawfulGrammar (attributes-grammar f) (table_lawful bytes_peer bytes_peer_lawful (link_table f) (table_bounded f))
+
+attributes_again : (f : Family) (r : Rule) → r ≡ rows_rule any (attribute_row f) → (b : List ℕ) (depth : ℕ) (e : Attribute) → r.accepted b ≡ true → HoldsUnlisted depth any (without_context (attribute_row f)) b e → HoldsUnlisted depth any (without_context (attribute_row f)) (r.canonical b) e
+unfolding rows_rule
+attributes_again f r h b depth e a w =
+    subst (λ (q : Rule). HoldsUnlisted depth any (without_context (attribute_row f)) (q.canonical b) e) (sym h)
+    (unlisted_again depth any (without_context (attribute_row f)) b e (rows_lawful f) (sym (ap (λ (q : Rule). q.accepted b) h) ∙ a) w)
+
+of_frames : (limit : ℕ) (c : List ℕ) (frame : ℕ × List ℕ) → IsLimit limit → is_link_type (frame_type c) ≡ true → first_frame limit c ≡ Ok frame → (depth : ℕ) (e : Attribute) →
+    HoldsUnlisted depth any (without_context (attribute_row (family (frame_body c)))) (attribute_bytes (frame_body c)) e →
+    HoldsUnlisted depth any (without_context (attribute_row (family (frame_body c)))) (attribute_bytes (frame_body frame.1)) e
+of_frames limit c frame l link h depth e w =
+    let b = frame_body c in
+    let t = texted limit c frame h in
+    let k = ruled link_body b t.body (link_ruled (frame_type c) b t.body link t.body_is) in
+    let p = bodies_are_headers_and_attributes b in
+    let r = attributes_rule (family b) in
+    let s = and_parts (nat_le 16 (length b)) (r.accepted (attribute_bytes b)) (sym p.accepted ∙ k.accepted) in
+    let header : WrittenHeader b = written_header b s.0 in
+    let body : frame_body frame.1 ≡ t.body = ap frame_body (t.text_is ∙ sym (append-nil (frame_text c t.body))) ∙ text_body c t.body [] (accepted limit c frame h).header (omega (arith, t.fits, l)) in
+    let text : attribute_bytes (frame_body frame.1) ≡ r.canonical (attribute_bytes b) = ap attribute_bytes (body ∙ sym k.is ∙ p.canonical) ∙ header.rest (r.canonical (attribute_bytes b)) in
+    subst (λ x. HoldsUnlisted depth any (without_context (attribute_row (family b))) x e) (sym text)
+    (attributes_again (family b) r (attributes_are_looked_up (family b)) (attribute_bytes b) depth e s.1 w)
+
+pub unlisted_attributes_are_kept : UnlistedAttributesAreKept
+unlisted_attributes_are_kept = record { of_lists = unlisted_again; of_frames = of_frames }

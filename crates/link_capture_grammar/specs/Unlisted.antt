@@ -1,0 +1,23 @@
+-- Attributes that no table lists, at any depth of a list.
+use Rattle.std.specs.Prelude.{◌≡◌, ℕ, zero, suc, List, ◌∷◌, ◌++◌, Some}
+use Rattle.netlink_packet_core_grammar.specs.Attributes.{Attribute}
+use Rattle.attribute_tables_grammar.specs.Lists.{nothing, Row, raw_row, Grammar, LawfulGrammar, row_of, context_after, ListForm, read_as, kept, list_rule}
+
+-- among the attributes that a list keeps, this one stands behind some and before others
+pub record Keeps (form : ListForm) (bytes : List ℕ) (e : Attribute) : Type 0 where
+  pub read : List Attribute
+  pub is_read : read_as form bytes ≡ Some read
+  pub before : List Attribute
+  pub after : List Attribute
+  pub is_kept : kept form read ≡ before ++ e ∷ after
+
+-- the row of such an attribute, in the context that those before it leave
+abbrev pub row_there : {form : ListForm} {bytes : List ℕ} {e : Attribute} → Grammar → Keeps form bytes e → Row
+row_there {e = e} g k = row_of g (context_after g nothing k.before) e
+
+-- An attribute that no table lists is kept by a list, or by one that is so many lists further inside.
+abbrev pub HoldsUnlisted : ℕ → ListForm → Grammar → List ℕ → Attribute → Type 0
+HoldsUnlisted zero form g bytes e = (k : Keeps form bytes e) × (row_there g k ≡ raw_row)
+HoldsUnlisted (suc depth) form g bytes e =
+    (outer : Attribute) × (k : Keeps form bytes outer) × (inner : ListForm) × (h : Grammar) × LawfulGrammar h × ((row_there g k).rule ≡ list_rule inner h)
+    × HoldsUnlisted depth inner h outer.payload e

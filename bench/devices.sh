@@ -95,6 +95,34 @@ esac
 status=$?
 wants "a full device for what is told" 2 "" 0
 
+# Closed ones.
+: > "$work/text"
+"$program" norm <&- > "$work/text" 2> "$work/told"
+status=$?
+wants "a closed input" 2 "read failed at 0" 0
+: > "$work/text"
+"$program" norm < "$request" >&- 2> "$work/told"
+status=$?
+wants "a closed output" 2 "write failed at 0" 0
+: > "$work/text"
+: > "$work/told"
+"$program" norm 47 < "$request" > "$work/text" 2>&-
+status=$?
+wants "a closed standard error" 2 "" 0
+: > "$work/text"
+"$program" same "$request" "$request" <&- > "$work/text" 2> "$work/told"
+status=$?
+wants "a closed input of same" 0 "" 5
+: > "$work/text"
+"$program" same "$request" "$request" >&- 2> "$work/told"
+status=$?
+wants "a closed output of same" 2 "write failed at 0" 0
+: > "$work/text"
+: > "$work/told"
+"$program" same "$request" "$work/missing" > "$work/text" 2>&-
+status=$?
+wants "a closed standard error of same" 2 "" 0
+
 # Two files.
 "$program" norm < "$request" > "$work/normal"
 run same "$request" "$work/normal"

@@ -108,13 +108,3 @@ fn other_lists_are_refused(rt: HostRuntime) -> Result<(), Fail> {
     }
     Ok(())
 }
-
-/// Passes with each allocation refused in turn, too.
-#[test]
-fn want_of_memory_is_told_as_such(rt: HostRuntime) -> Result<(), Fail> {
-    match LinkInfo::parse_list(rt.alloc(), XFRM) {
-        Ok(list) => assert_eq!(rt; list.len(), 2),
-        Err(error) => assert!(rt; error.is_memory()),
-    }
-    Ok(())
-}

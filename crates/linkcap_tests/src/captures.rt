@@ -1,6 +1,6 @@
 //! Captures, and what their normalisation gives.
 
-use super::pieces::Pieces;
+use super::devices::{Giver, Plan};
 use hex::{decode, encode};
 use link_capture::{CaptureFault, ReadSource, VecSink, normalize, normalize_bytes};
 use std::alloc::Global;
@@ -31,9 +31,9 @@ fn normalized_in_pieces(
     size: usize,
 ) -> Result<String, Fail> {
     let bytes = decode(alloc, capture).map_err(|_| Fail::from("not hex"))?;
-    let mut source = ReadSource::new(Pieces {
+    let mut source = ReadSource::new(Giver {
         rest: bytes.as_slice(),
-        size,
+        plan: Plan::steady(size),
     });
     let mut sink = VecSink::new(alloc);
     let outcome = normalize(alloc, &mut source, &mut sink, limit.max(16));

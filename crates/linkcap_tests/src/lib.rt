@@ -6,16 +6,16 @@ mod captures;
 #[cfg(test)]
 mod core_examples;
 #[cfg(test)]
+mod devices;
+#[cfg(test)]
 mod fault_texts;
 #[cfg(test)]
-mod memory;
-#[cfg(test)]
 mod messages;
-#[cfg(test)]
-mod pieces;
 #[cfg(test)]
 mod program;
 #[cfg(test)]
 mod program_words;
 #[cfg(test)]
 mod readers;
+#[cfg(test)]
+mod runs;

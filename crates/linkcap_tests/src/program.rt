@@ -1,207 +1,13 @@
-//! What no clause says: that a run succeeds where no device fails, and tells a failure where one does; the words told,
-//! in full.
+//! The program's words, and what it tells, in full.
 
 ghost use Rattle.std.specs.Prelude.{None};
 
-use link_capture::{CaptureFault, DeviceFailed, FaultKind, ReadSource, WriteSink};
-use linkcap_program::{FileSystem, answer, answer_same, norm};
+use super::devices::{Giver, Plan, Taker};
+use super::runs::{CAPTURE, TEXT};
+use link_capture::{DeviceFailed, ReadSource, WriteSink};
+use linkcap_program::{FileSystem, answer, answer_same};
 use std::alloc::Global;
-use std::io::{self, ErrorKind, Read, Write};
 use std::test::Fail;
-
-/// A request for the link `lo` whose name has a flag bit and a last padding byte that isn't zero, and a DONE message
-/// without a body.
-const CAPTURE: [u8; 64] = [
-    48, 0, 0, 0, 18, 0, 1, 3, 52, 14, 249, 90, 0, 0, 0, 0, 0, 0, 0, 0, 0, 0, 0, 0, 0, 0, 0, 0, 0,
-    0, 0, 0, 8, 0, 29, 0, 9, 0, 0, 0, 7, 0, 3, 128, 108, 111, 0, 255, 16, 0, 0, 0, 3, 0, 2, 0, 1,
-    0, 0, 0, 0, 0, 0, 0,
-];
-
-/// Its normal text: a clean name, and a code of 0.
-const TEXT: [u8; 68] = [
-    48, 0, 0, 0, 18, 0, 1, 3, 52, 14, 249, 90, 0, 0, 0, 0, 0, 0, 0, 0, 0, 0, 0, 0, 0, 0, 0, 0, 0,
-    0, 0, 0, 8, 0, 29, 0, 9, 0, 0, 0, 7, 0, 3, 0, 108, 111, 0, 0, 20, 0, 0, 0, 3, 0, 2, 0, 1, 0, 0,
-    0, 0, 0, 0, 0, 0, 0, 0, 0,
-];
-
-/// Gives one byte at a time, and then ends or fails.
-#[derive(Drop)]
-struct SlowReader {
-    rest: &'static [u8],
-    fails: bool,
-}
-
-impl Read for SlowReader {
-    fn read(&mut self, buf: &mut [u8]) -> io::Result<usize> {
-        if self.rest.is_empty() && self.fails {
-            return Err(io::Error::from(ErrorKind::BrokenPipe));
-        }
-        if self.rest.is_empty() || buf.is_empty() {
-            return Ok(0);
-        }
-        buf[0] = self.rest[0];
-        self.rest = &self.rest[1..];
-        Ok(1)
-    }
-}
-
-/// Takes at most three bytes at a time while there is room, and then takes none or fails.
-#[derive(Drop)]
-struct SmallWriter {
-    taken: Vec<u8>,
-    room: usize,
-    fails: bool,
-}
-
-impl Write for SmallWriter {
-    fn write(&mut self, buf: &[u8]) -> io::Result<usize> {
-        let count = buf.len().min(self.room).min(3);
-        if self.room == 0 && self.fails {
-            return Err(io::Error::from(ErrorKind::BrokenPipe));
-        }
-        if self.taken.extend_from_slice(&buf[..count]).is_err() {
-            return Err(io::Error::from(ErrorKind::OutOfMemory));
-        }
-        self.room -= count;
-        Ok(count)
-    }
-
-    fn flush(&mut self) -> io::Result<()> {
-        Ok(())
-    }
-}
-
-/// A run over such devices: how many bytes of the capture the reader has, how many the writer has room for, and what
-/// is wanted.
-struct Case {
-    name: &'static str,
-    given: usize,
-    read_fails: bool,
-    room: usize,
-    write_fails: bool,
-    outcome: Result<(), CaptureFault>,
-    written: usize,
-}
-
-const CASES: [Case; 8] = [
-    Case {
-        name: "pieces are read and written",
-        given: 64,
-        read_fails: false,
-        room: 100,
-        write_fails: true,
-        outcome: Ok(()),
-        written: 68,
-    },
-    Case {
-        name: "a failed read is told at the bytes read, and the texts before it are written",
-        given: 50,
-        read_fails: true,
-        room: 100,
-        write_fails: false,
-        outcome: Err(CaptureFault {
-            kind: FaultKind::Read,
-            offset: 50,
-        }),
-        written: 48,
-    },
-    Case {
-        name: "a read that fails inside the first message leaves nothing written",
-        given: 30,
-        read_fails: true,
-        room: 100,
-        write_fails: false,
-        outcome: Err(CaptureFault {
-            kind: FaultKind::Read,
-            offset: 30,
-        }),
-        written: 0,
-    },
-    Case {
-        name: "a write that fails at once is told at 0",
-        given: 64,
-        read_fails: false,
-        room: 0,
-        write_fails: true,
-        outcome: Err(CaptureFault {
-            kind: FaultKind::Write,
-            offset: 0,
-        }),
-        written: 0,
-    },
-    Case {
-        name: "a failed write is told at the bytes taken",
-        given: 64,
-        read_fails: false,
-        room: 20,
-        write_fails: true,
-        outcome: Err(CaptureFault {
-            kind: FaultKind::Write,
-            offset: 20,
-        }),
-        written: 20,
-    },
-    Case {
-        name: "a write that takes nothing has failed",
-        given: 64,
-        read_fails: false,
-        room: 67,
-        write_fails: false,
-        outcome: Err(CaptureFault {
-            kind: FaultKind::Write,
-            offset: 67,
-        }),
-        written: 67,
-    },
-    Case {
-        name: "texts before a fault are written",
-        given: 63,
-        read_fails: false,
-        room: 100,
-        write_fails: false,
-        outcome: Err(CaptureFault {
-            kind: FaultKind::Cut,
-            offset: 48,
-        }),
-        written: 48,
-    },
-    Case {
-        name: "a failed write is told in place of another fault",
-        given: 63,
-        read_fails: false,
-        room: 47,
-        write_fails: false,
-        outcome: Err(CaptureFault {
-            kind: FaultKind::Write,
-            offset: 47,
-        }),
-        written: 47,
-    },
-];
-
-#[test]
-fn devices_are_followed(rt: HostRuntime) {
-    for case in &CASES {
-        let mut source = ReadSource::new(SlowReader {
-            rest: &CAPTURE[..case.given.min(64)],
-            fails: case.read_fails,
-        });
-        let mut writer = SmallWriter {
-            taken: Vec::new(rt.alloc()),
-            room: case.room,
-            fails: case.write_fails,
-        };
-        let mut sink = WriteSink::new(&mut writer);
-        let outcome = norm(rt.alloc(), &mut source, &mut sink, 1000);
-        assert_eq!(rt; outcome, case.outcome, "{}", case.name);
-        assert_eq!(rt;
-            writer.taken.as_slice(),
-            &TEXT[..case.written.min(68)],
-            "{}",
-            case.name
-        );
-    }
-}
 
 /// Files by their names, and how often one of another name was asked for.
 #[derive(Drop)]
@@ -210,13 +16,13 @@ struct SampleFiles {
 }
 
 impl FileSystem for SampleFiles {
-    type File = ReadSource<SlowReader>;
+    type File = ReadSource<Giver<'static>>;
 
     ghost contents = { λ _ _. None };
 
     ghost failures = { λ s. s.failures };
 
-    fn open(&mut self, name: &str) -> Result<ReadSource<SlowReader>, DeviceFailed> {
+    fn open(&mut self, name: &str) -> Result<ReadSource<Giver<'static>>, DeviceFailed> {
         let rest: &'static [u8] = match name {
             "capture" => &CAPTURE,
             "text" => &TEXT,
@@ -228,10 +34,12 @@ impl FileSystem for SampleFiles {
                 return Err(DeviceFailed);
             }
         };
-        Ok(ReadSource::new(SlowReader {
-            rest,
+        let plan = Plan {
+            size: 1,
+            calls: rest.len(),
             fails: name == "broken",
-        }))
+        };
+        Ok(ReadSource::new(Giver { rest, plan }))
     }
 }
 
@@ -303,10 +111,13 @@ fn words_are_followed(rt: HostRuntime) -> Result<(), Fail> {
 /// An answer that the writer takes but in part.
 #[test]
 fn an_answer_that_is_not_printed_is_told(rt: HostRuntime) {
-    let mut writer = SmallWriter {
+    let mut writer = Taker {
         taken: Vec::new(rt.alloc()),
-        room: 4,
-        fails: true,
+        plan: Plan {
+            size: 2,
+            calls: 2,
+            fails: true,
+        },
     };
     let mut sink = WriteSink::new(&mut writer);
     let mut told = Vec::new(rt.alloc());

@@ -281,7 +281,17 @@ fn frames_are_refused(rt: HostRuntime) -> Result<(), Fail> {
     let cut_body: &[u8] = &[17, 0, 0, 0, 20, 0, 0, 0, 0, 0, 0, 0, 0, 0, 0, 0];
     let short_done: &[u8] = &[18, 0, 0, 0, 3, 0, 0, 0, 0, 0, 0, 0, 0, 0, 0, 0, 0, 0];
     let short_error: &[u8] = &[19, 0, 0, 0, 2, 0, 0, 0, 0, 0, 0, 0, 0, 0, 0, 0, 0, 0, 0];
-    for bytes in [cut_header, short_length, cut_body, short_done, short_error] {
+    let no_length: &[u8] = &[0, 0, 0, 0, 20, 0, 0, 0, 0, 0, 0, 0, 0, 0, 0, 0];
+    let longest: &[u8] = &[255, 255, 255, 255, 20, 0, 0, 0, 0, 0, 0, 0, 0, 0, 0, 0];
+    for bytes in [
+        cut_header,
+        short_length,
+        cut_body,
+        short_done,
+        short_error,
+        no_length,
+        longest,
+    ] {
         assert!(rt; is_refused(rt.alloc(), bytes));
     }
     Ok(())

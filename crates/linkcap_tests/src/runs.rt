@@ -1,0 +1,313 @@
+//! Runs of `norm` between devices. No clause says that a run succeeds where no device fails, tells a failure where one
+//! does, and then neither reads nor writes.
+
+use super::devices::{Giver, Plan, Taker};
+use link_capture::{CaptureFault, FaultKind, ReadSource, WriteSink, read_all};
+use linkcap_program::norm;
+use std::alloc::Global;
+use std::test::Fail;
+
+/// A request for the link `lo` whose name has a flag bit and a last padding byte that isn't zero, and a DONE message
+/// without a body.
+pub(crate) const CAPTURE: [u8; 64] = [
+    48, 0, 0, 0, 18, 0, 1, 3, 52, 14, 249, 90, 0, 0, 0, 0, 0, 0, 0, 0, 0, 0, 0, 0, 0, 0, 0, 0, 0,
+    0, 0, 0, 8, 0, 29, 0, 9, 0, 0, 0, 7, 0, 3, 128, 108, 111, 0, 255, 16, 0, 0, 0, 3, 0, 2, 0, 1,
+    0, 0, 0, 0, 0, 0, 0,
+];
+
+/// Its normal text: a clean name, and a code of 0.
+pub(crate) const TEXT: [u8; 68] = [
+    48, 0, 0, 0, 18, 0, 1, 3, 52, 14, 249, 90, 0, 0, 0, 0, 0, 0, 0, 0, 0, 0, 0, 0, 0, 0, 0, 0, 0,
+    0, 0, 0, 8, 0, 29, 0, 9, 0, 0, 0, 7, 0, 3, 0, 108, 111, 0, 0, 20, 0, 0, 0, 3, 0, 2, 0, 1, 0, 0,
+    0, 0, 0, 0, 0, 0, 0, 0, 0,
+];
+
+/// The same request in its normal text, and the first bytes of another.
+const BEGUN: [u8; 58] = [
+    48, 0, 0, 0, 18, 0, 1, 3, 52, 14, 249, 90, 0, 0, 0, 0, 0, 0, 0, 0, 0, 0, 0, 0, 0, 0, 0, 0, 0,
+    0, 0, 0, 8, 0, 29, 0, 9, 0, 0, 0, 7, 0, 3, 0, 108, 111, 0, 0, 48, 0, 0, 0, 18, 0, 1, 3, 52, 14,
+];
+
+/// A DONE message without a body, and a length under 16.
+const SHORT: [u8; 32] = [
+    16, 0, 0, 0, 3, 0, 2, 0, 1, 0, 0, 0, 0, 0, 0, 0, 8, 0, 0, 0, 3, 0, 0, 0, 0, 0, 0, 0, 0, 0, 0, 0,
+];
+
+/// The text of that message.
+const SHORT_TEXT: [u8; 20] = [20, 0, 0, 0, 3, 0, 2, 0, 1, 0, 0, 0, 0, 0, 0, 0, 0, 0, 0, 0];
+
+/// What came of a run: its outcome, what was written, and how many bytes of the capture weren't read.
+#[derive(Drop)]
+struct Run {
+    outcome: Result<(), CaptureFault>,
+    taken: Vec<u8>,
+    unread: usize,
+}
+
+/// A run of `norm` under the limit 1000.
+fn norm_between(alloc: Global, capture: &[u8], reads: Plan, writes: Plan) -> Run {
+    let mut reader = Giver {
+        rest: capture,
+        plan: reads,
+    };
+    let mut writer = Taker {
+        taken: Vec::new(alloc),
+        plan: writes,
+    };
+    let mut source = ReadSource::new(&mut reader);
+    let mut sink = WriteSink::new(&mut writer);
+    let outcome = norm(alloc, &mut source, &mut sink, 1000);
+    let Taker { taken, .. } = writer;
+    Run {
+        outcome,
+        taken,
+        unread: reader.rest.len(),
+    }
+}
+
+/// A run, and what is wanted of it: the display of its fault, if there is one, and the bytes written.
+struct Case {
+    name: &'static str,
+    capture: &'static [u8],
+    reads: Plan,
+    writes: Plan,
+    answer: &'static str,
+    written: &'static [u8],
+}
+
+const STEADY: Plan = Plan {
+    size: 100,
+    calls: 1000,
+    fails: false,
+};
+
+const CASES: [Case; 9] = [
+    Case {
+        name: "few bytes a call",
+        capture: &TEXT,
+        reads: STEADY,
+        writes: Plan { size: 5, ..STEADY },
+        answer: "",
+        written: &TEXT,
+    },
+    Case {
+        name: "a write that fails is told at the bytes taken",
+        capture: &TEXT,
+        reads: STEADY,
+        writes: Plan {
+            size: 5,
+            calls: 4,
+            fails: true,
+        },
+        answer: "write failed at 20",
+        written: b"\x30\0\0\0\x12\0\x01\x03\x34\x0e\xf9\x5a\0\0\0\0\0\0\0\0",
+    },
+    Case {
+        name: "a write that takes nothing has failed",
+        capture: &TEXT,
+        reads: STEADY,
+        writes: Plan {
+            size: 5,
+            calls: 4,
+            fails: false,
+        },
+        answer: "write failed at 20",
+        written: b"\x30\0\0\0\x12\0\x01\x03\x34\x0e\xf9\x5a\0\0\0\0\0\0\0\0",
+    },
+    Case {
+        name: "a write that fails at once is told at 0",
+        capture: &SHORT,
+        reads: STEADY,
+        writes: Plan {
+            size: 5,
+            calls: 0,
+            fails: true,
+        },
+        answer: "write failed at 0",
+        written: b"",
+    },
+    Case {
+        name: "a failed write is told in place of another fault",
+        capture: &SHORT,
+        reads: STEADY,
+        writes: Plan {
+            size: 19,
+            calls: 1,
+            fails: true,
+        },
+        answer: "write failed at 19",
+        written: b"\x14\0\0\0\x03\0\x02\0\x01\0\0\0\0\0\0\0\0\0\0",
+    },
+    Case {
+        name: "texts before a fault are written",
+        capture: &SHORT,
+        reads: STEADY,
+        writes: STEADY,
+        answer: "length under 16 at 16",
+        written: &SHORT_TEXT,
+    },
+    Case {
+        name: "a read that fails inside the first message leaves nothing written",
+        capture: &TEXT,
+        reads: Plan {
+            size: 30,
+            calls: 1,
+            fails: true,
+        },
+        writes: STEADY,
+        answer: "read failed at 30",
+        written: b"",
+    },
+    Case {
+        name: "texts before a failed read are written",
+        capture: &BEGUN,
+        reads: Plan {
+            size: 58,
+            calls: 1,
+            fails: true,
+        },
+        writes: STEADY,
+        answer: "read failed at 58",
+        written: b"\x30\0\0\0\x12\0\x01\x03\x34\x0e\xf9\x5a\0\0\0\0\0\0\0\0\0\0\0\0\0\0\0\0\0\0\0\0\
+            \x08\0\x1d\0\x09\0\0\0\x07\0\x03\0lo\0\0",
+    },
+    Case {
+        name: "a failed write comes before the next read",
+        capture: &BEGUN,
+        reads: Plan {
+            size: 58,
+            calls: 1,
+            fails: true,
+        },
+        writes: Plan {
+            size: 3,
+            calls: 2,
+            fails: true,
+        },
+        answer: "write failed at 6",
+        written: b"\x30\0\0\0\x12\0",
+    },
+];
+
+#[test]
+fn devices_are_followed(rt: HostRuntime) -> Result<(), Fail> {
+    for case in &CASES {
+        let run = norm_between(rt.alloc(), case.capture, case.reads, case.writes);
+        let answer = match run.outcome {
+            Ok(()) => String::new(rt.alloc()),
+            Err(fault) => format!(in rt.alloc(); "{fault}")?,
+        };
+        assert_eq!(rt; answer.as_str(), case.answer, "{}", case.name);
+        assert_eq!(rt; run.taken.as_slice(), case.written, "{}", case.name);
+    }
+    Ok(())
+}
+
+/// However the bytes are cut, by reads or by writes.
+#[test]
+fn pieces_make_no_difference(rt: HostRuntime) {
+    let under_16 = Err(CaptureFault {
+        kind: FaultKind::ShortLength,
+        offset: 16,
+    });
+    let cases = [
+        (CAPTURE.as_slice(), Ok(()), TEXT.as_slice()),
+        (SHORT.as_slice(), under_16, SHORT_TEXT.as_slice()),
+    ];
+    for (capture, outcome, text) in cases {
+        for read in 1..10usize {
+            for written in 1..10usize {
+                let run = norm_between(
+                    rt.alloc(),
+                    capture,
+                    Plan::steady(read),
+                    Plan::steady(written),
+                );
+                assert!(rt;
+                    run.outcome == outcome && run.taken.as_slice() == text,
+                    "reads of {read} bytes, writes of {written}"
+                );
+            }
+        }
+    }
+}
+
+/// What a run answers where its source fails, or tells its end, behind so many bytes of the capture.
+fn answer_behind(read: usize, fails: bool) -> Result<(), CaptureFault> {
+    let (kind, offset) = match read {
+        _ if fails => (FaultKind::Read, read),
+        0 | 48 | 64 => return Ok(()),
+        1..=47 => (FaultKind::Cut, 0),
+        _ => (FaultKind::Cut, 48),
+    };
+    Err(CaptureFault {
+        kind,
+        offset: offset as u64,
+    })
+}
+
+/// The texts of the frames that lie in so many bytes of the capture.
+fn text_of(read: usize) -> &'static [u8] {
+    match read {
+        0..=47 => b"",
+        48..=63 => &TEXT[..48],
+        _ => &TEXT,
+    }
+}
+
+/// The source fails or tells its end at each call in turn, and would go on after it.
+#[test]
+fn a_run_ends_with_its_source(rt: HostRuntime) {
+    for size in 1..10usize {
+        for calls in 0..65usize {
+            for fails in [true, false] {
+                let read = size.saturating_mul(calls).min(64);
+                // The call behind the last byte may be another one, which tells the end.
+                let fails_there = fails && size.saturating_mul(calls.saturating_sub(1)) < 64;
+                let plan = Plan { size, calls, fails };
+                let run = norm_between(rt.alloc(), &CAPTURE, plan, Plan::steady(100));
+                assert!(rt;
+                    run.outcome == answer_behind(read, fails_there)
+                        && run.taken.as_slice() == text_of(read)
+                        && run.unread == 64 - read,
+                    "{calls} reads of {size} bytes"
+                );
+                let mut source = ReadSource::new(Giver {
+                    rest: &CAPTURE,
+                    plan,
+                });
+                let is_wanted = match read_all(rt.alloc(), &mut source) {
+                    Ok(bytes) => !fails_there && bytes.as_slice() == &CAPTURE[..read],
+                    fault => fault.err() == answer_behind(read, fails_there).err(),
+                };
+                assert!(rt; is_wanted, "all of {calls} reads of {size} bytes");
+            }
+        }
+    }
+}
+
+/// The sink fails or takes nothing at each call in turn, and would go on after it.
+#[test]
+fn a_run_ends_with_its_sink(rt: HostRuntime) {
+    for size in 1..10usize {
+        for calls in 0..69usize {
+            for fails in [true, false] {
+                let taken = size.saturating_mul(calls).min(68);
+                let outcome = if taken < 68 {
+                    Err(CaptureFault {
+                        kind: FaultKind::Write,
+                        offset: taken as u64,
+                    })
+                } else {
+                    Ok(())
+                };
+                let plan = Plan { size, calls, fails };
+                let run = norm_between(rt.alloc(), &CAPTURE, Plan::steady(100), plan);
+                assert!(rt;
+                    run.outcome == outcome && run.taken.as_slice() == &TEXT[..taken],
+                    "{calls} writes of {size} bytes"
+                );
+            }
+        }
+    }
+}

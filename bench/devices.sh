@@ -159,14 +159,21 @@ case $status:$(cat "$work/told") in
     *) echo "WRONG   a file without an end: status $status, '$(cat "$work/told")'"; failed=1 ;;
 esac
 
+{ sleep 0.2; "$program" same "$request" "$request" 2> "$work/told"; echo $? > "$work/status"; } | true
+: > "$work/text"
+status=$(cat "$work/status")
+wants "a reader of an answer that has gone" 2 "write failed at 0" 0
+
 # Memory.
 claimed 100 > "$work/claimed"
+run same "$work/claimed" "$request" 4294967295
+wants "a claimed frame of 4 GiB in a file" 2 "first: cut frame at 0" 0
 : > "$work/text"
 (ulimit -v 65536 && exec "$program" norm 4294967295) < "$work/claimed" > "$work/text" 2> "$work/told"
 status=$?
 wants "a claimed frame of 4 GiB takes what has come" 2 "cut frame at 0" 0
 : > "$work/text"
-claimed 300000000 | (ulimit -v 65536 && exec "$program" norm 4294967295) > "$work/text" 2> "$work/told"
+claimed 300000000 2> /dev/null | (ulimit -v 65536 && exec "$program" norm 4294967295) > "$work/text" 2> "$work/told"
 status=$?
 wants "a frame that has no room" 2 "no memory at 0" 0
 exit $failed

@@ -10,8 +10,8 @@ Captures come in groups of siblings under one limit: mutations of one sample or 
 - its normal text is legal, its own normal text, as long as told, and at most 77 times as long as the capture;
 - it means the same as its text, and as its neighbour exactly where their texts are equal; a pair with a fault has the
   first one of the first capture, else of the second;
-- linkcap itself, on every thousandth, gives that text, fault and status, and takes no more memory than the longest
-  frame wants.
+- linkcap itself, on every thousandth, gives that text, fault and status, with no more addresses than 32 MB and 100
+  times the longest frame.
 
 It prints counts, and each capture that breaks a law; the status is 1 where one does.
 """
@@ -19,9 +19,9 @@ import collections
 import multiprocessing
 import os
 import random
+import resource
 import subprocess
 import sys
-import tempfile
 
 TOP = os.path.join(os.path.dirname(os.path.abspath(__file__)), "..")
 GROUP = 20
@@ -256,31 +256,24 @@ def law_of_one(limit, capture, answer):
     return text, None, "a long text" if size > 77 * len(capture) else None
 
 
+def longest_frame(capture):
+    return max((min(number(capture, at, 4), len(capture) - at) for at in frames(capture)), default=0)
+
+
 def run_linkcap(limit, capture, text, told):
-    """Whether linkcap answers as norm_vectors did, in the memory that the longest frame wants."""
-    with tempfile.TemporaryFile() as source, tempfile.TemporaryFile() as sink, tempfile.TemporaryFile() as errors:
-        source.write(capture)
-        source.seek(0)
-        run = subprocess.Popen([program("linkcap"), "norm", str(limit)], stdin=source, stdout=sink, stderr=errors)
-        _, status, used = os.wait4(run.pid, 0)
-        run.returncode = 0
-        sink.seek(0)
-        errors.seek(0)
-        written, line = sink.read().hex(), errors.read().decode()
-    longest = max((min(number(capture, at, 4), len(capture) - at) for at in frames(capture)), default=0)
-    if os.waitstatus_to_exitcode(status) != (2 if told else 0) or line != (told + "\n" if told else ""):
-        return "linkcap tells something else", used.ru_maxrss
-    if written != text:
-        return "linkcap writes something else", used.ru_maxrss
-    if used.ru_maxrss * 1024 > 6000000 + 100 * longest:
-        return "linkcap takes %d kB" % used.ru_maxrss, used.ru_maxrss
-    return None, used.ru_maxrss
+    """The law that linkcap breaks: it answers as norm_vectors did, in the addresses that the longest frame wants."""
+    room = 32000000 + 100 * longest_frame(capture)
+    run = subprocess.run([program("linkcap"), "norm", str(limit)], input=capture, capture_output=True,
+                         preexec_fn=lambda: resource.setrlimit(resource.RLIMIT_AS, (room, room)))
+    if run.returncode != (2 if told else 0) or run.stderr.decode() != (told + "\n" if told else ""):
+        return "linkcap tells something else"
+    return None if run.stdout.hex() == text else "linkcap writes something else"
 
 
 def sweep(job):
-    """Judges one chunk. Gives counts, the memory of linkcap, and the captures that break a law."""
+    """Judges one chunk. Gives counts, and the captures that break a law."""
     seed, sources = job
-    counts, broken, memory = collections.Counter(), [], 0
+    counts, broken = collections.Counter(), []
     cases = [(limit, capture) for limit, siblings in groups(seed, sources) for capture in siblings]
     line = lambda limit, *captures: " ".join([str(limit), *captures]) + "\n"
     found = answers("norm_vectors", [line(limit, capture.hex()) for limit, capture in cases])
@@ -292,8 +285,7 @@ def sweep(job):
         counts["captures"] += 1
         counts[told.rsplit(" at ", 1)[0] if told else "legal"] += 1
         if law is None and index % 1000 == 0:
-            law, peak = run_linkcap(limit, capture, text, told)
-            memory = max(memory, peak)
+            law = run_linkcap(limit, capture, text, told)
             counts["runs of linkcap"] += 1
         if law:
             broken.append((limit, capture.hex(), law))
@@ -320,25 +312,23 @@ def sweep(job):
         counts["pairs: " + (answer.split(":")[0])] += 1
         if answer != told:
             broken.append((limit, capture.hex(), "a pair is %s and not %s" % (answer, told)))
-    return counts, memory, broken
+    return counts, broken
 
 
 def main():
     seed, count = int(sys.argv[1]), int(sys.argv[2])
     sources = list(bases())
     chunks = max(1, count // (GROUP * GROUPS))
-    counts, memory, wrong = collections.Counter(), 0, 0
+    counts, wrong = collections.Counter(), 0
     with multiprocessing.Pool(max(1, (os.cpu_count() or 2) - 1)) as pool:
         jobs = ((seed * 1000003 + chunk, sources) for chunk in range(chunks))
-        for found, peak, broken in pool.imap_unordered(sweep, jobs):
+        for found, broken in pool.imap_unordered(sweep, jobs):
             counts += found
-            memory = max(memory, peak)
             wrong += len(broken)
             for limit, capture, law in broken[:5]:
                 print("WRONG %s: %d %s" % (law, limit, capture), flush=True)
     for name, times in sorted(counts.items()):
         print("%9d %s" % (times, name))
-    print("%9d kB, the most that linkcap took" % memory)
     print("%9d wrong" % wrong)
     sys.exit(1 if wrong else 0)
 

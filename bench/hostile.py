@@ -134,7 +134,7 @@ def attribute_kind(rng, data):
         put(data, at + 2, 2, rng.choice([kind % 16384 | flags, rng.randrange(70) | flags, kind]))
 
 
-def resize(rng, data, place, end, change):
+def resize(data, place, end, change):
     """Tells the frame and the attributes around a place that what ends there has another size."""
     for at in all_attributes(data):
         if at < place and at + number(data, at, 2) >= end:
@@ -152,7 +152,7 @@ def double(rng, data):
         at = rng.choice(found)
         size = aligned(number(data, at, 2))
         copy = data[at:at + size]
-        resize(rng, data, at, at + number(data, at, 2), len(copy))
+        resize(data, at, at + number(data, at, 2), len(copy))
         data[at:at] = copy
 
 
@@ -168,7 +168,7 @@ def nest(rng, data):
         inner += bytes(-len(inner) % 4)
         kind = rng.choice([1, 2, 5, 18, 22, 24, 26, 52, number(data, at + 2, 2)])
         inner = min(65535, len(inner) + 4).to_bytes(2, "little") + (kind % 65536).to_bytes(2, "little") + inner
-    resize(rng, data, at, at + size, aligned(len(inner)) - aligned(size))
+    resize(data, at, at + size, aligned(len(inner)) - aligned(size))
     data[at:at + aligned(size)] = inner + bytes(-len(inner) % 4)
 
 
@@ -180,7 +180,7 @@ def lengthen(rng, data):
         size = number(data, at, 2)
         more = rng.choice(SPECIAL[-5:]) - size
         if more > 0:
-            resize(rng, data, at, at + size, aligned(size + more) - aligned(size))
+            resize(data, at, at + size, aligned(size + more) - aligned(size))
             data[at + aligned(size):at + aligned(size)] = bytes(aligned(size + more) - aligned(size))
             put(data, at, 2, size + more)
 

@@ -109,11 +109,11 @@ measured_as r s payload o e h = h ∙ ap (λ r. measure r payload) e
 pub known_list : (n : ℕ) (held : Held) (form : Form) (t : ℕ) → held ≡ HeldList form t → is_below n held ≡ true → t < n
 known_list n held form t e h = ltb-true t n (sym (ap (is_below n) e) ∙ h)
 
-pub written_some : (p : Peer) (tables : ℕ → Table) (info : Payload) (n : ℕ) (rs : List Row) (t k kind : ℕ) (r : Row) → are_known n rs ≡ true → k < 65536 → build tables info t rs ≡ tables t → Some r ≡ find_row (t * 65536 + k) rs → proper_kind kind + cond r.2 32768 0 ≡ kind → written_kind (table_row p (tables t) k) kind ≡ kind
-written_some p tables info n rs t k kind r h l b f e = ap (λ o. written_kind (row_of_line p o) kind) (sym (ap (option_map (line_of tables info)) f ∙ found_line tables info n rs t k h l ∙ ap (λ x. line_at x k) b)) ∙ e
+pub written_some : (p : Peer) (tables : ℕ → Table) (info : Payload) (n : ℕ) (rs : List Row) (t k kind : ℕ) (r : Row) → are_known n rs ≡ true → k < 65536 → build tables info t rs ≡ tables t → Some r ≡ find_row (t * 65536 + k) rs → proper_kind kind + cond r.2 32768 0 ≡ written_kind (table_row p (tables t) k) kind
+written_some p tables info n rs t k kind r h l b f = ap (λ o. written_kind (row_of_line p o) kind) (ap (option_map (line_of tables info)) f ∙ found_line tables info n rs t k h l ∙ ap (λ x. line_at x k) b)
 
-pub written_none : (p : Peer) (tables : ℕ → Table) (info : Payload) (n : ℕ) (rs : List Row) (t k kind : ℕ) → are_known n rs ≡ true → k < 65536 → build tables info t rs ≡ tables t → None ≡ find_row (t * 65536 + k) rs → written_kind (table_row p (tables t) k) kind ≡ kind
-written_none p tables info n rs t k kind h l b f = ap (λ o. written_kind (row_of_line p o) kind) (sym (ap (option_map (line_of tables info)) f ∙ found_line tables info n rs t k h l ∙ ap (λ x. line_at x k) b))
+pub written_none : (p : Peer) (tables : ℕ → Table) (info : Payload) (n : ℕ) (rs : List Row) (t k kind : ℕ) → are_known n rs ≡ true → k < 65536 → build tables info t rs ≡ tables t → None ≡ find_row (t * 65536 + k) rs → kind ≡ written_kind (table_row p (tables t) k) kind
+written_none p tables info n rs t k kind h l b f = ap (λ o. written_kind (row_of_line p o) kind) (ap (option_map (line_of tables info)) f ∙ found_line tables info n rs t k h l ∙ ap (λ x. line_at x k) b)
 
 -- a kind is of a type where its row is found
 pub typed_some : (p : Peer) (tables : ℕ → Table) (info : Payload) (n : ℕ) (rs : List Row) (t k : ℕ) (r : Row) → are_known n rs ≡ true → k < 65536 → build tables info t rs ≡ tables t → Some r ≡ find_row (t * 65536 + k) rs → true ≡ (table_row p (tables t) k).is_typed

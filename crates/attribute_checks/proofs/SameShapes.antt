@@ -1,6 +1,7 @@
 -- When payloads of a shape mean the same, as the code compares them.
 use Rattle.std.proofs.Common.{◌≡◌, ℕ, zero, suc, ◌+◌, ◌-◌, ◌≤◌, ◌++◌, Bool, true, false, cond, List, [], ◌∷◌, length, take, drop, map, min, ◌⊎◌, inl, inr, refl, sym, ap, ◌∙◌, append_assoc, arith}
-use Rattle.std.specs.Prelude.{◌==◌, bytes_eq, get_or}
+use Rattle.std.specs.Prelude.{◌==◌, bytes_eq, get_or, not}
+use mir.Val.{bool_byte}
 use Rattle.std.proofs.Math.Bool.{beq}
 use Rattle.std.proofs.lemmas.Bool.{ne_eqb, eq-eqb, eqb-true}
 use Rattle.std.proofs.lemmas.Bool.Decides.{leb_tells}
@@ -114,7 +115,7 @@ same_after p q r s a b x y ea eb ex ey e z w =
 
 -- ---- cut or filled up to a size
 
-number_zero : (xs : List ℕ) → number xs ≡ 0 → xs ≡ zeros (length xs)
+pub number_zero : (xs : List ℕ) → number xs ≡ 0 → xs ≡ zeros (length xs)
 number_zero [] h = refl
 number_zero (b ∷ xs) h =
     let z : b ≡ 0 = omega (arith, h) in
@@ -129,7 +130,7 @@ front_zero (x ∷ xs) ys (suc k) h =
     let n = front_zero xs ys k (ap (drop 1) h) in
     omega (arith, z, n)
 
-pad_in : (n k : ℕ) (p : List ℕ) → n ≤ k → take n (p ++ zeros k) ≡ take n p ++ zeros (n - length (take n p))
+pub pad_in : (n k : ℕ) (p : List ℕ) → n ≤ k → take n (p ++ zeros k) ≡ take n p ++ zeros (n - length (take n p))
 pad_in zero k p l = refl
 pad_in (suc n) k [] l = let e : suc n ≡ suc n - 0 = omega arith in take-replicate (suc n) k 0 l ∙ ap zeros e
 pad_in (suc n) k (x ∷ p) l = let e : n - length (take n p) ≡ suc n - suc (length (take n p)) = omega arith in ap (λ y. x ∷ y) (pad_in n k p (omega (arith, l))) ∙ ap (λ m. x ∷ take n p ++ zeros m) e
@@ -211,3 +212,16 @@ module _ (n c : ℕ) (p q x y : List ℕ) (ex : x ≡ take n p) (ey : y ≡ take
 
   pub by_front : bytes_eq (take c x) (take c y) ≡ false → false ≡ equal
   by_front t = no_by equal (λ h. apart (sym ((bytes_eq-Decides _ _).1 (same_front h)) ∙ t))
+
+-- a byte that is one where a number isn't zero
+pub truth_byte : (n : ℕ) (b : Bool) → b ≡ (n == 0) → bool_byte (not b) ≡ truth_of n
+truth_byte n b h = ap (λ b. bool_byte (not b)) h ∙ by n where
+  by : (n : ℕ) → bool_byte (not (n == 0)) ≡ truth_of n
+  by zero = refl
+  by (suc n) = ap (λ b. bool_byte (not b)) (suc_not n)
+
+-- a record is its own text where it has its size, and zeros stand behind what counts
+pub own_record : (m n : ℕ) (p : List ℕ) → length p ≡ n → number (drop m p) ≡ 0 → take m p ++ zeros (n - m) ≡ p
+own_record m n p l z =
+    let e : drop m p ≡ zeros (n - m) = number_zero (drop m p) z ∙ ap zeros (length-drop m p) ∙ ap (λ k. zeros (k - m)) l in
+    ap (λ x. take m p ++ x) (sym e) ∙ take-append-drop m p

@@ -1,7 +1,7 @@
 //! Link info: a list in which a kind's name tells the data, and a port kind's name the port data
 //! (if_link.h, IFLA_INFO_*).
 
-ghost use Rattle.std.specs.Prelude.{◌≡◌, ◌%◌, ◌==◌, ◌&&◌, ◌||◌, not, nat_lt, true, option_map, IfSome, IfNone};
+ghost use Rattle.std.specs.Prelude.{◌≡◌, ◌≤◌, ◌+◌, ◌++◌, ◌%◌, ◌==◌, ◌&&◌, ◌||◌, not, nat_lt, true, length, option_map, vec_capacity, IfSome, IfNone};
 ghost use Rattle.attribute_tables_grammar.specs.Lists.{any, list_rule, LawfulGrammar, row_of, same_attribute, written_kind};
 ghost use Rattle.attribute_tables_grammar.specs.LookUps.{payload_rule, payload_at, rule_or_raw};
 ghost use Rattle.attribute_tables_grammar.specs.Rules.{shape_rule};
@@ -14,13 +14,15 @@ ghost use Rattle.attribute_checks.specs.Sameness.{attribute_of};
 
 use crate::attribute::{Attribute, first_attribute, is_own_attribute};
 use crate::measure::{measure_held, with_attribute};
+use crate::room::{append_header, append_padding};
 use crate::rows::{Held, Shape};
 use crate::same::same_held;
 use crate::shapes::{Measured, NOTHING_YET};
 use crate::tables::TableSet;
+use crate::write::{plan, write_held};
 use attribute_tables_grammar::laws::{
     attributes_are_compared, measures_go_by_steps, names_are_looked_up, own_texts_go_by_steps,
-    sameness_goes_by_steps, what_is_kept_goes_by_steps,
+    sameness_goes_by_steps, texts_are_written_by_steps, what_is_kept_goes_by_steps,
 };
 use netlink_packet_core_grammar::laws::first_attributes_are_within;
 use netlink_packet_core_numbers::without_nul;
@@ -106,15 +108,15 @@ fn info_held<T: NameSet>(set: &T, force: InForce<'_>, kind: u16) -> Option<Held>
     }
 }
 
-// Whether a kind of link info is written as it stands: kinds 1 to 5 have no flag bits.
-fn keeps_kind<T: NameSet>(set: &T, force: InForce<'_>, kind: u16) -> bool
-    ensures { result ≡ true → written_kind
+// The kind that an attribute of link info is written with: kinds 1 to 5 have no flag bits.
+fn info_kind<T: NameSet>(set: &T, force: InForce<'_>, kind: u16) -> u16
+    ensures { result ≡ written_kind
         (info_row (named T.peer T.kinds) (named T.peer T.port_kinds)
-        (in_force force.entry.kind force.entry.port_kind) (kind % 0x4000)) kind ≡ kind }
+        (in_force force.entry.kind force.entry.port_kind) (kind % 0x4000)) kind }
 {
     match kind % 0x4000 {
-        1 | 2 | 3 | 4 | 5 => kind < 0x4000,
-        _ => true,
+        1 | 2 | 3 | 4 | 5 => kind % 0x4000,
+        _ => kind,
     }
 }
 
@@ -147,12 +149,57 @@ pub fn measure_info<T: NameSet>(set: &T, bytes: &[u8]) -> Option<Measured>
             return None;
         };
         let is_own = is_own_attribute(rest, attribute, after);
-        let is_kept_so = is_own & keeps_kind(set, force, attribute.kind);
+        let is_kept_so = is_own & (info_kind(set, force, attribute.kind) == attribute.kind);
         total = with_attribute(total, inside, is_kept_so);
         force = next_force(force, kind, attribute.payload);
         rest = after;
     }
     Some(total)
+}
+
+/// Appends the canonical text of an accepted list of link info that fits, for which there has to be
+/// room.
+pub fn write_info<T: NameSet>(set: &T, bytes: &[u8], out: &mut Vec<u8>)
+    requires accepted { (list_rule any (names_grammar (named T.peer T.kinds) (named T.peer T.port_kinds))).accepted
+        bytes.now ≡ true }
+    requires fits { (list_rule any (names_grammar (named T.peer T.kinds) (named T.peer T.port_kinds))).fits
+        bytes.now ≡ true }
+    requires room { length out.old.items
+        + length ((list_rule any (names_grammar (named T.peer T.kinds) (named T.peer T.port_kinds))).canonical
+        bytes.now) ≤ vec_capacity out.old }
+    ensures text { out.new.items ≡ out.old.items
+        ++ (list_rule any (names_grammar (named T.peer T.kinds) (named T.peer T.port_kinds))).canonical
+        bytes.now }
+    ensures room { vec_capacity out.old ≤ vec_capacity out.new }
+{
+    texts_are_written_by_steps();
+    first_attributes_are_within();
+    let mut rest = bytes;
+    let mut force = InForce {
+        kind: None,
+        port_kind: None,
+    };
+    while !rest.is_empty() {
+        let Some((attribute, after)) = first_attribute(rest) else {
+            unreachable!();
+        };
+        let kind = attribute.kind % 0x4000;
+        let Some(held) = info_held(set, force, kind) else {
+            unreachable!();
+        };
+        let Some(plan) = plan(set, held, attribute.payload) else {
+            unreachable!();
+        };
+        append_header(
+            info_kind(set, force, attribute.kind),
+            plan.size as usize,
+            out,
+        );
+        write_held(set, plan.held, attribute.payload, out);
+        append_padding(plan.size as usize, out);
+        force = next_force(force, kind, attribute.payload);
+        rest = after;
+    }
 }
 
 // Whether the kinds of two attributes are the same in link info, of which kinds 1 to 5 have no flag

@@ -107,7 +107,7 @@ pub fn measure_held<T: TableSet>(set: &T, held: Held, bytes: &[u8]) -> Option<Me
                 return None;
             };
             let is_own = is_own_attribute(bytes, attribute, after);
-            let is_whole = is_own & (found.keeps_kind & after.is_empty());
+            let is_whole = is_own & ((found.kind == attribute.kind) & after.is_empty());
             return Some(with_attribute(total, inside, is_whole));
         }
         Form::NonEmpty | Form::Ports => {
@@ -128,7 +128,7 @@ pub fn measure_held<T: TableSet>(set: &T, held: Held, bytes: &[u8]) -> Option<Me
                 return None;
             };
             let is_own = is_own_attribute(rest, attribute, after);
-            total = with_attribute(total, inside, is_own & found.keeps_kind);
+            total = with_attribute(total, inside, is_own & (found.kind == attribute.kind));
         } else {
             total = with_dropped(total);
         }

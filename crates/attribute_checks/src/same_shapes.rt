@@ -9,14 +9,15 @@ ghost use Rattle.attribute_checks.specs.Sameness.{mark_of};
 use crate::rows::Shape;
 use netlink_packet_core_numbers::without_nul;
 
-// The bytes in front, at most so many.
-fn first(bytes: &[u8], count: usize) -> &[u8]
+/// The bytes in front, at most so many.
+pub fn first(bytes: &[u8], count: usize) -> &[u8]
     ensures { result.now ≡ take count bytes.now }
 {
     &bytes[..count.min(bytes.len())]
 }
 
-fn is_zero(bytes: &[u8]) -> bool
+/// Whether all bytes are zero.
+pub fn is_zero(bytes: &[u8]) -> bool
     ensures { result ≡ (number bytes.now == 0) }
 {
     for byte in bytes {

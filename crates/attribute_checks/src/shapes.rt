@@ -8,6 +8,7 @@ ghost use Rattle.attribute_checks.specs.Rows.{shape_of};
 ghost use Rattle.attribute_checks.specs.Measures.{view};
 
 use crate::rows::Shape;
+use crate::same_shapes::is_zero;
 use netlink_packet_core_numbers::{is_text, without_nul};
 
 /// What is found of accepted bytes in one walk.
@@ -62,8 +63,10 @@ fn is_own_spelling(shape: Shape, payload: &[u8]) -> bool
         Shape::NonzeroByte | Shape::OneByte => payload[0] <= 1,
         Shape::Presence => payload.is_empty(),
         Shape::Resized(n) => payload.len() == n as usize,
-        Shape::FixedRecord(m, n) => m == n && payload.len() == n as usize,
-        Shape::Text | Shape::Never | Shape::TruthOfFour | Shape::IdAndTruth => false,
+        Shape::FixedRecord(m, n) => payload.len() == n as usize && is_zero(&payload[m as usize..]),
+        Shape::TruthOfFour => payload[0] <= 1 && is_zero(&payload[1..]),
+        Shape::IdAndTruth => payload.len() == 8 && payload[4] <= 1 && is_zero(&payload[5..]),
+        Shape::Text | Shape::Never => false,
     }
 }
 

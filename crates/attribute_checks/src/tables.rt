@@ -1,6 +1,6 @@
 //! Tables by number, and what the row of a kind says.
 
-ghost use Rattle.std.specs.Prelude.{◌≡◌, ◌<◌, ◌+◌, ◌==◌, ◌%◌, ℕ, true, cond, option_map, IfSome};
+ghost use Rattle.std.specs.Prelude.{◌≡◌, ◌<◌, ◌≤◌, ◌+◌, ◌++◌, ℕ, true, cond, length, option_map, vec_capacity, IfSome};
 ghost use Rattle.netlink_packet_core_grammar.specs.Attributes.{proper_kind};
 ghost use Rattle.attribute_tables_grammar.specs.Lists.{written_kind};
 ghost use Rattle.attribute_tables_grammar.specs.LookUps.{payload_rule, table_row};
@@ -49,6 +49,24 @@ pub trait TableSet {
         ensures own { IfSome result
             (λ m. m.is_own ≡ true → (payload_rule peer info).canonical payload.now ≡ payload.now) };
 
+    /// Appends a peer's canonical payload, for which there has to be room.
+    fn write_peer(&self, payload: &[u8], out: &mut Vec<u8>)
+        requires accepted { (peer_rule peer).accepted payload.now ≡ true }
+        requires fits { (peer_rule peer).fits payload.now ≡ true }
+        requires room { length out.old.items + length ((peer_rule peer).canonical payload.now)
+            ≤ vec_capacity out.old }
+        ensures text { out.new.items ≡ out.old.items ++ (peer_rule peer).canonical payload.now }
+        ensures room { vec_capacity out.old ≤ vec_capacity out.new };
+
+    /// Appends the canonical text of link info, for which there has to be room.
+    fn write_info(&self, payload: &[u8], out: &mut Vec<u8>)
+        requires accepted { (payload_rule peer info).accepted payload.now ≡ true }
+        requires fits { (payload_rule peer info).fits payload.now ≡ true }
+        requires room { length out.old.items + length ((payload_rule peer info).canonical payload.now)
+            ≤ vec_capacity out.old }
+        ensures text { out.new.items ≡ out.old.items ++ (payload_rule peer info).canonical payload.now }
+        ensures room { vec_capacity out.old ≤ vec_capacity out.new };
+
     /// Whether two peers' payloads mean the same.
     fn same_peer(&self, left: &[u8], right: &[u8]) -> bool
         ensures { result ≡ (peer_rule peer).same left.now right.now };
@@ -65,16 +83,16 @@ pub struct Found {
     pub held: Held,
     /// Whether the table has a row for the kind.
     pub is_typed: bool,
-    /// Whether the kind is written as it stands, flag bits and all.
-    pub keeps_kind: bool,
+    /// The kind that the attribute is written with, flag bits and all.
+    pub kind: u16,
 }
 
-// Whether the kind of a typed attribute is written as it stands.
-fn is_written_kind(is_nested: bool, kind: u16) -> bool
-    ensures { result ≡ (proper_kind kind + cond is_nested 0x8000 0 == kind) }
+// The kind that a typed attribute is written with.
+fn written_kind(is_nested: bool, kind: u16) -> u16
+    ensures { result ≡ proper_kind kind + cond is_nested 0x8000 0 }
 {
     let flag = if is_nested { 0x8000 } else { 0 };
-    kind % 0x4000 + flag == kind
+    kind % 0x4000 + flag
 }
 
 /// What a table says of an attribute's kind, which may have its flag bits.
@@ -86,20 +104,20 @@ pub fn find<T: TableSet>(set: &T, table: u8, kind: u16) -> Found
     ensures typed { result.is_typed
         ≡ (table_row T.peer (T.tables table) (proper_kind kind)).is_typed }
     ensures lawful { Lawful (table_row T.peer (T.tables table) (proper_kind kind)).rule }
-    ensures written { result.keeps_kind ≡ true
-        → written_kind (table_row T.peer (T.tables table) (proper_kind kind)) kind ≡ kind }
+    ensures written { result.kind
+        ≡ written_kind (table_row T.peer (T.tables table) (proper_kind kind)) kind }
 {
     table_rows_are_lawful();
     match look_up(set.rows(), table, kind % 0x4000) {
         Some(row) => Found {
             held: row.3,
             is_typed: true,
-            keeps_kind: is_written_kind(row.2, kind),
+            kind: written_kind(row.2, kind),
         },
         None => Found {
             held: Held::Plain(Shape::Raw),
             is_typed: false,
-            keeps_kind: true,
+            kind,
         },
     }
 }

@@ -15,6 +15,7 @@ pub mod Texts
 pub mod Walks
 pub mod MeasureSteps
 pub mod OwnTexts
+pub mod TextSteps
 pub mod SameSteps
 pub mod TableText
 mod Facts

@@ -73,7 +73,7 @@ ports_whole g (Some es) = by (measures ports g nothing es) refl where
   by None h = refl
   by (Some m) h = ap (λ b. Some (or_empty b m)) (sym (empty_by g es nothing m h))
 
-whole_by : (form : ListForm) (g : Grammar) (bytes : List ℕ) → IsWalked form bytes → option_map (closed form) (walk form g nothing bytes) ≡ walk_as form g bytes
+pub whole_by : (form : ListForm) (g : Grammar) (bytes : List ℕ) → IsWalked form bytes → option_map (closed form) (walk form g nothing bytes) ≡ walk_as form g bytes
 unfolding walk walk_as
 whole_by any g bytes w = plain_whole (attributes_of bytes) (measures any g nothing)
 whole_by of_kind_one g bytes w = plain_whole (attributes_of bytes) (measures of_kind_one g nothing)
@@ -128,11 +128,11 @@ closed_alone : (q : Option Measure) → option_map with_header q ≡ option_map 
 closed_alone None = refl
 closed_alone (Some m) = ap Some (sym (plus_end (with_header m)))
 
-first_some : (g : Grammar) (bytes : List ℕ) (e : Attribute) (after : List ℕ) (q : Option Measure) → first_attribute bytes ≡ Some (e, after) → q ≡ measure (row_of g nothing e).rule e.payload → option_map with_header q ≡ measure (list_rule first_alone g) bytes
+pub first_some : (g : Grammar) (bytes : List ℕ) (e : Attribute) (after : List ℕ) (q : Option Measure) → first_attribute bytes ≡ Some (e, after) → q ≡ measure (row_of g nothing e).rule e.payload → option_map with_header q ≡ measure (list_rule first_alone g) bytes
 unfolding alone measures
 first_some g bytes e after q f is = ap (option_map with_header) is ∙ closed_alone (measure (row_of g nothing e).rule e.payload) ∙ alone_is g bytes (Some (e, after)) f
 
-first_none : (g : Grammar) (bytes : List ℕ) → first_attribute bytes ≡ None → None ≡ measure (list_rule first_alone g) bytes
+pub first_none : (g : Grammar) (bytes : List ℕ) → first_attribute bytes ≡ None → None ≡ measure (list_rule first_alone g) bytes
 unfolding alone
 first_none g bytes f = alone_is g bytes None f
 
@@ -179,14 +179,14 @@ tells_by r p m n true a e h =
     }
 tells_by r p m n false a e h = absurd cc
 
-tells : (r : Rule) (p : List ℕ) (m : Measure) → Some m ≡ measure r p → IsMeasure r p m
+pub tells : (r : Rule) (p : List ℕ) (m : Measure) → Some m ≡ measure r p → IsMeasure r p m
 tells r p m h = tells_by r p m (record { size = length (r.canonical p); attributes = r.attributes p; fits = r.fits p; empty_ports = r.empty_ports p }) (r.accepted p) refl refl h
 
 denies_by : (b : Bool) (m : Measure) → None ≡ cond b (Some m) None → b ≡ false
 denies_by true m h = absurd cc
 denies_by false m h = refl
 
-denies : (r : Rule) (p : List ℕ) → None ≡ measure r p → r.accepted p ≡ false
+pub denies : (r : Rule) (p : List ℕ) → None ≡ measure r p → r.accepted p ≡ false
 denies r p h = denies_by (r.accepted p) (record { size = length (r.canonical p); attributes = r.attributes p; fits = r.fits p; empty_ports = r.empty_ports p }) h
 
 -- ---- the laws

@@ -56,11 +56,11 @@ unfolding rewritten list_text
 in_front form g c e k None = refl
 in_front form g c e k (Some es) = ap (λ ks. Some (list_text (rewritten g c ks))) (kept_more form e es k)
 
-step : (form : ListForm) (g : Grammar) (c : Context) (rest : List ℕ) (e : Attribute) (after : List ℕ) → first_attribute rest ≡ Some (e, after) → is_kept form e ≡ true → text_from form g c rest ≡ option_map (λ t. attribute_text (rewrite (row_of g c e) e) ++ t) (text_from form g (g.next c e) after)
+pub step : (form : ListForm) (g : Grammar) (c : Context) (rest : List ℕ) (e : Attribute) (after : List ℕ) → first_attribute rest ≡ Some (e, after) → is_kept form e ≡ true → text_from form g c rest ≡ option_map (λ t. attribute_text (rewrite (row_of g c e) e) ++ t) (text_from form g (g.next c e) after)
 unfolding text_from
 step form g c rest e after f k = ap (option_map (λ es. list_text (rewritten g c (kept form es)))) (attributes_step rest e after f) ∙ in_front form g c e k (attributes_of after)
 
-at_end : (form : ListForm) (g : Grammar) (c : Context) (rest : List ℕ) → length rest ≡ 0 → text_from form g c rest ≡ Some rest
+pub at_end : (form : ListForm) (g : Grammar) (c : Context) (rest : List ℕ) → length rest ≡ 0 → text_from form g c rest ≡ Some rest
 unfolding text_from attributes_within rewritten list_text
 at_end form g c [] l = ap (λ ks. Some (list_text (rewritten g c ks))) (kept_none form)
 at_end form g c (b ∷ rest) l = absurd (omega arith)
@@ -75,7 +75,7 @@ more form g bytes rest c e after f k n p t s =
       whole = λ h. s.whole (step form g c rest e after f k ∙ ap (option_map (λ x. attribute_text (rewrite (row_of g c e) e) ++ x)) h ∙ ap (λ x. Some (attribute_text x ++ after)) is ∙ ap Some (sym t));
     }
 
-text_or : Option (List ℕ) → List ℕ
+unfoldable pub text_or : Option (List ℕ) → List ℕ
 text_or None = []
 text_or (Some t) = t
 
@@ -85,7 +85,7 @@ unfolding text_or
 canonical_of form g None = refl
 canonical_of form g (Some es) = refl
 
-canonical_text : (form : ListForm) (g : Grammar) (bytes : List ℕ) → IsWalked form bytes → text_or (text_from form g nothing bytes) ≡ (list_rule form g).canonical bytes
+pub canonical_text : (form : ListForm) (g : Grammar) (bytes : List ℕ) → IsWalked form bytes → text_or (text_from form g nothing bytes) ≡ (list_rule form g).canonical bytes
 unfolding text_from
 canonical_text any g bytes w = canonical_of any g (attributes_of bytes)
 canonical_text of_kind_one g bytes w = canonical_of of_kind_one g (attributes_of bytes)

@@ -51,13 +51,13 @@ walk_step : (form : ListForm) (g : Grammar) (c : Context) (bytes : List ℕ) (e 
 unfolding walk
 walk_step form g c bytes e rest f = ap (λ o. if_some o (measures form g c)) (attributes_step bytes e rest f) ∙ if_some_map form (attributes_of rest) g c e
 
-walk_kept : (form : ListForm) (g : Grammar) (c : Context) (bytes : List ℕ) (e : Attribute) (rest : List ℕ) → first_attribute bytes ≡ Some (e, rest) → is_kept form e ≡ true → walk form g c bytes ≡ both (option_map with_header (measure (row_of g c e).rule e.payload)) (walk form g (g.next c e) rest)
+pub walk_kept : (form : ListForm) (g : Grammar) (c : Context) (bytes : List ℕ) (e : Attribute) (rest : List ℕ) → first_attribute bytes ≡ Some (e, rest) → is_kept form e ≡ true → walk form g c bytes ≡ both (option_map with_header (measure (row_of g c e).rule e.payload)) (walk form g (g.next c e) rest)
 unfolding in_front
 walk_kept form g c bytes e rest f k =
     walk_step form g c bytes e rest f
     ∙ ap (λ b. cond b (both (option_map with_header (measure (row_of g c e).rule e.payload)) (walk form g (g.next c e) rest)) (both (Some dropped) (walk form g c rest))) k
 
-walk_dropped : (form : ListForm) (g : Grammar) (c : Context) (bytes : List ℕ) (e : Attribute) (rest : List ℕ) → first_attribute bytes ≡ Some (e, rest) → is_kept form e ≡ false → walk form g c bytes ≡ both (Some dropped) (walk form g c rest)
+pub walk_dropped : (form : ListForm) (g : Grammar) (c : Context) (bytes : List ℕ) (e : Attribute) (rest : List ℕ) → first_attribute bytes ≡ Some (e, rest) → is_kept form e ≡ false → walk form g c bytes ≡ both (Some dropped) (walk form g c rest)
 unfolding in_front
 walk_dropped form g c bytes e rest f k =
     walk_step form g c bytes e rest f

@@ -1,5 +1,5 @@
 -- The laws of the definitions, as the functions of `laws` state them.
-use Rattle.std.specs.Prelude.{◌≡◌, ℕ, ◌-◌, ◌<◌, ◌&&◌, ◌↔◌, Bool, true, false, List, [], ◌∷◌, ◌++◌, length, take, drop, get_or, Option, Some, None, option_map}
+use Rattle.std.specs.Prelude.{◌≡◌, ℕ, ◌+◌, ◌-◌, ◌<◌, ◌&&◌, ◌↔◌, Bool, true, false, List, [], ◌∷◌, ◌++◌, length, take, drop, get_or, Option, Some, None, option_map}
 use Rattle.netlink_packet_core_grammar.specs.Attributes.{nla_align, zeros, Attribute, attribute_length, attribute_text, first_attribute, attributes_of}
 use Rattle.netlink_packet_core_grammar.specs.AttributeViews.{IsAttribute, viewed_attribute, after_first}
 use Rattle.attribute_tables_grammar.specs.Rules.{Rule, Lawful, Renews}
@@ -10,6 +10,7 @@ use Rattle.attribute_tables_grammar.specs.LookUps.{list_of, row_of_line, rows_ru
 use Rattle.attribute_tables_grammar.specs.Readings.{Written, written_by, reading, reading_as, SoFar, Tells}
 use Rattle.attribute_tables_grammar.specs.Walks.{Measure, measure, plus, none_yet, dropped, with_header, walk_as, MeasuredSoFar, closed, IsWalked, WantsAttribute, IsSmall, IsMeasure}
 use Rattle.attribute_tables_grammar.specs.OwnTexts.{OwnSoFar}
+use Rattle.attribute_tables_grammar.specs.Writing.{IsWritable, WrittenSoFar}
 use Rattle.attribute_tables_grammar.specs.Sameness.{kept_of, same_walk, goes_on, same_kinds}
 
 -- a canonical text is cut into the written kinds and canonical payloads of what was kept
@@ -159,6 +160,22 @@ pub record OwnTextsGoBySteps : Type 0 where
   pub done : (form : ListForm) (g : Grammar) (bytes rest : List ℕ) (c : Context) → IsWalked form bytes → length rest ≡ 0 → OwnSoFar form g bytes c rest → (list_rule form g).canonical bytes ≡ bytes
   pub alone : (g : Grammar) (bytes : List ℕ) (e : Attribute) (after : List ℕ) → first_attribute bytes ≡ Some (e, after) → length after ≡ 0 → written_kind (row_of g nothing e) e.kind ≡ e.kind →
       (row_of g nothing e).rule.canonical e.payload ≡ e.payload → bytes ≡ attribute_text e ++ after → (list_rule first_alone g).canonical bytes ≡ bytes
+
+-- the text of an accepted list that fits is written by steps: an attribute that is kept has a text that fits and for which there is room, and then the rest is written; one that the form drops adds nothing;
+-- bytes that begin with no attribute aren't met; and once nothing is left, the whole is written. A list of its first attribute alone is written as that
+pub record TextsAreWrittenBySteps : Type 0 where
+  pub start : (form : ListForm) (g : Grammar) (bytes old : List ℕ) → IsWalked form bytes → (list_rule form g).accepted bytes ≡ true → (list_rule form g).fits bytes ≡ true → WrittenSoFar form g bytes old old nothing bytes
+  pub writable : (form : ListForm) (g : Grammar) (bytes old out rest : List ℕ) (c : Context) (e : Attribute) (after : List ℕ) → first_attribute rest ≡ Some (e, after) → is_kept form e ≡ true →
+      WrittenSoFar form g bytes old out c rest → IsWritable (row_of g c e).rule e.payload (length old + length ((list_rule form g).canonical bytes) - length out)
+  pub more : (form : ListForm) (g : Grammar) (bytes old out new rest : List ℕ) (c : Context) (e : Attribute) (after : List ℕ) → first_attribute rest ≡ Some (e, after) → is_kept form e ≡ true →
+      new ≡ out ++ attribute_text (rewrite (row_of g c e) e) → WrittenSoFar form g bytes old out c rest → WrittenSoFar form g bytes old new (g.next c e) after
+  pub past : (form : ListForm) (g : Grammar) (bytes old out rest : List ℕ) (c : Context) (e : Attribute) (after : List ℕ) → first_attribute rest ≡ Some (e, after) → is_kept form e ≡ false →
+      WrittenSoFar form g bytes old out c rest → WrittenSoFar form g bytes old out c after
+  pub stopped : (form : ListForm) (g : Grammar) (bytes old out rest : List ℕ) (c : Context) → first_attribute rest ≡ None → 0 < length rest → WrittenSoFar form g bytes old out c rest → ⊥
+  pub done : (form : ListForm) (g : Grammar) (bytes old out rest : List ℕ) (c : Context) → length rest ≡ 0 → WrittenSoFar form g bytes old out c rest → out ≡ old ++ (list_rule form g).canonical bytes
+  pub alone : (g : Grammar) (bytes : List ℕ) (e : Attribute) (after : List ℕ) → first_attribute bytes ≡ Some (e, after) → (list_rule first_alone g).accepted bytes ≡ true → (list_rule first_alone g).fits bytes ≡ true →
+      IsWritable (row_of g nothing e).rule e.payload (length ((list_rule first_alone g).canonical bytes)) × ((list_rule first_alone g).canonical bytes ≡ attribute_text (rewrite (row_of g nothing e) e))
+  pub none_alone : (g : Grammar) (bytes : List ℕ) → first_attribute bytes ≡ None → (list_rule first_alone g).accepted bytes ≡ true → ⊥
 
 -- what a list keeps is found by steps: an attribute that its form keeps, and then what is kept behind it; one that the form drops adds nothing; no bytes keep nothing, and bytes that begin with no attribute are no list
 pub record KeptBySteps : Type 0 where

@@ -8,5 +8,6 @@ pub mod LookUps
 pub mod Readings
 pub mod Walks
 pub mod OwnTexts
+pub mod Writing
 pub mod Sameness
 pub mod Laws

@@ -6,7 +6,7 @@ ghost use Rattle.attribute_tables_grammar.specs.Laws.{TableGrammarsAreLawful, Ro
 ghost use Rattle.attribute_tables_grammar.specs.Laws.{ReadingsGoBySteps, ReadingsTellRules, FirstAloneIsRead, PortsAreEntries};
 ghost use Rattle.attribute_tables_grammar.specs.Laws.{ContextsGoBySteps, ListsAreReadAgain, RowsWithoutListsFit};
 ghost use Rattle.attribute_tables_grammar.specs.Laws.{TableRowsAreLawful, MeasuresGoBySteps, MeasuresTellRules, OwnTextsGoBySteps};
-ghost use Rattle.attribute_tables_grammar.specs.Laws.{KeptBySteps, SamenessGoesBySteps, AttributesAreCompared};
+ghost use Rattle.attribute_tables_grammar.specs.Laws.{TextsAreWrittenBySteps, KeptBySteps, SamenessGoesBySteps, AttributesAreCompared};
 
 /// A canonical text is cut into the kept attributes, each in its canonical form.
 pub fn canonical_texts_are_cut_again()
@@ -125,6 +125,13 @@ pub fn measures_tell_rules()
 /// behind it.
 pub fn own_texts_go_by_steps()
     ensures { OwnTextsGoBySteps }
+{}
+
+/// The canonical text of an accepted list that fits is written by steps: for each attribute that is
+/// kept there is a text that fits its header, and room for it. Bytes that begin with no attribute are
+/// never met.
+pub fn texts_are_written_by_steps()
+    ensures { TextsAreWrittenBySteps }
 {}
 
 /// What a list keeps is found by steps: an attribute that its form keeps stands in front of what is

@@ -1,4 +1,4 @@
-pub mod Commands
+pub use Rattle.link_capture_commands.specs.Commands
 pub use Rattle.link_capture_grammar.specs.Captures
 pub use Rattle.link_capture_grammar.specs.Faults
 pub use Rattle.link_capture_grammar.specs.Laws

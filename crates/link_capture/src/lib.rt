@@ -1,10 +1,8 @@
 // Netlink link captures: the normal text of a capture, or its first fault with its place.
 #![tactic(auto)]
 
-mod command;
-
-pub use command::{Command, DEFAULT_LIMIT, read_words, status_norm, status_same};
 pub use link_capture_checks::{Measure, SideFault, check, measure, normal_len, same};
+pub use link_capture_commands::{Command, DEFAULT_LIMIT, read_words, status_norm, status_same};
 pub use link_capture_engine::{
     DeviceFailed, ReadSource, Sink, SliceSource, Source, VecSink, WriteSink, normalize, read_all,
     write_all,

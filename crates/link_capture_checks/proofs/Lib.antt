@@ -1,2 +1,3 @@
 pub mod Types
+pub mod Written
 pub mod Steps

@@ -53,7 +53,7 @@ other t b n m k o = record {
 }
 
 -- a measure of what is judged is one of the body, and so is a refusal
-pub measured : (t : ℕ) (b : List ℕ) (judged : Result (List ℕ) Refusal) (inside : ℕ) → Judges t b judged inside → (r : Result BodyText FaultKind) → IfOk r (λ m. IsBodyText judged inside m) → IfOk r (λ m. IsBodyText (body_text t b) (body_attributes t b) m)
+pub measured : (t : ℕ) (b : List ℕ) (judged : Result (List ℕ) Refusal) (inside : ℕ) → Judges t b judged inside → (r : Result BodyText FaultKind) → IfOk r (λ m. IsBodyText b judged inside m) → IfOk r (λ m. IsBodyText b (body_text t b) (body_attributes t b) m)
 measured t b judged inside j r h = rw (j.text, j.attributes) h
 
 pub refused : (t : ℕ) (b : List ℕ) (judged : Result (List ℕ) Refusal) (inside : ℕ) → Judges t b judged inside → (r : Result BodyText FaultKind) → IfErr r (λ kind. faulty judged ≡ Err kind) → IfErr r (λ kind. faulty (body_text t b) ≡ Err kind)

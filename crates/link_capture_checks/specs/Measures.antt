@@ -1,25 +1,46 @@
 -- What measures in code say.
-use Rattle.std.specs.Prelude.{◌≡◌, ℕ, List, length, Result, Ok}
-use Rattle.link_capture_grammar.specs.Bodies.{Refusal}
+use Rattle.std.specs.Prelude.{◌≡◌, ℕ, ◌+◌, ◌≤◌, ◌<◌, true, List, [], length, Result, Ok, Err, Vec, vec_capacity}
+use Rattle.netlink_packet_core_grammar.specs.Attributes.{nla_align}
+use Rattle.netlink_packet_core_grammar.specs.Frames.{IsFrame, frame_type, frame_body, frame_text}
+use Rattle.link_capture_grammar.specs.Bodies.{Refusal, body_text}
 use Rattle.link_capture_grammar.specs.Captures.{first_frame, texts}
 use Rattle.link_capture_grammar.specs.Numbers.{attributes, frame_attributes, frames}
 use Rattle.link_capture_checks.specs.declared.texts.BodyText.{BodyText}
 use Rattle.link_capture_checks.specs.declared.texts.Measure.{Measure}
 use Rattle.link_capture_checks.specs.declared.texts.FrameText.{FrameText}
 
--- there is a text, it is so long, and so many attributes are inside
-pub record IsBodyText (judged : Result (List ℕ) Refusal) (inside : ℕ) (m : BodyText) : Type 0 where
+-- a body has a text, it is so long, and so many attributes are inside
+pub record IsBodyText (body : List ℕ) (judged : Result (List ℕ) Refusal) (inside : ℕ) (m : BodyText) : Type 0 where
   pub text : List ℕ
   pub is : judged ≡ Ok text
   pub len : m.len ≡ length text
   pub attributes : m.attributes ≡ inside
+  pub own : m.is_own ≡ true → text ≡ body
 
 -- the frame in front is accepted, and the numbers are its own
 pub record IsFrameText (limit : ℕ) (c : List ℕ) (m : FrameText) : Type 0 where
+  pub whole : IsFrame c
+  pub body : List ℕ
+  pub judged : body_text (frame_type c) (frame_body c) ≡ Ok body
   pub text : List ℕ
+  pub written : text ≡ frame_text c body
   pub is : first_frame limit c ≡ Ok (m.len, text)
+  pub bound : m.len ≤ limit
+  pub size : m.size ≡ 16 + length body
+  pub small : m.size ≤ limit
   pub text_len : m.text_len ≡ length text
+  pub aligned : m.text_len ≡ nla_align m.size
   pub attributes : m.attributes ≡ frame_attributes c
+  pub own : m.is_own ≡ true → body ≡ frame_body c
+
+-- the text of a body that has one
+abbrev pub written : Result (List ℕ) Refusal → List ℕ
+written (Ok text) = text
+written (Err why) = []
+
+-- the frame in front is accepted, and there was less room than its text wants
+abbrev pub LacksRoom : {Z : Type 0} → ℕ → List ℕ → Vec ℕ Z → Type 0
+LacksRoom limit c out = (n : ℕ) × (text : List ℕ) × (first_frame limit c ≡ Ok (n, text)) × (vec_capacity out < length out.items + length text)
 
 -- the numbers are those of a capture, up to its first fault
 pub record IsMeasure (limit : ℕ) (c : List ℕ) (m : Measure) : Type 0 where

@@ -1,33 +1,47 @@
 //! What the bodies of frames are written as, by the types of their messages.
 
-ghost use Rattle.std.specs.Prelude.{◌≡◌, length, IfOk, IfErr, Err};
+ghost use Rattle.std.specs.Prelude.{◌≡◌, ◌≤◌, ◌+◌, ◌++◌, true, length, is_ok, vec_capacity, IfOk, IfErr, Ok, Err};
 ghost use Rattle.link_message_grammar.specs.Body.{link_body};
 ghost use Rattle.link_capture_grammar.specs.Bodies.{body_text, done_text, error_text, ruled_text};
 ghost use Rattle.link_capture_grammar.specs.Captures.{faulty};
 ghost use Rattle.link_capture_grammar.specs.Numbers.{body_attributes};
-ghost use Rattle.link_capture_checks.specs.Measures.{IsBodyText};
+ghost use Rattle.link_capture_grammar.specs.Same.{done_body};
+ghost use Rattle.link_capture_checks.specs.Measures.{IsBodyText, written};
 
 use crate::texts::BodyText;
+use attribute_checks::append;
+use attribute_tables_grammar::laws::measures_tell_rules;
 use link_capture_grammar::fault::FaultKind;
-use link_message_checks::check;
+use link_message_checks::{measure_body as measure_link_body, write_body};
 use netlink_packet_core::{NLMSG_DONE, NLMSG_ERROR, NLMSG_NOOP};
 
 /// The bytes of the code in front of the body of a DONE or an ERROR message.
 const CODE_LEN: usize = 4;
 
+/// The code of a DONE message that has none.
+const NO_CODE: [u8; CODE_LEN] = [0; CODE_LEN];
+
+/// The body of a DONE message, with the code 0 where it has none.
+pub(crate) fn with_code(body: &[u8]) -> &[u8]
+    ensures { result.now ≡ done_body body.now }
+{
+    if body.is_empty() { &NO_CODE } else { body }
+}
+
 // A body that is written as it stands.
 fn kept(body: &[u8]) -> BodyText
-    ensures { (result.len ≡ length body.now) × (result.attributes ≡ 0) }
+    ensures { IsBodyText body.now (Ok body.now) 0 result }
 {
     BodyText {
         len: body.len() as u128,
         attributes: 0,
+        is_own: true,
     }
 }
 
 // The body of an ERROR message: a code and more.
 fn measure_error(body: &[u8]) -> Result<BodyText, FaultKind>
-    ensures ok { IfOk result (λ m. IsBodyText (error_text body.now) 0 m) }
+    ensures ok { IfOk result (λ m. IsBodyText body.now (error_text body.now) 0 m) }
     ensures err { IfErr result (λ kind. faulty (error_text body.now) ≡ Err kind) }
 {
     if body.len() < CODE_LEN {
@@ -39,13 +53,14 @@ fn measure_error(body: &[u8]) -> Result<BodyText, FaultKind>
 
 // The body of a DONE message: a code and more, or nothing, which is the code 0.
 fn measure_done(body: &[u8]) -> Result<BodyText, FaultKind>
-    ensures ok { IfOk result (λ m. IsBodyText (done_text body.now) 0 m) }
+    ensures ok { IfOk result (λ m. IsBodyText body.now (done_text body.now) 0 m) }
     ensures err { IfErr result (λ kind. faulty (done_text body.now) ≡ Err kind) }
 {
     if body.is_empty() {
         return Ok(BodyText {
             len: CODE_LEN as u128,
             attributes: 0,
+            is_own: false,
         });
     }
     measure_error(body)
@@ -54,10 +69,11 @@ fn measure_done(body: &[u8]) -> Result<BodyText, FaultKind>
 // The body of a link message.
 fn measure_link(body: &[u8]) -> Result<BodyText, FaultKind>
     ensures ok { IfOk result
-        (λ m. IsBodyText (ruled_text link_body body.now) (link_body.attributes body.now) m) }
+        (λ m. IsBodyText body.now (ruled_text link_body body.now) (link_body.attributes body.now) m) }
     ensures err { IfErr result (λ kind. faulty (ruled_text link_body body.now) ≡ Err kind) }
 {
-    let Ok(found) = check(body) else {
+    measures_tell_rules();
+    let Some(found) = measure_link_body(body) else {
         return Err(FaultKind::Refused);
     };
     if found.empty_ports {
@@ -69,12 +85,13 @@ fn measure_link(body: &[u8]) -> Result<BodyText, FaultKind>
     Ok(BodyText {
         len: found.text_len,
         attributes: found.attributes,
+        is_own: found.is_own,
     })
 }
 
 /// The body of a message of a type.
 pub(crate) fn measure_body(message_type: u16, body: &[u8]) -> Result<BodyText, FaultKind>
-    ensures ok { IfOk result (λ m. IsBodyText (body_text message_type body.now)
+    ensures ok { IfOk result (λ m. IsBodyText body.now (body_text message_type body.now)
         (body_attributes message_type body.now) m) }
     ensures err { IfErr result (λ kind. faulty (body_text message_type body.now) ≡ Err kind) }
 {
@@ -82,11 +99,34 @@ pub(crate) fn measure_body(message_type: u16, body: &[u8]) -> Result<BodyText, F
         NLMSG_NOOP => Ok(BodyText {
             len: 0,
             attributes: 0,
+            is_own: false,
         }),
         NLMSG_ERROR => measure_error(body),
         NLMSG_DONE => measure_done(body),
         // RTM_NEWLINK, RTM_DELLINK, RTM_GETLINK and RTM_SETLINK (rtnetlink.h)
         16..=19 => measure_link(body),
         _ => Ok(kept(body)),
+    }
+}
+
+/// Appends the text of a body that has one, for which there has to be room.
+pub(crate) fn push_body(message_type: u16, body: &[u8], is_own: bool, out: &mut Vec<u8>)
+    requires text { is_ok (body_text message_type body.now) ≡ true }
+    requires own { is_own ≡ true → body_text message_type body.now ≡ Ok body.now }
+    requires room { length out.old.items + length (written (body_text message_type body.now))
+        ≤ vec_capacity out.old }
+    ensures text { out.new.items ≡ out.old.items ++ written (body_text message_type body.now) }
+    ensures room { vec_capacity out.old ≤ vec_capacity out.new }
+{
+    if is_own {
+        return append(body, out);
+    }
+    match message_type {
+        NLMSG_NOOP => {}
+        NLMSG_ERROR => append(body, out),
+        NLMSG_DONE => append(with_code(body), out),
+        // RTM_NEWLINK, RTM_DELLINK, RTM_GETLINK and RTM_SETLINK (rtnetlink.h)
+        16..=19 => write_body(body, out),
+        _ => append(body, out),
     }
 }

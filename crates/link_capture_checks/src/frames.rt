@@ -1,12 +1,15 @@
 //! The frame in front of some bytes.
 
-ghost use Rattle.std.specs.Prelude.{◌≡◌, ◌≤◌, length, IfOk, IfErr, Err};
-ghost use Rattle.netlink_packet_core.specs.Frames.{IsFrame, frame_length};
-ghost use Rattle.link_capture_grammar.specs.Captures.{Judged, first_frame, tested};
-ghost use Rattle.link_capture_checks.specs.Measures.{IsFrameText};
+ghost use Rattle.std.specs.Prelude.{◌≡◌, ◌≢◌, ◌≤◌, ◌<◌, ◌+◌, ◌^◌, ◌++◌, ℕ, List, true, length, is_ok, vec_capacity, IfOk, IfErr, OnErr, Ok, Err};
+ghost use Rattle.netlink_packet_core_grammar.specs.Attributes.{nla_align};
+ghost use Rattle.netlink_packet_core.specs.Frames.{IsFrame, frame_length, frame_type, frame_body, frame_text};
+ghost use Rattle.link_capture_grammar.specs.Bodies.{body_text};
+ghost use Rattle.link_capture_grammar.specs.Captures.{IsOfFrames, Judged, first_frame, tested};
+ghost use Rattle.link_capture_checks.specs.Measures.{IsFrameText, LacksRoom, written};
 
-use crate::bodies::measure_body;
+use crate::bodies::{measure_body, push_body};
 use crate::texts::{BodyText, FrameText};
+use attribute_checks::{append, append_zeros};
 use link_capture_grammar::fault::FaultKind;
 use link_capture_grammar::laws::frames_are_judged;
 use netlink_packet_core::{NETLINK_HEADER_LEN, NetlinkBuffer, nla_align};
@@ -17,6 +20,7 @@ pub fn frame_len(bytes: &[u8], limit: u32) -> Result<usize, FaultKind>
     ensures err { IfErr result
         (λ kind. (judged : Judged) → tested limit (length bytes.now) (frame_length bytes.now) judged
         ≡ Err kind) }
+    ensures of_frames { IfErr result (λ kind. IsOfFrames kind) }
 {
     if bytes.len() < NETLINK_HEADER_LEN {
         return Err(FaultKind::Cut);
@@ -34,26 +38,90 @@ pub fn frame_len(bytes: &[u8], limit: u32) -> Result<usize, FaultKind>
     Ok(size as usize)
 }
 
+/// The body of the frame in front.
+pub(crate) fn body(bytes: &[u8]) -> &[u8]
+    requires { IsFrame bytes.now }
+    ensures { result.now ≡ frame_body bytes.now }
+{
+    &bytes[NETLINK_HEADER_LEN..NetlinkBuffer::new(bytes).length() as usize]
+}
+
 /// Judges the frame in front of these bytes, and tells what it is written as.
-pub(crate) fn measure_frame(bytes: &[u8], limit: u32) -> Result<FrameText, FaultKind>
+pub fn measure_frame(bytes: &[u8], limit: u32) -> Result<FrameText, FaultKind>
     ensures ok { IfOk result (λ m. IsFrameText limit bytes.now m) }
     ensures bounds { IfOk result (λ m. (16 ≤ m.len) × (m.len ≤ length bytes.now)) }
     ensures err { IfErr result (λ kind. first_frame limit bytes.now ≡ Err kind) }
+    ensures of_frames { IfErr result (λ kind. IsOfFrames kind) }
 {
     frames_are_judged();
     let len = frame_len(bytes, limit)?;
     let message_type = NetlinkBuffer::new(bytes).message_type();
-    let body = &bytes[NETLINK_HEADER_LEN..len];
     let BodyText {
         len: body_len,
         attributes,
-    } = measure_body(message_type, body)?;
+        is_own,
+    } = measure_body(message_type, body(bytes))?;
     if body_len > (limit as usize - NETLINK_HEADER_LEN) as u128 {
         return Err(FaultKind::TextOverLimit);
     }
+    let size = NETLINK_HEADER_LEN + body_len as usize;
     Ok(FrameText {
         len,
-        text_len: nla_align(NETLINK_HEADER_LEN + body_len as usize),
+        size,
+        text_len: nla_align(size),
         attributes,
+        is_own,
     })
+}
+
+// Appends the text of the frame in front, whose body has one, with this size in its header, for which there has to be
+// room.
+fn push_text(bytes: &[u8], size: u32, is_own: bool, out: &mut Vec<u8>)
+    requires frame { IsFrame bytes.now }
+    requires text { is_ok (body_text (frame_type bytes.now) (frame_body bytes.now)) ≡ true }
+    requires own { is_own ≡ true
+        → body_text (frame_type bytes.now) (frame_body bytes.now) ≡ Ok (frame_body bytes.now) }
+    requires size { size
+        ≡ 16 + length (written (body_text (frame_type bytes.now) (frame_body bytes.now))) }
+    requires room { length out.old.items + nla_align size ≤ vec_capacity out.old }
+    ensures text { out.new.items ≡ out.old.items
+        ++ frame_text bytes.now (written (body_text (frame_type bytes.now) (frame_body bytes.now))) }
+    ensures room { vec_capacity out.old ≤ vec_capacity out.new }
+{
+    append(&size.to_le_bytes(), out);
+    append(&bytes[4..NETLINK_HEADER_LEN], out);
+    let message_type = NetlinkBuffer::new(bytes).message_type();
+    push_body(message_type, body(bytes), is_own, out);
+    let size = size as usize;
+    append_zeros(nla_align(size) - size, out);
+}
+
+/// Judges the frame in front of these bytes. Its text goes to the end of `out`, and its length is the answer.
+///
+/// Memory is taken for the text of an accepted frame alone, all of it at once: want of it is answered only where `out`
+/// had less room.
+pub fn push_frame(bytes: &[u8], limit: u32, out: &mut Vec<u8>) -> Result<usize, FaultKind>
+    ensures ok { IfOk result
+        (λ n. (text : List ℕ) × (first_frame limit bytes.now ≡ Ok (n, text))
+        × (out.new.items ≡ out.old.items ++ text)) }
+    ensures bounds { IfOk result (λ n. (16 ≤ n) × (n ≤ limit) × (n ≤ length bytes.now)) }
+    ensures refused { IfErr result
+        (λ kind. kind ≢ FaultKind.Memory → first_frame limit bytes.now ≡ Err kind) }
+    ensures err { OnErr result (out.new.items ≡ out.old.items) }
+    ensures memory { IfErr result
+        (λ kind. kind ≡ FaultKind.Memory → LacksRoom limit bytes.now out.old) }
+    ensures room { vec_capacity out.old ≤ vec_capacity out.new }
+{
+    let FrameText {
+        len,
+        size,
+        text_len,
+        is_own,
+        ..
+    } = measure_frame(bytes, limit)?;
+    let Ok(()) = out.reserve(text_len) else {
+        return Err(FaultKind::Memory);
+    };
+    push_text(bytes, size as u32, is_own, out);
+    Ok(len)
 }

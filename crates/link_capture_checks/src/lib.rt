@@ -8,6 +8,6 @@ mod sameness;
 mod texts;
 
 pub use capture::{check, measure, normal_len};
-pub use frames::frame_len;
+pub use frames::{frame_len, measure_frame, push_frame};
 pub use sameness::{SideFault, same};
-pub use texts::Measure;
+pub use texts::{FrameText, Measure};

@@ -10,8 +10,9 @@ ghost use Rattle.link_capture_grammar.specs.Same.{done_body, same_body, SameFram
 ghost use Rattle.link_capture_checks.specs.Partings.{IsAlike, Part};
 ghost use Rattle.link_capture_checks.specs.Sides.{side_text};
 
+use crate::bodies::with_code;
 use crate::capture::check;
-use crate::frames::measure_frame;
+use crate::frames::{body, measure_frame};
 use arrayvec::ArrayString;
 use link_capture_grammar::fault::CaptureFault;
 use link_capture_grammar::laws::{
@@ -20,9 +21,6 @@ use link_capture_grammar::laws::{
 use link_message_checks::same as same_link;
 use netlink_packet_core::{NETLINK_HEADER_LEN, NLMSG_DONE, NLMSG_NOOP, NetlinkBuffer, nla_align};
 use std::fmt;
-
-/// The code of a DONE message that has none.
-const NO_CODE: [u8; 4] = [0; 4];
 
 /// The first fault of two captures, and whose it is.
 #[derive(Clone, Copy, Debug, PartialEq, Eq, Drop)]
@@ -56,14 +54,6 @@ impl fmt::Display for SideFault {
     }
 }
 
-// The body of the frame in front.
-fn body(bytes: &[u8]) -> &[u8]
-    requires { IsFrame bytes.now }
-    ensures { result.now ≡ frame_body bytes.now }
-{
-    &bytes[NETLINK_HEADER_LEN..NetlinkBuffer::new(bytes).length() as usize]
-}
-
 // What stands behind the frame in front and its padding.
 fn behind(bytes: &[u8]) -> &[u8]
     requires { IsFrame bytes.now }
@@ -71,13 +61,6 @@ fn behind(bytes: &[u8]) -> &[u8]
 {
     let len = nla_align(NetlinkBuffer::new(bytes).length() as usize);
     &bytes[len.min(bytes.len())..]
-}
-
-// The body of a DONE message, with the code 0 where it has none.
-fn with_code(body: &[u8]) -> &[u8]
-    ensures { result.now ≡ done_body body.now }
-{
-    if body.is_empty() { &NO_CODE } else { body }
 }
 
 // Whether two bodies of messages of a type mean the same.

@@ -7,17 +7,23 @@ pub(crate) struct BodyText {
     pub len: u128,
     /// The attribute headers inside, at all depths.
     pub attributes: u64,
+    /// Whether it is known to be the body as it stands; it may be so besides.
+    pub is_own: bool,
 }
 
 /// What a frame is written as.
 #[derive(Clone, Copy)]
-pub(crate) struct FrameText {
+pub struct FrameText {
     /// The length that its header tells, in bytes.
     pub len: usize,
+    /// The length that the header of its text tells, in bytes.
+    pub size: usize,
     /// The length of its text in bytes, with the padding.
     pub text_len: usize,
     /// The attribute headers inside, at all depths.
     pub attributes: u64,
+    /// Whether the body is known to be written as it stands; it may be so besides.
+    pub is_own: bool,
 }
 
 /// The numbers of a legal capture.

@@ -1,5 +1,5 @@
 -- What a walk has passed, and what is left of it.
-use Rattle.std.proofs.Common.{◌≡◌, ℕ, ◌+◌, ◌-◌, ◌%◌, ◌<◌, ◌≤◌, Option, None, Some, Ok, Err, List, [], ◌++◌, length, take, drop, sym, ap, subst, ◌∙◌, refl, arith, append_assoc}
+use Rattle.std.proofs.Common.{◌≡◌, ℕ, ◌+◌, ◌%◌, ◌<◌, ◌≤◌, Option, None, Some, Ok, Err, List, [], ◌++◌, length, take, drop, sym, ap, subst, ◌∙◌, refl, arith, append_assoc}
 use Rattle.std.proofs.lemmas.List.{length-take, length-drop, append-nil, drop_at, drop-drop, take_all, take-append-drop}
 use Rattle.std.proofs.Math.Seq.{take-add}
 use Rattle.link_capture_grammar.specs.declared.fault.CaptureFault.{CaptureFault}

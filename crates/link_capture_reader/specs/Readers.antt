@@ -1,5 +1,5 @@
 -- What a reader of a capture stands for, and what its calls add.
-use Rattle.std.specs.Prelude.{◌≡◌, ℕ, ◌+◌, ◌-◌, ◌^◌, ◌<◌, ◌≤◌, List, [], ◌++◌, length, take, drop, Option, None, Some, IfSome, ◌⊎◌, Err}
+use Rattle.std.specs.Prelude.{◌≡◌, ℕ, ◌+◌, ◌-◌, ◌^◌, ◌<◌, ◌≤◌, List, [], ◌++◌, length, take, drop, Option, None, Some, IfSome, ◌⊎◌, Ok, Err, Vec, vec_capacity}
 use Rattle.link_capture_grammar.specs.declared.fault.FaultKind.{FaultKind}
 use Rattle.link_capture_grammar.specs.declared.fault.FaultKind.TheVariants.{Cut, Memory, Read, Write, TooLong, Failed}
 use Rattle.link_capture_grammar.specs.declared.fault.CaptureFault.{CaptureFault}
@@ -53,3 +53,12 @@ FeedFault limit s piece old new Write at = ⊥
 FeedFault limit s piece old new Failed at = ⊥
 FeedFault limit s piece old new kind at =
     (length s + length piece < 2 ^ 64) × (first_fault limit (s ++ piece) ≡ Some (record { kind = kind; offset = at })) × Gains limit s (s ++ piece) old new
+
+-- the frame at this place is accepted, and there was less room than its text and the texts before it want
+abbrev pub LacksRoomAt : {Z : Type 0} → ℕ → List ℕ → ℕ → Vec ℕ Z → Type 0
+LacksRoomAt limit c at old =
+    (n : ℕ) × (text : List ℕ) × (first_frame limit (drop at c) ≡ Ok (n, text)) × (vec_capacity old < length old.items + (length (texts limit (take at c)) + length text))
+
+-- why memory was wanting at this place: there was less room, or the frame is cut, and its bytes had to be kept
+abbrev pub WantsMemory : {Z : Type 0} → ℕ → List ℕ → ℕ → Vec ℕ Z → Type 0
+WantsMemory limit c at old = LacksRoomAt limit c at old ⊎ (first_frame limit (drop at c) ≡ Err Cut)

@@ -2,21 +2,16 @@
 
 ghost use Rattle.std.specs.Prelude.{◌≡◌, ◌≢◌, ◌+◌, ◌≤◌, ◌<◌, ◌%◌, ◌++◌, length, take, None, Some, IfErr, OnOk};
 ghost use Rattle.link_capture_grammar.specs.Captures.{first_fault, texts, StopsAt};
+ghost use Rattle.link_capture_reader.specs.Readers.{LacksRoomAt};
 
+use link_capture_checks::push_frame;
 use link_capture_grammar::fault::{CaptureFault, FaultKind};
 use link_capture_grammar::laws::captures_go_by_frames;
-use link_capture_messages::push_frame;
 use netlink_packet_core::nla_align;
-use std::alloc::Global;
 
 /// Writes the texts of these bytes at the end of `out`. Where they aren't legal, the answer is their first fault,
 /// and a cut frame is one; or want of memory at a frame.
-pub(crate) fn push_frames(
-    alloc: Global,
-    bytes: &[u8],
-    limit: u32,
-    out: &mut Vec<u8>,
-) -> Result<(), CaptureFault>
+pub(crate) fn push_frames(bytes: &[u8], limit: u32, out: &mut Vec<u8>) -> Result<(), CaptureFault>
     requires { 16 ≤ limit }
     ensures legal { OnOk result ((first_fault limit bytes.now ≡ None)
         × (out.new.items ≡ out.old.items ++ texts limit bytes.now)) }
@@ -28,11 +23,13 @@ pub(crate) fn push_frames(
     ensures memory { IfErr result
         (λ fault. fault.kind ≡ FaultKind.Memory → StopsAt limit bytes.now fault.offset
         × (out.new.items ≡ out.old.items ++ texts limit (take fault.offset bytes.now))) }
+    ensures room { IfErr result
+        (λ fault. fault.kind ≡ FaultKind.Memory → LacksRoomAt limit bytes.now fault.offset out.old) }
 {
     captures_go_by_frames();
     let mut at = 0usize;
     while at < bytes.len() {
-        match push_frame(alloc, &bytes[at..], limit, out) {
+        match push_frame(&bytes[at..], limit, out) {
             Ok(length) => {
                 let size = nla_align(length);
                 if size >= bytes.len() - at {

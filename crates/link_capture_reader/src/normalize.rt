@@ -4,6 +4,7 @@ ghost use Rattle.std.specs.Prelude.{◌≡◌, ◌≢◌, ◌≤◌, ◌<◌, �
 ghost use Rattle.link_capture_grammar.specs.Captures.{first_fault, texts, IsLegal, StopsAt};
 ghost use Rattle.link_capture_grammar.specs.Same.{SameCapture};
 ghost use Rattle.link_capture_reader.specs.Joined.{IsJoined};
+ghost use Rattle.link_capture_reader.specs.Readers.{WantsMemory};
 
 use super::reader::CaptureReader;
 use link_capture_grammar::fault::{CaptureFault, FaultKind};
@@ -43,6 +44,10 @@ pub fn normalize_bytes(
     ensures memory { IfErr result
         (λ fault. fault.kind ≡ FaultKind.Memory → StopsAt limit bytes.now fault.offset
         × (out.new.items ≡ out.old.items ++ texts limit (take fault.offset bytes.now))) }
+    // Memory is wanting only for the text of an accepted frame, where `out` had less room than it and the texts before
+    // it want, or to keep the bytes of a cut frame.
+    ensures room { IfErr result
+        (λ fault. fault.kind ≡ FaultKind.Memory → WantsMemory limit bytes.now fault.offset out.old) }
     // A legal capture and its normal text mean the same.
     ensures same { IsLegal limit bytes.now → SameCapture limit bytes.now (texts limit bytes.now) }
     // A normal text is at most 77 times as long.

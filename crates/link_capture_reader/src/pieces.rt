@@ -5,18 +5,18 @@ ghost use Rattle.std.specs.Prelude.{IfErr, OnOk, OnErr, None, Err};
 ghost use Rattle.netlink_packet_core.specs.Attributes.{nla_align};
 ghost use Rattle.netlink_packet_core.specs.Frames.{frame_length};
 ghost use Rattle.link_capture_grammar.specs.Captures.{first_frame, first_fault};
-ghost use Rattle.link_capture_reader.specs.Readers.{IsReader, Resumes, Gains, FeedFault};
+ghost use Rattle.link_capture_reader.specs.Readers.{IsReader, Resumes, Gains, FeedFault, WantsMemory};
 ghost use Rattle.link_capture_reader.specs.Walks.{Goes, Faults, Lacks};
 
 use super::frames::push_frames;
+use link_capture_checks::push_frame;
 use link_capture_grammar::fault::{CaptureFault, FaultKind};
 use link_capture_grammar::laws::{
     captures_go_by_frames, faults_stand_at_frames, frames_stand_alone,
 };
-use link_capture_messages::push_frame;
 use netlink_packet_core::{NETLINK_HEADER_LEN, NetlinkBuffer, nla_align};
 use netlink_packet_core_grammar::laws::numbers_stand_alone;
-use std::alloc::{AllocError, Global};
+use std::alloc::AllocError;
 
 /// The zeros behind a frame of this length, up to a multiple of 4.
 fn padding(length: usize) -> usize
@@ -72,7 +72,6 @@ fn complete_frame(kept: &mut Vec<u8>, piece: &[u8], limit: u32) -> Result<usize,
 /// Goes on over bytes that stand at `start` of the capture: the texts of their whole frames go to `out`, and the bytes
 /// of a cut one to `kept`. The answer is the padding that is owed then.
 fn read_frames(
-    alloc: Global,
     start: u64,
     kept: &mut Vec<u8>,
     bytes: &[u8],
@@ -88,8 +87,10 @@ fn read_frames(
         (λ fault. Faults limit start bytes.now out.old.items out.new.items fault) }
     ensures memory { IfErr result
         (λ fault. Lacks limit start bytes.now out.old.items out.new.items fault) }
+    ensures room { IfErr result (λ fault. fault.kind ≡ FaultKind.Memory
+        → (at : ℕ) × (fault.offset ≡ start + at) × WantsMemory limit bytes.now at out.old) }
 {
-    match push_frames(alloc, bytes, limit, out) {
+    match push_frames(bytes, limit, out) {
         Ok(()) => Ok(padding(bytes.len())),
         Err(fault) => match fault.kind {
             FaultKind::Cut => match kept.extend_from_slice(&bytes[fault.offset as usize..]) {
@@ -112,7 +113,6 @@ fn read_frames(
 
 /// Goes on with the bytes of a cut frame, which stand at `start` of the capture, and those that come after them.
 fn resume_frame(
-    alloc: Global,
     start: u64,
     kept: &mut Vec<u8>,
     bytes: &[u8],
@@ -129,9 +129,11 @@ fn resume_frame(
         out.old.items out.new.items fault) }
     ensures memory { IfErr result (λ fault. Lacks limit start (kept.old.items ++ bytes.now)
         out.old.items out.new.items fault) }
+    ensures room { IfErr result (λ fault. kept.old.items ≡ [] → fault.kind ≡ FaultKind.Memory
+        → (at : ℕ) × (fault.offset ≡ start + at) × WantsMemory limit bytes.now at out.old) }
 {
     if kept.is_empty() {
-        return read_frames(alloc, start, kept, bytes, limit, out);
+        return read_frames(start, kept, bytes, limit, out);
     }
     frames_stand_alone();
     captures_go_by_frames();
@@ -141,7 +143,7 @@ fn resume_frame(
             offset: start,
         });
     };
-    match push_frame(alloc, kept.as_slice(), limit, out) {
+    match push_frame(kept.as_slice(), limit, out) {
         Ok(size) => {
             kept.clear();
             let owed = padding(size);
@@ -150,7 +152,7 @@ fn resume_frame(
                 return Ok(owed - left);
             }
             let start = start + (size + owed) as u64;
-            read_frames(alloc, start, kept, &bytes[moved + owed..], limit, out)
+            read_frames(start, kept, &bytes[moved + owed..], limit, out)
         }
         Err(kind) => match kind {
             FaultKind::Cut => Ok(0),
@@ -165,7 +167,6 @@ fn resume_frame(
 /// Takes a piece after so many bytes, where `kept` has the bytes of the cut frame and so much padding is owed. The
 /// answer is the padding that is owed then.
 pub(crate) fn accept_piece(
-    alloc: Global,
     accepted: u64,
     kept: &mut Vec<u8>,
     owed: usize,
@@ -195,6 +196,9 @@ pub(crate) fn accept_piece(
     ensures fault { IfErr result (λ fault. (s : List ℕ) → accepted ≡ length s
         → Resumes (first_fault limit s) s kept.old.items owed
         → FeedFault limit s piece.now out.old.items out.new.items fault.kind fault.offset) }
+    ensures room { IfErr result (λ fault. kept.old.items ≡ [] → owed ≡ 0
+        → fault.kind ≡ FaultKind.Memory → (at : ℕ) × (fault.offset ≡ accepted + at)
+        × WantsMemory limit piece.now at out.old) }
 {
     if piece.len() as u64 > u64::MAX - accepted {
         return Err(CaptureFault {
@@ -209,5 +213,5 @@ pub(crate) fn accept_piece(
         return Ok(owed - piece.len());
     }
     let start = accepted + owed as u64 - kept.len() as u64;
-    resume_frame(alloc, start, kept, &piece[owed..], limit, out)
+    resume_frame(start, kept, &piece[owed..], limit, out)
 }

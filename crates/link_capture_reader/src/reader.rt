@@ -2,7 +2,7 @@
 
 ghost use Rattle.std.specs.Prelude.{◌≡◌, ◌+◌, ◌^◌, ◌<◌, ◌≤◌, ◌++◌, ℕ, List, [], length, OnOk, OnErr, IfErr, IfSome, None, Some, Err};
 ghost use Rattle.link_capture_grammar.specs.Captures.{first_fault};
-ghost use Rattle.link_capture_reader.specs.Readers.{ReaderState, IsReader, StandsFor, Gains, FeedFault};
+ghost use Rattle.link_capture_reader.specs.Readers.{ReaderState, IsReader, StandsFor, Gains, FeedFault, WantsMemory};
 
 use super::pieces::accept_piece;
 use link_capture_grammar::fault::{CaptureFault, FaultKind};
@@ -49,6 +49,7 @@ impl CaptureReader {
         requires { 16 ≤ limit }
         ensures empty { StandsFor result [] }
         ensures limit { result.limit ≡ limit }
+        ensures start { (result.accepted ≡ 0) × (result.kept ≡ []) × (result.owed ≡ 0) }
     {
         CaptureReader {
             limit,
@@ -74,6 +75,11 @@ impl CaptureReader {
         ensures fault { IfErr result (λ fault. (s : List ℕ) → StandsFor self.old s
             → FeedFault self.old.limit s piece.now out.old.items out.new.items
             fault.kind fault.offset) }
+        // Where no bytes were kept and no padding is owed, memory is wanting only for a text for which there was less
+        // room, or to keep the bytes of a cut frame.
+        ensures room { IfErr result (λ fault. self.old.kept ≡ [] → self.old.owed ≡ 0
+            → fault.kind ≡ FaultKind.Memory → (at : ℕ) × (fault.offset ≡ self.old.accepted + at)
+            × WantsMemory self.old.limit piece.now at out.old) }
         // A fault is one for good.
         ensures failed { IfErr result (λ fault. self.new.failed ≡ Some fault.offset) }
         // Nothing of a piece with a fault is counted, nor any piece after it.
@@ -89,17 +95,8 @@ impl CaptureReader {
                 offset,
             });
         }
-        let alloc = *self.kept.allocator();
         let kept = &mut self.kept;
-        match accept_piece(
-            alloc,
-            self.accepted,
-            kept,
-            self.owed,
-            piece,
-            self.limit,
-            out,
-        ) {
+        match accept_piece(self.accepted, kept, self.owed, piece, self.limit, out) {
             Ok(owed) => {
                 self.owed = owed;
                 self.accepted += piece.len() as u64;

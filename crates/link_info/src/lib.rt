@@ -7,7 +7,6 @@
 mod infos;
 pub mod laws;
 
-pub use attribute_tables::{FamilyReader, Reader, parse_family, parse_first, parse_list};
 pub use infos::LinkInfo;
 pub use link_info_checks::{ListMeasure, check_list, same_list};
 pub use link_info_data::{InfoData, InfoPortData, InfoVrfPort, LinkXstats};
@@ -22,14 +21,13 @@ pub use link_info_raw::{
     InfoBond, InfoBondPort, InfoBridge, InfoBridgePort, InfoCan, InfoDsa, InfoHsr, InfoTeamPort,
     InfoTun, InfoVlan, InfoWireguard, RawData,
 };
-pub use link_info_stacked::{InfoMacSec, InfoMacVlan, InfoMacVtap, MacVlanReader, parse_mac_vlan};
+pub use link_info_stacked::{InfoMacSec, InfoMacVlan, InfoMacVtap, parse_mac_vlan};
 pub use link_info_tunnel_types::{
     AmtMode, ErSpanDir, GeneveDf, GreEncapFlags, GreEncapType, GreIOFlags, GtpRole, Ip6TunnelFlags,
     IpProtocol, TunnelEncapFlags, TunnelEncapType, VxlanDf,
 };
 pub use link_info_tunnels::{
-    InfoBareUdp, InfoGre, InfoGre6, InfoIpTunnel, InfoIpTunnelReader, InfoVti, InfoXfrm,
-    parse_ip_tunnel,
+    InfoBareUdp, InfoGre, InfoGre6, InfoIpTunnel, InfoVti, InfoXfrm, parse_ip_tunnel,
 };
 pub use link_info_types::{
     Flags, IpVlanFlags, IpVlanMode, IpVtapFlags, IpVtapMode, IpoibMode, MacSecCipherId,

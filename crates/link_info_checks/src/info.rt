@@ -1,6 +1,6 @@
 //! Checks of link info, without memory and without a typed value.
 
-ghost use Rattle.std.specs.Prelude.{◌≡◌, true, false, is_ok, option_map, IfSome, IfOk, IfErr, refl};
+ghost use Rattle.std.specs.Prelude.{◌≡◌, ◌≤◌, ◌+◌, ◌++◌, true, false, length, is_ok, option_map, vec_capacity, IfSome, IfOk, IfErr, refl};
 ghost use Rattle.attribute_tables_grammar.specs.Peers.{bytes_peer};
 ghost use Rattle.attribute_tables_grammar.specs.Tables.{Payload.peer};
 ghost use Rattle.attribute_tables_grammar.specs.Walks.{measure};
@@ -13,7 +13,7 @@ ghost use Rattle.link_info_checks.specs.Tables.{table_of, IsListMeasure};
 use crate::rows::{KINDS, PORT_KINDS, ROWS};
 use attribute_checks::{
     Held, Measured, NameSet, Row, Shape, TableSet, held_by_name, measure_info, measure_shape,
-    same_info,
+    same_info, write_info, write_shape,
 };
 use attribute_tables_grammar::laws::{measures_tell_rules, peers_that_are_bytes_are_lawful};
 use link_info_grammar::laws::info_grammar_is_lawful;
@@ -44,6 +44,14 @@ impl TableSet for InfoTables {
 
     fn measure_info(&self, payload: &[u8]) -> Option<Measured> {
         measure_shape(Shape::Raw, payload)
+    }
+
+    fn write_peer(&self, payload: &[u8], out: &mut Vec<u8>) {
+        write_shape(Shape::Raw, payload, out);
+    }
+
+    fn write_info(&self, payload: &[u8], out: &mut Vec<u8>) {
+        write_shape(Shape::Raw, payload, out);
     }
 
     fn same_peer(&self, left: &[u8], right: &[u8]) -> bool {
@@ -121,4 +129,18 @@ pub fn same_list(left: &[u8], right: &[u8]) -> bool
     ensures { result ≡ info_rule.same left.now right.now }
 {
     same_info(&InfoTables, left, right)
+}
+
+/// Appends the canonical text of an accepted list of link info that fits, for which there has to be
+/// room; for the crates that write messages.
+#[tactic(auto, unfolding(link_info_grammar::specs::LinkInfo::info_rule_under, link_info_grammar::specs::LinkInfo::info_grammar_under))]
+pub fn write_list(bytes: &[u8], out: &mut Vec<u8>)
+    requires accepted { info_rule.accepted bytes.now ≡ true }
+    requires fits { info_rule.fits bytes.now ≡ true }
+    requires room { length out.old.items + length (info_rule.canonical bytes.now)
+        ≤ vec_capacity out.old }
+    ensures text { out.new.items ≡ out.old.items ++ info_rule.canonical bytes.now }
+    ensures room { vec_capacity out.old ≤ vec_capacity out.new }
+{
+    write_info(&InfoTables, bytes, out);
 }

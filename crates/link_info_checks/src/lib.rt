@@ -4,4 +4,4 @@
 mod info;
 mod rows;
 
-pub use info::{ListMeasure, check_list, measure_list, same_list};
+pub use info::{ListMeasure, check_list, measure_list, same_list, write_list};

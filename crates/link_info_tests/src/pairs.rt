@@ -1,7 +1,6 @@
 use crate::attributes::{are_read_as, is_read_as, is_written_as};
-use link_info::{
-    InfoNetkit, InfoVeth, InfoVxcan, NetkitMode, NetkitPolicy, NetkitScrub, parse_first,
-};
+use attribute_tables::parse_first;
+use link_info::{InfoNetkit, InfoVeth, InfoVxcan, NetkitMode, NetkitPolicy, NetkitScrub};
 use std::test::Fail;
 
 // The other end of a pair: a link message that is its header alone, 16 zeros.

@@ -7,19 +7,19 @@ pub mod laws;
 
 pub use link_message_af_spec::{AfSpecInet, AfSpecInet6, AfSpecUnspec};
 pub use link_message_attributes::LinkAttribute;
-pub use link_message_checks::{BodyMeasure, check, same};
+pub use link_message_checks::{BodyMeasure, check, same, write_canonical};
 pub use link_message_lists::{
     AfSpecMctp, DevlinkPort, DpllPin, LinkProtoInfoInet6, LinkProtocolDownReason, LinkXdp, Prop,
 };
 pub use link_message_messages::LinkMessage;
 pub use link_message_records::{
     FieldRecord, Icmp6Stats, Icmp6StatsBuffer, Inet6CacheInfo, Inet6CacheInfoBuffer, Inet6DevConf,
-    Inet6DevConfBuffer, Inet6Stats, Inet6StatsBuffer, InetDevConf, InetDevConfBuffer, Map,
-    MapBuffer, Stats, Stats64, Stats64Buffer, StatsBuffer, Values, VfInfoBroadcast,
-    VfInfoBroadcastBuffer, VfInfoLinkState, VfInfoLinkStateBuffer, VfInfoMac, VfInfoMacBuffer,
-    VfInfoRate, VfInfoRateBuffer, VfInfoRssQueryEn, VfInfoRssQueryEnBuffer, VfInfoSetting,
-    VfInfoSpoofCheck, VfInfoSpoofCheckBuffer, VfInfoTrust, VfInfoTrustBuffer, VfInfoTxRate,
-    VfInfoTxRateBuffer, VfInfoVlan, VfInfoVlanBuffer, VfVlanInfo,
+    Inet6DevConfBuffer, Inet6Stats, Inet6StatsBuffer, InetDevConf, InetDevConfBuffer,
+    LinkStatistics, Map, MapBuffer, Stats, Stats64, Stats64Buffer, StatsBuffer, Values,
+    VfInfoBroadcast, VfInfoBroadcastBuffer, VfInfoLinkState, VfInfoLinkStateBuffer, VfInfoMac,
+    VfInfoMacBuffer, VfInfoRate, VfInfoRateBuffer, VfInfoRssQueryEn, VfInfoRssQueryEnBuffer,
+    VfInfoSetting, VfInfoSpoofCheck, VfInfoSpoofCheckBuffer, VfInfoTrust, VfInfoTrustBuffer,
+    VfInfoTxRate, VfInfoTxRateBuffer, VfInfoVlan, VfInfoVlanBuffer, VfVlanInfo,
 };
 pub use link_message_types::{
     AddressFamily, Flags, In6AddrGenMode, Inet6IfaceFlags, LINK_HEADER_LEN, LinkEvent,

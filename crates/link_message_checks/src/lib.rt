@@ -4,4 +4,4 @@
 mod message;
 mod rows;
 
-pub use message::{BodyMeasure, check, measure_body, same};
+pub use message::{BodyMeasure, check, measure_body, same, write_body, write_canonical};

@@ -1,7 +1,7 @@
 //! Checks of link messages, without memory and without a typed value.
 
-ghost use Rattle.std.specs.Prelude.{◌≡◌, ◌≤◌, ◌<◌, ◌%◌, ◌/◌, ◌∷◌, [], true, false, length, take, bytes_eq};
-ghost use Rattle.std.specs.Prelude.{slice_index, is_ok, option_map, IfSome, IfOk, IfErr};
+ghost use Rattle.std.specs.Prelude.{◌≡◌, ◌≤◌, ◌<◌, ◌+◌, ◌%◌, ◌/◌, ◌∷◌, ◌++◌, [], true, false, length, take, bytes_eq};
+ghost use Rattle.std.specs.Prelude.{slice_index, is_ok, option_map, vec_capacity, IfSome, IfOk, IfErr, OnOk, OnErr};
 ghost use Rattle.std.specs.List.{list_any};
 ghost use Rattle.attribute_tables_grammar.specs.Peers.{bytes_peer};
 ghost use Rattle.attribute_tables_grammar.specs.Walks.{measure};
@@ -13,16 +13,18 @@ ghost use Rattle.link_message_checks.specs.Tables.{table_of, IsBodyMeasure};
 
 use crate::rows::{LAYER_TYPES, ROWS};
 use attribute_checks::{
-    Form, Held, Measured, Row, Shape, TableSet, measure_held, measure_shape, same_held,
+    Form, Held, Measured, Row, Shape, TableSet, append, measure_held, measure_shape, same_held,
+    write_held, write_shape,
 };
 use attribute_tables_grammar::laws::{
     measures_tell_rules, peers_that_are_bytes_are_lawful, sameness_goes_by_steps,
 };
-use link_info_checks::{measure_list, same_list};
+use link_info_checks::{measure_list, same_list, write_list};
 use link_message_grammar::laws::{
     bodies_are_headers_and_attributes, bodies_are_measured, bodies_are_small, info_is_a_list_inside,
 };
 use netlink_packet_core_numbers::DecodeError;
+use std::alloc::AllocError;
 
 /// The bytes of a body's header (if_link.h, struct ifinfomsg).
 const HEADER_LEN: usize = 16;
@@ -61,6 +63,16 @@ impl TableSet for MessageTables {
         } else {
             measure_list(payload)
         }
+    }
+
+    // No row of these is a peer's.
+    fn write_peer(&self, payload: &[u8], out: &mut Vec<u8>) {
+        write_shape(Shape::Raw, payload, out);
+    }
+
+    fn write_info(&self, payload: &[u8], out: &mut Vec<u8>) {
+        info_is_a_list_inside();
+        write_list(payload, out);
     }
 
     // No row of these is a peer's.
@@ -220,4 +232,70 @@ pub fn same(left: &[u8], right: &[u8]) -> bool
 {
     bodies_are_headers_and_attributes();
     same_header(left, right) && same_attributes(left[0], &left[HEADER_LEN..], &right[HEADER_LEN..])
+}
+
+// Appends a header as it is written: its second byte zero, and a layer type without a name void.
+fn write_header(bytes: &[u8], out: &mut Vec<u8>)
+    requires header { 16 ≤ length bytes.now }
+    requires room { length out.old.items + 16 ≤ vec_capacity out.old }
+    ensures text { out.new.items ≡ out.old.items ++ header_text bytes.now }
+    ensures room { vec_capacity out.old ≤ vec_capacity out.new }
+{
+    let [low, high] = layer_type(bytes).to_le_bytes();
+    append(&[bytes[0], 0, low, high], out);
+    append(&bytes[4..HEADER_LEN], out);
+}
+
+// Appends the canonical text of attributes of a family.
+fn write_attributes(family: u8, bytes: &[u8], out: &mut Vec<u8>)
+    requires accepted { (attributes_rule (family_of family)).accepted bytes.now ≡ true }
+    requires fits { (attributes_rule (family_of family)).fits bytes.now ≡ true }
+    requires room { length out.old.items
+        + length ((attributes_rule (family_of family)).canonical bytes.now)
+        ≤ vec_capacity out.old }
+    ensures text { out.new.items
+        ≡ out.old.items ++ (attributes_rule (family_of family)).canonical bytes.now }
+    ensures room { vec_capacity out.old ≤ vec_capacity out.new }
+{
+    let held = Held::List(Form::Any, table_of_family(family));
+    write_held(&MessageTables, held, bytes, out);
+}
+
+/// Appends the canonical text of an accepted body that fits, for which there has to be room; for
+/// the crates that write captures.
+pub fn write_body(bytes: &[u8], out: &mut Vec<u8>)
+    requires accepted { link_body.accepted bytes.now ≡ true }
+    requires fits { link_body.fits bytes.now ≡ true }
+    requires room { length out.old.items + length (link_body.canonical bytes.now)
+        ≤ vec_capacity out.old }
+    ensures text { out.new.items ≡ out.old.items ++ link_body.canonical bytes.now }
+    ensures room { vec_capacity out.old ≤ vec_capacity out.new }
+{
+    bodies_are_headers_and_attributes();
+    write_header(bytes, out);
+    write_attributes(bytes[0], &bytes[HEADER_LEN..], out);
+}
+
+/// Appends the canonical text of a body that `check` accepts, and that fits and has no empty ports:
+/// what a message that says the same is written as. It builds no value. Want of memory is answered
+/// only where `out` had less room than the text wants, and `out` is then as before.
+pub fn write_canonical(bytes: &[u8], out: &mut Vec<u8>) -> Result<(), AllocError>
+    requires accepted { link_body.accepted bytes.now ≡ true }
+    requires fits { link_body.fits bytes.now ≡ true }
+    requires has_ports { link_body.empty_ports bytes.now ≡ false }
+    ensures ok { OnOk result (out.new.items ≡ out.old.items ++ link_body.canonical bytes.now) }
+    ensures err { OnErr result (out.new.items ≡ out.old.items) }
+    ensures room { OnErr result
+        (vec_capacity out.old < length out.old.items + length (link_body.canonical bytes.now)) }
+{
+    measures_tell_rules();
+    let Some(found) = measure_body(bytes) else {
+        unreachable!();
+    };
+    let Ok(size) = usize::try_from(found.text_len) else {
+        return Err(AllocError);
+    };
+    out.reserve(size)?;
+    write_body(bytes, out);
+    Ok(())
 }

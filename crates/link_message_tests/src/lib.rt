@@ -10,6 +10,8 @@ mod messages;
 #[cfg(test)]
 mod nested;
 #[cfg(test)]
+mod records;
+#[cfg(test)]
 mod types;
 #[cfg(test)]
 mod virtual_functions;

@@ -3,7 +3,8 @@
 use crate::callers::{request_by_name, with_mtu, written};
 use link_info::{InfoData, InfoKind, InfoVxlan, LinkInfo};
 use link_message::{
-    AddressFamily, LINK_HEADER_LEN, LinkAttribute, LinkExtentMask, LinkHeader, LinkMessage,
+    AddressFamily, LINK_HEADER_LEN, LinkAttribute, LinkExtentMask, LinkHeader, LinkMessage, check,
+    write_canonical,
 };
 use netlink_packet_core::Emitable;
 use std::alloc::Global;
@@ -117,6 +118,22 @@ fn rewritten(alloc: Global, bytes: &[u8]) -> Result<Vec<u8>, Fail> {
     Ok(written(alloc, &LinkMessage::parse(alloc, bytes)?)?)
 }
 
+/// The canonical text of a body, straight from its bytes.
+fn canonical(alloc: Global, bytes: &[u8]) -> Result<Vec<u8>, Fail> {
+    let Ok(found) = check(bytes) else {
+        return Err(Fail::from("refused"));
+    };
+    if found.empty_ports {
+        return Err(Fail::from("empty ports"));
+    }
+    if !found.fits {
+        return Err(Fail::from("too long"));
+    }
+    let mut out = Vec::new(alloc);
+    write_canonical(bytes, &mut out)?;
+    Ok(out)
+}
+
 /// Whether a body is refused, and not for want of memory.
 fn is_refused(alloc: Global, bytes: &[u8]) -> bool {
     match LinkMessage::parse(alloc, bytes) {
@@ -190,8 +207,10 @@ fn link_info_is_typed(rt: HostRuntime) -> Result<(), Fail> {
 #[test]
 fn attributes_are_rewritten(rt: HostRuntime) -> Result<(), Fail> {
     for (attributes, wanted) in REWRITTEN {
-        let text = rewritten(rt.alloc(), &body(rt.alloc(), attributes)?)?;
-        assert!(rt; text == body(rt.alloc(), wanted)?);
+        let bytes = body(rt.alloc(), attributes)?;
+        let wanted = body(rt.alloc(), wanted)?;
+        assert!(rt; rewritten(rt.alloc(), &bytes)? == wanted);
+        assert!(rt; canonical(rt.alloc(), &bytes)? == wanted);
     }
     Ok(())
 }
@@ -200,6 +219,7 @@ fn attributes_are_rewritten(rt: HostRuntime) -> Result<(), Fail> {
 fn headers_are_rewritten(rt: HostRuntime) -> Result<(), Fail> {
     for (header, wanted) in HEADERS {
         assert!(rt; rewritten(rt.alloc(), header)?.as_slice() == wanted);
+        assert!(rt; canonical(rt.alloc(), header)?.as_slice() == wanted);
     }
     Ok(())
 }

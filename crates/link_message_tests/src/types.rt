@@ -97,3 +97,9 @@ fn headers_have_sixteen_bytes(rt: HostRuntime) -> Result<(), Fail> {
     assert!(rt; LinkMessageBuffer::from(&header).as_bytes() == written.as_slice());
     Ok(())
 }
+
+#[test]
+fn the_default_header_is_sixteen_zeros(rt: HostRuntime) {
+    let bytes = LinkMessageBuffer::from(&LinkHeader::default());
+    assert!(rt; bytes.as_bytes() == [0; 16].as_slice());
+}

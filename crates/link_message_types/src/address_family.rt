@@ -7,9 +7,10 @@ ghost use Rattle.link_message_types.specs.AddressFamilies.{address_family_number
 
 /// The family of addresses in the header of a link message, `AF_*` of `linux/socket.h`. On the wire
 /// 1 byte.
-#[derive(Debug, PartialEq, Eq, Clone, Copy)]
+#[derive(Debug, PartialEq, Eq, Clone, Copy, Default)]
 pub enum AddressFamily {
     /// None: `AF_UNSPEC`, 0.
+    #[default]
     Unspec,
     /// Sockets of one machine: `AF_UNIX`, 1.
     Unix,

@@ -22,8 +22,9 @@ pub const LINK_HEADER_LEN: usize = 16;
 
 /// The header of a link message, `struct ifinfomsg` of `linux/rtnetlink.h`. On the wire 16 bytes:
 /// the family (1 byte), a byte that is ignored and written 0, the layer type (2 bytes), the index,
-/// the flags and the change mask (4 bytes each), in native order.
-#[derive(Debug, PartialEq, Eq, Clone, Copy)]
+/// the flags and the change mask (4 bytes each), in native order. The default is 16 zeros: no
+/// family, no link, and no flags.
+#[derive(Debug, PartialEq, Eq, Clone, Copy, Default)]
 pub struct LinkHeader {
     /// The family of addresses, by which the attributes are read: `ifi_family`.
     pub interface_family: AddressFamily,

@@ -153,6 +153,14 @@ impl Flags for LinkFlags {
     }
 }
 
+impl Default for LinkFlags {
+    ghost is_default = { λ f. link_flags_bits f ≡ 0 };
+
+    fn default() -> Self {
+        Self::empty()
+    }
+}
+
 /// The names of the flags that are set, in the order of their bits, and then all bits that have no
 /// name, if any, as one number in hexadecimal, with ` | ` between each two:
 /// `Up | Broadcast | 0x80000`. Nothing is written where no bit is set.

@@ -8,9 +8,10 @@ use std::fmt;
 
 /// What a link carries its packets over, `ARPHRD_*` of `linux/if_arp.h`. On the wire 2 bytes in
 /// native order. A number that isn't listed is `Void`, and written as 65535.
-#[derive(Debug, PartialEq, Eq, Clone, Copy)]
+#[derive(Debug, PartialEq, Eq, Clone, Copy, Default)]
 pub enum LinkLayerType {
     /// An amateur radio network, NET/ROM: `ARPHRD_NETROM`, 0.
+    #[default]
     Netrom,
     /// Ethernet: `ARPHRD_ETHER`, 1.
     Ether,

@@ -3,10 +3,10 @@ use Rattle.std.specs.Prelude.{◌≡◌, ℕ, ⊤, Bool, true, List, length, con
 use Rattle.link_capture_grammar.specs.declared.fault.CaptureFault.{CaptureFault}
 use Rattle.link_capture_checks.specs.declared.sameness.SideFault.{SideFault}
 use Rattle.link_capture_grammar.specs.declared.fault.FaultKind.TheVariants.{Read}
-use Rattle.link_capture.specs.Captures.{first_fault, IsLegal}
-use Rattle.link_capture.specs.Devices.{Rises}
-use Rattle.link_capture.specs.Outcomes.{IsPrefix, ReadFault}
-use Rattle.link_capture.specs.Same.{SameCapture}
+use Rattle.link_capture_grammar.specs.Captures.{first_fault, IsLegal}
+use Rattle.link_capture_engine.specs.Devices.{Rises}
+use Rattle.link_capture_engine.specs.Outcomes.{IsPrefix, ReadFault}
+use Rattle.link_capture_grammar.specs.Same.{SameCapture}
 
 -- a file holds these bytes, as far as its bytes are known
 abbrev pub Holds : Option (List ℕ) → List ℕ → Type 0

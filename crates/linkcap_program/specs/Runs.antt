@@ -5,11 +5,11 @@ use Rattle.link_capture_grammar.specs.declared.fault.CaptureFault.{CaptureFault}
 use Rattle.link_capture_grammar.specs.declared.fault.FaultKind.TheVariants.{Write}
 use Rattle.link_capture_grammar.specs.Faults.{fault_text}
 use Rattle.link_capture_checks.specs.declared.sameness.SideFault.{SideFault}
-use Rattle.link_capture.specs.Sides.{side_text}
-use Rattle.link_capture.specs.Commands.{IsCommand, status_of, status_of_same}
-use Rattle.link_capture.specs.Outcomes.{IsPrefix}
-use Rattle.link_capture.specs.declared.command.Command.{Command}
-use Rattle.link_capture.specs.declared.command.Command.TheVariants.{Norm, Same}
+use Rattle.link_capture_checks.specs.Sides.{side_text}
+use Rattle.link_capture_commands.specs.Commands.{IsCommand, status_of, status_of_same}
+use Rattle.link_capture_engine.specs.Outcomes.{IsPrefix}
+use Rattle.link_capture_commands.specs.declared.command.Command.{Command}
+use Rattle.link_capture_commands.specs.declared.command.Command.TheVariants.{Norm, Same}
 
 -- A writer that held the first bytes holds the second: all of the text has come to it, or the front of the text and
 -- then it failed.

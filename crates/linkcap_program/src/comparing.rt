@@ -2,15 +2,18 @@
 
 ghost use Rattle.std.specs.Prelude.{◌≡◌, Bool, Ok, IfOk, IfErr, cond};
 ghost use Rattle.std.specs.Process.{exit_status};
-ghost use Rattle.link_capture.specs.Commands.{status_of_same};
-ghost use Rattle.link_capture.specs.Devices.{Rises};
-ghost use Rattle.link_capture.specs.Known.{sink_writer, sink_failures};
+ghost use Rattle.link_capture_commands.specs.Commands.{status_of_same};
+ghost use Rattle.link_capture_engine.specs.Devices.{Rises};
+ghost use Rattle.link_capture_engine.specs.Known.{sink_writer, sink_failures};
 ghost use Rattle.linkcap_program.specs.Comparisons.{Fails, Holds, IsUnread, Compares};
 ghost use Rattle.linkcap_program.specs.Runs.{SameAnswer, IsTold, Tells, same_line, same_error};
 
 use super::files::FileSystem;
 use super::lines::{line, tell};
-use link_capture::{CaptureFault, FaultKind, SideFault, WriteSink, read_all, same, status_same};
+use link_capture_checks::{SideFault, same};
+use link_capture_commands::status_same;
+use link_capture_engine::{WriteSink, read_all};
+use link_capture_grammar::fault::{CaptureFault, FaultKind};
 use std::alloc::Global;
 use std::io::Write;
 use std::process::ExitCode;

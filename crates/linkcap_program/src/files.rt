@@ -1,9 +1,9 @@
 //! Files by their names.
 
 ghost use Rattle.std.specs.Prelude.{◌≡◌, ℕ, List, Option, IfOk, IfErr, None};
-ghost use Rattle.link_capture.specs.Devices.{Rises};
+ghost use Rattle.link_capture_engine.specs.Devices.{Rises};
 
-use link_capture::{DeviceFailed, ReadSource, Source};
+use link_capture_engine::{DeviceFailed, ReadSource, Source};
 use std::fs::File;
 
 /// What opens files by their names.

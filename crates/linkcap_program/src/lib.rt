@@ -4,9 +4,9 @@
 
 ghost use Rattle.std.specs.Prelude.{◌≡◌, ◌++◌, ◌∷◌, [], codes, map, string_bytes};
 ghost use Rattle.std.specs.Process.{exit_status};
-ghost use Rattle.link_capture.specs.Devices.{Rises, TellsItsEnd};
-ghost use Rattle.link_capture.specs.Known.{source_reader, source_failures, source_ends_told, sink_writer, sink_failures};
-ghost use Rattle.link_capture.specs.Outcomes.{Normalizes};
+ghost use Rattle.link_capture_engine.specs.Devices.{Rises, TellsItsEnd};
+ghost use Rattle.link_capture_engine.specs.Known.{source_reader, source_failures, source_ends_told, sink_writer, sink_failures};
+ghost use Rattle.link_capture_engine.specs.Outcomes.{Normalizes};
 ghost use Rattle.linkcap_program.specs.Runs.{Answers, NormAnswer, SameAnswer, UsageAnswer, IsTold, Tells};
 ghost use Rattle.linkcap_program.specs.Comparisons.{Compares, Fails};
 
@@ -21,7 +21,8 @@ use environment::words;
 pub use files::FileSystem;
 use files::HostFiles;
 use lines::tell;
-use link_capture::{Command, ReadSource, WriteSink, read_words};
+use link_capture_commands::{Command, read_words};
+use link_capture_engine::{ReadSource, WriteSink};
 pub use normalizing::{answer_norm, norm};
 use std::alloc::Global;
 use std::io::{self, Read, Write};

@@ -1,12 +1,12 @@
 //! Lines, and where they are told.
 
 ghost use Rattle.std.specs.Prelude.{◌≡◌, ◌≤◌, ◌++◌, ◌∷◌, [], length};
-ghost use Rattle.link_capture.specs.Devices.{Rises};
-ghost use Rattle.link_capture.specs.Known.{sink_writer, sink_failures};
+ghost use Rattle.link_capture_engine.specs.Devices.{Rises};
+ghost use Rattle.link_capture_engine.specs.Known.{sink_writer, sink_failures};
 ghost use Rattle.linkcap_program.specs.Runs.{IsTold};
 
 use arrayvec::ArrayString;
-use link_capture::{WriteSink, write_all};
+use link_capture_engine::{WriteSink, write_all};
 use std::io::Write;
 
 /// A text as a line.

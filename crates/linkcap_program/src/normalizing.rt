@@ -2,14 +2,16 @@
 
 ghost use Rattle.std.specs.Prelude.{◌≡◌, ◌≤◌};
 ghost use Rattle.std.specs.Process.{exit_status};
-ghost use Rattle.link_capture.specs.Commands.{status_of};
-ghost use Rattle.link_capture.specs.Devices.{Rises, TellsItsEnd};
-ghost use Rattle.link_capture.specs.Known.{source_reader, source_failures, source_ends_told, sink_writer, sink_failures};
-ghost use Rattle.link_capture.specs.Outcomes.{Normalizes};
+ghost use Rattle.link_capture_commands.specs.Commands.{status_of};
+ghost use Rattle.link_capture_engine.specs.Devices.{Rises, TellsItsEnd};
+ghost use Rattle.link_capture_engine.specs.Known.{source_reader, source_failures, source_ends_told, sink_writer, sink_failures};
+ghost use Rattle.link_capture_engine.specs.Outcomes.{Normalizes};
 ghost use Rattle.linkcap_program.specs.Runs.{NormAnswer, Tells, norm_line};
 
 use super::lines::{line, tell};
-use link_capture::{CaptureFault, ReadSource, WriteSink, normalize, status_norm};
+use link_capture_commands::status_norm;
+use link_capture_engine::{ReadSource, WriteSink, normalize};
+use link_capture_grammar::fault::CaptureFault;
 use std::alloc::Global;
 use std::io::{Read, Write};
 use std::process::ExitCode;

@@ -83,7 +83,7 @@ loop-rest-preserved g c =
           let b = and_parts _ _ a.1 in
           let d = and_parts _ _ b.1 in
           subst (λ x. OwnSoFar any rows bytes x after) (sym c.next_force-force.ensures)
-          (c.own_texts_go_by_steps.ensures.more any rows bytes rest now e after f refl (c.keeps_kind.ensures d.1)
+          (c.own_texts_go_by_steps.ensures.more any rows bytes rest now e after f refl (sym c.info_kind.ensures ∙ eqb-true _ _ d.1)
           (sym (ap (λ r. r.canonical e.payload) c.in-Some-info_held.ensures.some) ∙ c.in-Some-measure_held.ensures.own b.0) (c.is_own_attribute-is_own.ensures d.0) (c.loop-rest.invariant.own a.0));
       within = omega (arith, s.within, size_is, c.loop-rest.invariant.within);
       few = omega (arith, s.few, headers_is, c.loop-rest.invariant.few);

@@ -1,5 +1,5 @@
 use Rattle.std.proofs.Common.{◌≡◌, true, false, length, Some, None, sym, ap, subst, ◌∙◌, arith}
-use Rattle.std.specs.Prelude.{◌&&◌}
+use Rattle.std.specs.Prelude.{◌&&◌, ◌==◌}
 use Rattle.std.proofs.lemmas.Bool.{eqb-true, and_parts}
 use Rattle.netlink_packet_core_grammar.specs.Attributes.{Attribute}
 use Rattle.attribute_tables_grammar.specs.Lists.{nothing, list_rule}
@@ -141,7 +141,7 @@ loop-rest-preserved-in-Some-measure_held-2 g t c =
           let a = and_parts _ _ (sym c.with_attribute-total.ensures.own ∙ h) in
           let b = and_parts _ _ a.1 in
           let d = and_parts _ _ b.1 in
-          c.own_texts_go_by_steps.ensures.more form rows bytes rest nothing e after f k (c.find-found-then-is_kept.ensures.written d.1)
+          c.own_texts_go_by_steps.ensures.more form rows bytes rest nothing e after f k (sym c.find-found-then-is_kept.ensures.written ∙ eqb-true _ _ d.1)
           (sym (ap (λ r. r.canonical e.payload) c.find-found-then-is_kept.ensures.rule) ∙ c.in-Some-measure_held-2.ensures.own b.0) (c.is_own_attribute-is_own-then-is_kept.ensures d.0) (c.loop-rest.invariant.own a.0);
       within = omega (arith, s.within, size_is, c.loop-rest.invariant.within);
       few = omega (arith, s.few, headers_is, c.loop-rest.invariant.few);
@@ -191,10 +191,10 @@ returns-in-FirstAlone-clause-own g t c =
     let rows = rows_of g.T.TableSet.peer (g.T.TableSet.tables c.in-List.table) in
     let e : Attribute = record { kind = c.in-Some.attribute.kind; payload = c.in-Some.attribute.payload.now } in
     λ h.
-    let b = and_parts c.in-Some-measure_held.inside.is_own (c.is_own_attribute-is_own.result && (c.find-found.result.keeps_kind && c.is_empty.result)) (sym c.with_attribute.ensures.own ∙ h) in
-    let d = and_parts c.is_own_attribute-is_own.result (c.find-found.result.keeps_kind && c.is_empty.result) b.1 in
-    let k = and_parts c.find-found.result.keeps_kind c.is_empty.result d.1 in
+    let b = and_parts c.in-Some-measure_held.inside.is_own (c.is_own_attribute-is_own.result && ((c.find-found.result.kind == c.in-Some.attribute.kind) && c.is_empty.result)) (sym c.with_attribute.ensures.own ∙ h) in
+    let d = and_parts c.is_own_attribute-is_own.result ((c.find-found.result.kind == c.in-Some.attribute.kind) && c.is_empty.result) b.1 in
+    let k = and_parts (c.find-found.result.kind == c.in-Some.attribute.kind) c.is_empty.result d.1 in
     sym (ap (λ r. r.canonical c.args.bytes.now) (list_held c.rows_are_looked_up.ensures g.T.TableSet.peer g.T.TableSet.tables g.T.TableSet.info c.args.held c.in-List.form c.in-List.table c.in-List.is))
     ∙ ap (λ f. (list_rule (form_of f) rows).canonical c.args.bytes.now) c.in-FirstAlone.is
-    ∙ c.own_texts_go_by_steps.ensures.alone rows c.args.bytes.now e c.in-Some.after.now c.in-Some.ensures (eqb-true (length c.in-Some.after.now) 0 (sym c.is_empty.ensures ∙ k.1)) (c.find-found.ensures.written k.0)
+    ∙ c.own_texts_go_by_steps.ensures.alone rows c.args.bytes.now e c.in-Some.after.now c.in-Some.ensures (eqb-true (length c.in-Some.after.now) 0 (sym c.is_empty.ensures ∙ k.1)) (sym c.find-found.ensures.written ∙ eqb-true _ _ k.0)
     (sym (ap (λ r. r.canonical e.payload) c.find-found.ensures.rule) ∙ c.in-Some-measure_held.ensures.own b.0) (c.is_own_attribute-is_own.ensures d.0)

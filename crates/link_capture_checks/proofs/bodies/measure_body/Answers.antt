@@ -1,10 +1,11 @@
-use Rattle.std.proofs.Common.{[], Ok, inl, inr, arith, refl}
+use Rattle.std.proofs.Common.{[], Ok, inl, inr, arith, refl, sym}
+use Rattle.link_capture_checks.proofs.Steps.{apart}
 use Rattle.link_capture_checks.proofs.Types.{noop, error, done, link, other, measured, refused}
 use Rattle.link_capture_checks.proofs.bodies.measure_body.Goals as goal
 use Rattle.link_capture_checks.proofs.bodies.measure_body.Goals.{in_default-via-then-message_type-lt16, in_default-via-else-message_type-lt16+else-message_type-lt20}
 
 pub returns-in-1-clause-ok : goal.returns-in-1-clause-ok
-returns-in-1-clause-ok c = measured _ _ _ _ (noop c.args.message_type c.args.body.now c.in-1.is) (Ok _) (record { text = []; is = refl; len = refl; attributes = refl })
+returns-in-1-clause-ok c = measured _ _ _ _ (noop c.args.message_type c.args.body.now c.in-1.is) (Ok _) (record { text = []; is = refl; len = refl; attributes = refl; own = λ h. absurd (apart (sym h)) })
 
 pub returns-in-2-clause-ok : goal.returns-in-2-clause-ok
 returns-in-2-clause-ok c = measured _ _ _ _ (error c.args.message_type c.args.body.now c.in-2.is) c.measure_error.result c.measure_error.ensures.ok
@@ -27,6 +28,6 @@ returns-in-16-to-19-clause-err c = refused _ _ _ _ (link c.args.message_type c.a
 pub returns-in_default-clause-ok : goal.returns-in_default-clause-ok
 returns-in_default-clause-ok c =
     elim c.in_default.branch [
-      | in_default-via-then-message_type-lt16 w ↦ measured _ _ _ _ (other c.args.message_type c.args.body.now (λ e. omega (arith, e)) (λ e. omega (arith, e)) (λ e. omega (arith, e)) (inl (omega arith))) (Ok c.kept.result) (record { text = c.args.body.now; is = refl; len = c.kept.ensures.0; attributes = c.kept.ensures.1 })
-      | in_default-via-else-message_type-lt16+else-message_type-lt20 w ↦ measured _ _ _ _ (other c.args.message_type c.args.body.now (λ e. omega (arith, e)) (λ e. omega (arith, e)) (λ e. omega (arith, e)) (inr (omega arith))) (Ok c.kept.result) (record { text = c.args.body.now; is = refl; len = c.kept.ensures.0; attributes = c.kept.ensures.1 })
+      | in_default-via-then-message_type-lt16 w ↦ measured _ _ _ _ (other c.args.message_type c.args.body.now (λ e. omega (arith, e)) (λ e. omega (arith, e)) (λ e. omega (arith, e)) (inl (omega arith))) (Ok c.kept.result) c.kept.ensures
+      | in_default-via-else-message_type-lt16+else-message_type-lt20 w ↦ measured _ _ _ _ (other c.args.message_type c.args.body.now (λ e. omega (arith, e)) (λ e. omega (arith, e)) (λ e. omega (arith, e)) (inr (omega arith))) (Ok c.kept.result) c.kept.ensures
     ]

@@ -1,4 +1,4 @@
-use Rattle.std.proofs.Common.{◌≡◌, ◌+◌, ◌-◌, ◌≤◌, ◌∙◌, length, take, drop, Ok, sym, ap, arith, rules}
+use Rattle.std.proofs.Common.{◌≡◌, ◌+◌, ◌≤◌, ◌∙◌, length, Ok, refl, sym, ap, arith, rules}
 use Rattle.netlink_packet_core_grammar.specs.Attributes.{nla_align}
 use Rattle.netlink_packet_core.specs.Frames.{frame_type, frame_body, frame_text}
 use Rattle.link_capture_grammar.specs.Bodies.{body_text}
@@ -13,17 +13,25 @@ returns-in_err-len-clause-err c =
 pub returns-clause-ok : goal.returns-clause-ok
 returns-clause-ok c =
     let bytes = c.args.bytes.now in
-    let len = c.in_ok-len.len in
     let ok = c.in_ok-len.ensures.ok in
     let body = c.in_ok-body_len.ensures.ok in
     let kind : c.message_type-message_type.result ≡ frame_type bytes = c.message_type-message_type.ensures ∙ ap (λ v. frame_type v.now) c.new.ensures in
-    let slice : take (len - 16) (drop 16 bytes) ≡ frame_body bytes = ap (λ n. take (n - 16) (drop 16 bytes)) ok.0 in
+    let slice : c.body.result.now ≡ frame_body bytes = c.body.ensures in
     let judged = sym (ap (λ t. body_text t (frame_body bytes)) kind) ∙ sym (ap (body_text c.message_type-message_type.result) slice) ∙ body.is in
     let inside = body.attributes ∙ ap (body_attributes c.message_type-message_type.result) slice ∙ ap (λ t. body_attributes t (frame_body bytes)) kind in
     let small : 16 + length body.text ≤ c.args.limit = omega (arith, body.len, ok.1) in
     record {
+      whole = ok.2;
+      body = body.text;
+      judged = judged;
       text = frame_text bytes body.text;
+      written = refl;
       is = c.frames_are_judged.ensures.ok c.args.limit bytes body.text ok.2 (omega (arith, ok.0, ok.1)) judged small ∙ ap (λ n. Ok (n, frame_text bytes body.text)) (sym ok.0);
+      bound = ok.1;
+      size = omega (arith, body.len);
+      small = omega (arith, body.len, small);
       text_len = c.nla_align.ensures ∙ ap (λ n. nla_align (16 + n)) body.len ∙ sym (c.frames_are_judged.ensures.size bytes body.text ok.2.has_header);
+      aligned = c.nla_align.ensures;
       attributes = inside;
+      own = λ h. body.own h ∙ slice;
     }

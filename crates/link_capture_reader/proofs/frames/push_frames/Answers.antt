@@ -1,13 +1,13 @@
 -- one frame further, or the end
-use Rattle.std.proofs.Common.{◌≡◌, ◌++◌, ◌+◌, take, sym, ap, ◌∙◌, arith}
-use Rattle.std.proofs.lemmas.List.{append-nil, take_all, take_rest}
+use Rattle.std.proofs.Common.{◌≡◌, ◌++◌, ◌+◌, length, take, sym, ap, ◌∙◌, arith}
+use Rattle.std.proofs.lemmas.List.{append-nil, length-append, take_all, take_rest}
 use Rattle.netlink_packet_core_grammar.specs.Attributes.{nla_align}
 use Rattle.link_capture_grammar.specs.Captures.{first_frame, first_fault, texts}
 use Rattle.link_capture_reader.proofs.Passing.{passed_none, passed_fault, passed_texts, passed_stop_fault, passed_stop_texts, texts_nil, grown}
 use Rattle.link_capture_reader.proofs.frames.push_frames.Goals as goal
 
 pub loop-at-init : goal.loop-at-init
-loop-at-init c = record { passed = passed_none _ _; written = rw (texts_nil c.args.limit) (sym (append-nil c.args.out.now.items)) }
+loop-at-init c = record { passed = passed_none _ _; room = omega arith; written = rw (texts_nil c.args.limit) (sym (append-nil c.args.out.now.items)) }
 
 pub loop-at-preserved : goal.loop-at-preserved
 loop-at-preserved c =
@@ -21,6 +21,7 @@ loop-at-preserved c =
         start = omega (arith, w.passed.start);
         legal = rw size (passed_fault c.captures_go_by_frames.ensures c.args.limit c.args.bytes.now c.loop-at.at (c.in-Ok.length, ok.0) w.passed frame);
       };
+      room = omega (arith, w.room, c.in-Ok.ensures.room);
       written = grown c.args.out.now.items (texts c.args.limit (take c.loop-at.at c.args.bytes.now)) ok.0 w.written ok.2 (rw size (passed_texts c.captures_go_by_frames.ensures c.args.limit c.args.bytes.now c.loop-at.at (c.in-Ok.length, ok.0) w.passed frame));
     }
 
@@ -42,3 +43,10 @@ returns-in-Err-clause-fault c = λ n.
       passed_stop_fault c.captures_go_by_frames.ensures c.args.limit c.args.bytes.now c.loop-at.at c.in-Err.kind w.passed (omega arith) stuck,
       c.in-Err.ensures.err ∙ w.written ∙ ap (λ t. c.args.out.now.items ++ t) (sym (passed_stop_texts c.captures_go_by_frames.ensures c.args.limit c.args.bytes.now c.loop-at.at c.in-Err.kind w.passed stuck)),
     )
+
+pub returns-in-Err-clause-room : goal.returns-in-Err-clause-room
+returns-in-Err-clause-room c = λ h.
+    let w = c.loop-at.invariant in
+    let m = c.in-Err.ensures.memory h in
+    let size = ap length w.written ∙ length-append c.args.out.now.items (texts c.args.limit (take c.loop-at.at c.args.bytes.now)) in
+    (m.0, m.1, ap (first_frame c.args.limit) (sym (take_rest c.args.bytes.now c.loop-at.at)) ∙ m.2, omega (arith, size, m.3, w.room))

@@ -1,9 +1,10 @@
 -- padding alone, or more
 use Rattle.std.proofs.Common.{IfOk, IfErr, ◌≡◌, ◌+◌, ◌-◌, ◌^◌, ◌<◌, ◌≤◌, ◌++◌, ℕ, List, [], None, length, take, drop, sym, ap, subst, ◌∙◌, arith, length-append}
 use Rattle.std.proofs.lemmas.List.{take_rest, length-drop, append-nil}
-use Rattle.std.proofs.lemmas.Result.{IfOk-weaker}
+use Rattle.std.proofs.lemmas.Result.{IfOk-weaker, IfErr-weaker}
+use Rattle.link_capture_grammar.specs.declared.fault.FaultKind.TheVariants.{Memory}
 use Rattle.link_capture_grammar.specs.Captures.{first_fault, texts}
-use Rattle.link_capture_reader.specs.Readers.{IsReader, Resumes, Gains, FeedFault}
+use Rattle.link_capture_reader.specs.Readers.{IsReader, Resumes, Gains, FeedFault, WantsMemory}
 use Rattle.link_capture_reader.specs.Walks.{Goes, Faults, Lacks}
 use Rattle.link_capture_reader.proofs.Reading.{padding_resumes, padding_texts, resumed, goes_on, faults_on, resumes_reader, IfErr-both}
 use Rattle.link_capture_reader.proofs.pieces.accept_piece.Goals as goal
@@ -60,3 +61,18 @@ returns-clause-fault c =
     (resumed c.captures_go_by_frames.ensures c.faults_stand_at_frames.ensures limit s piece kept c.args.owed start (omega arith) r (omega (arith, c.requires.reader.inside))) h k)
     (subst (λ x. IfErr c.resume_frame.result (λ fault. Faults limit start (kept ++ x) c.args.out.now.items c.resume_frame.new.out.items fault)) e c.resume_frame.ensures.fault)
     (subst (λ x. IfErr c.resume_frame.result (λ fault. Lacks limit start (kept ++ x) c.args.out.now.items c.resume_frame.new.out.items fault)) e c.resume_frame.ensures.memory)
+
+pub returns-clause-room : goal.returns-clause-room
+returns-clause-room c =
+    let limit = c.args.limit in
+    let piece = c.args.piece.now in
+    let owed = c.args.owed in
+    let start = c.args.accepted + owed - c.len.result in
+    IfErr-weaker c.resume_frame.result
+    (λ fault. c.args.kept.now.items ≡ [] → fault.kind ≡ Memory → (at : ℕ) × (fault.offset ≡ start + at) × WantsMemory limit (drop owed piece) at c.args.out.now)
+    (λ fault. c.args.kept.now.items ≡ [] → owed ≡ 0 → fault.kind ≡ Memory → (at : ℕ) × (fault.offset ≡ c.args.accepted + at) × WantsMemory limit piece at c.args.out.now)
+    (λ fault h k z m.
+    let w = h k m in
+    let none : length c.args.kept.now.items ≡ 0 = ap length k in
+    (w.0, omega (arith, w.1, z, none), subst (λ n. WantsMemory limit (drop n piece) w.0 c.args.out.now) z w.2))
+    (subst (λ x. IfErr c.resume_frame.result (λ fault. c.args.kept.now.items ≡ [] → fault.kind ≡ Memory → (at : ℕ) × (fault.offset ≡ start + at) × WantsMemory limit x at c.args.out.now)) (take_rest piece owed) c.resume_frame.ensures.room)

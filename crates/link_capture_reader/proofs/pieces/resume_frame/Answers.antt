@@ -1,6 +1,7 @@
 -- the cut frame, and what comes after it
-use Rattle.std.proofs.Common.{◌≡◌, ◌≢◌, ◌+◌, ◌-◌, ◌<◌, ◌≤◌, inl, inr, ◌++◌, Err, length, drop, sym, ap, subst, ◌∙◌, arith, length-append}
+use Rattle.std.proofs.Common.{true, false, ◌≡◌, ◌≢◌, ◌+◌, ◌-◌, ◌<◌, ◌≤◌, inl, inr, ◌++◌, Err, length, drop, sym, ap, subst, ◌∙◌, arith, length-append}
 use Rattle.std.proofs.lemmas.List.{take_rest, take_all}
+use Rattle.std.proofs.lemmas.Bool.{eq-eqb}
 use Rattle.std.proofs.lemmas.Result.{IfOk-weaker, IfErr-weaker}
 use Rattle.link_capture_grammar.specs.declared.fault.FaultKind.TheVariants.{Cut, Memory}
 use Rattle.netlink_packet_core_grammar.specs.Attributes.{nla_align}
@@ -112,4 +113,7 @@ returns-in_default-kind c =
             c.in-Err.ensures.err ∙ start_texts c.captures_go_by_frames.ensures c.args.limit (old ++ bytes) c.args.out.now.items c.in-Err.kind all,
           );
       memory = λ _. (0, omega arith, stop_zero _ _ some, c.in-Err.ensures.err ∙ no_texts c.args.limit c.args.out.now.items);
+      room = λ k _.
+          let none : c.args.kept.now.len ≡ 0 = omega (arith, ap length k, c.args.kept.now.ok.0) in
+          absurd (let f : true ≡ false = sym (eq-eqb c.args.kept.now.len 0 none) ∙ sym c.is_empty.ensures ∙ c.if-is_empty.false in cc);
     }

@@ -1,7 +1,7 @@
 -- The words of the program.
 use Rattle.std.proofs.Common.{◌≡◌, ℕ, ◌-◌, ◌≤◌, List, [], ◌∷◌, length, map, take, drop, get_or, codes, sym, ap, subst, ◌∙◌, arith}
 use Rattle.std.proofs.lemmas.List.{take_rest}
-use Rattle.link_capture.specs.Commands.{IsLimit, IsNorm, IsSame}
+use Rattle.link_capture_commands.specs.Commands.{IsLimit, IsNorm, IsSame}
 
 pub norm_words : {A : Type 0} (f : A → List ℕ) (ws : List A) (w : A) (n : ℕ) → 1 ≤ length ws → w ≡ get_or ws 0 w → f w ≡ codes "norm" → IsLimit (map f (take (length ws - 1) (drop 1 ws))) n → IsNorm (map f ws) n
 norm_words f [] w n m e h i = absurd (omega arith)

@@ -3,8 +3,8 @@ use Rattle.std.specs.Prelude.{◌≡◌, ℕ, ◌^◌, ◌<◌, ◌≤◌, ⊤, 
 use Rattle.std.specs.Str.Parse.{IsNumeral, digits_value}
 use Rattle.link_capture_grammar.specs.declared.fault.CaptureFault.{CaptureFault}
 use Rattle.link_capture_checks.specs.declared.sameness.SideFault.{SideFault}
-use Rattle.link_capture.specs.declared.command.Command.{Command}
-use Rattle.link_capture.specs.declared.command.Command.TheVariants.{Norm, Same}
+use Rattle.link_capture_commands.specs.declared.command.Command.{Command}
+use Rattle.link_capture_commands.specs.declared.command.Command.TheVariants.{Norm, Same}
 
 -- one digit or more, and nothing else, which write a number from 16 to 4294967295
 pub record IsLimitWord (word : List ℕ) : Type 0 where

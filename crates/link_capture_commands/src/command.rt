@@ -2,7 +2,7 @@
 
 ghost use Rattle.std.specs.Prelude.{◌≡◌, ◌≢◌, ◌≤◌, ℕ, ⊤, map, IfSome, IfNone, string_bytes};
 ghost use Rattle.std.specs.Str.Parse.{digits_value};
-ghost use Rattle.link_capture.specs.Commands.{IsLimitWord, IsLimit, IsCommand, HasLimit, status_of, status_of_same};
+ghost use Rattle.link_capture_commands.specs.Commands.{IsLimitWord, IsLimit, IsCommand, HasLimit, status_of, status_of_same};
 
 use link_capture_checks::SideFault;
 use link_capture_grammar::fault::CaptureFault;

@@ -1,8 +1,8 @@
 use Rattle.std.proofs.Common.{codes, sym, ◌∙◌}
 use Rattle.std.specs.Prelude.{string_bytes}
 use Rattle.std.proofs.lemmas.Slice.Eq.{bytes_eq-Decides}
-use Rattle.link_capture.proofs.Commands.{norm_words, same_words}
-use Rattle.link_capture.proofs.command.read_words.Goals as goal
+use Rattle.link_capture_commands.proofs.Commands.{norm_words, same_words}
+use Rattle.link_capture_commands.proofs.command.read_words.Goals as goal
 
 pub returns-in_ok-read_last-in-len1-up-clause-some : goal.returns-in_ok-read_last-in-len1-up-clause-some
 returns-in_ok-read_last-in-len1-up-clause-some c =

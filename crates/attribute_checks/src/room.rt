@@ -1,0 +1,49 @@
+//! Bytes at the end of a vector that has room for them.
+
+ghost use Rattle.std.specs.Prelude.{◌≡◌, ◌≤◌, ◌+◌, ◌-◌, ◌++◌, length, vec_capacity};
+ghost use Rattle.netlink_packet_core_grammar.specs.Attributes.{attribute_header, nla_align, zeros};
+
+/// Appends bytes.
+pub fn append(bytes: &[u8], out: &mut Vec<u8>)
+    requires { length out.old.items + length bytes.now ≤ vec_capacity out.old }
+    ensures text { out.new.items ≡ out.old.items ++ bytes.now }
+    ensures room { vec_capacity out.old ≤ vec_capacity out.new }
+{
+    if out.extend_from_slice(bytes).is_err() {
+        unreachable!();
+    }
+}
+
+/// Appends so many zeros.
+pub fn append_zeros(count: usize, out: &mut Vec<u8>)
+    requires { length out.old.items + count ≤ vec_capacity out.old }
+    ensures text { out.new.items ≡ out.old.items ++ zeros count }
+    ensures room { vec_capacity out.old ≤ vec_capacity out.new }
+{
+    if out.resize(out.len() + count, 0).is_err() {
+        unreachable!();
+    }
+}
+
+/// Appends the header of an attribute with a payload of this size: length and kind, 2 bytes each,
+/// lowest byte first (netlink.h, struct nlattr).
+pub fn append_header(kind: u16, size: usize, out: &mut Vec<u8>)
+    requires size { 4 + size ≤ 65535 }
+    requires room { length out.old.items + 4 ≤ vec_capacity out.old }
+    ensures text { out.new.items ≡ out.old.items ++ attribute_header (4 + size) kind }
+    ensures room { vec_capacity out.old ≤ vec_capacity out.new }
+{
+    let [a, b] = (4 + size as u16).to_le_bytes();
+    let [c, d] = kind.to_le_bytes();
+    append(&[a, b, c, d], out);
+}
+
+/// Appends the zeros behind a payload of this size.
+pub fn append_padding(size: usize, out: &mut Vec<u8>)
+    requires size { 4 + size ≤ 65535 }
+    requires room { length out.old.items + (nla_align (4 + size) - (4 + size)) ≤ vec_capacity out.old }
+    ensures text { out.new.items ≡ out.old.items ++ zeros (nla_align (4 + size) - (4 + size)) }
+    ensures room { vec_capacity out.old ≤ vec_capacity out.new }
+{
+    append(&[0, 0, 0][..(4 - size % 4) % 4], out);
+}

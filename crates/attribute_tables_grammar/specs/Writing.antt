@@ -1,0 +1,23 @@
+-- A canonical text as it is written, attribute by attribute.
+use Rattle.std.specs.Prelude.{◌≡◌, ℕ, ◌+◌, ◌≤◌, true, List, ◌++◌, length, Some}
+use Rattle.netlink_packet_core_grammar.specs.Attributes.{nla_align}
+use Rattle.attribute_tables_grammar.specs.Rules.{Rule}
+use Rattle.attribute_tables_grammar.specs.Lists.{Context, Grammar, ListForm, list_rule}
+use Rattle.attribute_tables_grammar.specs.Walks.{Measure, walk}
+use Rattle.attribute_tables_grammar.specs.OwnTexts.{text_from}
+
+-- a payload that has a text, which fits behind a header, and for which there is room in so many bytes
+pub record IsWritable (r : Rule) (p : List ℕ) (room : ℕ) : Type 0 where
+  pub accepted : r.accepted p ≡ true
+  pub fits : r.fits p ≡ true
+  pub short : 4 + length (r.canonical p) ≤ 65535
+  pub within : nla_align (4 + length (r.canonical p)) ≤ room
+
+-- what was written, with the text of the rest, is what stood there before and the text of the whole
+pub record WrittenSoFar (form : ListForm) (g : Grammar) (bytes old out : List ℕ) (c : Context) (rest : List ℕ) : Type 0 where
+  pub ahead : Measure
+  pub walked : walk form g c rest ≡ Some ahead
+  pub fits : ahead.fits ≡ true
+  pub text : List ℕ
+  pub still : text_from form g c rest ≡ Some text
+  pub whole : out ++ text ≡ old ++ (list_rule form g).canonical bytes

@@ -1,1 +1,4 @@
 pub mod Findings
+pub mod Interfaces
+pub mod Requests
+pub mod Stores

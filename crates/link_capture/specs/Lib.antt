@@ -14,4 +14,6 @@ pub use Rattle.link_capture_messages.specs.KeptTypes
 pub use Rattle.link_capture_messages.specs.Readable
 pub use Rattle.link_capture_messages.specs.Views
 pub use Rattle.link_capture_messages.specs.Routes
+pub use Rattle.link_capture_messages.specs.Texts
+pub use Rattle.link_capture_messages.specs.Messages
 pub use Rattle.link_capture_reader.specs.Joined

@@ -10,7 +10,7 @@ pub use link_capture_engine::{
 pub use link_capture_grammar::fault::{CaptureFault, FaultKind};
 pub use link_capture_grammar::laws;
 pub use link_capture_messages::{
-    NotReadable, OtherMessage, RTM_DELLINK, RTM_GETLINK, RTM_NEWLINK, RTM_SETLINK, ReadableLink,
-    RouteFault, RouteLink,
+    Messages, NotReadable, OtherMessage, RTM_DELLINK, RTM_GETLINK, RTM_NEWLINK, RTM_SETLINK,
+    ReadableLink, RouteFault, RouteLink, read_message,
 };
 pub use link_capture_reader::{CaptureReader, normalize_bytes};

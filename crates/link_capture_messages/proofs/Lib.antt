@@ -1,4 +1,3 @@
 pub mod ReadAgain
 pub mod Others
-pub mod ReadBodies
 pub mod WrittenBodies

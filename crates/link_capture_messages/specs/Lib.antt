@@ -4,3 +4,4 @@ pub mod Views
 pub mod Routes
 pub mod RoundTrips
 pub mod Texts
+pub mod Messages

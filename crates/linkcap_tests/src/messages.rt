@@ -1,6 +1,7 @@
-//! Messages of captures: which are read back as they are written.
+//! Messages of captures: which are read back as they are written, and how they come one after the other.
 
-use link_capture::{NotReadable, ReadableLink, RouteFault};
+use hex::decode;
+use link_capture::{Messages, NotReadable, ReadableLink, RouteFault};
 use link_message::{LinkAttribute, LinkExtentMask, LinkHeader, LinkMessage};
 use netlink_packet_core::DefaultNla;
 use std::alloc::Global;
@@ -89,6 +90,47 @@ fn refusals_have_their_words(rt: HostRuntime) -> Result<(), Fail> {
     ];
     for (why, words) in &cases {
         assert_eq!(rt; format!(in rt.alloc(); "{why}")?.as_str(), *words);
+    }
+    Ok(())
+}
+
+/// A request for the link `lo`, a message of type 20 with a body of one byte, and what stands behind them; and the
+/// types of the messages, with the fault.
+const CAPTURES: [(&str, &str); 4] = [
+    ("", "18 20 "),
+    ("ffffff", "18 20 "),
+    (
+        "ffffff0f000000140000000000000000000000",
+        "18 20 length under 16 at 68",
+    ),
+    (
+        "ffffff1000000011000000000000000000000010000000140000000000000000000000",
+        "18 20 refused body at 68",
+    ),
+];
+
+#[test]
+fn messages_come_one_after_another(rt: HostRuntime) -> Result<(), Fail> {
+    let alloc = rt.alloc();
+    for (rest, wanted) in &CAPTURES {
+        let capture = format!(in alloc;
+            "3000000012000103340ef95a0000000000000000000000000000\
+            00000000000008001d0009000000070003806c6f00ff1100000014000000000000000000000061{rest}"
+        )?;
+        let bytes = decode(alloc, capture.as_str()).map_err(|_| Fail::from("not hex"))?;
+        let mut messages = Messages::new(alloc, bytes.as_slice(), 1000);
+        let mut told = String::new(alloc);
+        while let Some(message) = messages.next() {
+            match message {
+                Ok(message) => {
+                    let message_type = message.header.message_type;
+                    told.push_str(format!(in alloc; "{message_type} ")?.as_str())?;
+                }
+                Err(fault) => told.push_str(format!(in alloc; "{fault}")?.as_str())?,
+            }
+        }
+        assert_eq!(rt; told.as_str(), *wanted);
+        assert!(rt; messages.next().is_none());
     }
     Ok(())
 }

@@ -1,0 +1,104 @@
+#!/usr/bin/env bash
+# Compares `linkcap norm` with what others do with the same bytes, in one run.
+#
+#     bench/peers.sh [PROGRAM [BEFORE [MEGABYTES]]]
+#
+# PROGRAM is crates/linkcap/out/linkcap where none is given, BEFORE an older one beside it (`-` for none), and MEGABYTES
+# 50. Beside them stand `cat`, libnl's objects, one for each message, and a walk by libmnl over all attributes, which
+# checks sizes and writes nothing: two small programs in bench/peers/, built here from Debian's packages libnl-3-dev,
+# libnl-route-3-dev and libmnl-dev. They read the input whole, and go through it once.
+#
+# The inputs are the samples; a dump of the kernel's own links, where `ip netns` is allowed: 50 veth pairs, 50 bridges,
+# 50 vxlan, 50 vrf, 50 dummy and 50 vlan links, as many as the kernel has drivers for; and messages of 82, 1000 and 16000
+# bytes. No gate runs this. Of five rounds in which all take turns the best time counts. 1 MB is 1,000,000 bytes.
+set -euo pipefail
+cd "$(dirname "$0")/.."
+
+program=$(realpath "${1:-crates/linkcap/out/linkcap}")
+before=${2:--}
+wanted=$((${3:-50} * 1000000))
+rounds=5
+[ -x "$program" ] || { echo "no program at $program: build it first" >&2; exit 1; }
+work=$(mktemp -d)
+netns=linkcap-peers-$$
+trap 'ip netns del $netns 2> /dev/null || true; rm -rf "$work"' EXIT
+
+cc -O2 -o "$work/objects" bench/peers/objects.c $(pkg-config --cflags libnl-route-3.0) \
+    -Wl,--no-as-needed $(pkg-config --libs libnl-route-3.0 libnl-3.0)
+cc -O2 -o "$work/walk" bench/peers/walk.c $(pkg-config --cflags --libs libmnl)
+
+make_dump() {
+    ip netns add "$netns" 2> /dev/null || return 1
+    {
+        for i in $(seq 50); do
+            echo "link add a$i type veth peer name b$i"
+            echo "link add br$i type bridge"
+            echo "link add vx$i type vxlan id $i dstport $((4000 + i)) dev a$i"
+            echo "link add vrf$i type vrf table $i"
+            echo "link add d$i type dummy"
+            echo "link add link a$i name v$i type vlan id $i"
+        done
+    } | ip -n "$netns" -force -batch - 2> /dev/null || true
+    ip netns exec "$netns" samples/dump_links.py
+}
+
+# A group of about 100,000 bytes of messages of one length: a name, and attributes of a kind that no table has.
+make_group_of() {
+    python3 - "$1" <<'PYTHON'
+import struct, sys
+length = int(sys.argv[1])
+attributes, left = struct.pack("<HH4s", 8, 3, b"lo0\0"), length - 40
+while left >= 4:
+    size = 36 if left >= 40 or left == 36 else left
+    attributes += struct.pack("<HH", size, 1000) + bytes(range(size - 4)) + bytes(-size % 4)
+    left -= (size + 3) // 4 * 4
+frame = struct.pack("<IHHII", length, 16, 0, 1, 0) + bytes(16) + attributes
+sys.stdout.buffer.write(frame * max(1, 100000 // len(frame)))
+PYTHON
+}
+
+# Runs a command from the input to an output; sets `micros`.
+run_once() {
+    local begin
+    rm -f "$work/output"
+    begin=${EPOCHREALTIME/./}
+    "$@" < "$work/input" > "$work/output"
+    micros=$((${EPOCHREALTIME/./} - begin))
+}
+
+# Runs all over the group in this file, repeated.
+compare() {
+    local name=$1 group=$2 size best=() round i commands=() labels=()
+    size=$(stat -c %s "$group")
+    for ((i = 0; i < (wanted + size - 1) / size; i++)); do cat "$group"; done > "$work/input"
+    size=$(stat -c %s "$work/input")
+    labels=(cat norm before objects walk)
+    commands=("cat" "$program norm 4294967295" "$before norm 4294967295" "$work/objects" "$work/walk")
+    for ((round = 0; round < rounds; round++)); do
+        for i in "${!labels[@]}"; do
+            [ "${labels[i]}" = before ] && [ "$before" = - ] && { best[i]=0; continue; }
+            run_once ${commands[i]}
+            if [ "${best[i]:-0}" -eq 0 ] || [ "$micros" -lt "${best[i]}" ]; then best[i]=$micros; fi
+        done
+    done
+    awk -v name="$name" -v size="$size" -v times="${best[*]}" 'BEGIN {
+        count = split(times, micros, " ")
+        printf "%-24s", name
+        for (i = 1; i <= count; i++) printf " %9s", micros[i] ? sprintf("%.0f", size / micros[i]) : "-"
+        printf "\n"
+    }'
+}
+
+printf '%-24s %9s %9s %9s %9s %9s\n' 'MB/s' cat norm before objects walk
+cat samples/get-veth.bin samples/notify-vrf.bin samples/get-veth.bin samples/notify-vrf.bin samples/req-veth.bin \
+    > "$work/samples"
+compare samples "$work/samples"
+if make_dump > "$work/dump" && [ -s "$work/dump" ]; then
+    compare "dump, $(stat -c %s "$work/dump") bytes" "$work/dump"
+else
+    echo "no dump: ip netns isn't allowed here"
+fi
+for length in 82 1000 16000; do
+    make_group_of "$length" > "$work/group"
+    compare "messages of $length bytes" "$work/group"
+done

@@ -1,0 +1,45 @@
+/* Reads a capture from standard input, and has libnl make an object of each message. Prints how many it made, and how
+ * many messages it refused.
+ *
+ *     objects [ROUNDS] < CAPTURE
+ *
+ * ROUNDS is how often the bytes, once read, are gone through. */
+#include <netlink/msg.h>
+#include <netlink/object.h>
+#include <stdio.h>
+#include <stdlib.h>
+
+#include "capture.h"
+
+static unsigned long links, refused;
+
+static void take(struct nl_object *object, void *unused) {
+    (void)object;
+    (void)unused;
+    links++;
+}
+
+int main(int argc, char **argv) {
+    struct capture capture = read_capture();
+    for (long round = argc > 1 ? atol(argv[1]) : 1; round > 0; round--) {
+        for (size_t at = 0; at + sizeof(struct nlmsghdr) <= capture.size;) {
+            struct nlmsghdr *header = (struct nlmsghdr *)(capture.bytes + at);
+            if (header->nlmsg_len < sizeof *header || header->nlmsg_len > capture.size - at) {
+                fprintf(stderr, "cut frame at %zu\n", at);
+                return 2;
+            }
+            struct nl_msg *message = nlmsg_convert(header);
+            if (message == NULL) {
+                return 2;
+            }
+            nlmsg_set_proto(message, NETLINK_ROUTE);
+            if (header->nlmsg_type >= NLMSG_MIN_TYPE && nl_msg_parse(message, take, NULL) < 0) {
+                refused++;
+            }
+            nlmsg_free(message);
+            at += NLMSG_ALIGN(header->nlmsg_len);
+        }
+    }
+    printf("%lu objects, %lu refused\n", links, refused);
+    return 0;
+}

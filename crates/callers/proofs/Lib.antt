@@ -1,0 +1,4 @@
+pub mod Learning
+pub mod LegalRequests
+pub mod RequestFrames
+pub mod TextKeys

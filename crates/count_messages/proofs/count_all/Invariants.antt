@@ -1,0 +1,12 @@
+-- the reader stands for what was read
+use Rattle.std.proofs.Common.{◌-◌, ◌^◌, ℕ, List}
+use Rattle.link_capture.specs.Readers.{StandsFor}
+use Rattle.count_messages.proofs.count_all.Given as goal
+
+abbrev pub invariant-pieces : goal.invariant-pieces
+invariant-pieces g l = record {
+  came : (s : List ℕ) × StandsFor l.reader s;
+}
+
+abbrev pub decreases-pieces : goal.decreases-pieces
+decreases-pieces g l = 2 ^ 64 - l.reader.accepted

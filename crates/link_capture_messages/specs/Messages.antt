@@ -1,0 +1,34 @@
+-- The messages of a capture, one after the other.
+use Rattle.std.specs.Prelude.{◌≡◌, ◌≢◌, ℕ, ◌+◌, ◌≤◌, ◌<◌, List, [], length, drop, Option, None, Some, Result, Ok, Err}
+use Rattle.netlink_packet_core_grammar.specs.Attributes.{nla_align}
+use Rattle.netlink_packet_core_messages.specs.declared.message.NetlinkMessage.{NetlinkMessage}
+use Rattle.link_capture_grammar.specs.declared.fault.CaptureFault.{CaptureFault}
+use Rattle.link_capture_grammar.specs.declared.fault.FaultKind.{FaultKind}
+use Rattle.link_capture_grammar.specs.Captures.{first_fault, first_frame, raised, IsLegal}
+use Rattle.link_capture_messages.specs.declared.route.RouteLink.{RouteLink}
+use Rattle.link_capture_messages.specs.Texts.{GivesMessage}
+
+-- what a walk over the messages of a capture has left: those from a place on; after a fault nothing of nothing
+pub record MessagesLeft : Type 0 where
+  pub limit : ℕ
+  pub capture : List ℕ
+  pub place : ℕ
+
+-- what stands before the place is legal: the first fault is that of the rest
+pub record AreLeft (s : MessagesLeft) : Type 0 where
+  pub near : s.place ≤ length s.capture + 3
+  pub fault : first_fault s.limit s.capture ≡ raised s.place (first_fault s.limit (drop s.place s.capture))
+
+-- the fault is the capture's first one, or it is want of memory at an accepted frame
+pub record GivesFault (s : MessagesLeft) (fault : CaptureFault) : Type 0 where
+  pub place : fault.offset ≡ s.place
+  pub first : fault.kind ≢ FaultKind.Memory → first_fault s.limit s.capture ≡ Some fault
+  pub memory : fault.kind ≡ FaultKind.Memory → (n : ℕ) × (text : List ℕ) × (first_frame s.limit (drop s.place s.capture) ≡ Ok (n, text))
+
+-- the next message, or the fault, or the end of a legal capture
+abbrev pub IsNext : MessagesLeft → Option (Result (NetlinkMessage RouteLink) CaptureFault) → MessagesLeft → Type 0
+IsNext s None t = (length s.capture ≤ s.place) × IsLegal s.limit s.capture × (t ≡ s)
+IsNext s (Some (Ok message)) t =
+    (s.place < length s.capture)
+    × ((n : ℕ) × GivesMessage s.limit (drop s.place s.capture) n message × (t ≡ record { limit = s.limit; capture = s.capture; place = s.place + nla_align n }))
+IsNext s (Some (Err fault)) t = (s.place < length s.capture) × GivesFault s fault × (t ≡ record { limit = s.limit; capture = []; place = 0 })

@@ -8,9 +8,10 @@
 # checks sizes and writes nothing: two small programs in bench/peers/, built here from Debian's packages libnl-3-dev,
 # libnl-route-3-dev and libmnl-dev. They read the input whole, and go through it once.
 #
-# The inputs are the samples; a dump of the kernel's own links, where `ip netns` is allowed: 50 veth pairs, 50 bridges,
-# 50 vxlan, 50 vrf, 50 dummy and 50 vlan links, as many as the kernel has drivers for; and messages of 82, 1000 and 16000
-# bytes. No gate runs this. Of five rounds in which all take turns the best time counts. 1 MB is 1,000,000 bytes.
+# The inputs are the samples that a kernel sent (of a request with a peer inside libnl 3.7.0 makes no object: it
+# crashes); a dump of the kernel's own links, where `ip netns` is allowed: 50 veth pairs, 50 bridges, 50 vxlan, 50 vrf,
+# 50 dummy and 50 vlan links, as far as the kernel has drivers for them; and messages of 82, 1000 and 16000 bytes. No
+# gate runs this. Of five rounds in which all take turns the best time counts. 1 MB is 1,000,000 bytes.
 set -euo pipefail
 cd "$(dirname "$0")/.."
 
@@ -90,9 +91,8 @@ compare() {
 }
 
 printf '%-24s %9s %9s %9s %9s %9s\n' 'MB/s' cat norm before objects walk
-cat samples/get-veth.bin samples/notify-vrf.bin samples/get-veth.bin samples/notify-vrf.bin samples/req-veth.bin \
-    > "$work/samples"
-compare samples "$work/samples"
+cat samples/get-veth.bin samples/notify-vrf.bin > "$work/samples"
+compare "samples, of a kernel" "$work/samples"
 if make_dump > "$work/dump" && [ -s "$work/dump" ]; then
     compare "dump, $(stat -c %s "$work/dump") bytes" "$work/dump"
 else

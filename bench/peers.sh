@@ -43,21 +43,6 @@ make_dump() {
     ip netns exec "$netns" samples/dump_links.py
 }
 
-# A group of about 100,000 bytes of messages of one length: a name, and attributes of a kind that no table has.
-make_group_of() {
-    python3 - "$1" <<'PYTHON'
-import struct, sys
-length = int(sys.argv[1])
-attributes, left = struct.pack("<HH4s", 8, 3, b"lo0\0"), length - 40
-while left >= 4:
-    size = 36 if left >= 40 or left == 36 else left
-    attributes += struct.pack("<HH", size, 1000) + bytes(range(size - 4)) + bytes(-size % 4)
-    left -= (size + 3) // 4 * 4
-frame = struct.pack("<IHHII", length, 16, 0, 1, 0) + bytes(16) + attributes
-sys.stdout.buffer.write(frame * max(1, 100000 // len(frame)))
-PYTHON
-}
-
 # Runs a command from the input to an output; sets `micros`.
 run_once() {
     local begin
@@ -99,6 +84,6 @@ else
     echo "no dump: ip netns isn't allowed here"
 fi
 for length in 82 1000 16000; do
-    make_group_of "$length" > "$work/group"
+    bench/messages_of.py "$length" > "$work/group"
     compare "messages of $length bytes" "$work/group"
 done

@@ -37,22 +37,7 @@ make_group() {
     cat "${files[@]}"
 }
 
-# About 100,000 bytes of messages of one length: a name, and attributes of a kind that no table has.
-make_group_of() {
-    python3 - "$1" <<'PYTHON'
-import struct, sys
-length = int(sys.argv[1])
-attributes, left = struct.pack("<HH4s", 8, 3, b"lo0\0"), length - 40
-while left >= 4:
-    size = 36 if left >= 40 or left == 36 else left
-    attributes += struct.pack("<HH", size, 1000) + bytes(range(size - 4)) + bytes(-size % 4)
-    left -= (size + 3) // 4 * 4
-frame = struct.pack("<IHHII", length, 16, 0, 1, 0) + bytes(16) + attributes
-sys.stdout.buffer.write(frame * max(1, 100000 // len(frame)))
-PYTHON
-}
-
-if [ -n "$length" ]; then make_group_of "$length"; else make_group; fi > "$work/group"
+if [ -n "$length" ]; then bench/messages_of.py "$length"; else make_group; fi > "$work/group"
 groups=$(((wanted + $(stat -c %s "$work/group") - 1) / $(stat -c %s "$work/group")))
 for ((i = 0; i < groups; i++)); do cat "$work/group"; done > "$work/input"
 size=$(stat -c %s "$work/input")

@@ -1,7 +1,8 @@
 //! Link info: a list in which a kind's name tells the data, and a port kind's name the port data
 //! (if_link.h, IFLA_INFO_*).
 
-ghost use Rattle.std.specs.Prelude.{◌≡◌, ◌≤◌, ◌+◌, ◌++◌, ◌%◌, ◌==◌, ◌&&◌, ◌||◌, not, nat_lt, true, length, option_map, vec_capacity, IfSome, IfNone};
+ghost use Rattle.std.specs.Prelude.{◌≡◌, ◌≤◌, ◌+◌, ◌++◌, ◌%◌, ◌==◌, ◌&&◌, ◌||◌, not, nat_lt, true};
+ghost use Rattle.std.specs.Prelude.{length, option_map, vec_capacity, IfSome, IfNone};
 ghost use Rattle.attribute_tables_grammar.specs.Lists.{any, list_rule, LawfulGrammar, row_of, same_attribute, written_kind};
 ghost use Rattle.attribute_tables_grammar.specs.LookUps.{payload_rule, payload_at, rule_or_raw};
 ghost use Rattle.attribute_tables_grammar.specs.Rules.{shape_rule};

@@ -7,7 +7,8 @@ ghost use Rattle.link_message.specs.LinkMessages.{link_message_text, link_messag
 ghost use Rattle.link_message.specs.Body.{link_body};
 ghost use Rattle.link_capture.specs.Readable.{IsReadable, ReadsAsAnother};
 ghost use Rattle.link_capture.specs.Routes.{route_entry};
-ghost use Rattle.callers.specs.Requests.{request_text, new_link_text, IsNormal, IsOwnText, IsReadOtherwise, NewLinksAreNormal, vxlan_info_text, vxlan_body, vxlan_text};
+ghost use Rattle.callers.specs.Requests.{request_text, new_link_text, IsNormal, NewLinksAreNormal};
+ghost use Rattle.callers.specs.Requests.{vxlan_info_text, vxlan_body, vxlan_text, IsOwnText, IsReadOtherwise};
 
 use link_capture::laws::{captures_are_counted, frames_are_judged};
 use link_capture::{NotReadable, ReadableLink, RouteLink};
@@ -23,6 +24,9 @@ use thiserror::Error;
 
 /// The UDP port of vxlan (IANA). The kernel takes 8472 where none is told.
 const VXLAN_PORT: u16 = 4789;
+
+/// The bytes of the longest name that fits: 65535 less the 4 bytes of the attribute's header and the NUL.
+const LONGEST_NAME: usize = 65530;
 
 /// Why a request isn't written.
 #[derive(Clone, Copy, Debug, PartialEq, Eq, Drop, Error)]
@@ -171,8 +175,8 @@ fn vxlans_are_legal(name: &str, vni: u32, mtu: u32)
 /// UDP port is 4789. Numbers are little-endian, the port big-endian. The kernel takes names of 1 to 15 bytes and
 /// networks below 2^24; that isn't tested here.
 ///
-/// What is promised beside the bytes: memory aside, `Unfit` is told exactly of a name over 65530 bytes, `TooLong` never,
-/// and `ReadsOtherwise` only where the body, which is legal, is read as another message.
+/// What is promised beside the bytes: `Unfit` is told exactly of a name over 65530 bytes, `TooLong` never, and
+/// `ReadsOtherwise` only where the body, which is legal, is read as another message.
 pub fn vxlan_request(
     alloc: Global,
     name: &str,
@@ -185,12 +189,14 @@ pub fn vxlan_request(
     ensures normal { IfOk result
         (λ bytes. (limit : ℕ) → length bytes.items ≤ limit → IsNormal limit bytes.items) }
     ensures fits { OnOk result (length name.now ≤ 65530) }
-    ensures unfit { IfErr result (λ fault. fault ≢ RequestFault.Memory
-        → (fault ≡ RequestFault.Unfit) ↔ (65530 < length name.now)) }
+    ensures unfit { (result ≡ Err RequestFault.Unfit) ↔ (65530 < length name.now) }
     ensures otherwise { result ≡ Err RequestFault.ReadsOtherwise
         → IsReadOtherwise (vxlan_body name.now vni mtu) }
     ensures too_long { result ≢ Err RequestFault.TooLong }
 {
+    if name.len() > LONGEST_NAME {
+        return Err(RequestFault::Unfit);
+    }
     vxlans_are_legal(name, vni, mtu);
     match vxlan_message(alloc, name, vni, mtu) {
         Ok(message) => new_link_request(alloc, message, sequence_number),

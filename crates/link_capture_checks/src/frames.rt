@@ -1,6 +1,7 @@
 //! The frame in front of some bytes.
 
-ghost use Rattle.std.specs.Prelude.{◌≡◌, ◌≢◌, ◌≤◌, ◌<◌, ◌+◌, ◌^◌, ◌++◌, ℕ, List, true, length, is_ok, vec_capacity, IfOk, IfErr, OnErr, Ok, Err};
+ghost use Rattle.std.specs.Prelude.{◌≡◌, ◌≢◌, ◌≤◌, ◌<◌, ◌+◌, ◌^◌, ◌++◌, ℕ, List, true, length};
+ghost use Rattle.std.specs.Prelude.{is_ok, vec_capacity, IfOk, IfErr, OnErr, Ok, Err};
 ghost use Rattle.netlink_packet_core_grammar.specs.Attributes.{nla_align};
 ghost use Rattle.netlink_packet_core.specs.Frames.{IsFrame, frame_length, frame_type, frame_body, frame_text};
 ghost use Rattle.link_capture_grammar.specs.Bodies.{body_text};

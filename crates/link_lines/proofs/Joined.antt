@@ -1,0 +1,52 @@
+-- Lines of texts that go on.
+use Rattle.std.proofs.Common.{◌≡◌, ℕ, ◌^◌, ◌<◌, List, [], ◌∷◌, ◌++◌, length, Result, Ok, Err, OnOk, OnErr, is_err, true, false, refl, sym, ap, ◌∙◌, arith, length-append}
+use Rattle.std.proofs.lemmas.List.{append-nil}
+use Rattle.link_capture_grammar.specs.Captures.{texts, texts_after}
+use Rattle.link_capture_reader.specs.Readers.{Gains}
+use Rattle.link_capture_engine.specs.Outcomes.{IsPrefix}
+use Rattle.link_lines_texts.specs.Captures.{text_lines, lines}
+use Rattle.link_lines_texts.specs.Laws.{LinesAreJoined}
+
+-- what holds where nothing failed, and where something did
+pub on_ok : {E : Type 0} (r : Result (Unit {0}) E) (P : Type 0) → is_err r ≡ false → OnOk r P → P
+on_ok (Ok x) P e h = h
+on_ok (Err x) P e h = absurd (cc)
+
+pub on_err : {E : Type 0} (r : Result (Unit {0}) E) (P : Type 0) → is_err r ≡ true → OnErr r P → P
+on_err (Ok x) P e h = absurd (cc)
+on_err (Err x) P e h = h
+
+-- nothing has no texts
+pub texts_nil : (limit : ℕ) → texts limit [] ≡ []
+unfolding texts_after
+texts_nil limit = refl
+
+nothing_twice : (x : List ℕ) → x ≡ x ++ x → x ≡ []
+nothing_twice [] e = refl
+nothing_twice (a ∷ x) e = absurd (omega (arith, ap length e, length-append (a ∷ x) (a ∷ x)))
+
+-- and no lines
+pub no_lines : LinesAreJoined → text_lines [] ≡ []
+no_lines joined =
+    let z = texts_nil 0 in
+    let h = joined 0 [] [] (omega arith) in
+    nothing_twice (text_lines []) (ap (λ x. text_lines (x ++ [])) (sym z) ∙ h ∙ ap (λ x. text_lines x ++ text_lines []) z)
+
+pub lines_nil : LinesAreJoined → (limit : ℕ) → lines limit [] ≡ []
+lines_nil joined limit = ap text_lines (texts_nil limit) ∙ no_lines joined
+
+pub lines_of_none : LinesAreJoined → (old t : List ℕ) → length t ≡ 0 → old ≡ old ++ text_lines t
+lines_of_none joined old [] e = sym (append-nil old) ∙ ap (λ x. old ++ x) (sym (no_lines joined))
+lines_of_none joined old (b ∷ t) e = absurd (omega arith)
+
+-- texts that go on have the lines of both
+pub lines_go_on : LinesAreJoined → (limit : ℕ) (s t out : List ℕ) → limit < 2 ^ 32 → texts limit t ≡ texts limit s ++ out → lines limit t ≡ lines limit s ++ text_lines out
+lines_go_on joined limit s t out b e = ap text_lines e ∙ joined limit s out b
+
+-- so do those that a reader gained
+pub lines_gained : LinesAreJoined → (limit : ℕ) (s t out : List ℕ) → limit < 2 ^ 32 → Gains limit s t [] out → lines limit t ≡ lines limit s ++ text_lines out
+lines_gained joined limit s t out b g = lines_go_on joined limit s t out b (g.1 ∙ ap (λ x. texts limit s ++ x) (sym g.2))
+
+-- the lines of a front of the texts begin the lines
+pub lines_begin : LinesAreJoined → (limit : ℕ) (s t : List ℕ) → limit < 2 ^ 32 → IsPrefix (texts limit s) (texts limit t) → IsPrefix (lines limit s) (lines limit t)
+lines_begin joined limit s t b p = (text_lines p.0, lines_go_on joined limit s t p.0 b p.1)

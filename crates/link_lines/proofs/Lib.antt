@@ -1,0 +1,3 @@
+pub mod Joined
+pub mod Progress
+pub mod Gathered

@@ -1,0 +1,167 @@
+-- How far the reading has come.
+use Rattle.std.proofs.Common.{◌≡◌, ◌≢◌, ◌&&◌, eqb, ltb, ℕ, ◌+◌, ◌-◌, ◌^◌, ◌<◌, ◌≤◌, min, Option, Result, Ok, Err, IfErr, OnOk, is_err, false, List, [], ◌++◌, length, take, drop, sym, ap, subst, ◌∙◌, arith, length-append}
+use Rattle.std.proofs.lemmas.List.{take_at, append-nil, take-append-drop, length-take}
+use Rattle.std.proofs.lemmas.Bool.{ne_eqb}
+use Rattle.std.specs.Io.KnownBytes.{Appends, Consumes}
+use Rattle.std.proofs.KnownBytes.{Appends-nil, Appends-trans, Consumes-nil, Consumes-trans}
+use Rattle.link_capture_grammar.specs.declared.fault.CaptureFault.{CaptureFault}
+use Rattle.link_capture_grammar.specs.declared.fault.FaultKind.{FaultKind}
+use Rattle.link_capture_grammar.specs.declared.fault.FaultKind.TheVariants.{Cut, ShortLength, OverLimit, Refused, EmptyPorts, Unfit, TextOverLimit, Memory, Read, Write, TooLong, Failed}
+use Rattle.link_capture_grammar.specs.Captures.{first_fault, texts, StopsAt}
+use Rattle.link_capture_grammar.specs.Laws.{PrefixTexts}
+use Rattle.link_capture_reader.specs.Readers.{ReaderState, StandsFor, Gains, FeedFault}
+use Rattle.link_capture_engine.specs.Devices.{counted, is_end}
+use Rattle.link_capture_engine.specs.Outcomes.{IsOpen, IsPrefix}
+use Rattle.link_capture_engine.proofs.Progress.{open_from, part_front, FeedOk, FeedErr}
+use Rattle.link_lines_texts.specs.Captures.{text_lines, lines}
+use Rattle.link_lines_texts.specs.Laws.{LinesAreJoined}
+use Rattle.link_lines.specs.Outcomes.{ShowsFront, ShownAt}
+use Rattle.link_lines.proofs.Joined.{on_ok, no_lines, lines_nil, lines_go_on, lines_gained, lines_begin}
+
+-- s was read and accepted, and its lines are written
+pub record Came (limit : ℕ) (reader : ReaderState) (written : ℕ) (come_old come_new holds_old holds_new : Option (List ℕ)) (s : List ℕ) : Type 0 where
+  pub limit_is : reader.limit ≡ limit
+  pub stands : StandsFor reader s
+  pub consumed : Consumes come_old come_new s
+  pub wrote : Appends holds_old holds_new (lines limit s)
+  pub count : written ≡ min (length (lines limit s)) (2 ^ 64 - 1)
+
+pub nothing_came : LinesAreJoined → (limit : ℕ) (reader : ReaderState) (come holds : Option (List ℕ)) → reader.limit ≡ limit → StandsFor reader [] → Came limit reader 0 come come holds holds []
+nothing_came joined limit reader come holds e h = record {
+  limit_is = e;
+  stands = h;
+  consumed = Consumes-nil come;
+  wrote = subst (Appends holds holds) (sym (lines_nil joined limit)) (Appends-nil holds);
+  count = ap (λ (t : List ℕ). min (length t) (2 ^ 64 - 1)) (sym (lines_nil joined limit));
+}
+
+-- what `push_lines` leaves where nothing was
+pub pushed : {E : Type 0} (r : Result (Unit {0}) E) (old new slice out : List ℕ) → is_err r ≡ false → old ≡ [] → slice ≡ out → OnOk r (new ≡ old ++ text_lines slice) → new ≡ text_lines out
+pushed r old new slice out k e t h = on_ok r (new ≡ old ++ text_lines slice) k h ∙ ap (λ o. o ++ text_lines slice) e ∙ ap text_lines t
+
+-- the reading goes on by a piece
+pub goes_on : LinesAreJoined → (limit : ℕ) (reader then : ReaderState) (s p old out shown : List ℕ) (come_old come_between come_new holds_old holds_between holds_new : Option (List ℕ)) (written total : ℕ) → limit < 2 ^ 32 → Came limit reader written come_old come_between holds_old holds_between s → old ≡ [] → then.limit ≡ reader.limit → FeedOk reader then p old out → Consumes come_between come_new p → shown ≡ text_lines out → Appends holds_between holds_new shown → total ≡ min (written + length shown) (2 ^ 64 - 1) → Came limit then total come_old come_new holds_old holds_new (s ++ p)
+goes_on joined limit reader then s p old out shown come_old come_between come_new holds_old holds_between holds_new written total b came e l fed consumed is wrote count =
+    let f = fed s came.stands in
+    let gains : Gains limit s (s ++ p) [] out = subst (λ n. Gains n s (s ++ p) [] out) came.limit_is (subst (λ o. Gains reader.limit s (s ++ p) o out) e f.2) in
+    let all : lines limit (s ++ p) ≡ lines limit s ++ shown = lines_gained joined limit s (s ++ p) out b gains ∙ ap (λ x. lines limit s ++ x) (sym is) in
+    let size : length (lines limit (s ++ p)) ≡ length (lines limit s) + length shown = ap length all ∙ length-append (lines limit s) shown in
+    record {
+      limit_is = l ∙ came.limit_is;
+      stands = f.1;
+      consumed = Consumes-trans come_old come_between come_new s p came.consumed consumed;
+      wrote = subst (Appends holds_old holds_new) (sym all) (Appends-trans holds_old holds_between holds_new (lines limit s) shown came.wrote wrote);
+      count = (let known = came.count in omega (arith, size, known, count));
+    }
+
+-- a source that gave some bytes has not told its end
+pub unended : (n room m : ℕ) → n ≢ 0 → counted (is_end (Ok n) room) m ≡ m
+unended n room m h = let e : eqb n 0 ≡ false = ne_eqb n 0 h in ap (λ x. counted (x && ltb 0 room) m) e
+
+-- What `feed` adds to nothing goes on to the texts of a front of what was read.
+record Reaches (limit : ℕ) (s p out : List ℕ) : Type 0 where
+  front : List ℕ
+  is : texts limit front ≡ texts limit s ++ out
+  begins : IsPrefix (texts limit front) (texts limit (s ++ p))
+
+-- what was gained, behind what was there
+all_is : (limit : ℕ) (s t out : List ℕ) → Gains limit s t [] out → texts limit t ≡ texts limit s ++ out
+all_is limit s t out g = g.1 ∙ ap (λ x. texts limit s ++ x) (sym g.2)
+
+reaches_all : (limit : ℕ) (s p out : List ℕ) → Gains limit s (s ++ p) [] out → Reaches limit s p out
+reaches_all limit s p out g = record {
+  front = s ++ p;
+  is = all_is limit s (s ++ p) out g;
+  begins = ([], sym (append-nil (texts limit (s ++ p))));
+}
+
+reaches : PrefixTexts → (limit : ℕ) (s p out : List ℕ) (kind : FaultKind) (at : ℕ) → FeedFault limit s p [] out kind at → Reaches limit s p out
+reaches stay limit s p out Cut at h = absurd h
+reaches stay limit s p out ShortLength at h = reaches_all limit s p out h.2
+reaches stay limit s p out OverLimit at h = reaches_all limit s p out h.2
+reaches stay limit s p out Refused at h = reaches_all limit s p out h.2
+reaches stay limit s p out EmptyPorts at h = reaches_all limit s p out h.2
+reaches stay limit s p out Unfit at h = reaches_all limit s p out h.2
+reaches stay limit s p out TextOverLimit at h = reaches_all limit s p out h.2
+reaches stay limit s p out Memory at h = record {
+  front = take at (s ++ p);
+  is = all_is limit s (take at (s ++ p)) out h.2;
+  begins = subst (λ x. IsPrefix (texts limit (take at (s ++ p))) (texts limit x)) (take-append-drop at (s ++ p)) (stay limit (take at (s ++ p)) (drop at (s ++ p)));
+}
+reaches stay limit s p out Read at h = absurd h
+reaches stay limit s p out Write at h = absurd h
+reaches stay limit s p out TooLong at h = record {
+  front = s;
+  is = sym (append-nil (texts limit s)) ∙ ap (λ x. texts limit s ++ x) (sym h.2);
+  begins = stay limit s p;
+}
+reaches stay limit s p out Failed at h = absurd h
+
+-- the lines of what it adds, behind those that were written, begin the lines of what was read
+lines_reach : LinesAreJoined → (limit : ℕ) (s p out : List ℕ) → limit < 2 ^ 32 → Reaches limit s p out → IsPrefix (lines limit s ++ text_lines out) (lines limit (s ++ p))
+lines_reach joined limit s p out b r =
+    subst (λ x. IsPrefix x (lines limit (s ++ p))) (lines_go_on joined limit s r.front out b r.is) (lines_begin joined limit r.front (s ++ p) b r.begins)
+
+pub fed_lines : PrefixTexts → LinesAreJoined → (limit : ℕ) (reader then : ReaderState) (s p old out : List ℕ) (r : Result (Unit {0}) CaptureFault) → limit < 2 ^ 32 → reader.limit ≡ limit → old ≡ [] → StandsFor reader s → OnOk r (FeedOk reader then p old out) → IfErr r (FeedErr reader p old out) → IsPrefix (lines limit s ++ text_lines out) (lines limit (s ++ p))
+fed_lines stay joined limit reader then s p old out (Ok x) b l e h good bad =
+    lines_reach joined limit s p out b
+    (subst (λ n. Reaches n s p out) l (reaches_all reader.limit s p out (subst (λ o. Gains reader.limit s (s ++ p) o out) e (good s h).2)))
+fed_lines stay joined limit reader then s p old out (Err fault) b l e h good bad =
+    lines_reach joined limit s p out b
+    (subst (λ n. Reaches n s p out) l (reaches stay reader.limit s p out fault.kind fault.offset (subst (λ o. FeedFault reader.limit s p o out fault.kind fault.offset) e (bad s h))))
+
+-- a failed write: a front of the lines that were to be written has been
+pub failed_write : (E R W : Type 0) (limit : ℕ) (s a out : List ℕ) (written n : ℕ) (fault : CaptureFault) → W → IsPrefix (a ++ out) (lines limit s) → n ≤ length out → written ≡ min (length a) (2 ^ 64 - 1) → fault.kind ≡ Write → fault.offset ≡ min (written + n) (2 ^ 64 - 1) → ShownAt E R W limit s (a ++ take n out) fault.kind fault.offset
+failed_write E R W limit s a out written n fault w p l c k o =
+    let size : length (a ++ take n out) ≡ length a + n = length-append a (take n out) ∙ omega (arith, length-take n out) in
+    subst (λ x. ShownAt E R W limit s (a ++ take n out) x fault.offset) (sym k) (w, omega (arith, size), part_front a out (lines limit s) n p)
+
+-- what stands before the piece is shown
+pub before_piece : (limit : ℕ) (s p : List ℕ) (at : ℕ) → at ≡ length s → IsOpen (first_fault limit s) → ShowsFront limit (s ++ p) (lines limit s) at
+before_piece limit s p at e o =
+    let t : take at (s ++ p) ≡ s = take_at s p at (sym e) in
+    record {
+      inside = omega (arith, e, length-append s p);
+      going = subst (λ x. IsOpen (first_fault limit x)) (sym t) o;
+      written = ap (lines limit) (sym t);
+    }
+
+-- no memory for the lines of a piece
+pub lines_lack : (limit : ℕ) (reader : ReaderState) (s p : List ℕ) (at : ℕ) → reader.limit ≡ limit → StandsFor reader s → at ≡ reader.accepted → ShowsFront limit (s ++ p) (lines limit s) at
+lines_lack limit reader s p at l h e =
+    before_piece limit s p at (e ∙ h.accepted) (subst (λ n. IsOpen (first_fault n s)) l (open_from _ s reader.kept reader.owed h.rest))
+
+-- a legal front has no fault
+legal_front : (limit : ℕ) (c w : List ℕ) (at : ℕ) → StopsAt limit c at → w ≡ lines limit (take at c) → ShowsFront limit c w at
+legal_front limit c w at h e = record {
+  inside = (let i = h.inside in omega arith);
+  going = subst IsOpen (sym h.legal) tt;
+  written = e;
+}
+
+-- a fault of `feed` is answered, once the lines of what it added are written
+fed_fault : LinesAreJoined → (E R W : Type 0) (limit : ℕ) (s p out : List ℕ) (kind : FaultKind) (at : ℕ) → limit < 2 ^ 32 → length p ≤ 65536 → IsOpen (first_fault limit s) → FeedFault limit s p [] out kind at → ShownAt E R W limit (s ++ p) (lines limit s ++ text_lines out) kind at
+fed_fault joined E R W limit s p out Cut at b z o h = absurd h
+fed_fault joined E R W limit s p out ShortLength at b z o h = (h.1, sym (lines_gained joined limit s (s ++ p) out b h.2))
+fed_fault joined E R W limit s p out OverLimit at b z o h = (h.1, sym (lines_gained joined limit s (s ++ p) out b h.2))
+fed_fault joined E R W limit s p out Refused at b z o h = (h.1, sym (lines_gained joined limit s (s ++ p) out b h.2))
+fed_fault joined E R W limit s p out EmptyPorts at b z o h = (h.1, sym (lines_gained joined limit s (s ++ p) out b h.2))
+fed_fault joined E R W limit s p out Unfit at b z o h = (h.1, sym (lines_gained joined limit s (s ++ p) out b h.2))
+fed_fault joined E R W limit s p out TextOverLimit at b z o h = (h.1, sym (lines_gained joined limit s (s ++ p) out b h.2))
+fed_fault joined E R W limit s p out Memory at b z o h = legal_front limit (s ++ p) _ at h.1 (sym (lines_gained joined limit s (take at (s ++ p)) out b h.2))
+fed_fault joined E R W limit s p out Read at b z o h = absurd h
+fed_fault joined E R W limit s p out Write at b z o h = absurd h
+fed_fault joined E R W limit s p out TooLong at b z o h =
+    let none : lines limit s ++ text_lines out ≡ lines limit s = ap (λ x. lines limit s ++ text_lines x) h.2 ∙ ap (λ x. lines limit s ++ x) (no_lines joined) ∙ append-nil (lines limit s) in
+    record {
+      long = omega (arith, h.0, length-append s p);
+      last = omega (arith, h.1, length-append s p);
+      front = subst (λ x. ShowsFront limit (s ++ p) x at) (sym none) (before_piece limit s p at h.1 o);
+    }
+fed_fault joined E R W limit s p out Failed at b z o h = absurd h
+
+pub fed_outcome : LinesAreJoined → (E R W : Type 0) (limit : ℕ) (reader : ReaderState) (s p old out : List ℕ) (fault : CaptureFault) → limit < 2 ^ 32 → reader.limit ≡ limit → old ≡ [] → length p ≤ 65536 → StandsFor reader s → FeedErr reader p old out fault → ShownAt E R W limit (s ++ p) (lines limit s ++ text_lines out) fault.kind fault.offset
+fed_outcome joined E R W limit reader s p old out fault b l e z h bad =
+    let o : IsOpen (first_fault limit s) = subst (λ n. IsOpen (first_fault n s)) l (open_from _ s reader.kept reader.owed h.rest) in
+    let f : FeedFault limit s p [] out fault.kind fault.offset = subst (λ n. FeedFault n s p [] out fault.kind fault.offset) l (subst (λ x. FeedFault reader.limit s p x out fault.kind fault.offset) e (bad s h)) in
+    fed_fault joined E R W limit s p out fault.kind fault.offset b z o f

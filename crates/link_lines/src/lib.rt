@@ -1,0 +1,15 @@
+// The lines of link captures, for people: of bytes that are there whole, or from a source to a sink.
+#![tactic(auto)]
+
+mod engine;
+mod whole;
+
+pub use engine::show;
+pub use link_capture_commands::DEFAULT_LIMIT;
+pub use link_capture_engine::{
+    DeviceFailed, ReadSource, Sink, SliceSource, Source, VecSink, WriteSink, read_all, write_all,
+};
+pub use link_capture_grammar::fault::{CaptureFault, FaultKind};
+pub use link_capture_reader::{CaptureReader, normalize_bytes};
+pub use link_lines_texts::{lines_are_joined, push_lines};
+pub use whole::show_bytes;

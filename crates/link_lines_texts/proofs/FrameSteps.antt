@@ -1,0 +1,147 @@
+-- The lines of texts go by their frames.
+use Rattle.std.proofs.Common.{◌≡◌, ℕ, zero, suc, ◌+◌, ◌-◌, ◌^◌, ◌<◌, ◌≤◌, Bool, true, false, cond, List, [], ◌∷◌, ◌++◌, length, take, drop, Result, Ok, Err, refl, sym, ap, subst, ◌∙◌, append_assoc, arith}
+use Rattle.std.specs.Prelude.{◌&&◌, nat_le, nat_lt}
+use Rattle.std.proofs.lemmas.Bool.{leb-true, le-leb, ltb-false}
+use Rattle.std.proofs.lemmas.List.{length-append, take-append-le}
+use Rattle.std.proofs.lemmas.Nat.{from_le_bytes-to_le_bytes_4}
+use Rattle.netlink_packet_core_grammar.specs.Attributes.{nla_align, zeros}
+use Rattle.netlink_packet_core_grammar.specs.Frames.{frame_length, frame_type, frame_body, frame_text}
+use Rattle.netlink_packet_core_grammar.specs.Numbers.{u32_at, le4}
+use Rattle.link_capture_grammar.specs.declared.fault.FaultKind.{FaultKind}
+use Rattle.link_capture_grammar.specs.declared.fault.FaultKind.TheVariants.{Cut, ShortLength, OverLimit, TextOverLimit}
+use Rattle.link_capture_grammar.specs.Bodies.{Refusal, body_text}
+use Rattle.link_capture_grammar.specs.Captures.{Judged, fault_of, judged_text, tested, first_frame, next_texts, texts_after, texts}
+use Rattle.link_capture_grammar.specs.Laws.{FramesAreJudged}
+use Rattle.link_lines_texts.specs.Frames.{frame_lines}
+use Rattle.link_lines_texts.specs.Captures.{is_frame, lines_after, text_lines}
+use Rattle.link_lines_texts.specs.Laws.{LinesGoByFrames, LinesAreJoined}
+use Rattle.link_lines_texts.proofs.Bisection.{both_true}
+
+passed : (k : ℕ) (c : List ℕ) → lines_after k c ≡ text_lines (drop k c)
+unfolding lines_after text_lines
+passed zero c = refl
+passed (suc k) [] = refl
+passed (suc k) (b ∷ c) = passed k c
+
+-- a whole frame has a length of at least 16, which its bytes reach
+length_of : (c : List ℕ) → is_frame c ≡ true → (16 ≤ frame_length c) × (frame_length c ≤ length c)
+length_of c h =
+    let p = both_true (nat_le 16 (length c)) (nat_le 16 (frame_length c) && nat_le (frame_length c) (length c)) h in
+    let q = both_true (nat_le 16 (frame_length c)) (nat_le (frame_length c) (length c)) p.1 in
+    (leb-true 16 (frame_length c) q.0, leb-true (frame_length c) (length c) q.1)
+
+pub whole : (c : List ℕ) → is_frame c ≡ true → text_lines c ≡ frame_lines (take (frame_length c) c) ++ text_lines (drop (nla_align (frame_length c)) c)
+unfolding text_lines lines_after
+whole [] h = absurd cc
+whole (b ∷ c) h =
+    let n = frame_length (b ∷ c) in
+    let own = frame_lines (take n (b ∷ c)) in
+    let l = (length_of (b ∷ c) h).0 in
+    let k : suc (nla_align n - 1) ≡ nla_align n = omega (arith, l) in
+    ap (λ t. cond t (own ++ lines_after (nla_align n - 1) c) []) h
+    ∙ ap (λ z. own ++ z) (passed (nla_align n - 1) c ∙ ap (λ m. text_lines (drop m (b ∷ c))) k)
+
+pub stopped : (c : List ℕ) → is_frame c ≡ false → text_lines c ≡ []
+unfolding text_lines lines_after
+stopped [] h = refl
+stopped (b ∷ c) h =
+    let n = frame_length (b ∷ c) in
+    ap (λ t. cond t (frame_lines (take n (b ∷ c)) ++ lines_after (nla_align n - 1) c) []) h
+
+pub by_frames : LinesGoByFrames
+by_frames = record { frame = whole; none = stopped }
+
+-- ---- the text of a frame in front of other bytes
+
+drop_front : (xs ys : List ℕ) → drop (length xs) (xs ++ ys) ≡ ys
+drop_front [] ys = refl
+drop_front (x ∷ xs) ys = drop_front xs ys
+
+length_kept : (n : ℕ) (more : List ℕ) → n < 2 ^ 32 → frame_length (le4 n ++ more) ≡ n
+unfolding u32_at le4
+length_kept n more h = from_le_bytes-to_le_bytes_4 n h
+
+told_length : (c body r : List ℕ) → 16 + length body < 2 ^ 32 → frame_length (frame_text c body ++ r) ≡ 16 + length body
+unfolding frame_text
+told_length c body r h =
+    let n = 16 + length body in
+    let more = take 12 (drop 4 c) ++ (body ++ zeros (nla_align n - n)) in
+    ap (λ z. frame_length z) (append_assoc (le4 n) more r) ∙ length_kept n (more ++ r) h
+
+true_and : (a b : Bool) → a ≡ true → b ≡ true → (a && b) ≡ true
+true_and a b h k = ap (λ z. z && b) h ∙ k
+
+in_front : FramesAreJudged → (c body r : List ℕ) → 16 ≤ length c → 16 + length body < 2 ^ 32 → text_lines (frame_text c body ++ r) ≡ frame_lines (take (16 + length body) (frame_text c body)) ++ text_lines r
+in_front j c body r h b =
+    let n = 16 + length body in
+    let t = frame_text c body in
+    let told = told_length c body r b in
+    let size : length t ≡ nla_align n = j.size c body h in
+    let low : 16 ≤ nla_align n = omega arith in
+    let high : n ≤ nla_align n = omega arith in
+    let all : length (t ++ r) ≡ length t + length r = length-append t r in
+    let is : is_frame (t ++ r) ≡ true =
+    true_and (nat_le 16 (length (t ++ r))) (nat_le 16 (frame_length (t ++ r)) && nat_le (frame_length (t ++ r)) (length (t ++ r))) (le-leb 16 (length (t ++ r)) (omega (arith, all, size, low)))
+    (true_and (nat_le 16 (frame_length (t ++ r))) (nat_le (frame_length (t ++ r)) (length (t ++ r))) (le-leb 16 (frame_length (t ++ r)) (omega (arith, told))) (le-leb (frame_length (t ++ r)) (length (t ++ r)) (omega (arith, told, all, size, high)))) in
+    whole (t ++ r) is
+    ∙ ap (λ m. frame_lines (take m (t ++ r)) ++ text_lines (drop (nla_align m) (t ++ r))) told
+    ∙ ap (λ z. frame_lines z ++ text_lines (drop (nla_align n) (t ++ r))) (take-append-le n t r (omega (arith, size, high)))
+    ∙ ap (λ m. frame_lines (take n t) ++ text_lines (drop m (t ++ r))) (sym size)
+    ∙ ap (λ z. frame_lines (take n t) ++ text_lines z) (drop_front t r)
+
+-- ---- a frame that is accepted has such a text
+
+record IsText (limit : ℕ) (c : List ℕ) (text : List ℕ) : Type 0 where
+  pub header : 16 ≤ length c
+  pub body : List ℕ
+  pub small : 16 + length body ≤ limit
+  pub is : text ≡ frame_text c body
+
+small_is : (limit : ℕ) (c : List ℕ) (frame : ℕ × List ℕ) (body : List ℕ) (b : Bool) → nat_lt limit (16 + length body) ≡ b → 16 ≤ length c → cond b (Err TextOverLimit) (Ok (frame_length c, frame_text c body)) ≡ Ok frame → IsText limit c frame.1
+small_is limit c frame body true l h e = absurd cc
+small_is limit c frame body false l h e = let m = ltb-false limit (16 + length body) l in record { header = h; body = body; small = omega (arith, m); is = cc }
+
+judged_is : (limit : ℕ) (c : List ℕ) (frame : ℕ × List ℕ) (o : Result (List ℕ) Refusal) → 16 ≤ length c → judged_text limit c o ≡ Ok frame → IsText limit c frame.1
+judged_is limit c frame (Err why) h e = absurd cc
+judged_is limit c frame (Ok body) h e = small_is limit c frame body (nat_lt limit (16 + length body)) refl h e
+
+tested_is : (a b d e : Bool) (j : Judged) (frame : ℕ × List ℕ) → cond a (Err Cut) (cond b (Err ShortLength) (cond d (Err OverLimit) (cond e (Err Cut) j))) ≡ Ok frame → (a ≡ false) × (j ≡ Ok frame)
+tested_is true b d e j frame h = absurd cc
+tested_is false true d e j frame h = absurd cc
+tested_is false false true e j frame h = absurd cc
+tested_is false false false true j frame h = absurd cc
+tested_is false false false false j frame h = (refl, h)
+
+accepted_is : (limit : ℕ) (c : List ℕ) (frame : ℕ × List ℕ) → first_frame limit c ≡ Ok frame → IsText limit c frame.1
+unfolding first_frame
+accepted_is limit c frame h =
+    let o = body_text (frame_type c) (frame_body c) in
+    let p = tested_is (nat_lt (length c) 16) (nat_lt (frame_length c) 16) (nat_lt limit (frame_length c)) (nat_lt (length c) (frame_length c)) (judged_text limit c o) frame h in
+    let m = ltb-false (length c) 16 p.0 in
+    judged_is limit c frame o (omega (arith, m)) p.1
+
+-- ---- texts in front of other bytes
+
+frame_first : FramesAreJudged → (limit : ℕ) (c : List ℕ) (text : List ℕ) → limit < 2 ^ 32 → IsText limit c text → (own : List ℕ) × ((r : List ℕ) → text_lines (text ++ r) ≡ own ++ text_lines r)
+frame_first j limit c text l i =
+    let s = i.small in
+    (frame_lines (take (16 + length i.body) (frame_text c i.body)), λ r. ap (λ z. text_lines (z ++ r)) i.is ∙ in_front j c i.body r i.header (omega (arith, s, l)))
+
+module _ (j : FramesAreJudged) (limit : ℕ) (l : limit < 2 ^ 32) where
+  next_joined : (c : List ℕ) (judged : Judged) (after : ℕ → List ℕ) (t : List ℕ) → first_frame limit c ≡ judged → ((k : ℕ) → text_lines (after k ++ t) ≡ text_lines (after k) ++ text_lines t) → text_lines (next_texts judged after ++ t) ≡ text_lines (next_texts judged after) ++ text_lines t
+  unfolding text_lines lines_after
+  next_joined c (Err kind) after t h i = refl
+  next_joined c (Ok frame) after t h i =
+      let more = after (nla_align frame.0 - 1) in
+      let f = frame_first j limit c frame.1 l (accepted_is limit c frame h) in
+      ap (λ z. text_lines z) (append_assoc frame.1 more t) ∙ f.1 (more ++ t) ∙ ap (λ z. f.0 ++ z) (i (nla_align frame.0 - 1))
+      ∙ sym (append_assoc f.0 (text_lines more) (text_lines t)) ∙ sym (ap (λ z. z ++ text_lines t) (f.1 more))
+
+  joined_after : (s : List ℕ) (skip : ℕ) (t : List ℕ) → text_lines (texts_after limit skip s ++ t) ≡ text_lines (texts_after limit skip s) ++ text_lines t
+  unfolding texts_after text_lines lines_after
+  joined_after [] skip t = refl
+  joined_after (b ∷ s) (suc skip) t = joined_after s skip t
+  joined_after (b ∷ s) zero t = next_joined (b ∷ s) (first_frame limit (b ∷ s)) (λ skip. texts_after limit skip s) t refl (λ k. joined_after s k t)
+
+pub joined : FramesAreJudged → LinesAreJoined
+joined j limit s t l = joined_after j limit l s 0 t

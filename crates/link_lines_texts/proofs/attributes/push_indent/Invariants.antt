@@ -1,0 +1,9 @@
+use Rattle.std.proofs.Common.{◌≡◌, ◌++◌, ◌*◌, ◌+◌, ◌≤◌}
+use Rattle.link_lines_texts.specs.Lists.{indent}
+use Rattle.link_lines_texts.proofs.attributes.push_indent.Given as goal
+
+abbrev pub invariant-loop : goal.invariant-loop
+invariant-loop l = record {
+  within : l.counter ≤ l.fn.level;
+  so_far : l.out.items ≡ l.fn.out.items ++ indent l.counter;
+}

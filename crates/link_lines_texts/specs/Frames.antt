@@ -1,0 +1,75 @@
+-- The lines of a message: its header's, its link's header's, and those of its attributes.
+use Rattle.std.specs.Prelude.{ℕ, ◌==◌, ◌||◌, nat_le, cond, List, [], ◌∷◌, ◌++◌, length, take, drop, codes, decimal, slice_index}
+use Rattle.netlink_packet_core_grammar.specs.Numbers.{u16_at, u32_at}
+use Rattle.link_capture_grammar.specs.Bodies.{is_link_type}
+use Rattle.link_lines_values.specs.declared.numbers.Numbers.TheVariants.{AddressFamily, LinkLayerType, MessageType}
+use Rattle.link_lines_values.specs.declared.flags.FlagSet.{FlagSet}
+use Rattle.link_lines_values.specs.declared.flags.FlagSet.TheVariants.{Link, Message, MessageGet, MessageCreate, MessageDelete, MessageAck}
+use Rattle.link_lines_values.specs.declared.values.Shown.TheVariants.{Signed}
+use Rattle.link_lines_values.specs.Bytes.{bytes_text}
+use Rattle.link_lines_values.specs.Flags.{named_flags}
+use Rattle.link_lines_values.specs.Names.{named_number, name_or_nothing}
+use Rattle.link_lines_values.specs.Values.{value_text}
+use Rattle.link_lines_texts.specs.Lists.{list_lines}
+
+-- the flags that messages of a type have
+unfoldable pub flag_set : ℕ → FlagSet
+flag_set t =
+    cond (t == 2) MessageAck (cond (t == 16 || t == 19) MessageCreate (cond (t == 17) MessageDelete (cond (t == 18) MessageGet Message)))
+
+abbrev pub or_number : ℕ → List ℕ → List ℕ
+or_number t [] = codes "type " ++ decimal t
+or_number t (x ∷ name) = x ∷ name
+
+-- the name of a type of message, or its number
+unfoldable pub type_text : ℕ → List ℕ
+type_text t = or_number t (name_or_nothing MessageType t)
+
+abbrev pub labelled : List ℕ → List ℕ → List ℕ
+labelled label text = label ++ text
+
+-- type, flags, sequence number and port number
+unfoldable pub header_line : List ℕ → List ℕ
+header_line f =
+    type_text (u16_at 4 f) ++ (labelled (codes " flags ") (named_flags (flag_set (u16_at 4 f)) (u16_at 6 f))
+    ++ (labelled (codes " seq ") (decimal (u32_at 8 f)) ++ (labelled (codes " port ") (decimal (u32_at 12 f)) ++ 10 ∷ [])))
+
+-- the table of the attributes of a link of an address family
+unfoldable pub family_table : ℕ → ℕ
+family_table n = cond (n == 0) 0 (cond (n == 7) 1 (cond (n == 10) 2 3))
+
+-- family, type and index
+unfoldable pub link_numbers : List ℕ → List ℕ
+link_numbers b =
+    labelled (codes "  ifinfomsg family ") (named_number AddressFamily (slice_index b 0)) ++ (labelled (codes " type ") (named_number LinkLayerType (u16_at 2 b))
+    ++ labelled (codes " index ") (decimal (u32_at 4 b)))
+
+-- flags and the mask of their change
+unfoldable pub link_flags : List ℕ → List ℕ
+link_flags b = labelled (codes " flags ") (named_flags Link (u32_at 8 b)) ++ (labelled (codes " change ") (named_flags Link (u32_at 12 b)) ++ 10 ∷ [])
+
+abbrev pub link_header_line : List ℕ → List ℕ
+link_header_line b = link_numbers b ++ link_flags b
+
+-- a name and bytes; no line of no bytes
+unfoldable pub bytes_line : List ℕ → List ℕ → List ℕ
+bytes_line name [] = []
+bytes_line name (b ∷ bytes) = codes "  " ++ (name ++ (bytes_text (b ∷ bytes) ++ 10 ∷ []))
+
+-- the body of a link message; one without its header, which no normal text has, is bytes
+unfoldable pub link_lines : List ℕ → List ℕ
+link_lines b =
+    cond (nat_le 16 (length b)) (link_header_line b ++ list_lines 1 (family_table (slice_index b 0)) (drop 16 b)) (bytes_line (codes "body") b)
+
+-- the body of an ERROR or a DONE message: a code with a sign, and the bytes behind it; one without a code, which no normal text has, is bytes
+unfoldable pub code_lines : List ℕ → List ℕ
+code_lines b =
+    cond (nat_le 4 (length b)) (codes "  code" ++ (value_text Signed (take 4 b) ++ (10 ∷ [] ++ bytes_line (codes "rest") (drop 4 b))))
+    (bytes_line (codes "body") b)
+
+unfoldable pub body_lines : ℕ → List ℕ → List ℕ
+body_lines t b = cond (is_link_type t) (link_lines b) (cond (t == 2 || t == 3) (code_lines b) (bytes_line (codes "body") b))
+
+-- of the bytes of a frame without its padding
+unfoldable pub frame_lines : List ℕ → List ℕ
+frame_lines f = header_line f ++ body_lines (u16_at 4 f) (drop 16 f)

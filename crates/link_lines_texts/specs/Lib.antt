@@ -1,0 +1,7 @@
+pub mod Captures
+pub mod Coverage
+pub mod Frames
+pub mod Laws
+pub mod Lists
+pub mod Titles
+pub mod Views

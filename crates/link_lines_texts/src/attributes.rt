@@ -1,0 +1,217 @@
+//! The lines of attributes.
+
+ghost use Rattle.std.specs.Prelude.{◌≡◌, ◌<◌, ◌≤◌, ◌+◌, ◌^◌, ◌++◌, ◌∷◌, [], length, replicate, option_map, IfOk, OnOk};
+ghost use Rattle.netlink_packet_core_grammar.specs.Attributes.{first_attribute, proper_kind};
+ghost use Rattle.attribute_tables_grammar.specs.Tables.{info_next};
+ghost use Rattle.link_lines_texts.specs.Titles.{title_name};
+ghost use Rattle.link_lines_texts.specs.Lists.{indent, next_in, data_inside, port_inside, known_inside, inside_text, inside_table, own_line, table_inside, list_lines};
+ghost use Rattle.link_lines_texts.specs.Views.{in_force, attribute_of};
+
+use crate::kinds::{KINDS, PORT_KINDS};
+use crate::laws::lists_go_by_steps;
+use crate::rows::{Inside, KindTable, Title, table_named, title_of};
+use crate::titles::LINK_INFO;
+use link_lines_values::{Shown, push_bytes, push_four_digits, push_value};
+use netlink_packet_core::{NlaBuffer, skip_first};
+use netlink_packet_core_grammar::laws::{first_attributes_are_viewed, first_attributes_are_within};
+use netlink_packet_core_numbers::without_nul;
+use std::alloc::AllocError;
+
+/// An attribute's kind with its flag bits, and its payload.
+#[derive(Clone, Copy)]
+pub(crate) struct Attribute<'a> {
+    kind: u16,
+    payload: &'a [u8],
+}
+
+/// The attribute that begins the bytes, and what comes after its padding.
+fn first_attribute(bytes: &[u8]) -> Option<(Attribute<'_>, &[u8])>
+    ensures { first_attribute bytes.now
+        ≡ option_map (λ r. (record { kind = r.0.kind; payload = r.0.payload.now }, r.1.now)) result }
+{
+    first_attributes_are_viewed();
+    let Ok(view) = NlaBuffer::new_checked(bytes) else {
+        return None;
+    };
+    let attribute = Attribute {
+        kind: view.raw_kind(),
+        payload: view.value(),
+    };
+    Some((attribute, skip_first(bytes)))
+}
+
+/// The kind and the port kind in force.
+#[derive(Clone, Copy)]
+struct InForce<'a> {
+    kind: Option<&'a [u8]>,
+    port_kind: Option<&'a [u8]>,
+}
+
+/// What is in force after an attribute of link info.
+fn next_names<'a>(force: InForce<'a>, kind: u16, payload: &'a [u8]) -> InForce<'a>
+    ensures { in_force result.kind result.port_kind
+        ≡ info_next (in_force force.entry.kind force.entry.port_kind) kind payload.now }
+{
+    match kind {
+        1 => InForce {
+            kind: Some(without_nul(payload)),
+            port_kind: force.port_kind,
+        },
+        4 => InForce {
+            kind: force.kind,
+            port_kind: Some(without_nul(payload)),
+        },
+        5 => InForce {
+            kind: force.kind,
+            port_kind: None,
+        },
+        _ => force,
+    }
+}
+
+/// What is in force after an attribute of a table.
+fn next_force<'a>(table: u8, force: InForce<'a>, attribute: Attribute<'a>) -> InForce<'a>
+    ensures { in_force result.kind result.port_kind
+        ≡ next_in table (in_force force.entry.kind force.entry.port_kind)
+        (attribute_of attribute.entry.kind attribute.entry.payload) }
+{
+    if table == LINK_INFO {
+        next_names(force, attribute.kind % 0x4000, attribute.payload)
+    } else {
+        force
+    }
+}
+
+/// The table of the data of a kind of link.
+#[tactic(auto, unfolding(crate::specs::Lists::data_inside))]
+fn data_inside(name: Option<&[u8]>) -> Inside
+    ensures { result ≡ data_inside (option_map (λ b. b.now) name.entry) }
+{
+    let Some(name) = name else {
+        return Inside::Value(Shown::Bytes);
+    };
+    match table_named(&KINDS, name) {
+        Some(table) => Inside::List(table),
+        None => Inside::Value(Shown::Bytes),
+    }
+}
+
+/// The table of the data of a kind of port.
+#[tactic(auto, unfolding(crate::specs::Lists::port_inside))]
+fn port_inside(name: Option<&[u8]>) -> Inside
+    ensures { result ≡ port_inside (option_map (λ b. b.now) name.entry) }
+{
+    let Some(name) = name else {
+        return Inside::Value(Shown::Bytes);
+    };
+    match table_named(&PORT_KINDS, name) {
+        Some(table) => Inside::List(table),
+        None => Inside::Value(Shown::Bytes),
+    }
+}
+
+/// The same where names are in force.
+fn known_inside(force: InForce<'_>, inside: Inside) -> Inside
+    ensures { result ≡ known_inside (in_force force.entry.kind force.entry.port_kind) inside }
+{
+    match inside {
+        Inside::Data => data_inside(force.kind),
+        Inside::PortData => port_inside(force.port_kind),
+        Inside::Value(_) | Inside::List(_) => inside,
+    }
+}
+
+/// Appends so many levels of two spaces.
+fn push_indent(level: usize, out: &mut Vec<u8>) -> Result<(), AllocError>
+    ensures ok { OnOk result (out.new.items ≡ out.old.items ++ indent level) }
+{
+    for _ in 0..level {
+        out.extend_from_slice(b"  ")?;
+    }
+    Ok(())
+}
+
+/// Appends a name.
+fn push_name(title: Title, out: &mut Vec<u8>) -> Result<(), AllocError>
+    requires { title.2 ≤ 32 }
+    ensures ok { OnOk result (out.new.items ≡ out.old.items ++ title_name title) }
+{
+    let Title(_, _, len, name, _) = title;
+    out.extend_from_slice(&name[..len as usize])
+}
+
+/// Appends what stands behind an attribute's name. The answer is the table of the list in it, where it holds one.
+fn push_inside(inside: Inside, payload: &[u8], out: &mut Vec<u8>) -> Result<Option<u8>, AllocError>
+    ensures ok { OnOk result (out.new.items ≡ out.old.items ++ inside_text inside payload.now) }
+    ensures table { IfOk result (λ table. table ≡ inside_table inside) }
+{
+    match inside {
+        Inside::Value(shown) => {
+            push_value(shown, payload, out)?;
+            Ok(None)
+        }
+        Inside::List(table) => Ok(Some(table)),
+        Inside::Data | Inside::PortData => Ok(None),
+    }
+}
+
+/// Appends the line of an attribute. The answer is the table of the list in it, where it holds one.
+#[tactic(auto, unfolding(crate::specs::Lists::own_line, crate::specs::Lists::table_inside))]
+fn push_line(
+    level: usize,
+    table: u8,
+    force: InForce<'_>,
+    attribute: Attribute<'_>,
+    out: &mut Vec<u8>,
+) -> Result<Option<u8>, AllocError>
+    ensures ok { OnOk result (out.new.items ≡ out.old.items
+        ++ own_line level table (in_force force.entry.kind force.entry.port_kind)
+        (attribute_of attribute.entry.kind attribute.entry.payload)) }
+    ensures table { IfOk result (λ found. found
+        ≡ table_inside table (in_force force.entry.kind force.entry.port_kind)
+        (attribute_of attribute.entry.kind attribute.entry.payload)) }
+{
+    push_indent(level, out)?;
+    let found = match title_of(table, attribute.kind % 0x4000) {
+        Some(title) => {
+            push_name(title, out)?;
+            push_inside(known_inside(force, title.4), attribute.payload, out)?
+        }
+        None => {
+            out.extend_from_slice(b"kind ")?;
+            push_four_digits(attribute.kind, out)?;
+            push_bytes(attribute.payload, out)?;
+            None
+        }
+    };
+    out.extend_from_slice(b"\n")?;
+    Ok(found)
+}
+
+/// Appends the lines of the attributes of a table, which begin at this level.
+pub(crate) fn push_list(
+    level: usize,
+    table: u8,
+    bytes: &[u8],
+    out: &mut Vec<u8>,
+) -> Result<(), AllocError>
+    requires { level + length bytes.now < 2 ^ 63 }
+    ensures ok { OnOk result (out.new.items ≡ out.old.items ++ list_lines level table bytes.now) }
+{
+    first_attributes_are_within();
+    lists_go_by_steps();
+    let mut rest = bytes;
+    let mut force = InForce {
+        kind: None,
+        port_kind: None,
+    };
+    while let Some((attribute, after)) = first_attribute(rest) {
+        let found = push_line(level, table, force, attribute, out)?;
+        force = next_force(table, force, attribute);
+        rest = after;
+        if let Some(inside) = found {
+            push_list(level + 1, inside, attribute.payload, out)?;
+        }
+    }
+    Ok(())
+}

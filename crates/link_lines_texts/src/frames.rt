@@ -1,0 +1,264 @@
+//! The lines of messages.
+
+ghost use Rattle.std.specs.Prelude.{◌≡◌, ◌<◌, ◌≤◌, ◌^◌, ◌++◌, true, false, length, drop, decimal, OnOk, IfSome, IfNone};
+ghost use Rattle.netlink_packet_core_grammar.specs.Attributes.{nla_align};
+ghost use Rattle.netlink_packet_core.specs.Frames.{frame_length};
+ghost use Rattle.link_lines_values.specs.Flags.{named_flags};
+ghost use Rattle.link_lines_values.specs.Names.{named_number};
+ghost use Rattle.link_lines_texts.specs.Frames.{labelled, type_text, flag_set, header_line, family_table, link_numbers, link_flags, link_lines, bytes_line, code_lines, body_lines, frame_lines};
+ghost use Rattle.link_lines_texts.specs.Captures.{is_frame, text_lines};
+
+use crate::attributes::push_list;
+use crate::laws::lines_go_by_frames;
+use crate::titles::{BRIDGE, INET6_LINK, OTHER, UNSPEC};
+use link_lines_values::{
+    FlagSet, Numbers, Shown, push_bytes, push_decimal, push_flags, push_name, push_number,
+    push_value,
+};
+use netlink_packet_core::{NETLINK_HEADER_LEN, NLMSG_DONE, NLMSG_ERROR, NetlinkBuffer, nla_align};
+use netlink_packet_core_attributes::view::{read_u16, read_u32};
+use std::alloc::AllocError;
+
+/// The bytes of the header of a link (rtnetlink.h, `struct ifinfomsg`).
+const LINK_HEADER_LEN: usize = 16;
+
+/// The bytes of the code in front of the body of a DONE or an ERROR message.
+const CODE_LEN: usize = 4;
+
+/// The flags that messages of a type have.
+#[tactic(auto, unfolding(crate::specs::Frames::flag_set))]
+fn flag_set(message_type: u16) -> FlagSet
+    ensures { result ≡ flag_set message_type }
+{
+    match message_type {
+        2 => FlagSet::MessageAck,
+        16 | 19 => FlagSet::MessageCreate,
+        17 => FlagSet::MessageDelete,
+        18 => FlagSet::MessageGet,
+        _ => FlagSet::Message,
+    }
+}
+
+/// Appends the name of a type of message, or its number.
+#[tactic(auto, unfolding(crate::specs::Frames::type_text))]
+fn push_type(message_type: u16, out: &mut Vec<u8>) -> Result<(), AllocError>
+    ensures ok { OnOk result (out.new.items ≡ out.old.items ++ type_text message_type) }
+{
+    let size = out.len();
+    push_name(Numbers::MessageType, message_type as u64, out)?;
+    if out.len() > size {
+        return Ok(());
+    }
+    out.extend_from_slice(b"type ")?;
+    push_decimal(message_type as u64, out)
+}
+
+/// Appends a label, and a number with its text.
+fn push_labelled(
+    label: &[u8],
+    numbers: Numbers,
+    number: u32,
+    out: &mut Vec<u8>,
+) -> Result<(), AllocError>
+    ensures ok { OnOk result (out.new.items
+        ≡ out.old.items ++ labelled label.now (named_number numbers number)) }
+{
+    out.extend_from_slice(label)?;
+    push_number(numbers, number as u64, out)
+}
+
+/// Appends a label and a number.
+fn push_labelled_decimal(label: &[u8], number: u32, out: &mut Vec<u8>) -> Result<(), AllocError>
+    ensures ok { OnOk result (out.new.items
+        ≡ out.old.items ++ labelled label.now (decimal number)) }
+{
+    out.extend_from_slice(label)?;
+    push_decimal(number as u64, out)
+}
+
+/// Appends a label and flags.
+fn push_labelled_flags(
+    label: &[u8],
+    set: FlagSet,
+    flags: u32,
+    out: &mut Vec<u8>,
+) -> Result<(), AllocError>
+    ensures ok { OnOk result (out.new.items
+        ≡ out.old.items ++ labelled label.now (named_flags set flags)) }
+{
+    out.extend_from_slice(label)?;
+    push_flags(set, flags as u64, out)
+}
+
+/// Appends the line of the header of a message (netlink.h, `struct nlmsghdr`).
+#[tactic(auto, unfolding(crate::specs::Frames::header_line))]
+fn push_header(frame: &[u8], out: &mut Vec<u8>) -> Result<(), AllocError>
+    requires { 16 ≤ length frame.now }
+    ensures ok { OnOk result (out.new.items ≡ out.old.items ++ header_line frame.now) }
+{
+    let header = NetlinkBuffer::new(frame);
+    let message_type = header.message_type();
+    push_type(message_type, out)?;
+    push_labelled_flags(
+        b" flags ",
+        flag_set(message_type),
+        header.flags() as u32,
+        out,
+    )?;
+    push_labelled_decimal(b" seq ", header.sequence_number(), out)?;
+    push_labelled_decimal(b" port ", header.port_number(), out)?;
+    out.extend_from_slice(b"\n")
+}
+
+/// The table of the attributes of a link of an address family.
+#[tactic(auto, unfolding(crate::specs::Frames::family_table))]
+fn family_table(family: u8) -> u8
+    ensures { result ≡ family_table family }
+{
+    match family {
+        0 => UNSPEC,
+        7 => BRIDGE,
+        10 => INET6_LINK,
+        _ => OTHER,
+    }
+}
+
+/// Appends the family, the type and the index of a link (rtnetlink.h, `struct ifinfomsg`).
+#[tactic(auto, unfolding(crate::specs::Frames::link_numbers))]
+fn push_link_numbers(body: &[u8], out: &mut Vec<u8>) -> Result<(), AllocError>
+    requires { 16 ≤ length body.now }
+    ensures ok { OnOk result (out.new.items ≡ out.old.items ++ link_numbers body.now) }
+{
+    push_labelled(
+        b"  ifinfomsg family ",
+        Numbers::AddressFamily,
+        body[0] as u32,
+        out,
+    )?;
+    push_labelled(
+        b" type ",
+        Numbers::LinkLayerType,
+        read_u16(body, 2) as u32,
+        out,
+    )?;
+    push_labelled_decimal(b" index ", read_u32(body, 4), out)
+}
+
+/// Appends the flags of a link, and the mask of their change.
+#[tactic(auto, unfolding(crate::specs::Frames::link_flags))]
+fn push_link_flags(body: &[u8], out: &mut Vec<u8>) -> Result<(), AllocError>
+    requires { 16 ≤ length body.now }
+    ensures ok { OnOk result (out.new.items ≡ out.old.items ++ link_flags body.now) }
+{
+    push_labelled_flags(b" flags ", FlagSet::Link, read_u32(body, 8), out)?;
+    push_labelled_flags(b" change ", FlagSet::Link, read_u32(body, 12), out)?;
+    out.extend_from_slice(b"\n")
+}
+
+/// Appends a line of a name and bytes, where there are any.
+#[tactic(auto, unfolding(crate::specs::Frames::bytes_line))]
+fn push_bytes_line(name: &[u8], bytes: &[u8], out: &mut Vec<u8>) -> Result<(), AllocError>
+    ensures ok { OnOk result (out.new.items ≡ out.old.items ++ bytes_line name.now bytes.now) }
+{
+    if bytes.is_empty() {
+        return Ok(());
+    }
+    out.extend_from_slice(b"  ")?;
+    out.extend_from_slice(name)?;
+    push_bytes(bytes, out)?;
+    out.extend_from_slice(b"\n")
+}
+
+/// Appends the lines of the body of a link message.
+#[tactic(auto, unfolding(crate::specs::Frames::link_lines))]
+fn push_link(body: &[u8], out: &mut Vec<u8>) -> Result<(), AllocError>
+    ensures ok { OnOk result (out.new.items ≡ out.old.items ++ link_lines body.now) }
+{
+    if body.len() < LINK_HEADER_LEN {
+        return push_bytes_line(b"body", body, out);
+    }
+    push_link_numbers(body, out)?;
+    push_link_flags(body, out)?;
+    push_list(1, family_table(body[0]), &body[LINK_HEADER_LEN..], out)
+}
+
+/// Appends the lines of the body of an ERROR or a DONE message: a code, and the bytes behind it.
+#[tactic(auto, unfolding(crate::specs::Frames::code_lines))]
+fn push_code(body: &[u8], out: &mut Vec<u8>) -> Result<(), AllocError>
+    ensures ok { OnOk result (out.new.items ≡ out.old.items ++ code_lines body.now) }
+{
+    if body.len() < CODE_LEN {
+        return push_bytes_line(b"body", body, out);
+    }
+    let (code, rest) = body.split_at(CODE_LEN);
+    out.extend_from_slice(b"  code")?;
+    push_value(Shown::Signed, code, out)?;
+    out.extend_from_slice(b"\n")?;
+    push_bytes_line(b"rest", rest, out)
+}
+
+/// Appends the lines of the body of a message of a type.
+#[tactic(auto, unfolding(crate::specs::Frames::body_lines))]
+fn push_body(message_type: u16, body: &[u8], out: &mut Vec<u8>) -> Result<(), AllocError>
+    ensures ok { OnOk result (out.new.items ≡ out.old.items ++ body_lines message_type body.now) }
+{
+    match message_type {
+        NLMSG_ERROR | NLMSG_DONE => push_code(body, out),
+        // RTM_NEWLINK, RTM_DELLINK, RTM_GETLINK and RTM_SETLINK (rtnetlink.h)
+        16..=19 => push_link(body, out),
+        _ => push_bytes_line(b"body", body, out),
+    }
+}
+
+/// Appends the lines of a frame, of which these are all bytes without the padding.
+#[tactic(auto, unfolding(crate::specs::Frames::frame_lines))]
+fn push_frame(frame: &[u8], out: &mut Vec<u8>) -> Result<(), AllocError>
+    requires { 16 ≤ length frame.now }
+    ensures ok { OnOk result (out.new.items ≡ out.old.items ++ frame_lines frame.now) }
+{
+    push_header(frame, out)?;
+    let message_type = NetlinkBuffer::new(frame).message_type();
+    push_body(message_type, &frame[NETLINK_HEADER_LEN..], out)
+}
+
+/// The length of the frame in front of some bytes, where they hold a whole one.
+fn frame_len(bytes: &[u8]) -> Option<usize>
+    ensures some { IfSome result (λ n. (is_frame bytes.now ≡ true) × (n ≡ frame_length bytes.now)) }
+    ensures none { IfNone result (is_frame bytes.now ≡ false) }
+    ensures bounds { IfSome result (λ n. (16 ≤ n) × (n ≤ length bytes.now) × (n < 2 ^ 32)) }
+{
+    if bytes.len() < NETLINK_HEADER_LEN {
+        return None;
+    }
+    let size = NetlinkBuffer::new(bytes).length() as usize;
+    if size < NETLINK_HEADER_LEN || size > bytes.len() {
+        return None;
+    }
+    Some(size)
+}
+
+/// What follows a frame of this length, and its padding.
+fn behind(bytes: &[u8], size: usize) -> &[u8]
+    requires { size < 2 ^ 32 }
+    ensures { result.now ≡ drop (nla_align size) bytes.now }
+{
+    let end = nla_align(size);
+    if end < bytes.len() {
+        &bytes[end..]
+    } else {
+        &[]
+    }
+}
+
+/// Appends the lines of these bytes, which are read as normal text, up to where no whole frame stands.
+pub fn push_lines(texts: &[u8], out: &mut Vec<u8>) -> Result<(), AllocError>
+    ensures ok { OnOk result (out.new.items ≡ out.old.items ++ text_lines texts.now) }
+{
+    lines_go_by_frames();
+    let mut rest = texts;
+    while let Some(size) = frame_len(rest) {
+        push_frame(&rest[..size], out)?;
+        rest = behind(rest, size);
+    }
+    Ok(())
+}

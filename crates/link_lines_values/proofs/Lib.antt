@@ -1,0 +1,4 @@
+pub mod Readings
+pub mod Zeros
+pub mod Listing
+pub mod Hex

@@ -1,0 +1,6 @@
+pub mod Digits
+pub mod Bytes
+pub mod Names
+pub mod Flags
+pub mod Records
+pub mod Values

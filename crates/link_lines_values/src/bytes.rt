@@ -1,0 +1,139 @@
+//! Bytes as text: in hex, with colons between, in quotes.
+
+ghost use Rattle.std.specs.Prelude.{◌≡◌, ◌++◌, ◌∷◌, [], flat_map, OnOk};
+ghost use Rattle.link_lines_values.specs.Bytes.{hex_text, bytes_text, colon_byte, colons, hardware_text, is_zero, count_without_zeros, padded_address, escaped, quoted, truth_text};
+
+use crate::digits::hex_byte;
+use netlink_packet_core_numbers::without_nul;
+use std::alloc::AllocError;
+
+/// Appends bytes in hex, unbroken.
+pub(crate) fn push_hex_text(bytes: &[u8], out: &mut Vec<u8>) -> Result<(), AllocError>
+    ensures ok { OnOk result (out.new.items ≡ out.old.items ++ hex_text bytes.now) }
+{
+    for byte in bytes {
+        out.extend_from_slice(&hex_byte(*byte))?;
+    }
+    Ok(())
+}
+
+/// Appends a space and bytes in hex, unbroken; nothing for no bytes.
+pub fn push_bytes(bytes: &[u8], out: &mut Vec<u8>) -> Result<(), AllocError>
+    ensures ok { OnOk result (out.new.items ≡ out.old.items ++ bytes_text bytes.now) }
+{
+    if bytes.is_empty() {
+        return Ok(());
+    }
+    out.extend_from_slice(b" ")?;
+    push_hex_text(bytes, out)
+}
+
+// Appends each byte in hex with a colon before it.
+fn push_colon_bytes(bytes: &[u8], out: &mut Vec<u8>) -> Result<(), AllocError>
+    ensures ok { OnOk result (out.new.items ≡ out.old.items ++ flat_map colon_byte bytes.now) }
+{
+    for byte in bytes {
+        let [high, low] = hex_byte(*byte);
+        out.extend_from_slice(&[b':', high, low])?;
+    }
+    Ok(())
+}
+
+/// Appends bytes in hex with colons between.
+pub(crate) fn push_colons(bytes: &[u8], out: &mut Vec<u8>) -> Result<(), AllocError>
+    ensures ok { OnOk result (out.new.items ≡ out.old.items ++ colons bytes.now) }
+{
+    if let [first, rest @ ..] = bytes {
+        out.extend_from_slice(&hex_byte(*first))?;
+        push_colon_bytes(rest, out)?;
+    }
+    Ok(())
+}
+
+/// Appends a space and bytes in hex with colons between; nothing for no bytes.
+pub(crate) fn push_hardware_address(bytes: &[u8], out: &mut Vec<u8>) -> Result<(), AllocError>
+    ensures ok { OnOk result (out.new.items ≡ out.old.items ++ hardware_text bytes.now) }
+{
+    if bytes.is_empty() {
+        return Ok(());
+    }
+    out.extend_from_slice(b" ")?;
+    push_colons(bytes, out)
+}
+
+/// Whether no byte but zeros is there.
+pub(crate) fn is_zero(bytes: &[u8]) -> bool
+    ensures { result ≡ is_zero bytes.now }
+{
+    for byte in bytes {
+        if *byte != 0 {
+            return false;
+        }
+    }
+    true
+}
+
+// How many bytes there are without the zeros at the end.
+fn count_without_zeros(bytes: &[u8]) -> usize
+    ensures { result ≡ count_without_zeros bytes.now }
+{
+    let mut count = 0;
+    for (i, byte) in bytes.iter().enumerate() {
+        if *byte != 0 {
+            count = i + 1;
+        }
+    }
+    count
+}
+
+/// Appends an address in a longer field: with colons, without the zeros at the end from the 7th byte on.
+pub(crate) fn push_padded_address(bytes: &[u8], out: &mut Vec<u8>) -> Result<(), AllocError>
+    ensures ok { OnOk result (out.new.items ≡ out.old.items ++ padded_address bytes.now) }
+{
+    let count = count_without_zeros(bytes).max(6).min(bytes.len());
+    push_colons(&bytes[..count], out)
+}
+
+// Appends a byte of a text in quotes.
+fn push_escaped(byte: u8, out: &mut Vec<u8>) -> Result<(), AllocError>
+    ensures ok { OnOk result (out.new.items ≡ out.old.items ++ escaped byte) }
+{
+    if byte == b'"' || byte == b'\\' {
+        return out.extend_from_slice(&[b'\\', byte]);
+    }
+    if byte >= 32 && byte < 127 {
+        return out.extend_from_slice(&[byte]);
+    }
+    let [high, low] = hex_byte(byte);
+    out.extend_from_slice(&[b'\\', b'x', high, low])
+}
+
+// Appends the bytes of a text in quotes, without the quotes.
+fn push_escaped_text(bytes: &[u8], out: &mut Vec<u8>) -> Result<(), AllocError>
+    ensures ok { OnOk result (out.new.items ≡ out.old.items ++ flat_map escaped bytes.now) }
+{
+    for byte in bytes {
+        push_escaped(*byte, out)?;
+    }
+    Ok(())
+}
+
+/// Appends a space and a text in quotes, without its last NUL.
+pub(crate) fn push_text(bytes: &[u8], out: &mut Vec<u8>) -> Result<(), AllocError>
+    ensures ok { OnOk result (out.new.items ≡ out.old.items ++ 32 ∷ quoted bytes.now) }
+{
+    out.extend_from_slice(b" \"")?;
+    push_escaped_text(without_nul(bytes), out)?;
+    out.extend_from_slice(b"\"")
+}
+
+/// Appends `on` where a byte isn't zero, or else `off`.
+pub(crate) fn push_truth(bytes: &[u8], out: &mut Vec<u8>) -> Result<(), AllocError>
+    ensures ok { OnOk result (out.new.items ≡ out.old.items ++ truth_text bytes.now) }
+{
+    if is_zero(bytes) {
+        out.extend_from_slice(b"off")
+    } else {
+        out.extend_from_slice(b"on")
+    }
+}

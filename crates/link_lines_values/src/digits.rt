@@ -1,0 +1,114 @@
+//! Numbers as digits, and the numbers that bytes stand for.
+
+ghost use Rattle.std.specs.Prelude.{◌≡◌, ◌≤◌, ◌<◌, ◌==◌, ◌++◌, false, Some, None, cond, length, drop, OnOk};
+ghost use Rattle.std.specs.Fmt.{decimal, digits, digit_glyph};
+ghost use Rattle.attribute_tables_grammar.specs.Shapes.{number};
+ghost use Rattle.link_lines_values.specs.Digits.{big_endian, is_number, hex_byte, hex_number, four_digits, signed_text};
+
+use itoa::Buffer;
+use std::alloc::AllocError;
+
+/// The number that 1, 2, 4 or 8 bytes stand for, the lowest byte first; None of any other size.
+#[tactic(auto, using(crate::proofs::Readings::low_first))]
+pub(crate) fn little_endian(bytes: &[u8]) -> Option<u64>
+    ensures { result ≡ cond (is_number bytes.now) (Some (number bytes.now)) None }
+{
+    match bytes {
+        [a] => Some(u64::from(*a)),
+        [a, b] => Some(u64::from(u16::from_le_bytes([*a, *b]))),
+        [a, b, c, d] => Some(u64::from(u32::from_le_bytes([*a, *b, *c, *d]))),
+        [a, b, c, d, e, f, g, h] => Some(u64::from_le_bytes([*a, *b, *c, *d, *e, *f, *g, *h])),
+        _ => None,
+    }
+}
+
+/// The number that 1, 2, 4 or 8 bytes stand for, the highest byte first; None of any other size.
+#[tactic(auto, using(crate::proofs::Readings::high_first))]
+pub(crate) fn big_endian(bytes: &[u8]) -> Option<u64>
+    ensures { result ≡ cond (is_number bytes.now) (Some (big_endian bytes.now)) None }
+{
+    match bytes {
+        [a] => Some(u64::from(*a)),
+        [a, b] => Some(u64::from(u16::from_be_bytes([*a, *b]))),
+        [a, b, c, d] => Some(u64::from(u32::from_be_bytes([*a, *b, *c, *d]))),
+        [a, b, c, d, e, f, g, h] => Some(u64::from_be_bytes([*a, *b, *c, *d, *e, *f, *g, *h])),
+        _ => None,
+    }
+}
+
+/// Appends a number in decimal.
+pub fn push_decimal(number: u64, out: &mut Vec<u8>) -> Result<(), AllocError>
+    ensures ok { OnOk result (out.new.items ≡ out.old.items ++ decimal number) }
+{
+    let mut buffer = Buffer::new();
+    out.extend_from_slice(buffer.format(number).as_bytes())
+}
+
+/// Appends a number of 4 bytes with its sign, in decimal.
+pub(crate) fn push_signed(number: u64, out: &mut Vec<u8>) -> Result<(), AllocError>
+    ensures ok { OnOk result (out.new.items ≡ out.old.items ++ signed_text number) }
+{
+    if number < 0x8000_0000 {
+        return push_decimal(number, out);
+    }
+    out.extend_from_slice(b"-")?;
+    push_decimal(0x1_0000_0000u64.saturating_sub(number), out)
+}
+
+// A hex digit in lower case.
+fn glyph(digit: u8) -> u8
+    requires { digit < 16 }
+    ensures { result ≡ digit_glyph false digit }
+{
+    if digit < 10 {
+        b'0' + digit
+    } else {
+        b'a' + (digit - 10)
+    }
+}
+
+/// A byte as two hex digits.
+pub(crate) fn hex_byte(byte: u8) -> [u8; 2]
+    ensures { result ≡ hex_byte byte }
+{
+    [glyph(byte / 16), glyph(byte % 16)]
+}
+
+// Writes a number in hex so that it ends where the buffer ends, and returns where it starts.
+fn write_hex(number: u64, out: &mut [u8; 64]) -> usize
+    ensures bound { result ≤ 64 }
+    ensures value { drop result out.new ≡ digits 16 false number }
+{
+    let mut start = 64;
+    let mut rest = number;
+    while start > 0 {
+        start -= 1;
+        out[start] = glyph((rest % 16) as u8);
+        rest /= 16;
+        if rest == 0 {
+            break;
+        }
+    }
+    start
+}
+
+/// Appends a number as `{:#x}` writes it.
+pub fn push_hex(number: u64, out: &mut Vec<u8>) -> Result<(), AllocError>
+    ensures ok { OnOk result (out.new.items ≡ out.old.items ++ hex_number number) }
+{
+    let mut digits = [0u8; 64];
+    let start = write_hex(number, &mut digits);
+    out.extend_from_slice(b"0x")?;
+    out.extend_from_slice(&digits[start..])
+}
+
+/// Appends a number of 2 bytes as `0x` and four hex digits.
+pub fn push_four_digits(number: u16, out: &mut Vec<u8>) -> Result<(), AllocError>
+    ensures ok { OnOk result (out.new.items ≡ out.old.items ++ four_digits number) }
+{
+    let high = (number / 256) as u8;
+    let low = (number % 256) as u8;
+    out.extend_from_slice(b"0x")?;
+    out.extend_from_slice(&hex_byte(high))?;
+    out.extend_from_slice(&hex_byte(low))
+}

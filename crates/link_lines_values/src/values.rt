@@ -1,0 +1,200 @@
+//! Payloads of attributes as text.
+
+ghost use Rattle.std.specs.Prelude.{◌≡◌, ◌++◌, ◌∷◌, codes, OnOk};
+ghost use Rattle.link_lines_values.specs.Bytes.{truth_text};
+ghost use Rattle.link_lines_values.specs.Digits.{hex_number};
+ghost use Rattle.link_lines_values.specs.Values.{big_endian_flags_value, big_endian_value, flags_and_mask_value, flags_value, hex_or_bytes, number_value, optional_byte_value, port_range_value, signed_value, sized_flags_value, value_text};
+
+use crate::addresses::push_address;
+use crate::bytes::{push_bytes, push_hardware_address, push_text, push_truth};
+use crate::digits::{big_endian, little_endian, push_decimal, push_hex, push_signed};
+use crate::numbers::{Numbers, push_number};
+use crate::records::{Record, push_record};
+use std::alloc::AllocError;
+
+/// How a payload is shown. A payload of a size that the form doesn't know is shown as its bytes.
+#[derive(Clone, Copy)]
+pub enum Shown {
+    /// A number of 1, 2, 4 or 8 bytes, the lowest byte first, with its name.
+    Number(Numbers),
+    /// The same, the highest byte first.
+    BigEndian(Numbers),
+    /// A number of 4 bytes with its sign, the lowest byte first.
+    Signed,
+    /// Flags of 1, 2, 4 or 8 bytes, the lowest byte first.
+    Flags,
+    /// The same, the highest byte first.
+    BigEndianFlags,
+    /// Flags of 4 bytes, the lowest byte first, or of 2 bytes, the highest byte first (if_tunnel.h:
+    /// IFLA_IPTUN_FLAGS).
+    FlagsBySize,
+    /// `on` where a byte isn't zero, or else `off`.
+    Truth,
+    /// Nothing.
+    Presence,
+    /// A byte in decimal, or nothing.
+    OptionalByte,
+    /// A text in quotes, without its last NUL.
+    Text,
+    /// Bytes in hex.
+    Bytes,
+    /// Bytes in hex with colons between.
+    HardwareAddress,
+    /// An address of 4 bytes (IPv4) or 16 (IPv6), the first octet first.
+    Address,
+    /// Two numbers of 2 bytes, the highest byte first (if_link.h: struct ifla_vxlan_port_range).
+    PortRange,
+    /// Flags and a mask of 4 bytes each, the lowest byte first (if_link.h: struct ifla_rmnet_flags).
+    FlagsAndMask,
+    /// The fields of a record.
+    Record(Record),
+    /// The fields of a record that aren't zero.
+    SparseRecord(Record),
+}
+
+fn push_number_value(numbers: Numbers, payload: &[u8], out: &mut Vec<u8>) -> Result<(), AllocError>
+    ensures ok { OnOk result (out.new.items ≡ out.old.items ++ number_value numbers payload.now) }
+{
+    let Some(number) = little_endian(payload) else {
+        return push_bytes(payload, out);
+    };
+    out.extend_from_slice(b" ")?;
+    push_number(numbers, number, out)
+}
+
+fn push_big_endian_value(
+    numbers: Numbers,
+    payload: &[u8],
+    out: &mut Vec<u8>,
+) -> Result<(), AllocError>
+    ensures ok { OnOk result (out.new.items ≡ out.old.items ++ big_endian_value numbers payload.now) }
+{
+    let Some(number) = big_endian(payload) else {
+        return push_bytes(payload, out);
+    };
+    out.extend_from_slice(b" ")?;
+    push_number(numbers, number, out)
+}
+
+fn push_signed_value(payload: &[u8], out: &mut Vec<u8>) -> Result<(), AllocError>
+    ensures ok { OnOk result (out.new.items ≡ out.old.items ++ signed_value payload.now) }
+{
+    match little_endian(payload) {
+        Some(number) if payload.len() == 4 => {
+            out.extend_from_slice(b" ")?;
+            push_signed(number, out)
+        }
+        _ => push_bytes(payload, out),
+    }
+}
+
+// Appends a space and flags in hex, or bytes where there are no flags.
+fn push_flags_or_bytes(
+    flags: Option<u64>,
+    payload: &[u8],
+    out: &mut Vec<u8>,
+) -> Result<(), AllocError>
+    ensures ok { OnOk result (out.new.items ≡ out.old.items ++ hex_or_bytes flags payload.now) }
+{
+    match flags {
+        Some(flags) => {
+            out.extend_from_slice(b" ")?;
+            push_hex(flags, out)
+        }
+        None => push_bytes(payload, out),
+    }
+}
+
+fn push_sized_flags(payload: &[u8], out: &mut Vec<u8>) -> Result<(), AllocError>
+    ensures ok { OnOk result (out.new.items ≡ out.old.items ++ sized_flags_value payload.now) }
+{
+    let flags = match payload.len() {
+        4 => little_endian(payload),
+        2 => big_endian(payload),
+        _ => None,
+    };
+    push_flags_or_bytes(flags, payload, out)
+}
+
+fn push_optional_byte(payload: &[u8], out: &mut Vec<u8>) -> Result<(), AllocError>
+    ensures ok { OnOk result (out.new.items ≡ out.old.items ++ optional_byte_value payload.now) }
+{
+    match payload {
+        [byte] => {
+            out.extend_from_slice(b" ")?;
+            push_decimal(u64::from(*byte), out)
+        }
+        _ => push_bytes(payload, out),
+    }
+}
+
+#[tactic(auto, using(crate::proofs::Readings::high_first))]
+fn push_port_range(payload: &[u8], out: &mut Vec<u8>) -> Result<(), AllocError>
+    ensures ok { OnOk result (out.new.items ≡ out.old.items ++ port_range_value payload.now) }
+{
+    match payload {
+        [a, b, c, d] => {
+            out.extend_from_slice(b" ")?;
+            push_decimal(u64::from(u16::from_be_bytes([*a, *b])), out)?;
+            out.extend_from_slice(b" ")?;
+            push_decimal(u64::from(u16::from_be_bytes([*c, *d])), out)
+        }
+        _ => push_bytes(payload, out),
+    }
+}
+
+// Appends a space, flags, ` mask ` and a mask.
+fn push_mask(flags: u32, mask: u32, out: &mut Vec<u8>) -> Result<(), AllocError>
+    ensures ok { OnOk result (out.new.items
+        ≡ out.old.items ++ 32 ∷ (hex_number flags ++ (codes " mask " ++ hex_number mask))) }
+{
+    out.extend_from_slice(b" ")?;
+    push_hex(u64::from(flags), out)?;
+    out.extend_from_slice(b" mask ")?;
+    push_hex(u64::from(mask), out)
+}
+
+fn push_flags_and_mask(payload: &[u8], out: &mut Vec<u8>) -> Result<(), AllocError>
+    ensures ok { OnOk result (out.new.items ≡ out.old.items ++ flags_and_mask_value payload.now) }
+{
+    match payload {
+        [a, b, c, d, e, f, g, h] => push_mask(
+            u32::from_le_bytes([*a, *b, *c, *d]),
+            u32::from_le_bytes([*e, *f, *g, *h]),
+            out,
+        ),
+        _ => push_bytes(payload, out),
+    }
+}
+
+fn push_truth_value(payload: &[u8], out: &mut Vec<u8>) -> Result<(), AllocError>
+    ensures ok { OnOk result (out.new.items ≡ out.old.items ++ 32 ∷ truth_text payload.now) }
+{
+    out.extend_from_slice(b" ")?;
+    push_truth(payload, out)
+}
+
+/// Appends a payload as text, with a space before it where there is anything to show.
+pub fn push_value(shown: Shown, payload: &[u8], out: &mut Vec<u8>) -> Result<(), AllocError>
+    ensures ok { OnOk result (out.new.items ≡ out.old.items ++ value_text shown payload.now) }
+{
+    match shown {
+        Shown::Number(numbers) => push_number_value(numbers, payload, out),
+        Shown::BigEndian(numbers) => push_big_endian_value(numbers, payload, out),
+        Shown::Signed => push_signed_value(payload, out),
+        Shown::Flags => push_flags_or_bytes(little_endian(payload), payload, out),
+        Shown::BigEndianFlags => push_flags_or_bytes(big_endian(payload), payload, out),
+        Shown::FlagsBySize => push_sized_flags(payload, out),
+        Shown::Truth => push_truth_value(payload, out),
+        Shown::Presence => Ok(()),
+        Shown::OptionalByte => push_optional_byte(payload, out),
+        Shown::Text => push_text(payload, out),
+        Shown::Bytes => push_bytes(payload, out),
+        Shown::HardwareAddress => push_hardware_address(payload, out),
+        Shown::Address => push_address(payload, out),
+        Shown::PortRange => push_port_range(payload, out),
+        Shown::FlagsAndMask => push_flags_and_mask(payload, out),
+        Shown::Record(held) => push_record(false, held, payload, out),
+        Shown::SparseRecord(held) => push_record(true, held, payload, out),
+    }
+}

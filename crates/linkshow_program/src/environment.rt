@@ -1,0 +1,42 @@
+//! The process's words.
+
+use std::alloc::{Alloc, Global};
+use std::env::{self, FillError};
+use std::rt::Env;
+
+/// The environment of a process, whose arguments begin behind the program's own name.
+#[derive(Drop)]
+struct BehindName<'a> {
+    rt: &'a HostRuntime,
+}
+
+impl Env for BehindName<'_> {
+    fn arg(&self, index: usize, buffer: &mut [u8]) -> Result<usize, FillError> {
+        match index.checked_add(1) {
+            Some(index) => self.rt.arg(index, buffer),
+            None => Err(FillError::NotPresent),
+        }
+    }
+
+    fn var(&self, name: &str, buffer: &mut [u8]) -> Result<usize, FillError> {
+        self.rt.var(name, buffer)
+    }
+
+    fn var_at(&self, index: usize, buffer: &mut [u8]) -> Result<usize, FillError> {
+        self.rt.var_at(index, buffer)
+    }
+}
+
+impl Alloc for BehindName<'_> {
+    type A = Global;
+
+    fn alloc(&self) -> Global {
+        self.rt.alloc()
+    }
+}
+
+/// The words behind the program's name, which itself need be no text. None where a word is no text, or there is no
+/// memory for them.
+pub(crate) fn words(rt: &HostRuntime) -> Option<Vec<String>> {
+    env::args(&BehindName { rt }).ok()?.collect(rt.alloc()).ok()
+}

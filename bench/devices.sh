@@ -1,16 +1,20 @@
 #!/usr/bin/env bash
-# Runs `linkcap norm` and `linkcap same` where the machine has to play along: on devices that fail, under a name that is no text, and with
-# little memory; and compares status, output and what is told with what docs/frames.md says.
+# Runs `linkcap norm`, `linkcap same` and `linkshow` where the machine has to play along: on devices that fail, under a
+# name that is no text, and with little memory; and compares status, output and what is told with what docs/frames.md
+# says.
 #
-#     bench/devices.sh [PROGRAM]
+#     bench/devices.sh [PROGRAM [SHOW]]
 #
-# PROGRAM is crates/linkcap/out/linkcap where none is given. It builds nothing, and no gate runs it: the gate compares
-# neither standard error nor what a device does.
+# PROGRAM is crates/linkcap/out/linkcap where none is given, and SHOW crates/linkshow/out/linkshow. It builds nothing, and
+# no gate runs it: the gate compares neither standard error nor what a device does.
 set -uo pipefail
 cd "$(dirname "$0")/.."
 
 program=$(realpath "${1:-crates/linkcap/out/linkcap}")
-[ -x "$program" ] || { echo "no program at $program: build it first" >&2; exit 1; }
+show=$(realpath "${2:-crates/linkshow/out/linkshow}")
+for built in "$program" "$show"; do
+    [ -x "$built" ] || { echo "no program at $built: build it first" >&2; exit 1; }
+done
 work=$(mktemp -d)
 trap 'rm -rf "$work"' EXIT
 request=samples/lo-request.bin
@@ -176,4 +180,37 @@ wants "a claimed frame of 4 GiB takes what has come" 2 "cut frame at 0" 0
 claimed 300000000 2> /dev/null | (ulimit -v 65536 && exec "$program" norm 4294967295) > "$work/text" 2> "$work/told"
 status=$?
 wants "a frame that has no room" 2 "no memory at 0" 0
+
+# Lines: the same, of the program beside it.
+program=$show
+lines=$(stat -c %s samples/lo-request.lines)
+run < "$request"
+wants "lines of a legal capture" 0 "" "$lines"
+run 47 < "$request"
+wants "lines: a fault is told with its place" 2 "frame over the limit at 0" 0
+run < "$work/cut"
+wants "lines before a fault are written" 2 "cut frame at 48" "$lines"
+run < "$work/long"
+wants "lines: a fault behind the first piece" 2 "cut frame at 67200" $((1400 * lines))
+for words in "15" "+48" "48 48" "4294967296" "norm"; do
+    # shellcheck disable=SC2086
+    run $words < "$request"
+    wants "lines: wrong words: '$words'" 3 "usage: linkshow [LIMIT]" 0
+done
+run $'\xff' < "$request"
+wants "lines: a word that is no text" 3 "usage: linkshow [LIMIT]" 0
+run < "$work"
+wants "lines: a directory can't be read" 2 "read failed at 0" 0
+: > "$work/text"
+"$program" < "$request" > /dev/full 2> "$work/told"
+status=$?
+wants "lines: a full device" 2 "write failed at 0" 0
+: > "$work/text"
+"$program" <&- > "$work/text" 2> "$work/told"
+status=$?
+wants "lines: a closed input" 2 "read failed at 0" 0
+: > "$work/text"
+(ulimit -v 65536 && exec "$program" 4294967295) < "$work/claimed" > "$work/text" 2> "$work/told"
+status=$?
+wants "lines: a claimed frame of 4 GiB takes what has come" 2 "cut frame at 0" 0
 exit $failed

@@ -4,7 +4,8 @@ ghost use Rattle.std.specs.Prelude.{◌≡◌, ◌<◌, ◌≤◌, ◌+◌, ◌^
 ghost use Rattle.netlink_packet_core_grammar.specs.Attributes.{first_attribute, proper_kind};
 ghost use Rattle.attribute_tables_grammar.specs.Tables.{info_next};
 ghost use Rattle.link_lines_texts.specs.Titles.{title_name};
-ghost use Rattle.link_lines_texts.specs.Lists.{indent, next_in, data_inside, port_inside, known_inside, inside_text, inside_table, own_line, table_inside, list_lines};
+ghost use Rattle.link_lines_texts.specs.Lists.{indent, next_in, data_inside, port_inside, known_inside, inside_text};
+ghost use Rattle.link_lines_texts.specs.Lists.{inside_table, own_line, table_inside, list_lines};
 ghost use Rattle.link_lines_texts.specs.Views.{in_force, attribute_of};
 
 use crate::kinds::{KINDS, PORT_KINDS};

@@ -5,7 +5,9 @@ ghost use Rattle.netlink_packet_core_grammar.specs.Attributes.{nla_align};
 ghost use Rattle.netlink_packet_core.specs.Frames.{frame_length};
 ghost use Rattle.link_lines_values.specs.Flags.{named_flags};
 ghost use Rattle.link_lines_values.specs.Names.{named_number};
-ghost use Rattle.link_lines_texts.specs.Frames.{labelled, type_text, flag_set, header_line, family_table, link_numbers, link_flags, link_lines, bytes_line, code_lines, body_lines, frame_lines};
+ghost use Rattle.link_lines_texts.specs.Frames.{labelled, type_text, flag_set, header_line, family_table};
+ghost use Rattle.link_lines_texts.specs.Frames.{link_numbers, link_flags, link_lines, bytes_line, code_lines};
+ghost use Rattle.link_lines_texts.specs.Frames.{body_lines, frame_lines};
 ghost use Rattle.link_lines_texts.specs.Captures.{is_frame, text_lines};
 
 use crate::attributes::push_list;

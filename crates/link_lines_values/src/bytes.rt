@@ -1,7 +1,8 @@
 //! Bytes as text: in hex, with colons between, in quotes.
 
 ghost use Rattle.std.specs.Prelude.{◌≡◌, ◌++◌, ◌∷◌, [], flat_map, OnOk};
-ghost use Rattle.link_lines_values.specs.Bytes.{hex_text, bytes_text, colon_byte, colons, hardware_text, is_zero, count_without_zeros, padded_address, escaped, quoted, truth_text};
+ghost use Rattle.link_lines_values.specs.Bytes.{hex_text, bytes_text, colon_byte, colons, hardware_text, is_zero};
+ghost use Rattle.link_lines_values.specs.Bytes.{count_without_zeros, padded_address, escaped, quoted, truth_text};
 
 use crate::digits::hex_byte;
 use netlink_packet_core_numbers::without_nul;

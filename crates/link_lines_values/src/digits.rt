@@ -93,7 +93,7 @@ fn write_hex(number: u64, out: &mut [u8; 64]) -> usize
 }
 
 /// Appends a number as `{:#x}` writes it.
-pub fn push_hex(number: u64, out: &mut Vec<u8>) -> Result<(), AllocError>
+pub(crate) fn push_hex(number: u64, out: &mut Vec<u8>) -> Result<(), AllocError>
     ensures ok { OnOk result (out.new.items ≡ out.old.items ++ hex_number number) }
 {
     let mut digits = [0u8; 64];

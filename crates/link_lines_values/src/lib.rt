@@ -14,7 +14,7 @@ mod tests;
 mod values;
 
 pub use bytes::push_bytes;
-pub use digits::{push_decimal, push_four_digits, push_hex};
+pub use digits::{push_decimal, push_four_digits};
 pub use flags::{FlagSet, push_flags};
 pub use numbers::{Numbers, push_name, push_number};
 pub use records::Record;

@@ -1,7 +1,8 @@
 //! Records, field by field.
 
 ghost use Rattle.std.specs.Prelude.{◌≡◌, ◌≤◌, ◌++◌, true, cond, length, OnOk};
-ghost use Rattle.link_lines_values.specs.Records.{field_text, field_value, fields_fit, fields_of, fields_text, number_or_hex, record_text, total_size};
+ghost use Rattle.link_lines_values.specs.Records.{field_text, field_value, fields_fit, fields_of, fields_text};
+ghost use Rattle.link_lines_values.specs.Records.{number_or_hex, record_text, total_size};
 
 use crate::bytes::{is_zero, push_bytes, push_hex_text, push_padded_address, push_truth};
 use crate::digits::{big_endian, little_endian, push_decimal, push_signed};

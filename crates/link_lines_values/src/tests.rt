@@ -1,8 +1,8 @@
 //! Values as text. The wanted texts come from an independent implementation.
 
 use super::{
-    FlagSet, Numbers, Record, Shown, push_flags, push_four_digits, push_name, push_number,
-    push_value,
+    FlagSet, Numbers, Record, Shown, push_bytes, push_decimal, push_flags, push_four_digits,
+    push_name, push_number, push_value,
 };
 use std::alloc::{AllocError, Global};
 use std::test::Fail;
@@ -307,5 +307,15 @@ fn numbers_of_headers_have_names(rt: HostRuntime) -> Result<(), Fail> {
     let mut out = Vec::new(alloc);
     push_four_digits(0xc046, &mut out)?;
     assert!(rt; out.as_slice() == "0xc046".as_bytes());
+    Ok(())
+}
+
+#[test]
+fn bytes_and_numbers_are_appended(rt: HostRuntime) -> Result<(), Fail> {
+    let mut out = Vec::new(rt.alloc());
+    push_decimal(4096, &mut out)?;
+    push_bytes(&[10, 191], &mut out)?;
+    push_bytes(&[], &mut out)?;
+    assert!(rt; out.as_slice() == "4096 0abf".as_bytes());
     Ok(())
 }

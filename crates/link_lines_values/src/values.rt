@@ -3,7 +3,9 @@
 ghost use Rattle.std.specs.Prelude.{◌≡◌, ◌++◌, ◌∷◌, codes, OnOk};
 ghost use Rattle.link_lines_values.specs.Bytes.{truth_text};
 ghost use Rattle.link_lines_values.specs.Digits.{hex_number};
-ghost use Rattle.link_lines_values.specs.Values.{big_endian_flags_value, big_endian_value, flags_and_mask_value, flags_value, hex_or_bytes, number_value, optional_byte_value, port_range_value, signed_value, sized_flags_value, value_text};
+ghost use Rattle.link_lines_values.specs.Values.{big_endian_flags_value, big_endian_value, flags_and_mask_value};
+ghost use Rattle.link_lines_values.specs.Values.{flags_value, hex_or_bytes, number_value, optional_byte_value};
+ghost use Rattle.link_lines_values.specs.Values.{port_range_value, signed_value, sized_flags_value, value_text};
 
 use crate::addresses::push_address;
 use crate::bytes::{push_bytes, push_hardware_address, push_text, push_truth};

@@ -1,6 +1,6 @@
 -- What is written of a message is read as the message.
 use Rattle.std.proofs.Common.{◌≡◌, ℕ, List, Ok, Some, refl, ap, arith}
-use Rattle.std.specs.Prelude.{false, true, nat_eq}
+use Rattle.std.specs.Prelude.{false, true, is_ok, nat_eq}
 use Rattle.std.proofs.lemmas.Bool.Decides.{nat_tests}
 use Rattle.netlink_packet_core.specs.TypedBodies.{IsInner}
 use Rattle.link_capture_grammar.specs.Bodies.{is_link_type, body_text}
@@ -27,7 +27,7 @@ other_text t b k = let n = not_listed t k in rw (n.noop, n.error, n.done, n.link
 
 -- keeping one may want memory
 pub other_wants : (t : ℕ) (b : List ℕ) → IsKeptType t → route_may_want_memory t b ≡ true
-other_wants t b k = let n = not_listed t k in rw n.link refl
+other_wants t b k = ap is_ok (other_text t b k)
 
 pub round_trip : (x : RouteLink) → reads_route (route_entry x).0 (route_entry x).1 ≡ Some (route_entry x)
 unfolding body_text

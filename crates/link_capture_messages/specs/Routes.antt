@@ -1,8 +1,7 @@
 -- Messages of captures: types and bodies, what is read, and why a body is refused.
-use Rattle.std.specs.Prelude.{◌≡◌, ℕ, List, Bool, true, false, cond, Option, Some, None, Result, Ok, Err}
+use Rattle.std.specs.Prelude.{◌≡◌, ℕ, List, Bool, true, false, Option, Some, None, Result, Ok, Err, is_ok}
 use Rattle.netlink_packet_core.specs.TypedBodies.{TypedBody}
-use Rattle.link_capture_grammar.specs.Bodies.{Refusal, refused, empty_ports, unfit, body_text, is_link_type}
-use Rattle.link_message_messages.specs.LinkMessages.{body_begins_readable}
+use Rattle.link_capture_grammar.specs.Bodies.{Refusal, refused, empty_ports, unfit, body_text}
 use Rattle.link_capture_messages.specs.declared.fault.RouteFault.{RouteFault}
 use Rattle.link_capture_messages.specs.declared.route.RouteLink.{RouteLink}
 use Rattle.link_capture_messages.specs.Views.{other_type, other_bytes, readable_text}
@@ -21,9 +20,9 @@ abbrev pub route_wants_memory : RouteFault → Bool
 route_wants_memory RouteFault.Memory = true
 route_wants_memory _ = false
 
--- reading a body may want memory: one of links where its attributes begin readable, and every other body, which is kept
+-- reading a body may want memory where it has a text
 abbrev pub route_may_want_memory : ℕ → List ℕ → Bool
-route_may_want_memory t b = cond (is_link_type t) (body_begins_readable b) true
+route_may_want_memory t b = is_ok (body_text t b)
 
 -- the type of a message, and the bytes of its body
 abbrev pub route_entry : RouteLink → TypedBody

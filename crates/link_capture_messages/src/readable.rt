@@ -1,9 +1,9 @@
 //! Messages of links that are read back as they are written.
 
-ghost use Rattle.std.specs.Prelude.{◌≡◌, ◌≢◌, ◌↔◌, Ok, true, false, IfOk, IfErr, OnOk};
+ghost use Rattle.std.specs.Prelude.{◌≡◌, ◌≢◌, ◌↔◌, Ok, true, false, is_ok, IfOk, IfErr, OnOk};
 ghost use Rattle.link_capture_grammar.specs.Bodies.{ruled_text};
 ghost use Rattle.link_message_grammar.specs.Body.{link_body};
-ghost use Rattle.link_message_messages.specs.LinkMessages.{body_begins_readable, link_message_text, link_message_fits};
+ghost use Rattle.link_message_messages.specs.LinkMessages.{link_message_text, link_message_fits};
 ghost use Rattle.link_capture_messages.specs.Readable.{IsReadFrom, IsReadable, ReadsAsAnother, says_the_same};
 ghost use Rattle.link_capture_messages.specs.Views.{readable_message, readable_text};
 ghost use Rattle.link_capture_messages.specs.Routes.{TellsOf};
@@ -11,6 +11,7 @@ ghost use Rattle.link_capture_messages.specs.Routes.{TellsOf};
 use super::fault::RouteFault;
 use super::types::ReadableLink;
 use link_capture_grammar::laws::bodies_are_normal;
+use link_message_checks::check;
 use link_message_grammar::laws::bodies_are_headers_and_attributes;
 use link_message_messages::LinkMessage;
 use netlink_packet_core::Emitable;
@@ -64,14 +65,12 @@ impl ReadableLink {
         ensures err { IfErr result (λ fault. fault ≢ RouteFault.Memory
             → TellsOf fault (ruled_text link_body bytes.now)) }
         ensures memory { IfErr result (λ fault. fault ≡ RouteFault.Memory
-            → body_begins_readable bytes.now ≡ true) }
+            → is_ok (ruled_text link_body bytes.now) ≡ true) }
     {
         bodies_are_normal();
         bodies_are_headers_and_attributes();
-        let message = match LinkMessage::parse(alloc, bytes) {
-            Ok(message) => message,
-            Err(error) if error.is_memory() => return Err(RouteFault::Memory),
-            Err(_) => return Err(RouteFault::Refused),
+        let Ok(message) = LinkMessage::parse(alloc, bytes) else {
+            return Err(fault_of_unread(bytes));
         };
         if message.has_empty_ports() {
             return Err(RouteFault::EmptyPorts);
@@ -97,6 +96,19 @@ impl ReadableLink {
     {
         let ReadableLink { message } = self;
         message
+    }
+}
+
+// Why a body isn't read that `LinkMessage::parse` gave no message of: it has no text, or memory was wanting.
+fn fault_of_unread(bytes: &[u8]) -> RouteFault
+    ensures tells { TellsOf result (ruled_text link_body bytes.now) }
+    ensures memory { result ≡ RouteFault.Memory → is_ok (ruled_text link_body bytes.now) ≡ true }
+{
+    match check(bytes) {
+        Err(_) => RouteFault::Refused,
+        Ok(measure) if measure.empty_ports => RouteFault::EmptyPorts,
+        Ok(measure) if !measure.fits => RouteFault::Unfit,
+        Ok(_) => RouteFault::Memory,
     }
 }
 

@@ -1,21 +1,17 @@
 -- The steps of a list of link info, as the loop takes them.
 use Rattle.std.proofs.Common.{◌≡◌, ℕ, ◌<◌, Bool, true, false, List, [], ◌∷◌, ◌++◌, length, map, Some, refl, sym, ap, subst, ◌∙◌}
-use Rattle.std.specs.Prelude.{◌&&◌, ◌||◌, is_some}
-use Rattle.std.proofs.lemmas.Bool.{or_left}
 use Rattle.std.proofs.lemmas.List.{map-append}
 use Rattle.netlink_packet_core_grammar.specs.Attributes.{Attribute, proper_kind, list_text}
 use Rattle.netlink_packet_core_grammar.specs.AttributeViews.{IsAttribute, viewed_attribute, viewed_kind, viewed_payload, after_first}
-use Rattle.netlink_packet_core_grammar.specs.Laws.{FirstIsViewed}
 use Rattle.netlink_packet_core.specs.Lists.{text_by, all_fit_by}
 use Rattle.attribute_tables_grammar.specs.Lists.{Context, nothing, any, LawfulGrammar, row_of, rewrite, context_after}
 use Rattle.attribute_tables_grammar.specs.Tables.{info_next}
 use Rattle.attribute_tables_grammar.specs.Readings.{Written, reading_as, written_by, SoFar, all_named}
 use Rattle.attribute_tables_grammar.specs.Laws.{ReadingsGoBySteps, ReadingsTellRules, ContextsGoBySteps}
-use Rattle.attribute_tables.specs.Beginnings.{begins_accepted}
 use Rattle.attribute_tables.specs.Written.{written_as}
 use Rattle.attribute_tables.proofs.Lists.{all_written, entries_written}
 use Rattle.link_info_grammar.specs.LinkInfo.{data_rule_under, port_data_rule_under, info_grammar_under, info_grammar, info_rule_under, info_rule, link_info_row}
-use Rattle.link_info.specs.LinkInfo.{info_begins_accepted, is_accepted_in, may_want_memory_in, link_info_entry, link_info_fits, link_info_names_row}
+use Rattle.link_info.specs.LinkInfo.{link_info_entry, link_info_fits, link_info_names_row}
 use Rattle.link_info.specs.declared.infos.LinkInfo.{LinkInfo}
 
 abbrev pub written : List LinkInfo → List Written
@@ -97,28 +93,3 @@ module _ (steps : ReadingsGoBySteps) where
         canonical = sym (t.canonical ∙ ap list_text (entries_written link_info_entry link_info_fits vs));
         fits = sym (all_written link_info_entry link_info_fits vs) ∙ sym t.fits;
       }
-
--- ---- what the list begins with
-
--- nothing was read yet, or the first attribute is accepted
-pub data Begun (bytes : List ℕ) (c : Context) (rest : List ℕ) : Type 0 where
-  at_start : rest ≡ bytes → c ≡ nothing → Begun bytes c rest
-  past_first : info_begins_accepted bytes ≡ true → Begun bytes c rest
-
-nothing_in_force : (a : Bool) → (a || (false || false)) ≡ true → a ≡ true
-nothing_in_force true h = refl
-nothing_in_force false h = h
-
-module _ (first : FirstIsViewed) where
-  begun_first : (bytes : List ℕ) → IsAttribute bytes → is_accepted_in nothing bytes ≡ true → info_begins_accepted bytes ≡ true
-  unfolding info_begins_accepted begins_accepted
-  begun_first bytes h a = ap (λ w. w && is_accepted_in nothing bytes) (ap is_some (first.whole bytes h)) ∙ a
-
-  pub begun_wanting : (bytes : List ℕ) (c : Context) (rest : List ℕ) → IsAttribute rest → may_want_memory_in c rest ≡ true → Begun bytes c rest → info_begins_accepted bytes ≡ true
-  begun_wanting bytes c rest h m (at_start is none) =
-      let wanted : may_want_memory_in nothing bytes ≡ true = subst (λ b. may_want_memory_in nothing b ≡ true) is (subst (λ d. may_want_memory_in d rest ≡ true) none m) in
-      begun_first bytes (subst IsAttribute is h) (nothing_in_force (is_accepted_in nothing bytes) wanted)
-  begun_wanting bytes c rest h m (past_first e) = e
-
-  pub begun_accepted : (bytes : List ℕ) (c : Context) (rest : List ℕ) → IsAttribute rest → is_accepted_in c rest ≡ true → Begun bytes c rest → info_begins_accepted bytes ≡ true
-  begun_accepted bytes c rest h a s = begun_wanting bytes c rest h (or_left (is_accepted_in c rest) (is_some c.kind || is_some c.port_kind) a) s

@@ -1,11 +1,10 @@
 -- Link info: data under the kind in force.
-use Rattle.std.specs.Prelude.{◌≡◌, ◌||◌, is_some, ℕ, Bool, true, false, ⊤, List, Option, Some, None, option_map}
+use Rattle.std.specs.Prelude.{◌≡◌, ℕ, Bool, true, false, ⊤, List, Option, Some, None, option_map}
 use Rattle.std.specs.Borrow.{Bor}
 use Rattle.netlink_packet_core.specs.Attributes.{Attribute, proper_kind}
 use Rattle.netlink_packet_core.specs.AttributeViews.{viewed_attribute, viewed_kind, viewed_payload}
 use Rattle.attribute_tables_grammar.specs.Lists.{Context, nothing, Row, rewrite}
 use Rattle.attribute_tables_grammar.specs.Tables.{info_next}
-use Rattle.attribute_tables.specs.Beginnings.{begins_accepted}
 use Rattle.link_info_grammar.specs.LinkInfo.{link_info_row}
 use Rattle.link_info_kinds.specs.Kinds.{info_kind_entry, info_kind_is_named, IsNamedBy}
 use Rattle.link_info_kinds.specs.PortKinds.{info_port_kind_entry, info_port_kind_is_named, IsPortNamedBy}
@@ -55,14 +54,6 @@ is_accepted_in c b = (row_in c b).rule.accepted (viewed_payload b)
 
 abbrev pub fits_in : Context → List ℕ → Bool
 fits_in c b = (row_in c b).rule.fits (viewed_payload b)
-
--- reading it may want memory: where it is accepted, or where a kind or a port kind is in force, whose data it may hold
-abbrev pub may_want_memory_in : Context → List ℕ → Bool
-may_want_memory_in c b = is_accepted_in c b || (is_some c.kind || is_some c.port_kind)
-
--- the bytes begin with an attribute that is accepted where no kind is in force
-unfoldable pub info_begins_accepted : List ℕ → Bool
-info_begins_accepted b = begins_accepted (link_info_row nothing) b
 
 -- what it is written as
 abbrev pub written_in : Context → List ℕ → Attribute

@@ -15,7 +15,6 @@ ghost use Rattle.link_info_data.specs.Data.{info_data_fits, info_data_payload};
 ghost use Rattle.link_info_data.specs.PortData.{info_port_data_fits, info_port_data_payload};
 ghost use Rattle.link_info.specs.LinkInfo.{data_names_row, port_data_names_row};
 ghost use Rattle.link_info.specs.LinkInfo.{context_after_first, in_force, is_accepted_in, fits_in, written_in};
-ghost use Rattle.link_info.specs.LinkInfo.{info_begins_accepted, may_want_memory_in};
 ghost use Rattle.link_info.specs.LinkInfo.{link_info_entry, link_info_fits, link_info_names_row};
 
 use super::laws::{names_tell_rules, port_names_tell_rules};
@@ -23,13 +22,13 @@ use attribute_tables_grammar::laws::{
     contexts_go_by_steps, peers_that_are_bytes_are_lawful, readings_go_by_steps,
     readings_tell_rules,
 };
+use link_info_checks::check_list;
 use link_info_data::{InfoData, InfoPortData, LinkXstats};
 use link_info_grammar::laws::info_grammar_is_lawful;
 use link_info_kinds::{InfoKind, InfoPortKind};
 use netlink_packet_core::{
     DecodeError, DefaultNla, Emitable, Nla, NlaBuffer, Parseable, parse_str, skip_first,
 };
-use netlink_packet_core_grammar::laws::first_attributes_are_viewed;
 use std::alloc::Global;
 
 const IFLA_INFO_KIND: u16 = 1;
@@ -191,9 +190,6 @@ impl LinkInfo {
         ensures err { IfErr result
             (λ e. is_memory e ≡ false
             → is_accepted_in (in_force force.entry) (storage buf.now).now ≡ false) }
-        ensures memory { IfErr result
-            (λ e. is_memory e ≡ true
-            → may_want_memory_in (in_force force.entry) (storage buf.now).now ≡ true) }
     {
         let payload = buf.value();
         match buf.kind() {
@@ -219,10 +215,8 @@ impl LinkInfo {
         }
     }
 
-    /// Reads link info. It succeeds exactly where the list is legal, memory aside; a list of no
-    /// bytes is never refused. It answers want of memory only where its first attribute is
-    /// accepted.
-    pub fn parse_list(alloc: Global, bytes: &[u8]) -> Result<Vec<LinkInfo>, DecodeError>
+    // Reads link info, and may tell want of memory in front of a refusal.
+    fn read_list(alloc: Global, bytes: &[u8]) -> Result<Vec<LinkInfo>, DecodeError>
         ensures ok { OnOk result (IsTrue (info_rule.accepted bytes.now)) }
         ensures read { IfOk result
             (λ v. reading_as any info_grammar bytes.now
@@ -236,15 +230,12 @@ impl LinkInfo {
         ensures err { IfErr result
             (λ e. is_memory e ≡ false → info_rule.accepted bytes.now ≡ false) }
         ensures not_empty { IfErr result (λ _. 0 < length bytes.now) }
-        ensures memory { IfErr result
-            (λ e. is_memory e ≡ true → info_begins_accepted bytes.now ≡ true) }
     {
         readings_go_by_steps();
         readings_tell_rules();
         contexts_go_by_steps();
         info_grammar_is_lawful();
         peers_that_are_bytes_are_lawful();
-        first_attributes_are_viewed();
         let mut list = Vec::new(alloc);
         let mut force = InForce {
             kind: None,
@@ -258,5 +249,31 @@ impl LinkInfo {
             rest = skip_first(rest);
         }
         Ok(list)
+    }
+    /// Reads link info. It succeeds exactly where the list is legal, memory aside; a list of no
+    /// bytes is never refused. It answers want of memory of legal lists alone: where a growth was
+    /// refused, the rest of the list is judged without memory.
+    pub fn parse_list(alloc: Global, bytes: &[u8]) -> Result<Vec<LinkInfo>, DecodeError>
+        ensures ok { OnOk result (IsTrue (info_rule.accepted bytes.now)) }
+        ensures read { IfOk result
+            (λ v. reading_as any info_grammar bytes.now
+            ≡ Some (map (written_as link_info_entry link_info_fits) v.items)) }
+        ensures text { IfOk result
+            (λ v. text_by link_info_entry v.items ≡ info_rule.canonical bytes.now) }
+        ensures fits { IfOk result
+            (λ v. all_fit_by link_info_entry link_info_fits v.items ≡ info_rule.fits bytes.now) }
+        ensures names_row { IfOk result
+            (λ v. all_named info_grammar link_info_entry link_info_names_row nothing v.items) }
+        ensures err { IfErr result (λ e. info_rule.accepted bytes.now ≡ is_memory e) }
+        ensures not_empty { IfErr result (λ _. 0 < length bytes.now) }
+    {
+        let error = match Self::read_list(alloc, bytes) {
+            Ok(list) => return Ok(list),
+            Err(error) => error,
+        };
+        if error.is_memory() {
+            check_list(bytes)?;
+        }
+        Err(error)
     }
 }

@@ -14,9 +14,9 @@ use Rattle.attribute_tables_grammar.specs.Readings.{all_named}
 use Rattle.attribute_tables_grammar.specs.Tables.{Payload, Payload.list, Payload.link_info}
 use Rattle.attribute_tables.specs.Beginnings.{begins_readable, line_may_want_memory, table_may_want_memory}
 use Rattle.link_info_grammar.specs.LinkInfo.{info_grammar}
-use Rattle.link_info.specs.LinkInfo.{info_begins_accepted, link_info_entry, link_info_fits, link_info_names_row}
+use Rattle.link_info.specs.LinkInfo.{link_info_entry, link_info_fits, link_info_names_row}
 use Rattle.link_message_grammar.specs.LinkMessage.{Family, unspec, bridge, inet_6, family_payload, has_no_link_row, link_line}
-use Rattle.link_message_grammar.specs.Body.{attribute_row}
+use Rattle.link_message_grammar.specs.Body.{attribute_row, info_payload_rule}
 use Rattle.link_message_grammar.specs.NestedTables.{specific}
 use Rattle.link_message_af_spec.specs.AddressFamilies.{af_spec_unspec_entry, af_spec_unspec_fits, af_spec_unspec_names_row}
 use Rattle.link_message_lists.specs.ProtocolInfos.{link_proto_info_inet_6_entry}
@@ -158,10 +158,10 @@ abbrev pub families_may_want_memory : Family → List ℕ → Bool
 families_may_want_memory unspec p = begins_readable (family_row specific) (table_may_want_memory specific) p
 families_may_want_memory f p = line_may_want_memory (link_line f 26) p
 
--- a list of attributes may want memory where its first attribute is accepted, or is itself a list that may want it
+-- link info may want memory where it is accepted; another list of attributes where its first attribute is, or is itself a list that may want it
 abbrev pub list_may_want_memory : Family → ℕ → List ℕ → Bool
 list_may_want_memory f k p =
-    cond (k == 18) (info_begins_accepted p)
+    cond (k == 18) (info_payload_rule.accepted p)
     (cond (k == 22) (vf_infos_begin_readable p)
     (cond (k == 24) (vf_ports_begin_readable p)
     (cond (k == 26) (families_may_want_memory f p)

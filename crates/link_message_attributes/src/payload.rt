@@ -7,7 +7,7 @@ ghost use Rattle.netlink_packet_core.specs.Numbers.{as_usize, le4};
 ghost use Rattle.attribute_tables_grammar.specs.Lists.{nothing};
 ghost use Rattle.attribute_tables_grammar.specs.Readings.{all_named};
 ghost use Rattle.link_info_grammar.specs.LinkInfo.{info_grammar};
-ghost use Rattle.link_info.specs.LinkInfo.{info_begins_accepted, link_info_entry, link_info_fits, link_info_names_row};
+ghost use Rattle.link_info.specs.LinkInfo.{link_info_entry, link_info_fits, link_info_names_row};
 ghost use Rattle.link_message_grammar.specs.Body.{info_payload_rule};
 ghost use Rattle.link_message_types.specs.ExtentMasks.{joined_extent_masks, link_extent_masks_of};
 ghost use Rattle.link_message_attributes.specs.Payloads.{link_payload_bytes, link_payload_fits};
@@ -174,11 +174,8 @@ pub(crate) fn parse_link_info(alloc: Global, payload: &[u8]) -> Result<Vec<LinkI
         ≡ info_payload_rule.fits payload.now) }
     ensures names_row { IfOk result
         (λ v. all_named info_grammar link_info_entry link_info_names_row nothing v.items) }
-    ensures err { IfErr result
-        (λ e. is_memory e ≡ false → info_payload_rule.accepted payload.now ≡ false) }
+    ensures err { IfErr result (λ e. info_payload_rule.accepted payload.now ≡ is_memory e) }
     ensures not_empty { IfErr result (λ e. is_memory e ≡ true → 0 < length payload.now) }
-    ensures memory { IfErr result
-        (λ e. is_memory e ≡ true → info_begins_accepted payload.now ≡ true) }
 {
     if payload.is_empty() {
         return Err(DecodeError::from("IFLA_LINKINFO without an attribute"));

@@ -7,7 +7,6 @@ use Rattle.std.proofs.lemmas.Bool.{leb-true, le-leb, eqb-true, ne_eqb, cases_lt}
 use Rattle.netlink_packet_core.specs.Numbers.{as_usize}
 use Rattle.attribute_tables_grammar.specs.Lists.{any, without_context}
 use Rattle.attribute_tables_grammar.specs.Readings.{reading_as}
-use Rattle.attribute_tables.specs.Beginnings.{begins_readable}
 use Rattle.attribute_tables.specs.Written.{written_as}
 use Rattle.link_message_grammar.specs.Body.{attribute_bytes, attribute_row, attributes_rule, family, header_text, is_emptied, link_body}
 use Rattle.link_message_grammar.specs.Laws.{BodiesAreHeadersAndAttributes, EmptyPortsAreTold}
@@ -15,8 +14,7 @@ use Rattle.link_message_grammar.specs.LinkMessage.{Family, family_of}
 use Rattle.link_message_types.specs.AddressFamilies.{address_family_of, table_family}
 use Rattle.link_message_types.specs.declared.address_family.AddressFamily.{AddressFamily}
 use Rattle.link_message_attributes.specs.declared.attributes.LinkAttribute.{LinkAttribute}
-use Rattle.link_message_attributes.specs.LinkAttributes.{link_attribute_entry, link_attribute_fits, link_attribute_may_want_memory}
-use Rattle.link_message_messages.specs.LinkMessages.{body_begins_readable}
+use Rattle.link_message_attributes.specs.LinkAttributes.{link_attribute_entry, link_attribute_fits}
 
 short : (n : ℕ) (t : Bool) → nat_le 16 n ≡ t → n < 16 → t ≡ false
 short n true e l = absurd (let h : 16 ≤ n = leb-true 16 n e in omega arith)
@@ -77,9 +75,4 @@ family-table n =
 pub body-family : (b : List ℕ) (a : AddressFamily) → a ≡ address_family_of (slice_index b 0) → table_family a ≡ family b
 body-family b a h = ap table_family h ∙ family-table (slice_index b 0)
 
--- what its attributes begin with
-pub body-begins : (b : List ℕ) (a : AddressFamily) → a ≡ address_family_of (slice_index b 0) → begins_readable (attribute_row (table_family a)) (link_attribute_may_want_memory (table_family a)) (attribute_bytes b) ≡ true → body_begins_readable b ≡ true
-unfolding body_begins_readable
-body-begins b a h e = ap (λ f. begins_readable (attribute_row f) (link_attribute_may_want_memory f) (attribute_bytes b)) (sym (body-family b a h)) ∙ e
-
-pub ruleset bodies = (body-short, body-accepted, body-canonical, body-fits, body-family, body-empty_ports, body-begins)
+pub ruleset bodies = (body-short, body-accepted, body-canonical, body-fits, body-family, body-empty_ports)

@@ -3,12 +3,11 @@ use Rattle.std.specs.Prelude.{ℕ, Bool, List, ◌++◌, map}
 use Rattle.std.specs.List.{All, list_any}
 use Rattle.netlink_packet_core.specs.Lists.{text_by, all_fit_by}
 use Rattle.attribute_tables_grammar.specs.Readings.{Written}
-use Rattle.attribute_tables.specs.Beginnings.{begins_readable}
 use Rattle.attribute_tables.specs.Written.{written_as}
-use Rattle.link_message_grammar.specs.Body.{attribute_bytes, attribute_row, family, is_emptied}
+use Rattle.link_message_grammar.specs.Body.{is_emptied}
 use Rattle.link_message_types.specs.AddressFamilies.{table_family}
 use Rattle.link_message_types.specs.Headers.{link_header_bytes}
-use Rattle.link_message_attributes.specs.LinkAttributes.{link_attribute_entry, link_attribute_fits, link_attribute_may_want_memory, link_attribute_names_row}
+use Rattle.link_message_attributes.specs.LinkAttributes.{link_attribute_entry, link_attribute_fits, link_attribute_names_row}
 use Rattle.link_message_messages.specs.declared.message.LinkMessage.{LinkMessage}
 
 abbrev pub link_message_text : LinkMessage → List ℕ
@@ -29,7 +28,3 @@ link_message_written m = map (written_as link_attribute_entry link_attribute_fit
 -- each attribute is the variant that its row names, under the family of the header
 abbrev pub link_message_names_row : LinkMessage → Type 0
 link_message_names_row m = All (link_attribute_names_row (table_family m.header.interface_family)) m.attributes.items
-
--- behind the header, the bytes begin with an attribute that its row accepts, or of which the reading may want memory
-unfoldable pub body_begins_readable : List ℕ → Bool
-body_begins_readable b = begins_readable (attribute_row (family b)) (link_attribute_may_want_memory (family b)) (attribute_bytes b)

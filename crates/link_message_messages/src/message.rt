@@ -9,9 +9,10 @@ ghost use Rattle.link_message_types.specs.AddressFamilies.{address_family_of};
 ghost use Rattle.link_message_types.specs.Headers.{link_header_bytes};
 ghost use Rattle.link_message_messages.specs.LinkMessages.{link_message_text, link_message_fits, link_message_written};
 ghost use Rattle.link_message_messages.specs.LinkMessages.{link_message_names_row};
-ghost use Rattle.link_message_messages.specs.LinkMessages.{body_begins_readable, link_message_empty_ports};
+ghost use Rattle.link_message_messages.specs.LinkMessages.{link_message_empty_ports};
 
 use link_message_attributes::LinkAttribute;
+use link_message_checks::check;
 use link_message_grammar::laws::{bodies_are_headers_and_attributes, empty_ports_are_told};
 use link_message_types::laws::headers_are_sixteen_bytes;
 use link_message_types::{LINK_HEADER_LEN, LinkHeader};
@@ -30,12 +31,9 @@ pub struct LinkMessage {
 }
 
 impl LinkMessage {
-    /// Reads a message. It succeeds exactly where the body is legal, memory aside: where there are
-    /// 16 bytes of header, and then a list of attributes, each accepted by its row under the
-    /// family of the header. It answers want of memory only where the first attribute is accepted,
-    /// or where reading that one may want memory.
+    // Reads a message, and may tell want of memory in front of a refusal.
     #[tactic(auto, using(crate::proofs::Bodies::bodies))]
-    pub fn parse(alloc: Global, bytes: &[u8]) -> Result<LinkMessage, DecodeError>
+    fn read(alloc: Global, bytes: &[u8]) -> Result<LinkMessage, DecodeError>
         ensures ok { OnOk result (IsTrue (link_body.accepted bytes.now)) }
         ensures header { IfOk result
             (λ m. link_header_bytes m.header ≡ header_text bytes.now) }
@@ -53,8 +51,6 @@ impl LinkMessage {
         ensures err { IfErr result
             (λ e. is_memory e ≡ false → link_body.accepted bytes.now ≡ false) }
         ensures not_empty { IfErr result (λ e. is_memory e ≡ true → 16 < length bytes.now) }
-        ensures memory { IfErr result
-            (λ e. is_memory e ≡ true → body_begins_readable bytes.now ≡ true) }
     {
         bodies_are_headers_and_attributes();
         empty_ports_are_told();
@@ -62,6 +58,38 @@ impl LinkMessage {
         let (_, list) = bytes.split_at(LINK_HEADER_LEN);
         let attributes = LinkAttribute::parse_list(alloc, list, header.interface_family)?;
         Ok(LinkMessage { header, attributes })
+    }
+
+    /// Reads a message. It succeeds exactly where the body is legal, memory aside: where there are
+    /// 16 bytes of header, and then a list of attributes, each accepted by its row under the
+    /// family of the header. It answers want of memory of legal bodies alone: where a growth was
+    /// refused, the rest of the body is judged without memory.
+    pub fn parse(alloc: Global, bytes: &[u8]) -> Result<LinkMessage, DecodeError>
+        ensures ok { OnOk result (IsTrue (link_body.accepted bytes.now)) }
+        ensures header { IfOk result
+            (λ m. link_header_bytes m.header ≡ header_text bytes.now) }
+        ensures family { IfOk result
+            (λ m. m.header.interface_family ≡ address_family_of (slice_index bytes.now 0)) }
+        ensures read { IfOk result
+            (λ m. reading_as any (without_context (attribute_row (family bytes.now)))
+            (attribute_bytes bytes.now)
+            ≡ Some (link_message_written m)) }
+        ensures text { IfOk result (λ m. link_message_text m ≡ link_body.canonical bytes.now) }
+        ensures fits { IfOk result (λ m. link_message_fits m ≡ link_body.fits bytes.now) }
+        ensures empty_ports { IfOk result
+            (λ m. link_message_empty_ports m ≡ link_body.empty_ports bytes.now) }
+        ensures names_row { IfOk result (λ m. link_message_names_row m) }
+        ensures err { IfErr result (λ e. link_body.accepted bytes.now ≡ is_memory e) }
+        ensures not_empty { IfErr result (λ e. is_memory e ≡ true → 16 < length bytes.now) }
+    {
+        let error = match Self::read(alloc, bytes) {
+            Ok(message) => return Ok(message),
+            Err(error) => error,
+        };
+        if error.is_memory() {
+            check(bytes)?;
+        }
+        Err(error)
     }
 
     /// Whether an attribute is written as a list of ports (IFLA_VF_PORTS) without an entry, which no

@@ -1,4 +1,4 @@
-//! Link messages and link info: want of memory is told as such, and never of an input whose first attribute is refused.
+//! Link messages and link info: want of memory is told as such, and never of an input that is refused.
 
 use super::requests::last_request;
 use link_capture::{NotReadable, ReadableLink};
@@ -16,11 +16,13 @@ const VXLAN: [u8; 56] = *b"\0\0\0\0\0\0\0\0\0\0\0\0\0\0\0\0\
     \x07\0\x03\0lo\0\0\
     \x20\0\x12\0\x0a\0\x01\0vxlan\0\0\0\x10\0\x02\0\x05\0\x07\0\x01\0\0\0\x04\0\x17\0";
 
-/// Data before a kind.
-const REFUSED_LIST: [u8; 4] = *b"\x04\0\x02\0";
+/// A link of IPsec, and behind its kind data with a number of one byte.
+const REFUSED_LIST: [u8; 24] = *b"\x09\0\x01\0xfrm\0\0\0\0\
+    \x0c\0\x02\0\x05\0\x01\0\x02\0\0\0";
 
-/// A name that isn't UTF-8.
-const REFUSED_BODY: [u8; 24] = *b"\0\0\0\0\0\0\0\0\0\0\0\0\0\0\0\0\x06\0\x03\0\xff\0\0\0";
+/// The name `lo`, and behind it a name that isn't UTF-8.
+const REFUSED_BODY: [u8; 32] = *b"\0\0\0\0\0\0\0\0\0\0\0\0\0\0\0\0\
+    \x07\0\x03\0lo\0\0\x06\0\x03\0\xff\0\0\0";
 
 /// Whether a list is written as that of IPsec.
 fn is_xfrm(list: &Vec<LinkInfo>) -> bool {
@@ -93,6 +95,7 @@ fn a_readable_link(rt: HostRuntime) -> Result<(), Fail> {
     Ok(())
 }
 
+/// What is refused behind an attribute that takes memory is refused where that is wanting, too.
 #[test]
 fn a_refused_input(rt: HostRuntime) -> Result<(), Fail> {
     match LinkInfo::parse_list(rt.alloc(), &REFUSED_LIST) {

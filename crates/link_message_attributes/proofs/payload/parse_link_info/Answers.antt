@@ -1,5 +1,5 @@
 -- link info that holds an attribute is a list
-use Rattle.std.proofs.Common.{◌≡◌, false, IsTrue, IfOk, IfErr, OnOk, sym, subst}
+use Rattle.std.proofs.Common.{◌≡◌, IsTrue, IfOk, IfErr, OnOk, sym, subst, rules}
 use Rattle.netlink_packet_core.specs.Errors.{is_memory}
 use Rattle.netlink_packet_core.specs.Lists.{text_by, all_fit_by}
 use Rattle.link_info.specs.LinkInfo.{link_info_entry, link_info_fits}
@@ -7,7 +7,7 @@ use Rattle.link_message_attributes.proofs.Rules.{no_info, some_bytes}
 use Rattle.link_message_attributes.proofs.payload.parse_link_info.Goals as goal
 
 pub returns-then-is_empty-clause-err : goal.returns-then-is_empty-clause-err
-returns-then-is_empty-clause-err c = λ _. no_info c.args.payload.now c.if-is_empty.ensures
+returns-then-is_empty-clause-err c = let k = no_info c.args.payload.now c.if-is_empty.ensures in search rules
 
 pub returns-clause-ok : goal.returns-clause-ok
 returns-clause-ok c =
@@ -30,7 +30,4 @@ returns-clause-names_row c = c.parse_list.ensures.names_row
 pub returns-clause-err : goal.returns-clause-err
 returns-clause-err c =
     let parts = c.info_is_a_list_inside.ensures.of_some_bytes c.args.payload.now (some_bytes c.args.payload.now c.if-is_empty.ensures) in
-    subst (λ b. IfErr c.parse_list.result (λ e. is_memory e ≡ false → b ≡ false)) (sym parts.accepted) c.parse_list.ensures.err
-
-pub returns-clause-memory : goal.returns-clause-memory
-returns-clause-memory c = c.parse_list.ensures.memory
+    subst (λ b. IfErr c.parse_list.result (λ e. b ≡ is_memory e)) (sym parts.accepted) c.parse_list.ensures.err

@@ -7,15 +7,14 @@ use Rattle.attribute_tables_grammar.specs.Lists.{nothing, rewrite}
 use Rattle.attribute_tables_grammar.specs.Peers.{bytes_peer}
 use Rattle.attribute_tables_grammar.specs.Tables.{info_next}
 use Rattle.link_info_grammar.specs.LinkInfo.{info_rule, link_info_row}
-use Rattle.link_info.specs.LinkInfo.{context_of, info_begins_accepted, is_accepted_in, may_want_memory_in, link_info_entry, link_info_fits}
-use Rattle.link_info.proofs.InfoReading.{State, Done, at_start, past_first, begun_wanting, begun_accepted, state_start, state_more, state_refused, state_stopped, state_done}
-use Rattle.link_info.proofs.infos.LinkInfo.parse_list.Goals as goal
+use Rattle.link_info.specs.LinkInfo.{context_of, link_info_entry, link_info_fits}
+use Rattle.link_info.proofs.InfoReading.{State, Done, state_start, state_more, state_refused, state_stopped, state_done}
+use Rattle.link_info.proofs.infos.LinkInfo.read_list.Goals as goal
 
 pub loop-force-init : goal.loop-force-init
 loop-force-init c = record {
   state = subst (λ vs. State c.args.bytes.now vs nothing c.args.bytes.now) (sym c.new-list.ensures.items) (state_start c.readings_go_by_steps.ensures c.args.bytes.now);
   within = omega arith;
-  begun = at_start refl refl;
 }
 
 pub returns-in_err-buf-clause-err : goal.returns-in_err-buf-clause-err
@@ -45,35 +44,6 @@ returns-in_err-force-clause-err c =
     let k = state_refused c.readings_go_by_steps.ensures c.readings_tell_rules.ensures _ _ f b h was c.loop-force.invariant.state in
     search rules
 
-pub returns-in_err-read-clause-memory : goal.returns-in_err-read-clause-memory
-returns-in_err-read-clause-memory c =
-    let b = c.loop-force.rest.now in
-    let f = context_of c.loop-force.force.kind c.loop-force.force.port_kind in
-    let h : IsAttribute b = c.in_ok-buf.ensures.whole.0 refl in
-    let k : is_memory c.in_err-read.field-0.0 ≡ true → info_begins_accepted c.args.bytes.now ≡ true =
-    λ m.
-    let wanted : may_want_memory_in f b ≡ true = rw c.in_ok-buf.ensures.ok at c.in_err-read.ensures.memory m in
-    begun_wanting c.first_attributes_are_viewed.ensures c.args.bytes.now f b h wanted c.loop-force.invariant.begun in
-    search rules
-
-pub returns-in_err-push-clause-memory : goal.returns-in_err-push-clause-memory
-returns-in_err-push-clause-memory c =
-    let b = c.loop-force.rest.now in
-    let f = context_of c.loop-force.force.kind c.loop-force.force.port_kind in
-    let h : IsAttribute b = c.in_ok-buf.ensures.whole.0 refl in
-    let was : is_accepted_in f b ≡ true = rw c.in_ok-buf.ensures.ok at c.in_ok-read.ensures.ok in
-    let k = begun_accepted c.first_attributes_are_viewed.ensures c.args.bytes.now f b h was c.loop-force.invariant.begun in
-    search rules
-
-pub returns-in_err-force-clause-memory : goal.returns-in_err-force-clause-memory
-returns-in_err-force-clause-memory c =
-    let b = c.loop-force.rest.now in
-    let f = context_of c.loop-force.force.kind c.loop-force.force.port_kind in
-    let h : IsAttribute b = c.in_ok-buf.ensures.whole.0 refl in
-    let was : is_accepted_in f b ≡ true = rw c.in_ok-buf.ensures.ok at c.in_ok-read.ensures.ok in
-    let k = begun_accepted c.first_attributes_are_viewed.ensures c.args.bytes.now f b h was c.loop-force.invariant.begun in
-    search rules
-
 pub loop-force-preserved : goal.loop-force-preserved
 loop-force-preserved c =
     let b = c.loop-force.rest.now in
@@ -91,7 +61,6 @@ loop-force-preserved c =
           (subst (λ d. State c.args.bytes.now (c.loop-force.list.items ++ v ∷ []) d c.skip_first-rest.result.now) (sym next)
           (subst (λ r. State c.args.bytes.now (c.loop-force.list.items ++ v ∷ []) (info_next f (proper_kind (viewed_kind b)) (viewed_payload b)) r) (sym c.skip_first-rest.ensures) s));
       within = omega (arith, rest, length-drop (nla_align (viewed_length b)) b, c.loop-force.invariant.within);
-      begun = past_first (begun_accepted c.first_attributes_are_viewed.ensures c.args.bytes.now f b h was c.loop-force.invariant.begun);
     }
 
 ended : (c : goal.After-loop-force) → Done c.args.bytes.now c.loop-force.list.items

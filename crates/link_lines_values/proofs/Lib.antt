@@ -2,3 +2,7 @@ pub mod Readings
 pub mod Zeros
 pub mod Listing
 pub mod Hex
+mod BytesTold
+mod NumbersTold
+mod ValuesTold
+mod RecordsTold

@@ -1,5 +1,5 @@
 -- Names in brackets, written one after the other.
-use Rattle.std.proofs.Common.{◌≡◌, ℕ, Bool, List, [], ◌∷◌, ◌++◌, cond, refl}
+use Rattle.std.proofs.Common.{ℕ, Bool, List, cond}
 use Rattle.link_lines_values.specs.Flags.{opened, separated}
 
 -- what these names add to those before, of which there may be any

@@ -1,5 +1,5 @@
 -- The bytes without the zeros at the end, counted from the first on.
-use Rattle.std.proofs.Common.{◌≡◌, ◌≢◌, ℕ, ◌+◌, ◌==◌, ◌&&◌, Bool, true, false, cond, List, [], ◌∷◌, refl, ap, sym, ◌∙◌, zero-add, add_assoc, eq-eqb, ne_eqb, ◌<◌, length, drop, get_or, drop-cons, add-one}
+use Rattle.std.proofs.Common.{◌≡◌, ◌≢◌, ℕ, ◌+◌, ◌&&◌, Bool, true, false, cond, List, [], ◌∷◌, refl, ap, sym, ◌∙◌, zero-add, add_assoc, eq-eqb, ne_eqb, ◌<◌, length, drop, get_or, drop-cons, add-one}
 use Rattle.link_lines_values.specs.Bytes.{is_zero, count_without_zeros}
 
 -- the count, where count holds of the first i bytes, and these are the rest

@@ -4,3 +4,4 @@ pub mod Names
 pub mod Flags
 pub mod Records
 pub mod Values
+pub mod Laws

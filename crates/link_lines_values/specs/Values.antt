@@ -1,8 +1,7 @@
 -- Payloads of attributes as text, with the space before it where there is any.
-use Rattle.std.specs.Prelude.{ℕ, ◌==◌, ◌||◌, true, false, List, [], ◌∷◌, ◌++◌, Option, None, Some, codes, cond, length, nat_le, take, drop}
+use Rattle.std.specs.Prelude.{ℕ, ◌==◌, true, false, List, [], ◌∷◌, ◌++◌, Option, None, Some, codes, cond, length, take, drop}
 use Rattle.std.specs.Fmt.{decimal}
 use Rattle.attribute_tables_grammar.specs.Shapes.{number}
-use Rattle.link_lines_values.specs.declared.flags.FlagSet.TheVariants.{Nameless}
 use Rattle.link_lines_values.specs.declared.numbers.Numbers.{Numbers}
 use Rattle.link_lines_values.specs.declared.values.Shown.{Shown}
 use Rattle.link_lines_values.specs.declared.values.Shown.TheVariants as S

@@ -6,6 +6,7 @@ mod bytes;
 mod digits;
 mod fields;
 mod flags;
+pub mod laws;
 mod number_texts;
 mod numbers;
 mod records;

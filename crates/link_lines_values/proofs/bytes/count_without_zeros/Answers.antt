@@ -1,4 +1,4 @@
-use Rattle.std.proofs.Common.{sym, ◌∙◌, ap, arith}
+use Rattle.std.proofs.Common.{◌∙◌, arith}
 use Rattle.link_lines_values.proofs.Zeros.{counted_all, counted_next, counted_same}
 use Rattle.link_lines_values.proofs.bytes.count_without_zeros.Goals as goal
 use Rattle.link_lines_values.proofs.bytes.count_without_zeros.Goals.{then-byte-ne0, else-byte-ne0}

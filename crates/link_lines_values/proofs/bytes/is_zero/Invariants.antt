@@ -1,6 +1,5 @@
-use Rattle.std.proofs.Common.{◌≡◌, ◌+◌, ◌≤◌, ◌++◌, ◌||◌, not, true, cond, flat_map, length, take, drop}
-use Rattle.link_lines_values.specs.Bytes.{is_zero, count_without_zeros, colon_byte, escaped}
-use Rattle.link_lines_values.specs.Digits.{hex_byte}
+use Rattle.std.proofs.Common.{◌≡◌, drop}
+use Rattle.link_lines_values.specs.Bytes.{is_zero}
 use Rattle.link_lines_values.proofs.bytes.is_zero.Given as goal
 
 abbrev pub invariant-loop-byte : goal.invariant-loop-byte

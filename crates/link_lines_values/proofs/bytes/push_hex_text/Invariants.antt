@@ -1,5 +1,4 @@
-use Rattle.std.proofs.Common.{◌≡◌, ◌+◌, ◌≤◌, ◌++◌, ◌||◌, not, true, cond, flat_map, length, take, drop}
-use Rattle.link_lines_values.specs.Bytes.{is_zero, count_without_zeros, colon_byte, escaped}
+use Rattle.std.proofs.Common.{◌≡◌, ◌++◌, flat_map, take}
 use Rattle.link_lines_values.specs.Digits.{hex_byte}
 use Rattle.link_lines_values.proofs.bytes.push_hex_text.Given as goal
 

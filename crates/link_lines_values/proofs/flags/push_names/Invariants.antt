@@ -1,5 +1,5 @@
-use Rattle.std.proofs.Common.{◌≡◌, ◌+◌, ◌≤◌, ◌++◌, ◌||◌, not, true, cond, flat_map, length, take, drop}
-use Rattle.link_lines_values.specs.Flags.{nameless, names_fit, names_set, opened, has_none}
+use Rattle.std.proofs.Common.{◌≡◌, ◌++◌, ◌||◌, not, true, drop}
+use Rattle.link_lines_values.specs.Flags.{names_fit, names_set, opened, has_none}
 use Rattle.link_lines_values.proofs.Listing.{begun}
 use Rattle.link_lines_values.proofs.flags.push_names.Given as goal
 

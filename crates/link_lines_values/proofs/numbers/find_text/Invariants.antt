@@ -1,4 +1,4 @@
-use Rattle.std.proofs.Common.{◌≡◌, ◌+◌, ◌≤◌, ◌++◌, ◌||◌, not, true, cond, flat_map, length, take, drop}
+use Rattle.std.proofs.Common.{◌≡◌, true, drop}
 use Rattle.link_lines_values.specs.Names.{text_in, texts_fit}
 use Rattle.link_lines_values.proofs.numbers.find_text.Given as goal
 

@@ -1,4 +1,4 @@
-use Rattle.std.proofs.Common.{◌≡◌, ◌+◌, ◌≤◌, ◌++◌, ◌||◌, not, true, cond, flat_map, length, take, drop}
+use Rattle.std.proofs.Common.{◌≡◌, ◌++◌, true, length, drop}
 use Rattle.link_lines_values.specs.Records.{total_size, fields_fit, fields_text}
 use Rattle.link_lines_values.proofs.records.push_fields.Given as goal
 

@@ -1,5 +1,5 @@
-use Rattle.std.proofs.Common.{◌≡◌, ◌+◌, ◌≤◌, ◌++◌, ◌||◌, not, true, cond, flat_map, length, take, drop}
-use Rattle.link_lines_values.specs.Records.{total_size, fields_fit, fields_text}
+use Rattle.std.proofs.Common.{◌≡◌, ◌+◌, drop}
+use Rattle.link_lines_values.specs.Records.{total_size}
 use Rattle.link_lines_values.proofs.records.total_size.Given as goal
 
 abbrev pub invariant-loop-row : goal.invariant-loop-row

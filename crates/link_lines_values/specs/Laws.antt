@@ -1,0 +1,62 @@
+-- What a text tells of the bytes it is of, as the functions of `laws` state it.
+use Rattle.std.specs.Prelude.{◌≡◌, ℕ, ◌≤◌, Bool, true, List, [], ◌∷◌, ⊤, length, take, drop}
+use Rattle.attribute_tables_grammar.specs.Shapes.{number}
+use Rattle.netlink_packet_core_grammar.specs.Bytes.{AreBytes}
+use Rattle.netlink_packet_core_grammar.specs.Texts.{without_nul}
+use Rattle.link_lines_values.specs.declared.fields.Field.{Field}
+use Rattle.link_lines_values.specs.declared.fields.FieldShown.{FieldShown}
+use Rattle.link_lines_values.specs.declared.fields.FieldShown.TheVariants as S
+use Rattle.link_lines_values.specs.declared.numbers.Numbers.{Numbers}
+use Rattle.link_lines_values.specs.declared.records.Record.{Record}
+use Rattle.link_lines_values.specs.Bytes.{address_text, bytes_text, hardware_text, is_zero, quoted, truth_text}
+use Rattle.link_lines_values.specs.Digits.{is_number}
+use Rattle.link_lines_values.specs.Records.{fields_of, record_text, total_size}
+use Rattle.link_lines_values.specs.Values.{number_value, big_endian_value, signed_value, flags_value, big_endian_flags_value, flags_and_mask_value, optional_byte_value, port_range_value, sized_flags_value}
+
+-- Bytes in hex, with or without colons, are told by their text, and bytes in quotes up to a NUL at the end.
+pub record BytesAreTold : Type 0 where
+  pub bytes : (p q : List ℕ) → AreBytes p → AreBytes q → bytes_text p ≡ bytes_text q → p ≡ q
+  pub hardware : (p q : List ℕ) → AreBytes p → AreBytes q → hardware_text p ≡ hardware_text q → p ≡ q
+  pub text : (p q : List ℕ) → AreBytes p → AreBytes q → quoted p ≡ quoted q → without_nul p ≡ without_nul q
+
+-- Numbers of one size are told by their text, whatever names stand behind them.
+pub record NumbersAreTold : Type 0 where
+  pub little : (numbers : Numbers) (p q : List ℕ) → AreBytes p → AreBytes q → length p ≡ length q → is_number p ≡ true → number_value numbers p ≡ number_value numbers q → p ≡ q
+  pub big : (numbers : Numbers) (p q : List ℕ) → AreBytes p → AreBytes q → length p ≡ length q → is_number p ≡ true → big_endian_value numbers p ≡ big_endian_value numbers q → p ≡ q
+  pub signed : (p q : List ℕ) → AreBytes p → AreBytes q → length p ≡ 4 → length q ≡ 4 → signed_value p ≡ signed_value q → p ≡ q
+  pub flags : (p q : List ℕ) → AreBytes p → AreBytes q → length p ≡ length q → is_number p ≡ true → flags_value p ≡ flags_value q → p ≡ q
+
+-- Addresses of one size are told by their text.
+pub record AddressesAreTold : Type 0 where
+  pub ipv4 : (p q : List ℕ) → AreBytes p → AreBytes q → length p ≡ 4 → length q ≡ 4 → address_text p ≡ address_text q → p ≡ q
+  pub ipv6 : (p q : List ℕ) → AreBytes p → AreBytes q → length p ≡ 16 → length q ≡ 16 → address_text p ≡ address_text q → p ≡ q
+
+-- So are other sets of flags, a byte or none, two port numbers, and truths that are 0 or 1.
+pub record SettingsAreTold : Type 0 where
+  pub big : (p q : List ℕ) → AreBytes p → AreBytes q → length p ≡ length q → is_number p ≡ true → big_endian_flags_value p ≡ big_endian_flags_value q → p ≡ q
+  pub sized_4 : (p q : List ℕ) → AreBytes p → AreBytes q → length p ≡ 4 → length q ≡ 4 → sized_flags_value p ≡ sized_flags_value q → p ≡ q
+  pub sized_2 : (p q : List ℕ) → AreBytes p → AreBytes q → length p ≡ 2 → length q ≡ 2 → sized_flags_value p ≡ sized_flags_value q → p ≡ q
+  pub masked : (p q : List ℕ) → AreBytes p → AreBytes q → length p ≡ 8 → length q ≡ 8 → flags_and_mask_value p ≡ flags_and_mask_value q → p ≡ q
+  pub optional : (p q : List ℕ) → AreBytes p → AreBytes q → length p ≤ 1 → length q ≤ 1 → optional_byte_value p ≡ optional_byte_value q → p ≡ q
+  pub ports : (p q : List ℕ) → AreBytes p → AreBytes q → length p ≡ 4 → length q ≡ 4 → port_range_value p ≡ port_range_value q → p ≡ q
+  pub truth : (p q : List ℕ) → AreBytes p → AreBytes q → length p ≡ length q → number p ≤ 1 → number q ≤ 1 → truth_text p ≡ truth_text q → p ≡ q
+
+-- a truth is 0 or 1
+abbrev pub IsKnown : FieldShown → List ℕ → Type 0
+IsKnown S.Truth p = number p ≤ 1
+IsKnown v p = ⊤
+
+abbrev pub AllKnown : List Field → List ℕ → Type 0
+AllKnown [] p = ⊤
+AllKnown (f ∷ fs) p = IsKnown f.3 (take f.2 p) × AllKnown fs (drop f.2 p)
+
+-- the bytes hold the fields of the record, each truth among them 0 or 1, and zeros behind them
+pub record HoldsFields (held : Record) (p : List ℕ) : Type 0 where
+  pub bytes : AreBytes p
+  pub whole : total_size (fields_of held) ≤ length p
+  pub zeros : is_zero (drop (total_size (fields_of held)) p) ≡ true
+  pub known : AllKnown (fields_of held) (take (total_size (fields_of held)) p)
+
+-- Records of one size are told by their text, whether fields that are zero are left out or not.
+abbrev pub RecordsAreTold : Type 0
+RecordsAreTold = (sparse : Bool) (held : Record) (p q : List ℕ) → HoldsFields held p → HoldsFields held q → length p ≡ length q → record_text sparse held p ≡ record_text sparse held q → p ≡ q

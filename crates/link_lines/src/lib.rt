@@ -11,5 +11,5 @@ pub use link_capture_engine::{
 };
 pub use link_capture_grammar::fault::{CaptureFault, FaultKind};
 pub use link_capture_reader::{CaptureReader, normalize_bytes};
-pub use link_lines_texts::{lines_are_joined, push_lines};
+pub use link_lines_texts::{laws, push_lines};
 pub use whole::show_bytes;

@@ -10,7 +10,8 @@ use link_capture_grammar::laws::{
     joined_captures_have_joined_texts, texts_are_normal, texts_tell_meanings,
 };
 use link_capture_reader::normalize_bytes;
-use link_lines_texts::{lines_are_joined, push_lines};
+use link_lines_texts::laws::lines_are_joined;
+use link_lines_texts::push_lines;
 use std::alloc::{AllocError, Global};
 
 /// Appends the lines of these texts, or nothing where memory is wanting. For no texts none is wanted.

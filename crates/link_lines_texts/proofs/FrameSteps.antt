@@ -1,5 +1,5 @@
 -- The lines of texts go by their frames.
-use Rattle.std.proofs.Common.{◌≡◌, ℕ, zero, suc, ◌+◌, ◌-◌, ◌^◌, ◌<◌, ◌≤◌, Bool, true, false, cond, List, [], ◌∷◌, ◌++◌, length, take, drop, Result, Ok, Err, refl, sym, ap, subst, ◌∙◌, append_assoc, arith}
+use Rattle.std.proofs.Common.{◌≡◌, ℕ, zero, suc, ◌+◌, ◌-◌, ◌^◌, ◌<◌, ◌≤◌, Bool, true, false, cond, List, [], ◌∷◌, ◌++◌, length, take, drop, Result, Ok, Err, refl, sym, ap, ◌∙◌, append_assoc, arith}
 use Rattle.std.specs.Prelude.{◌&&◌, nat_le, nat_lt}
 use Rattle.std.proofs.lemmas.Bool.{leb-true, le-leb, ltb-false}
 use Rattle.std.proofs.lemmas.List.{length-append, take-append-le}
@@ -7,10 +7,9 @@ use Rattle.std.proofs.lemmas.Nat.{from_le_bytes-to_le_bytes_4}
 use Rattle.netlink_packet_core_grammar.specs.Attributes.{nla_align, zeros}
 use Rattle.netlink_packet_core_grammar.specs.Frames.{frame_length, frame_type, frame_body, frame_text}
 use Rattle.netlink_packet_core_grammar.specs.Numbers.{u32_at, le4}
-use Rattle.link_capture_grammar.specs.declared.fault.FaultKind.{FaultKind}
 use Rattle.link_capture_grammar.specs.declared.fault.FaultKind.TheVariants.{Cut, ShortLength, OverLimit, TextOverLimit}
 use Rattle.link_capture_grammar.specs.Bodies.{Refusal, body_text}
-use Rattle.link_capture_grammar.specs.Captures.{Judged, fault_of, judged_text, tested, first_frame, next_texts, texts_after, texts}
+use Rattle.link_capture_grammar.specs.Captures.{Judged, judged_text, first_frame, next_texts, texts_after}
 use Rattle.link_capture_grammar.specs.Laws.{FramesAreJudged}
 use Rattle.link_lines_texts.specs.Frames.{frame_lines}
 use Rattle.link_lines_texts.specs.Captures.{is_frame, lines_after, text_lines}
@@ -71,7 +70,7 @@ told_length c body r h =
 true_and : (a b : Bool) → a ≡ true → b ≡ true → (a && b) ≡ true
 true_and a b h k = ap (λ z. z && b) h ∙ k
 
-in_front : FramesAreJudged → (c body r : List ℕ) → 16 ≤ length c → 16 + length body < 2 ^ 32 → text_lines (frame_text c body ++ r) ≡ frame_lines (take (16 + length body) (frame_text c body)) ++ text_lines r
+pub in_front : FramesAreJudged → (c body r : List ℕ) → 16 ≤ length c → 16 + length body < 2 ^ 32 → text_lines (frame_text c body ++ r) ≡ frame_lines (take (16 + length body) (frame_text c body)) ++ text_lines r
 in_front j c body r h b =
     let n = 16 + length body in
     let t = frame_text c body in
@@ -91,19 +90,20 @@ in_front j c body r h b =
 
 -- ---- a frame that is accepted has such a text
 
-record IsText (limit : ℕ) (c : List ℕ) (text : List ℕ) : Type 0 where
+pub record IsText (limit : ℕ) (c : List ℕ) (text : List ℕ) : Type 0 where
   pub header : 16 ≤ length c
   pub body : List ℕ
+  pub of_body : body_text (frame_type c) (frame_body c) ≡ Ok body
   pub small : 16 + length body ≤ limit
   pub is : text ≡ frame_text c body
 
-small_is : (limit : ℕ) (c : List ℕ) (frame : ℕ × List ℕ) (body : List ℕ) (b : Bool) → nat_lt limit (16 + length body) ≡ b → 16 ≤ length c → cond b (Err TextOverLimit) (Ok (frame_length c, frame_text c body)) ≡ Ok frame → IsText limit c frame.1
-small_is limit c frame body true l h e = absurd cc
-small_is limit c frame body false l h e = let m = ltb-false limit (16 + length body) l in record { header = h; body = body; small = omega (arith, m); is = cc }
+small_is : (limit : ℕ) (c : List ℕ) (frame : ℕ × List ℕ) (body : List ℕ) (b : Bool) → body_text (frame_type c) (frame_body c) ≡ Ok body → nat_lt limit (16 + length body) ≡ b → 16 ≤ length c → cond b (Err TextOverLimit) (Ok (frame_length c, frame_text c body)) ≡ Ok frame → IsText limit c frame.1
+small_is limit c frame body true o l h e = absurd cc
+small_is limit c frame body false o l h e = let m = ltb-false limit (16 + length body) l in record { header = h; body = body; of_body = o; small = omega (arith, m); is = cc }
 
-judged_is : (limit : ℕ) (c : List ℕ) (frame : ℕ × List ℕ) (o : Result (List ℕ) Refusal) → 16 ≤ length c → judged_text limit c o ≡ Ok frame → IsText limit c frame.1
-judged_is limit c frame (Err why) h e = absurd cc
-judged_is limit c frame (Ok body) h e = small_is limit c frame body (nat_lt limit (16 + length body)) refl h e
+judged_is : (limit : ℕ) (c : List ℕ) (frame : ℕ × List ℕ) (o : Result (List ℕ) Refusal) → body_text (frame_type c) (frame_body c) ≡ o → 16 ≤ length c → judged_text limit c o ≡ Ok frame → IsText limit c frame.1
+judged_is limit c frame (Err why) b h e = absurd cc
+judged_is limit c frame (Ok body) b h e = small_is limit c frame body (nat_lt limit (16 + length body)) b refl h e
 
 tested_is : (a b d e : Bool) (j : Judged) (frame : ℕ × List ℕ) → cond a (Err Cut) (cond b (Err ShortLength) (cond d (Err OverLimit) (cond e (Err Cut) j))) ≡ Ok frame → (a ≡ false) × (j ≡ Ok frame)
 tested_is true b d e j frame h = absurd cc
@@ -112,13 +112,13 @@ tested_is false false true e j frame h = absurd cc
 tested_is false false false true j frame h = absurd cc
 tested_is false false false false j frame h = (refl, h)
 
-accepted_is : (limit : ℕ) (c : List ℕ) (frame : ℕ × List ℕ) → first_frame limit c ≡ Ok frame → IsText limit c frame.1
+pub accepted_is : (limit : ℕ) (c : List ℕ) (frame : ℕ × List ℕ) → first_frame limit c ≡ Ok frame → IsText limit c frame.1
 unfolding first_frame
 accepted_is limit c frame h =
     let o = body_text (frame_type c) (frame_body c) in
     let p = tested_is (nat_lt (length c) 16) (nat_lt (frame_length c) 16) (nat_lt limit (frame_length c)) (nat_lt (length c) (frame_length c)) (judged_text limit c o) frame h in
     let m = ltb-false (length c) 16 p.0 in
-    judged_is limit c frame o (omega (arith, m)) p.1
+    judged_is limit c frame o refl (omega (arith, m)) p.1
 
 -- ---- texts in front of other bytes
 

@@ -1,6 +1,17 @@
 pub mod Bisection
+pub mod ByteParts
+pub mod CanonicalLists
+pub mod CapturesTold
 pub mod FrameSteps
+pub mod FramesTold
+pub mod HeadersTold
 pub mod Indents
+pub mod LineCuts
+pub mod LinksTold
 pub mod ListSteps
+pub mod ListsTold
 pub mod RowFacts
+pub mod ShapesTold
+pub mod TablesTold
+pub mod TitlesTold
 pub mod Told

@@ -1,42 +1,189 @@
--- Whether rows of names cover tables: each row has a name, and what it holds stands behind that name.
-use Rattle.std.specs.Prelude.{ℕ, ◌==◌, ◌&&◌, not, Bool, true, false, List, [], ◌∷◌, Option, None, Some, bytes_eq}
+-- Whether rows of names cover tables: each row has a name, behind which stands a text that tells its payload, and each name has a row.
+use Rattle.std.specs.Prelude.{ℕ, ◌/◌, ◌%◌, ◌==◌, ◌&&◌, ◌||◌, not, nat_le, nat_lt, Bool, true, false, cond, List, [], ◌∷◌, take, Option, Some, None, bytes_eq}
 use Rattle.std.specs.List.{list_any}
-use Rattle.attribute_tables_grammar.specs.Tables.{Payload, Payload.plain, Payload.peer, Payload.list, Payload.link_info, Table, Table.end, Table.row, Names, Names.others, Names.name}
+use Rattle.attribute_tables_grammar.specs.Shapes.{Shape, exact, either, at_most, nonzero_byte, one_byte, truth_of_four, presence, text, raw, never, fixed_record, id_and_truth, resized}
+use Rattle.attribute_tables_grammar.specs.Tables.{Payload, Payload.plain, Payload.peer, Payload.list, Payload.link_info, Table, Table.end, Table.row, Names, Names.others, Names.name, lacks_name}
+use Rattle.link_lines_values.specs.declared.fields.Field.{Field}
+use Rattle.link_lines_values.specs.declared.fields.FieldShown.{FieldShown}
+use Rattle.link_lines_values.specs.declared.fields.FieldShown.TheVariants as F
+use Rattle.link_lines_values.specs.declared.values.Shown.{Shown}
+use Rattle.link_lines_values.specs.declared.values.Shown.TheVariants as V
+use Rattle.link_lines_values.specs.Records.{fields_of, total_size}
 use Rattle.link_lines_texts.specs.declared.kinds.TheConstants.{KINDS, PORT_KINDS}
 use Rattle.link_lines_texts.specs.declared.rows.Inside.{Inside}
-use Rattle.link_lines_texts.specs.declared.rows.Inside.TheVariants.{Value, List as Nested, Data, PortData}
+use Rattle.link_lines_texts.specs.declared.rows.Inside.TheVariants.{Value, List as Nested}
 use Rattle.link_lines_texts.specs.declared.rows.KindTable.{KindTable}
 use Rattle.link_lines_texts.specs.declared.rows.Title.{Title}
+use Rattle.link_lines_texts.specs.declared.titles.TheConstants.{TITLES}
 use Rattle.link_lines_texts.specs.Lists.{of_table}
-use Rattle.link_lines_texts.specs.Titles.{title_of, title_name, table_named}
+use Rattle.link_lines_texts.specs.Titles.{key_of, title_of, title_name, table_named}
+
+-- ---- shapes
+
+-- how many bytes a payload of a shape has that is its own text, where all have the same
+abbrev pub own_size : Shape → Option ℕ
+own_size (exact n) = Some n
+own_size (either m n) = None
+own_size (at_most n) = None
+own_size nonzero_byte = Some 1
+own_size one_byte = Some 1
+own_size truth_of_four = Some 4
+own_size presence = Some 0
+own_size text = None
+own_size raw = None
+own_size never = None
+own_size (fixed_record m n) = cond (nat_le m n) (Some n) None
+own_size id_and_truth = Some 8
+own_size (resized n) = Some n
+
+abbrev pub is_sized : Option ℕ → (ℕ → Bool) → Bool
+is_sized None f = false
+is_sized (Some n) f = f n
+
+-- the sizes of numbers
+abbrev pub is_size : ℕ → Bool
+is_size n = (n == 1) || ((n == 2) || ((n == 4) || (n == 8)))
+
+-- the shape's own payloads are 0 or 1
+abbrev pub is_truth : Shape → Bool
+is_truth nonzero_byte = true
+is_truth one_byte = true
+is_truth truth_of_four = true
+is_truth s = false
+
+abbrev pub is_presence : Shape → Bool
+is_presence presence = true
+is_presence s = false
+
+abbrev pub is_string : Shape → Bool
+is_string text = true
+is_string s = false
+
+-- at most one byte
+abbrev pub is_optional : Shape → Bool
+is_optional (at_most n) = n == 1
+is_optional s = false
+
+-- 4 bytes, or 16, or either
+abbrev pub is_address : Shape → Bool
+is_address (exact n) = (n == 4) || (n == 16)
+is_address (either m n) = (m == 4) && (n == 16)
+is_address s = false
+
+abbrev pub is_no_truth : FieldShown → Bool
+is_no_truth F.Truth = false
+is_no_truth v = true
+
+abbrev pub lacks_truths : List Field → Bool
+lacks_truths [] = true
+lacks_truths (f ∷ fs) = is_no_truth f.3 && lacks_truths fs
+
+-- a number of 4 bytes and a truth of 4 bytes
+abbrev pub is_setting : List Field → Bool
+is_setting (f ∷ g ∷ []) = (f.2 == 4) && (is_no_truth f.3 && (g.2 == 4))
+is_setting fs = false
+
+-- the shape's own payloads hold the fields, and zeros behind them
+abbrev pub has_fields : Shape → List Field → Bool
+has_fields (exact n) fs = (total_size fs == n) && lacks_truths fs
+has_fields (resized n) fs = (total_size fs == n) && lacks_truths fs
+has_fields (fixed_record m n) fs = nat_le m n && (((total_size fs == n) || (total_size fs == m)) && lacks_truths fs)
+has_fields id_and_truth fs = is_setting fs
+has_fields s fs = false
+
+-- the text of a form tells the shape's own payloads
+abbrev pub shape_tells : Shape → Shown → Bool
+shape_tells s (V.Number numbers) = is_sized (own_size s) is_size
+shape_tells s (V.BigEndian numbers) = is_sized (own_size s) is_size
+shape_tells s V.Signed = is_sized (own_size s) (λ n. n == 4)
+shape_tells s V.Flags = is_sized (own_size s) is_size
+shape_tells s V.BigEndianFlags = is_sized (own_size s) is_size
+shape_tells s V.FlagsBySize = is_sized (own_size s) (λ n. (n == 4) || (n == 2))
+shape_tells s V.Truth = is_truth s
+shape_tells s V.Presence = is_presence s
+shape_tells s V.OptionalByte = is_optional s
+shape_tells s V.Text = is_string s
+shape_tells s V.Bytes = true
+shape_tells s V.HardwareAddress = true
+shape_tells s V.Address = is_address s
+shape_tells s V.PortRange = is_sized (own_size s) (λ n. n == 4)
+shape_tells s V.FlagsAndMask = is_sized (own_size s) (λ n. n == 8)
+shape_tells s (V.Record held) = has_fields s (fields_of held)
+shape_tells s (V.SparseRecord held) = has_fields s (fields_of held)
 
 abbrev pub inside_of : Option Title → Option Inside
 inside_of None = None
 inside_of (Some t) = Some t.4
 
+-- ---- names
+
+abbrev pub all_titles : (Title → Bool) → List Title → Bool
+all_titles f [] = true
+all_titles f (t ∷ ts) = f t && all_titles f ts
+
+-- the table and the kind of a row, by its key
+abbrev pub table_of : Title → ℕ
+table_of t = key_of t / 65536
+
+abbrev pub kind_of : Title → ℕ
+kind_of t = key_of t % 65536
+
+-- upper case letters, digits and underscores, a letter first
+abbrev pub is_word : List ℕ → Bool
+is_word [] = true
+is_word (c ∷ s) = nat_le 48 c && is_word s
+
+abbrev pub is_name : List ℕ → Bool
+is_name [] = false
+is_name (c ∷ s) = nat_le 65 c && (nat_lt c 97 && is_word s)
+
+abbrev pub has_name : Title → Bool
+has_name t = is_name (title_name t)
+
+-- rows of both tables are looked up together: the tables below that of all families are those of one family each
+abbrev pub is_beside : ℕ → ℕ → Bool
+is_beside m n = (m == n) || ((nat_lt m 4 && (n == 4)) || (nat_lt n 4 && (m == 4)))
+
+abbrev pub takes_name : Title → Title → Bool
+takes_name t u = is_beside (table_of t) (table_of u) && bytes_eq (title_name t) (title_name u)
+
+-- no two rows that are looked up together have one name
+abbrev pub names_apart : List Title → Bool
+names_apart [] = true
+names_apart (t ∷ ts) = not (list_any (takes_name t) ts) && names_apart ts
+
+-- ---- tables: each row has a name, behind which its payload is told, and each name has a row
+
+abbrev pub has_row : Table → ℕ → Bool
+has_row end k = false
+has_row (row l n s t) k = (k == l) || has_row t k
+
+-- a name is looked up in another table, or is that of a row
+abbrev pub is_in : ℕ → Table → Title → Bool
+is_in m t u = not (is_beside m (table_of u)) || has_row t (kind_of u)
+
+-- the names of link info are those of its five kinds
+abbrev pub is_info_kind : Title → Bool
+is_info_kind t = not (table_of t == 5) || (nat_le 1 (kind_of t) && nat_le (kind_of t) 5)
+
+-- each name in the table of kinds has a payload
+abbrev pub kinds_listed : List KindTable → Names → Bool
+kinds_listed [] ns = true
+kinds_listed (r ∷ rs) ns = not (lacks_name (take r.0 r.1) ns) && kinds_listed rs ns
+
 abbrev mutual
-  -- what a payload holds stands behind its name: a value, the attributes of its table, or link info, which is table 5
-  pub holds_told : Payload → Option Inside → Bool
-  holds_told (plain s) (Some (Value shown)) = true
-  holds_told peer (Some (Value shown)) = true
-  holds_told (list form t) (Some (Nested n)) = rows_told n t
-  holds_told (link_info form data' ports) (Some (Nested n)) = (n == 5) && (names_told data' KINDS && names_told ports PORT_KINDS)
-  holds_told s inside = false
+  -- what stands behind a payload's name tells the payload: a value, or the attributes of its table; link info is table 5
+  pub holds_shown : Payload → Option Inside → Bool
+  holds_shown (plain s) (Some (Value v)) = shape_tells s v
+  holds_shown peer (Some (Value v)) = shape_tells raw v
+  holds_shown (list form t) (Some (Nested n)) = not (n == 5) && (all_titles (is_in n t) TITLES && rows_shown n t)
+  holds_shown (link_info form data' ports) (Some (Nested n)) = (n == 5) && ((names_shown data' KINDS && kinds_listed KINDS data') && (names_shown ports PORT_KINDS && kinds_listed PORT_KINDS ports))
+  holds_shown s inside = false
 
-  -- each row of a table has a name in the table of that number
-  pub rows_told : ℕ → Table → Bool
-  rows_told n end = true
-  rows_told n (row k nested s t) = holds_told s (inside_of (title_of n k)) && rows_told n t
+  pub rows_shown : ℕ → Table → Bool
+  rows_shown m end = true
+  rows_shown m (row k nested s t) = holds_shown s (inside_of (title_of m k)) && rows_shown m t
 
-  -- the data of each kind have a table
-  pub names_told : Names → List KindTable → Bool
-  names_told others kinds = true
-  names_told (name m s ns) kinds = holds_told s (Some (of_table (table_named m kinds))) && names_told ns kinds
-
-abbrev pub is_namesake : Title → Title → Bool
-is_namesake t u = (t.0 == u.0) && bytes_eq (title_name t) (title_name u)
-
--- no two rows of one table have one name
-abbrev pub names_differ : List Title → Bool
-names_differ [] = true
-names_differ (t ∷ ts) = not (list_any (is_namesake t) ts) && names_differ ts
+  pub names_shown : Names → List KindTable → Bool
+  names_shown others kinds = true
+  names_shown (name m s ns) kinds = holds_shown s (Some (of_table (table_named m kinds))) && names_shown ns kinds

@@ -1,15 +1,19 @@
 -- The laws of lines, as the functions of `laws` state them.
-use Rattle.std.specs.Prelude.{◌≡◌, ℕ, ◌+◌, ◌^◌, ◌<◌, true, false, List, [], ◌++◌, take, drop, Some, None}
+use Rattle.std.specs.Prelude.{◌≡◌, ℕ, ◌+◌, ◌^◌, ◌<◌, ◌↔◌, true, false, List, [], ◌++◌, take, drop, Some, None}
 use Rattle.netlink_packet_core_grammar.specs.Attributes.{Attribute, nla_align, first_attribute}
+use Rattle.netlink_packet_core_grammar.specs.Bytes.{AreBytes}
 use Rattle.netlink_packet_core_grammar.specs.Frames.{frame_length}
-use Rattle.attribute_tables_grammar.specs.Lists.{Context, nothing}
-use Rattle.link_capture_grammar.specs.Captures.{texts}
+use Rattle.attribute_tables_grammar.specs.Lists.{Context, any, nothing}
+use Rattle.attribute_tables_grammar.specs.Tables.{Payload}
+use Rattle.link_capture_grammar.specs.Captures.{IsLegal, texts}
+use Rattle.link_capture_grammar.specs.Same.{SameCapture}
 use Rattle.link_message_grammar.specs.LinkMessage.{unspec, bridge, inet_6, other, link_table}
 use Rattle.link_lines_texts.specs.declared.titles.TheConstants.{TITLES}
-use Rattle.link_lines_texts.specs.Coverage.{rows_told, names_differ}
+use Rattle.link_lines_texts.specs.declared.rows.Inside.TheVariants.{List as Nested}
+use Rattle.link_lines_texts.specs.Coverage.{all_titles, has_name, holds_shown, is_info_kind, names_apart}
 use Rattle.link_lines_texts.specs.Lists.{own_line, table_inside, next_in, list_lines, nested_lines, rest_lines}
 use Rattle.link_lines_texts.specs.Frames.{frame_lines}
-use Rattle.link_lines_texts.specs.Captures.{is_frame, text_lines}
+use Rattle.link_lines_texts.specs.Captures.{is_frame, lines, text_lines}
 
 -- The lines of a list are those of its first attribute, of what it holds, and of the rest in the context that it leaves. Where no whole attribute stands,
 -- there are none.
@@ -27,11 +31,21 @@ pub record LinesGoByFrames : Type 0 where
 abbrev pub LinesAreJoined : Type 0
 LinesAreJoined = (limit : ℕ) (s t : List ℕ) → limit < 2 ^ 32 → text_lines (texts limit s ++ t) ≡ text_lines (texts limit s) ++ text_lines t
 
--- Each row of the tables of link messages, and of every table inside, has a name, behind which stands what the row holds; and no two of one table have one
--- name.
+-- Each row of the tables of link messages, and of every table inside, has a name, behind which stands what tells the row's payload; each name is that of a row;
+-- and no two names that are looked up together are equal.
 pub record RowsAreTold : Type 0 where
-  pub unspec_told : rows_told 0 (link_table unspec) ≡ true
-  pub bridge_told : rows_told 1 (link_table bridge) ≡ true
-  pub inet6_told : rows_told 2 (link_table inet_6) ≡ true
-  pub other_told : rows_told 3 (link_table other) ≡ true
-  pub differ : names_differ TITLES ≡ true
+  pub unspec_told : holds_shown (Payload.list any (link_table unspec)) (Some (Nested 0)) ≡ true
+  pub bridge_told : holds_shown (Payload.list any (link_table bridge)) (Some (Nested 1)) ≡ true
+  pub inet6_told : holds_shown (Payload.list any (link_table inet_6)) (Some (Nested 2)) ≡ true
+  pub other_told : holds_shown (Payload.list any (link_table other)) (Some (Nested 3)) ≡ true
+  pub named : all_titles has_name TITLES ≡ true
+  pub info_named : all_titles is_info_kind TITLES ≡ true
+  pub apart : names_apart TITLES ≡ true
+
+-- Two captures have the same lines exactly where they have the same texts: for legal captures, where their normal texts are equal.
+abbrev pub LinesTellTexts : Type 0
+LinesTellTexts = (limit : ℕ) (s t : List ℕ) → limit < 2 ^ 32 → AreBytes s → AreBytes t → (lines limit s ≡ lines limit t) ↔ (texts limit s ≡ texts limit t)
+
+-- So legal captures have the same lines exactly where they mean the same.
+abbrev pub LinesTellMeanings : Type 0
+LinesTellMeanings = (limit : ℕ) (a b : List ℕ) → limit < 2 ^ 32 → AreBytes a → AreBytes b → IsLegal limit a → IsLegal limit b → (lines limit a ≡ lines limit b) ↔ SameCapture limit a b

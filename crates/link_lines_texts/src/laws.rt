@@ -1,9 +1,22 @@
 //! Laws of the definitions: each function does nothing, and what it states holds of all values.
 
-ghost use Rattle.link_lines_texts.specs.Laws.{ListsGoBySteps, LinesGoByFrames, LinesAreJoined, RowsAreTold};
+ghost use Rattle.link_lines_texts.specs.Laws.{LinesAreJoined, LinesGoByFrames, LinesTellMeanings, LinesTellTexts};
+ghost use Rattle.link_lines_texts.specs.Laws.{ListsGoBySteps, RowsAreTold};
+ghost use Rattle.link_lines_texts.specs.Telling.{FramesAreTold, ListsAreTold, ShapesAreTold};
 
-use link_capture_grammar::laws::frames_are_judged;
-use netlink_packet_core_grammar::laws::first_attributes_are_within;
+use attribute_tables_grammar::laws::peers_that_are_bytes_are_lawful;
+use link_capture_grammar::laws::{
+    bodies_are_normal, captures_are_counted, frames_are_judged, frames_stand_alone,
+    texts_tell_meanings,
+};
+use link_lines_values::laws::{
+    address_sizes_are_told, addresses_are_told, bytes_are_told, digits_are_told, numbers_are_told,
+    records_are_told, settings_are_told, values_stand_on_a_line,
+};
+use link_message_grammar::laws::{bodies_are_headers_and_attributes, bodies_are_lawful};
+use netlink_packet_core_grammar::laws::{
+    first_attributes_are_within, texts_are_cut_again, written_attributes_come_first,
+};
 
 /// The lines of a list go by its attributes.
 pub fn lists_go_by_steps()
@@ -25,8 +38,67 @@ pub fn lines_are_joined()
     frames_are_judged();
 }
 
-/// Each row of the tables of link messages, and of every table inside, has a name, behind which stands what the row
-/// holds; and no two rows of one table have one name.
+/// Each row of the tables of link messages, and of every table inside, has a name, behind which stands what tells the
+/// row's payload; each name is that of a row; and no two names that are looked up together are equal.
 pub fn rows_are_told()
     ensures { RowsAreTold }
 {}
+
+/// Payloads of a shape that are their own text are equal where a form that tells the shape shows them alike.
+pub fn shapes_are_told()
+    ensures { ShapesAreTold }
+{
+    addresses_are_told();
+    address_sizes_are_told();
+    bytes_are_told();
+    numbers_are_told();
+    records_are_told();
+    settings_are_told();
+}
+
+/// Lists of a link's attributes that are their own text are equal where their lines are.
+pub fn lists_are_told()
+    ensures { ListsAreTold }
+{
+    bytes_are_told();
+    first_attributes_are_within();
+    rows_are_told();
+    shapes_are_told();
+    texts_are_cut_again();
+    values_stand_on_a_line();
+    written_attributes_come_first();
+}
+
+/// Frames whose body is its own text are equal but for their length where their lines are.
+pub fn frames_are_told()
+    ensures { FramesAreTold }
+{
+    bodies_are_headers_and_attributes();
+    bytes_are_told();
+    digits_are_told();
+    lists_are_told();
+    numbers_are_told();
+    values_stand_on_a_line();
+}
+
+/// Two captures have the same lines exactly where they have the same texts: for legal captures, where their normal
+/// texts are equal.
+pub fn lines_tell_texts()
+    ensures { LinesTellTexts }
+{
+    bodies_are_lawful();
+    bodies_are_normal();
+    captures_are_counted();
+    frames_are_judged();
+    frames_are_told();
+    frames_stand_alone();
+    peers_that_are_bytes_are_lawful();
+}
+
+/// So two legal captures have the same lines exactly where they mean the same.
+pub fn lines_tell_meanings()
+    ensures { LinesTellMeanings }
+{
+    lines_tell_texts();
+    texts_tell_meanings();
+}

@@ -9,4 +9,3 @@ mod rows;
 mod titles;
 
 pub use frames::push_lines;
-pub use laws::lines_are_joined;

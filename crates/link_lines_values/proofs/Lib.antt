@@ -6,3 +6,5 @@ mod BytesTold
 mod NumbersTold
 mod ValuesTold
 mod RecordsTold
+mod OneLine
+mod SizesTold

@@ -1,7 +1,7 @@
 -- Numbers are told by their text.
 use Rattle.std.proofs.Common.{◌≡◌, ℕ, zero, suc, ◌+◌, ◌-◌, ◌*◌, ◌/◌, ◌%◌, ◌^◌, ◌<◌, ◌≤◌, Bool, true, false, List, [], ◌∷◌, ◌++◌, length, drop, refl, sym, ap, subst, ◌∙◌, arith, eq-eqb}
 use Rattle.std.proofs.lemmas.List.{reverse-append, reverse-reverse, length-reverse}
-use Rattle.std.specs.Prelude.{◌==◌, ◌||◌, cond, get_or, nat_lt, reverse, ⊤}
+use Rattle.std.specs.Prelude.{◌==◌, ◌||◌, cond, get_or, nat_lt, reverse}
 use Rattle.std.specs.List.{AllByRecursion}
 use Rattle.std.specs.Fmt.{decimal, digit_glyph, digits, digits_onto}
 use Rattle.std.proofs.lemmas.Fmt.{digits_is_IsNumeral, decimal_is_IsNumeral, decimal_injective}
@@ -11,7 +11,7 @@ use Rattle.netlink_packet_core_grammar.specs.Bytes.{AreBytes}
 use Rattle.attribute_tables_grammar.specs.Shapes.{number}
 use Rattle.link_lines_values.specs.declared.numbers.Numbers.{Numbers}
 use Rattle.link_lines_values.specs.Digits.{big_endian, hex_number, is_number, signed_text}
-use Rattle.link_lines_values.specs.Laws.{NumbersAreTold}
+use Rattle.link_lines_values.specs.Laws.{DigitsAreTold, Ends, NumbersAreTold}
 use Rattle.link_lines_values.specs.Values.{number_value, big_endian_value, flags_value, signed_value}
 use Rattle.link_lines_values.specs.Names.{bracketed, named_number, name_or_nothing}
 
@@ -19,10 +19,6 @@ use Rattle.link_lines_values.specs.Names.{bracketed, named_number, name_or_nothi
 
 abbrev pub Digits : List ℕ → Type 0
 Digits ds = AllByRecursion (λ c. 48 ≤ c) ds
-
-abbrev pub Ends : List ℕ → Type 0
-Ends [] = ⊤
-Ends (c ∷ s) = c < 48
 
 apart : (c d : ℕ) → c < 48 → 48 ≤ d → c ≡ d → ⊥
 apart c d l h e = omega arith
@@ -185,3 +181,6 @@ signed p q a b l k e =
 
 pub numbers_told : NumbersAreTold
 numbers_told = record { little = little; big = big; signed = signed; flags = flags }
+
+pub digits_are : DigitsAreTold
+digits_are = record { decimal_digits = decimal_told; hex_digits = hex_told }

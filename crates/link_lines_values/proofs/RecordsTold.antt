@@ -16,10 +16,10 @@ use Rattle.link_lines_values.specs.Bytes.{colon_byte, colons, count_without_zero
 use Rattle.link_lines_values.specs.Digits.{big_endian, is_number}
 use Rattle.link_lines_values.specs.declared.records.Record.{Record}
 use Rattle.link_lines_values.specs.declared.records.Record.TheVariants as R
-use Rattle.link_lines_values.specs.Laws.{AllKnown, IsKnown, RecordsAreTold}
+use Rattle.link_lines_values.specs.Laws.{AllKnown, Ends, IsKnown, RecordsAreTold}
 use Rattle.link_lines_values.specs.Records.{field_text, field_value, fields_of, fields_text, record_text, total_size}
 use Rattle.link_lines_values.proofs.BytesTold.{colons_are_told}
-use Rattle.link_lines_values.proofs.NumbersTold.{Digits, Ends, cut, shown_by, bounded, small, number_told, big_told, same_size, turned, turned_size, decimal_told, signed_told, high_by}
+use Rattle.link_lines_values.proofs.NumbersTold.{Digits, cut, shown_by, bounded, small, number_told, big_told, same_size, turned, turned_size, decimal_told, signed_told, high_by}
 use Rattle.link_lines_values.proofs.ValuesTold.{bytes_front, bytes_back, both_parts, true_is_false, zero_number, truth_told}
 
 -- ---- an address without the zeros at its end

@@ -15,14 +15,14 @@ use Rattle.attribute_tables_grammar.specs.Shapes.{number}
 use Rattle.link_lines_values.specs.Bytes.{address_text, is_zero, truth_text}
 use Rattle.link_lines_values.specs.Digits.{big_endian, hex_number, is_number}
 use Rattle.link_lines_values.specs.Values.{big_endian_flags_value, flags_and_mask_value, optional_byte_value, port_range_value, sized_flags_value}
-use Rattle.link_lines_values.specs.Laws.{SettingsAreTold}
+use Rattle.link_lines_values.specs.Laws.{Ends, SettingsAreTold}
 use Rattle.std.specs.Fmt.{decimal}
 use Rattle.std.proofs.lemmas.List.{take-append-drop, length-reverse, length-take, length-drop}
-use Rattle.link_lines_values.proofs.NumbersTold.{Ends, shown_by, same_size, turned, turned_size, small, bounded, number_told, big_told, hex_told, decimal_told}
+use Rattle.link_lines_values.proofs.NumbersTold.{shown_by, same_size, turned, turned_size, small, bounded, number_told, big_told, hex_told, decimal_told}
 
 -- ---- addresses
 
-bytes_at : (p : List ℕ) → AreBytes p → (k : ℕ) → get_or p k 0 < 256
+pub bytes_at : (p : List ℕ) → AreBytes p → (k : ℕ) → get_or p k 0 < 256
 bytes_at [] a k = omega arith
 bytes_at (x ∷ p) a zero = a.0
 bytes_at (x ∷ p) a (suc k) = bytes_at p a.1 k
@@ -36,7 +36,7 @@ ipv4_told p q a b l k e =
 pair : (a b : ℕ) → a < 256 → b < 256 → a * 256 + b < 65536
 pair a b h k = omega arith
 
-segments_at : (p : List ℕ) → AreBytes p → (k : ℕ) → get_or (segments_of p) k 0 < 65536
+pub segments_at : (p : List ℕ) → AreBytes p → (k : ℕ) → get_or (segments_of p) k 0 < 65536
 segments_at [] a k = omega arith
 segments_at (x ∷ []) a k = omega arith
 segments_at (x ∷ y ∷ p) a zero = pair x y a.0 a.1.0
@@ -45,7 +45,7 @@ segments_at (x ∷ y ∷ p) a (suc k) = segments_at p a.1.1 k
 same_pair : (a b c d : ℕ) → a < 256 → b < 256 → c < 256 → d < 256 → a * 256 + b ≡ c * 256 + d → (a ≡ c) × (b ≡ d)
 same_pair a b c d h i j k e = (omega arith, omega arith)
 
-segments_size : (n : ℕ) (p : List ℕ) → length p ≡ n + n → length (segments_of p) ≡ n
+pub segments_size : (n : ℕ) (p : List ℕ) → length p ≡ n + n → length (segments_of p) ≡ n
 segments_size zero [] l = refl
 segments_size zero (x ∷ p) l = absurd (omega arith)
 segments_size (suc n) [] l = absurd (omega arith)

@@ -1,5 +1,7 @@
 -- What a text tells of the bytes it is of, as the functions of `laws` state it.
-use Rattle.std.specs.Prelude.{◌≡◌, ℕ, ◌≤◌, Bool, true, List, [], ◌∷◌, ⊤, length, take, drop}
+use Rattle.std.specs.Prelude.{◌≡◌, ℕ, ◌^◌, ◌<◌, ◌≤◌, Bool, true, List, [], ◌∷◌, ◌++◌, ⊤, length, take, drop}
+use Rattle.std.specs.Fmt.{decimal}
+use Rattle.std.specs.List.{AllByRecursion}
 use Rattle.attribute_tables_grammar.specs.Shapes.{number}
 use Rattle.netlink_packet_core_grammar.specs.Bytes.{AreBytes}
 use Rattle.netlink_packet_core_grammar.specs.Texts.{without_nul}
@@ -8,10 +10,35 @@ use Rattle.link_lines_values.specs.declared.fields.FieldShown.{FieldShown}
 use Rattle.link_lines_values.specs.declared.fields.FieldShown.TheVariants as S
 use Rattle.link_lines_values.specs.declared.numbers.Numbers.{Numbers}
 use Rattle.link_lines_values.specs.declared.records.Record.{Record}
+use Rattle.link_lines_values.specs.declared.values.Shown.{Shown}
 use Rattle.link_lines_values.specs.Bytes.{address_text, bytes_text, hardware_text, is_zero, quoted, truth_text}
-use Rattle.link_lines_values.specs.Digits.{is_number}
+use Rattle.link_lines_values.specs.Digits.{hex_number, is_number}
 use Rattle.link_lines_values.specs.Records.{fields_of, record_text, total_size}
-use Rattle.link_lines_values.specs.Values.{number_value, big_endian_value, signed_value, flags_value, big_endian_flags_value, flags_and_mask_value, optional_byte_value, port_range_value, sized_flags_value}
+use Rattle.link_lines_values.specs.Values.{value_text, number_value, big_endian_value, signed_value, flags_value, big_endian_flags_value, flags_and_mask_value, optional_byte_value, port_range_value, sized_flags_value}
+
+-- nothing, or a byte under the digits: a space, a bracket, a newline
+abbrev pub Ends : List ℕ → Type 0
+Ends [] = ⊤
+Ends (c ∷ s) = c < 48
+
+-- Digits in front of such bytes tell their number, in decimal or in hex.
+pub record DigitsAreTold : Type 0 where
+  pub decimal_digits : (m n : ℕ) (s t : List ℕ) → m < 2 ^ 64 → n < 2 ^ 64 → Ends s → Ends t → decimal m ++ s ≡ decimal n ++ t → (m ≡ n) × (s ≡ t)
+  pub hex_digits : (m n : ℕ) (s t : List ℕ) → m < 2 ^ 64 → n < 2 ^ 64 → Ends s → Ends t → hex_number m ++ s ≡ hex_number n ++ t → (m ≡ n) × (s ≡ t)
+
+-- no byte under 32, so no newline
+abbrev pub IsLine : List ℕ → Type 0
+IsLine s = AllByRecursion (λ c. 32 ≤ c) s
+
+-- nothing, or a space in front
+abbrev pub IsBehindASpace : List ℕ → Type 0
+IsBehindASpace [] = ⊤
+IsBehindASpace (c ∷ s) = c ≡ 32
+
+-- A value's text stands on one line, behind a space.
+pub record ValuesStandOnALine : Type 0 where
+  pub line : (shown : Shown) (p : List ℕ) → IsLine (value_text shown p)
+  pub space : (shown : Shown) (p : List ℕ) → IsBehindASpace (value_text shown p)
 
 -- Bytes in hex, with or without colons, are told by their text, and bytes in quotes up to a NUL at the end.
 pub record BytesAreTold : Type 0 where
@@ -40,6 +67,10 @@ pub record SettingsAreTold : Type 0 where
   pub optional : (p q : List ℕ) → AreBytes p → AreBytes q → length p ≤ 1 → length q ≤ 1 → optional_byte_value p ≡ optional_byte_value q → p ≡ q
   pub ports : (p q : List ℕ) → AreBytes p → AreBytes q → length p ≡ 4 → length q ≡ 4 → port_range_value p ≡ port_range_value q → p ≡ q
   pub truth : (p q : List ℕ) → AreBytes p → AreBytes q → length p ≡ length q → number p ≤ 1 → number q ≤ 1 → truth_text p ≡ truth_text q → p ≡ q
+
+-- No address of 4 bytes has the text of one of 16.
+abbrev pub AddressSizesAreTold : Type 0
+AddressSizesAreTold = (p q : List ℕ) → AreBytes p → AreBytes q → length p ≡ 4 → length q ≡ 16 → address_text p ≡ address_text q → ⊥
 
 -- a truth is 0 or 1
 abbrev pub IsKnown : FieldShown → List ℕ → Type 0

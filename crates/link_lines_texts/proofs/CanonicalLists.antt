@@ -1,0 +1,158 @@
+-- A list that is its own text is the text of attributes that are theirs.
+use Rattle.std.proofs.Common.{◌≡◌, ℕ, suc, ◌-◌, ◌%◌, ◌/◌, ◌<◌, ◌≤◌, Bool, true, false, cond, List, [], ◌∷◌, ◌++◌, length, drop, Option, Some, None, refl, sym, ap, subst, ◌∙◌, arith}
+use Rattle.std.specs.Prelude.{filter, option_map, ⊤}
+use Rattle.std.proofs.lemmas.Bool.{and_parts}
+use Rattle.netlink_packet_core_grammar.specs.Attributes.{Attribute, attribute_header, attribute_length, attribute_text, first_attribute, if_some, list_text, nla_align, zeros}
+use Rattle.netlink_packet_core_grammar.specs.Bytes.{AreBytes}
+use Rattle.netlink_packet_core_grammar.specs.Laws.{TextIsCut, WrittenIsFirst}
+use Rattle.attribute_tables_grammar.specs.Lists.{Context, Grammar, ListForm, Row, all_accepted, any, first_alone, if_read, is_of_kind_one, kept, list_rule, non_empty, not_empty, nothing, of_kind_one, ports, read_as, rewrite, rewritten, row_of, written_kind}
+use Rattle.link_lines_texts.specs.Telling.{IsOwn}
+use Rattle.link_lines_texts.proofs.ByteParts.{back_bytes, front_bytes}
+
+-- an attribute that its row accepts and leaves as it is
+pub record OwnAttribute (r : Row) (e : Attribute) : Type 0 where
+  pub small : e.kind < 65536
+  pub kind : written_kind r e.kind ≡ e.kind
+  pub payload : IsOwn r.rule e.payload
+
+-- attributes in order, each under its row
+abbrev pub AllOwn : Grammar → Context → List Attribute → Type 0
+AllOwn g c [] = ⊤
+AllOwn g c (e ∷ es) = OwnAttribute (row_of g c e) e × AllOwn g (g.next c e) es
+
+pub record OwnList (g : Grammar) (p : List ℕ) : Type 0 where
+  pub attributes : List Attribute
+  pub is : p ≡ list_text attributes
+  pub own : AllOwn g nothing attributes
+
+-- ---- bytes
+
+two_bytes : (k : ℕ) → k % 256 < 256 → k / 256 < 256 → k < 65536
+two_bytes k h l = omega arith
+
+record HasBytes (e : Attribute) (es : List Attribute) : Type 0 where
+  small : e.kind < 65536
+  payload : AreBytes e.payload
+  rest : AreBytes (list_text es)
+
+bytes_of : (e : Attribute) (es : List Attribute) → AreBytes (list_text (e ∷ es)) → HasBytes e es
+unfolding list_text attribute_text
+bytes_of e es h =
+    let n = attribute_length e in
+    let first = front_bytes (attribute_text e) (list_text es) h in
+    let inside = back_bytes (attribute_header n e.kind) (e.payload ++ zeros (nla_align n - n)) first in
+    record {
+      small = two_bytes e.kind first.1.1.0 first.1.1.1.0;
+      payload = front_bytes e.payload (zeros (nla_align n - n)) inside;
+      rest = back_bytes (attribute_text e) (list_text es) h;
+    }
+
+-- ---- attributes that are as they are written
+
+abbrev first_or : Attribute → List Attribute → Attribute
+first_or d [] = d
+first_or d (e ∷ es) = e
+
+all_own : (g : Grammar) (c : Context) (es : List Attribute) → es ≡ rewritten g c es → all_accepted g c es ≡ true → AreBytes (list_text es) → AllOwn g c es
+unfolding rewritten all_accepted
+all_own g c [] h a b = record {}
+all_own g c (e ∷ es) h a b =
+    let r = row_of g c e in
+    let same : e ≡ rewrite r e = ap (first_or e) h in
+    let parts = and_parts (r.rule.accepted e.payload) (all_accepted g (g.next c e) es) a in
+    let bytes = bytes_of e es b in (
+      record {
+        small = bytes.small;
+        kind = ap (λ f. f.kind) (sym same);
+        payload = record { bytes = bytes.payload; accepted = parts.0; canonical = ap (λ f. f.payload) (sym same) };
+      },
+      all_own g (g.next c e) es (ap (drop 1) h) parts.1 bytes.rest,
+    )
+
+-- ---- what is read of such a list is what it is written as
+
+rewritten_length : (g : Grammar) (c : Context) (es : List Attribute) → length (rewritten g c es) ≡ length es
+unfolding rewritten
+rewritten_length g c [] = refl
+rewritten_length g c (e ∷ es) = ap suc (rewritten_length g (g.next c e) es)
+
+filtered_by : (f : Attribute → Bool) (e : Attribute) (es : List Attribute) (t : Bool) → length (filter f es) ≤ length es → length (cond t (e ∷ filter f es) (filter f es)) ≤ suc (length es)
+filtered_by f e es true h = omega arith
+filtered_by f e es false h = omega arith
+
+filtered_length : (f : Attribute → Bool) (es : List Attribute) → length (filter f es) ≤ length es
+filtered_length f [] = omega arith
+filtered_length f (e ∷ es) = filtered_by f e es (f e) (filtered_length f es)
+
+-- a filter that keeps the length keeps everything
+kept_by : (f : Attribute → Bool) (e : Attribute) (es : List Attribute) (t : Bool) → length (filter f es) ≤ length es → (length (filter f es) ≡ length es → filter f es ≡ es) →
+    length (cond t (e ∷ filter f es) (filter f es)) ≡ suc (length es) → cond t (e ∷ filter f es) (filter f es) ≡ e ∷ es
+kept_by f e es true h same l = ap (λ z. e ∷ z) (same (omega arith))
+kept_by f e es false h same l = absurd (omega arith)
+
+all_kept : (f : Attribute → Bool) (es : List Attribute) → length (filter f es) ≡ length es → filter f es ≡ es
+all_kept f [] l = refl
+all_kept f (e ∷ es) l = kept_by f e es (f e) (filtered_length f es) (all_kept f es) l
+
+abbrev or_this : {A : Type 0} → A → Option A → A
+or_this x None = x
+or_this x (Some y) = y
+
+pub some_told : {A : Type 0} (x y : A) → Some x ≡ Some y → x ≡ y
+some_told x y h = ap (or_this x) h
+
+filled : (gs es : List Attribute) → not_empty gs ≡ Some es → gs ≡ es
+filled [] es h = absurd cc
+filled (g ∷ gs) es h = some_told (g ∷ gs) es h
+
+none_or_one : (o : Option (Attribute × List ℕ)) (es : List Attribute) → option_map (λ x. x.0 ∷ []) o ≡ Some es → (e : Attribute) × (es ≡ e ∷ [])
+none_or_one None es h = absurd cc
+none_or_one (Some x) es h = (x.0, sym (some_told (x.0 ∷ []) es h))
+
+one_text : (e : Attribute) → list_text (e ∷ []) ≡ attribute_text e ++ []
+unfolding list_text
+one_text e = refl
+
+one_rewritten : (g : Grammar) (e : Attribute) → rewritten g nothing (e ∷ []) ≡ rewrite (row_of g nothing e) e ∷ []
+unfolding rewritten
+one_rewritten g e = refl
+
+alone : WrittenIsFirst → (g : Grammar) (es gs : List Attribute) → gs ≡ rewritten g nothing es → option_map (λ x. x.0 ∷ []) (first_attribute (list_text gs)) ≡ Some es → gs ≡ es
+alone first g es gs w h =
+    let one = none_or_one (first_attribute (list_text gs)) es h in
+    let f = rewrite (row_of g nothing one.0) one.0 in
+    let is : gs ≡ f ∷ [] = w ∙ ap (λ z. rewritten g nothing z) one.1 ∙ one_rewritten g one.0 in
+    let read : first_attribute (list_text gs) ≡ Some (f, []) = ap (λ z. first_attribute (list_text z)) is ∙ ap (λ z. first_attribute z) (one_text f) ∙ first f [] in
+    is ∙ some_told (f ∷ []) es (ap (λ o. option_map (λ x. x.0 ∷ []) o) (sym read) ∙ h)
+
+read_back : TextIsCut → WrittenIsFirst → (form : ListForm) (g : Grammar) (es gs : List Attribute) → gs ≡ rewritten g nothing (kept form es) → read_as form (list_text gs) ≡ Some es → gs ≡ es
+read_back cut first any g es gs w h = some_told gs es (sym (cut gs).0 ∙ h)
+read_back cut first of_kind_one g es gs w h = some_told gs es (sym (cut gs).0 ∙ h)
+read_back cut first non_empty g es gs w h = filled gs es (ap (λ o. if_some o not_empty) (sym (cut gs).0) ∙ h)
+read_back cut first ports g es gs w h = filled gs es (ap (λ o. if_some o not_empty) (sym (cut gs).0) ∙ h)
+read_back cut first first_alone g es gs w h = alone first g es gs w h
+
+-- such a form keeps all of them
+nothing_dropped : (form : ListForm) (g : Grammar) (es : List Attribute) → rewritten g nothing (kept form es) ≡ es → kept form es ≡ es
+nothing_dropped any g es h = refl
+nothing_dropped non_empty g es h = refl
+nothing_dropped first_alone g es h = refl
+nothing_dropped of_kind_one g es h = all_kept is_of_kind_one es (sym (rewritten_length g nothing (filter is_of_kind_one es)) ∙ ap length h)
+nothing_dropped ports g es h = all_kept is_of_kind_one es (sym (rewritten_length g nothing (filter is_of_kind_one es)) ∙ ap length h)
+
+module _ (cut : TextIsCut) (first : WrittenIsFirst) (form : ListForm) (g : Grammar) (p : List ℕ) (bytes : AreBytes p) where
+  own_by : (o : Option (List Attribute)) → read_as form p ≡ o → if_read false (λ es. all_accepted g nothing (kept form es)) o ≡ true → if_read [] (λ es. list_text (rewritten g nothing (kept form es))) o ≡ p → OwnList g p
+  own_by None r a c = absurd cc
+  own_by (Some es) r a c =
+      let gs = rewritten g nothing (kept form es) in
+      let same : gs ≡ es = read_back cut first form g es gs refl (ap (read_as form) c ∙ r) in
+      let whole : kept form es ≡ es = nothing_dropped form g es same in
+      let is : p ≡ list_text es = sym c ∙ ap list_text same in
+      record {
+        attributes = es;
+        is = is;
+        own = all_own g nothing es (sym same ∙ ap (rewritten g nothing) whole) (ap (all_accepted g nothing) (sym whole) ∙ a) (subst AreBytes is bytes);
+      }
+
+pub own_list : TextIsCut → WrittenIsFirst → (form : ListForm) (g : Grammar) (p : List ℕ) → IsOwn (list_rule form g) p → OwnList g p
+own_list cut first form g p o = own_by cut first form g p o.bytes (read_as form p) refl o.accepted o.canonical

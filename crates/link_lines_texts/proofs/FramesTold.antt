@@ -1,0 +1,267 @@
+-- Lines tell frames, where they tell lists of attributes.
+use Rattle.std.proofs.Common.{◌≡◌, ℕ, ◌+◌, ◌*◌, ◌≤◌, Bool, true, false, cond, List, [], ◌∷◌, ◌++◌, length, take, drop, get_or, Ok, Err, refl, sym, ap, subst, ◌∙◌, append_assoc, arith, inl, inr}
+use Rattle.std.specs.Prelude.{◌==◌, ◌||◌, nat_le, codes, slice_index}
+use Rattle.std.proofs.lemmas.Bool.{and_parts, eqb-true, leb-true, ltb-false, le-leb, ne_eqb}
+use Rattle.std.proofs.lemmas.Bool.Decides.{eqb_tells}
+use Rattle.std.proofs.lemmas.List.{append_cancel_left, length-append, length-take, take-append-drop}
+use Rattle.netlink_packet_core_grammar.specs.Bytes.{AreBytes}
+use Rattle.netlink_packet_core_grammar.specs.Numbers.{u16_at}
+use Rattle.link_message_grammar.specs.Body.{attributes_rule, header_text, layer_type_text, is_listed, link_body, family}
+use Rattle.link_message_grammar.specs.LinkMessage.{family_of}
+use Rattle.link_message_grammar.specs.Laws.{BodiesAreHeadersAndAttributes}
+use Rattle.link_capture_grammar.specs.Bodies.{error_text, done_text, refused, empty_ports, unfit, is_link_type, body_text, ruled_text}
+use Rattle.link_lines_values.specs.declared.values.Shown.TheVariants.{Signed, Bytes}
+use Rattle.link_lines_values.specs.Bytes.{bytes_text}
+use Rattle.link_lines_values.specs.Values.{value_text}
+use Rattle.link_lines_values.specs.Laws.{BytesAreTold, DigitsAreTold, NumbersAreTold, ValuesStandOnALine}
+use Rattle.link_lines_texts.specs.Frames.{bytes_line, body_lines, code_lines, family_table, frame_lines, header_line, link_header_line, link_lines, type_text}
+use Rattle.link_lines_texts.specs.Lists.{list_lines}
+use Rattle.link_lines_texts.specs.Telling.{FramesAreTold, IsOwn, IsOwnFrame, IsShallow, ListsAreTold, StartsFrame}
+use Rattle.link_lines_texts.proofs.ByteParts.{first_bytes, later_bytes}
+use Rattle.link_lines_texts.proofs.LineCuts.{behind, cut_line}
+use Rattle.link_lines_texts.proofs.HeadersTold.{flags_part, header_told, link_header_told, type_starts}
+
+-- ---- lines of bytes, and of codes
+
+space_apart : (n c : ℕ) → n ≡ 32 → 48 ≤ c → n ≡ c → ⊥
+space_apart n c is h e = omega arith
+
+no_space : (s r : List ℕ) → StartsFrame s → s ≡ 32 ∷ r → ⊥
+no_space [] r h e = absurd cc
+no_space (c ∷ s) r h e = space_apart 32 c refl h (sym (ap (λ l. get_or l 0 0) e))
+
+-- a line of bytes tells them, and no bytes where there is none
+bytes_line_told : BytesAreTold → ValuesStandOnALine → (name p q s t : List ℕ) → AreBytes p → AreBytes q → StartsFrame s → StartsFrame t → bytes_line name p ++ s ≡ bytes_line name q ++ t → (p ≡ q) × (s ≡ t)
+unfolding bytes_line
+bytes_line_told k v name [] [] s t a b i j e = (refl, e)
+bytes_line_told k v name [] (y ∷ q) s t a b i j e = absurd (no_space s (32 ∷ (name ++ (bytes_text (y ∷ q) ++ 10 ∷ [])) ++ t) i e)
+bytes_line_told k v name (x ∷ p) [] s t a b i j e = absurd (no_space t (32 ∷ (name ++ (bytes_text (x ∷ p) ++ 10 ∷ [])) ++ s) j (sym e))
+bytes_line_told k v name (x ∷ p) (y ∷ q) s t a b i j e =
+    let m = bytes_text (x ∷ p) in
+    let n = bytes_text (y ∷ q) in
+    let named_alike = behind name (m ++ 10 ∷ []) s name (n ++ 10 ∷ []) t (ap (drop 2) e) in
+    let shown = behind m (10 ∷ []) s n (10 ∷ []) t (append_cancel_left name ((m ++ 10 ∷ []) ++ s) ((n ++ 10 ∷ []) ++ t) named_alike) in
+    let r = cut_line m n s t (v.line Bytes (x ∷ p)) (v.line Bytes (y ∷ q)) shown in
+    (k.bytes (x ∷ p) (y ∷ q) a b r.0, r.1)
+
+abbrev rest_part : List ℕ → List ℕ
+rest_part b = bytes_line (codes "rest") (drop 4 b)
+
+code_lines_are : (b : List ℕ) → 4 ≤ length b → code_lines b ≡ codes "  code" ++ (value_text Signed (take 4 b) ++ 10 ∷ rest_part b)
+unfolding code_lines
+code_lines_are b h =
+    let lines = codes "  code" ++ (value_text Signed (take 4 b) ++ 10 ∷ rest_part b) in
+    ap (λ c. cond c lines (bytes_line (codes "body") b)) (le-leb 4 (length b) h)
+
+joined : (n : ℕ) (p q : List ℕ) → take n p ≡ take n q → drop n p ≡ drop n q → p ≡ q
+joined n p q h k = sym (take-append-drop n p) ∙ (λ i. h i ++ k i) ∙ take-append-drop n q
+
+code_told : NumbersAreTold → BytesAreTold → ValuesStandOnALine → (p q s t : List ℕ) → AreBytes p → AreBytes q → 4 ≤ length p → 4 ≤ length q → StartsFrame s → StartsFrame t → code_lines p ++ s ≡ code_lines q ++ t → (p ≡ q) × (s ≡ t)
+code_told n k v p q s t a b l m i j e =
+    let x = value_text Signed (take 4 p) in
+    let y = value_text Signed (take 4 q) in
+    let lines = sym (ap (λ z. z ++ s) (code_lines_are p l)) ∙ e ∙ ap (λ z. z ++ t) (code_lines_are q m) in
+    let shown = behind x (10 ∷ rest_part p) s y (10 ∷ rest_part q) t (ap (drop 6) lines) in
+    let c = cut_line x y (rest_part p ++ s) (rest_part q ++ t) (v.line Signed (take 4 p)) (v.line Signed (take 4 q)) shown in
+    let r = bytes_line_told k v (codes "rest") (drop 4 p) (drop 4 q) s t (later_bytes 4 p a) (later_bytes 4 q b) i j c.1 in
+    let code = n.signed (take 4 p) (take 4 q) (first_bytes 4 p a) (first_bytes 4 q b) (omega (arith, length-take 4 p)) (omega (arith, length-take 4 q)) c.0 in
+    (joined 4 p q code r.0, r.1)
+
+-- ---- a link's body
+
+-- a body of a link that is its own text
+record IsOwnLink (b : List ℕ) : Type 0 where
+  size : 16 ≤ length b
+  second : slice_index b 1 ≡ 0
+  attributes : IsOwn (attributes_rule (family b)) (drop 16 b)
+
+ruled_is : (x y z : Bool) (p b : List ℕ) → cond x (cond y (Err empty_ports) (cond z (Ok p) (Err unfit))) (Err refused) ≡ Ok b → (x ≡ true) × (p ≡ b)
+ruled_is false y z p b e = absurd cc
+ruled_is true true z p b e = absurd cc
+ruled_is true false false p b e = absurd cc
+ruled_is true false true p b e = (refl, cc)
+
+two_long : (b : Bool) (x y u v : ℕ) → length (cond b (x ∷ y ∷ []) (u ∷ v ∷ [])) ≡ 2
+two_long true x y u v = refl
+two_long false x y u v = refl
+
+header_size : (b : List ℕ) → 16 ≤ length b → length (header_text b) ≡ 16
+header_size (x ∷ y ∷ u ∷ v ∷ b) l =
+    omega (arith, length-append (layer_type_text u v) (take 12 b), two_long (is_listed (u + 256 * v)) u v 255 255, length-take 12 b)
+header_size [] l = absurd (omega arith)
+header_size (x ∷ []) l = absurd (omega arith)
+header_size (x ∷ y ∷ []) l = absurd (omega arith)
+header_size (x ∷ y ∷ u ∷ []) l = absurd (omega arith)
+
+second_is : (b p : List ℕ) → 16 ≤ length b → header_text b ++ p ≡ b → slice_index b 1 ≡ 0
+second_is (x ∷ y ∷ u ∷ v ∷ b) p l e = sym (ap (λ l. get_or l 1 0) e)
+second_is [] p l e = absurd (omega arith)
+second_is (x ∷ []) p l e = absurd (omega arith)
+second_is (x ∷ y ∷ []) p l e = absurd (omega arith)
+second_is (x ∷ y ∷ u ∷ []) p l e = absurd (omega arith)
+
+drop_front : (p q : List ℕ) → drop (length p) (p ++ q) ≡ q
+drop_front [] q = refl
+drop_front (x ∷ p) q = drop_front p q
+
+-- a link's body that is its own text has a header that is, and attributes that are
+own_link : BodiesAreHeadersAndAttributes → (b : List ℕ) → AreBytes b → ruled_text link_body b ≡ Ok b → IsOwnLink b
+own_link h b a e =
+    let parts = h b in
+    let rule = attributes_rule (family b) in
+    let r = ruled_is (link_body.accepted b) (link_body.empty_ports b) (link_body.fits b) (link_body.canonical b) b e in
+    let accepted = and_parts (nat_le 16 (length b)) (rule.accepted (drop 16 b)) (sym parts.accepted ∙ r.0) in
+    let size = leb-true 16 (length b) accepted.0 in
+    let text : header_text b ++ rule.canonical (drop 16 b) ≡ b = sym parts.canonical ∙ r.1 in
+    let list = rule.canonical (drop 16 b) in
+    let kept = sym (drop_front (header_text b) list) ∙ ap (λ n. drop n (header_text b ++ list)) (header_size b size) ∙ ap (drop 16) text in
+    record { size = size; second = second_is b _ size text; attributes = record { bytes = later_bytes 16 b a; accepted = accepted.1; canonical = kept } }
+
+abbrev list_part : List ℕ → List ℕ
+list_part b = list_lines 1 (family_table (slice_index b 0)) (drop 16 b)
+
+link_lines_are : (b : List ℕ) → 16 ≤ length b → link_lines b ≡ link_header_line b ++ list_part b
+unfolding link_lines
+link_lines_are b h = ap (λ c. cond c (link_header_line b ++ list_part b) (bytes_line (codes "body") b)) (le-leb 16 (length b) h)
+
+shallow : (s : List ℕ) → StartsFrame s → IsShallow 1 s
+shallow s h r = no_space s (32 ∷ r) h
+
+link_told : ListsAreTold → DigitsAreTold → (p q s t : List ℕ) → AreBytes p → AreBytes q → IsOwnLink p → IsOwnLink q → StartsFrame s → StartsFrame t → link_lines p ++ s ≡ link_lines q ++ t → (p ≡ q) × (s ≡ t)
+link_told lists d p q s t a b h k i j e =
+    let lines = sym (ap (λ z. z ++ s) (link_lines_are p h.size)) ∙ e ∙ ap (λ z. z ++ t) (link_lines_are q k.size) in
+    let shown = behind (link_header_line p) (list_part p) s (link_header_line q) (list_part q) t lines in
+    let same = link_header_told d p q (list_part p ++ s) (list_part q ++ t) a b h.size k.size shown in
+    let other = subst (λ n. IsOwn (attributes_rule (family_of n)) (drop 16 q)) (sym same.family) k.attributes in
+    let rest = same.rest ∙ ap (λ n. list_lines 1 (family_table n) (drop 16 q) ++ t) (sym same.family) in
+    let r = lists (slice_index p 0) (drop 16 p) (drop 16 q) s t h.attributes other (shallow s i) (shallow t j) rest in
+    (same.bytes (h.second ∙ sym k.second) r.0, r.1)
+
+-- ---- bodies by their type
+
+-- the laws that are needed
+pub record Premises : Type 0 where
+  pub lists : ListsAreTold
+  pub lines : ValuesStandOnALine
+  pub digits : DigitsAreTold
+  pub bytes : BytesAreTold
+  pub numbers : NumbersAreTold
+  pub parts : BodiesAreHeadersAndAttributes
+
+abbrev BodiesOfTypeAreTold : ℕ → Type 0
+BodiesOfTypeAreTold n = (p q s t : List ℕ) → AreBytes p → AreBytes q → body_text n p ≡ Ok p → body_text n q ≡ Ok q → StartsFrame s → StartsFrame t →
+    body_lines n p ++ s ≡ body_lines n q ++ t → (p ≡ q) × (s ≡ t)
+
+noop_is : (p : List ℕ) → body_text 1 p ≡ Ok p → [] ≡ p
+unfolding body_text
+noop_is p h = cc
+
+some_is_none : {x : ℕ} {p : List ℕ} → [] ≡ x ∷ p → ⊥
+some_is_none e = absurd cc
+
+noops_told : BodiesOfTypeAreTold 1
+unfolding body_lines bytes_line
+noops_told [] [] s t a b h k i j e = (refl, e)
+noops_told [] (y ∷ q) s t a b h k i j e = absurd (some_is_none (noop_is (y ∷ q) k))
+noops_told (x ∷ p) q s t a b h k i j e = absurd (some_is_none (noop_is (x ∷ p) h))
+
+code_by : (b : Bool) (p q : List ℕ) → cond b (Err refused) (Ok q) ≡ Ok p → b ≡ false
+code_by true p q h = absurd cc
+code_by false p q h = refl
+
+error_size : (p : List ℕ) → body_text 2 p ≡ Ok p → 4 ≤ length p
+unfolding body_text
+error_size p h = let l = ltb-false (length p) 4 (code_by _ p p h) in omega (arith, l)
+
+zeros_are_some : (p : List ℕ) → 0 ∷ 0 ∷ 0 ∷ 0 ∷ [] ≡ p → length p ≡ 0 → ⊥
+zeros_are_some p h l = let n : 4 ≡ length p = ap length h in omega arith
+
+done_by : (a b : Bool) (p : List ℕ) → (a ≡ true → length p ≡ 0) → cond a (Ok (0 ∷ 0 ∷ 0 ∷ 0 ∷ [])) (cond b (Err refused) (Ok p)) ≡ Ok p → b ≡ false
+done_by true b p l h = let z : 0 ∷ 0 ∷ 0 ∷ 0 ∷ [] ≡ p = cc in absurd (zeros_are_some p z (l refl))
+done_by false b p l h = code_by b p p h
+
+done_size : (p : List ℕ) → body_text 3 p ≡ Ok p → 4 ≤ length p
+unfolding body_text
+done_size p h = let l = ltb-false (length p) 4 (done_by (length p == 0) _ p (eqb-true (length p) 0) h) in omega (arith, l)
+
+errors_told : Premises → BodiesOfTypeAreTold 2
+unfolding body_lines
+errors_told w p q s t a b h k i j e = code_told w.numbers w.bytes w.lines p q s t a b (error_size p h) (error_size q k) i j e
+
+dones_told : Premises → BodiesOfTypeAreTold 3
+unfolding body_lines
+dones_told w p q s t a b h k i j e = code_told w.numbers w.bytes w.lines p q s t a b (done_size p h) (done_size q k) i j e
+
+text_by : (n : ℕ) (p : List ℕ) (a b c : Bool) → a ≡ false → b ≡ false → c ≡ false →
+    cond a (Ok []) (cond b (error_text p) (cond c (done_text p) (cond (is_link_type n) (ruled_text link_body p) (Ok p)))) ≡ cond (is_link_type n) (ruled_text link_body p) (Ok p)
+text_by n p false false false h k l = refl
+text_by n p true b c h k l = absurd cc
+text_by n p false true c h k l = absurd cc
+text_by n p false false true h k l = absurd cc
+
+-- a body of a type other than 1, 2 and 3
+text_is : (n : ℕ) (p : List ℕ) → (n ≡ 1 → ⊥) → (n ≡ 2 → ⊥) → (n ≡ 3 → ⊥) → body_text n p ≡ cond (is_link_type n) (ruled_text link_body p) (Ok p)
+unfolding body_text
+text_is n p a b c = text_by n p (n == 1) (n == 2) (n == 3) (ne_eqb n 1 a) (ne_eqb n 2 b) (ne_eqb n 3 c)
+
+lines_by : (p : List ℕ) (l b c : Bool) → b ≡ false → c ≡ false →
+    cond l (link_lines p) (cond (b || c) (code_lines p) (bytes_line (codes "body") p)) ≡ cond l (link_lines p) (bytes_line (codes "body") p)
+lines_by p l false false h k = refl
+lines_by p l true c h k = absurd cc
+lines_by p l false true h k = absurd cc
+
+lines_are : (n : ℕ) (p : List ℕ) → (n ≡ 2 → ⊥) → (n ≡ 3 → ⊥) → body_lines n p ≡ cond (is_link_type n) (link_lines p) (bytes_line (codes "body") p)
+unfolding body_lines
+lines_are n p b c = lines_by p (is_link_type n) (n == 2) (n == 3) (ne_eqb n 2 b) (ne_eqb n 3 c)
+
+other_by : Premises → (l : Bool) (p q s t : List ℕ) → AreBytes p → AreBytes q → cond l (ruled_text link_body p) (Ok p) ≡ Ok p → cond l (ruled_text link_body q) (Ok q) ≡ Ok q → StartsFrame s → StartsFrame t →
+    cond l (link_lines p) (bytes_line (codes "body") p) ++ s ≡ cond l (link_lines q) (bytes_line (codes "body") q) ++ t → (p ≡ q) × (s ≡ t)
+other_by w true p q s t a b h k i j e = link_told w.lists w.digits p q s t a b (own_link w.parts p a h) (own_link w.parts q b k) i j e
+other_by w false p q s t a b h k i j e = bytes_line_told w.bytes w.lines (codes "body") p q s t a b i j e
+
+others_told : Premises → (n : ℕ) → (n ≡ 1 → ⊥) → (n ≡ 2 → ⊥) → (n ≡ 3 → ⊥) → BodiesOfTypeAreTold n
+others_told w n x y z p q s t a b h k i j e =
+    let lines = sym (ap (λ l. l ++ s) (lines_are n p y z)) ∙ e ∙ ap (λ l. l ++ t) (lines_are n q y z) in
+    other_by w (is_link_type n) p q s t a b (sym (text_is n p x y z) ∙ h) (sym (text_is n q x y z) ∙ k) i j lines
+
+bodies_told : Premises → (n : ℕ) → BodiesOfTypeAreTold n
+bodies_told w n =
+    elim (eqb_tells n 1) [
+      | inl x ↦ subst BodiesOfTypeAreTold (sym x.1) noops_told
+      | inr x ↦
+          elim (eqb_tells n 2) [
+            | inl y ↦ subst BodiesOfTypeAreTold (sym y.1) (errors_told w)
+            | inr y ↦
+                elim (eqb_tells n 3) [
+                  | inl z ↦ subst BodiesOfTypeAreTold (sym z.1) (dones_told w)
+                  | inr z ↦ others_told w n x.1 y.1 z.1
+                ]
+          ]
+    ]
+
+-- ---- frames
+
+-- lines of a frame begin with the name of a type
+starts : (f s : List ℕ) → StartsFrame (frame_lines f ++ s)
+unfolding frame_lines header_line
+starts f s =
+    let body = body_lines (u16_at 4 f) (drop 16 f) in
+    let type = type_text (u16_at 4 f) in
+    let parts = append_assoc (header_line f) body s ∙ append_assoc type (flags_part f) (body ++ s) in
+    subst StartsFrame (sym parts) (type_starts (u16_at 4 f) (flags_part f ++ (body ++ s)))
+
+-- all of a frame but its length is told, and where its lines end
+frames_told : Premises → (f g s t : List ℕ) → IsOwnFrame f → IsOwnFrame g → StartsFrame s → StartsFrame t → frame_lines f ++ s ≡ frame_lines g ++ t → (drop 4 f ≡ drop 4 g) × (s ≡ t)
+unfolding frame_lines
+frames_told w f g s t h k i j e =
+    let lines : ℕ → List ℕ → List ℕ = λ n b. body_lines n (drop 16 b) in
+    let same = header_told w.digits f g (lines (u16_at 4 f) f ++ s) (lines (u16_at 4 g) g ++ t) h.bytes k.bytes h.header k.header
+    (behind (header_line f) (lines (u16_at 4 f) f) s (header_line g) (lines (u16_at 4 g) g) t e) in
+    let back = sym same.type in
+    let other = subst (λ n. body_text n (drop 16 g) ≡ Ok (drop 16 g)) back k.body in
+    let rest = same.rest ∙ ap (λ n. lines n g ++ t) back in
+    let r = bodies_told w (u16_at 4 f) (drop 16 f) (drop 16 g) s t (later_bytes 16 f h.bytes) (later_bytes 16 g k.bytes) h.body other i j rest in
+    (same.bytes r.0, r.1)
+
+pub told : Premises → FramesAreTold
+told w = record { starts = starts; told = frames_told w }

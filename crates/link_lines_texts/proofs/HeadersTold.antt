@@ -1,0 +1,359 @@
+-- The lines of headers tell them.
+use Rattle.std.proofs.Common.{◌≡◌, ℕ, zero, suc, ◌+◌, ◌*◌, ◌^◌, ◌<◌, ◌≤◌, Bool, true, false, cond, List, [], ◌∷◌, ◌++◌, length, take, drop, get_or, refl, sym, ap, subst, ◌∙◌, arith}
+use Rattle.std.specs.Prelude.{◌==◌, ◌&&◌, nat_le, nat_lt, ⊤, bytes_eq, codes, decimal, slice_index}
+use Rattle.std.specs.Int.{w16, w32, from_le_bytes}
+use Rattle.std.proofs.lemmas.Bool.{and_parts, eqb-true, leb-true, ltb-true}
+use Rattle.std.proofs.lemmas.List.{append_cancel_left, length-drop, get_or-drop, drop-drop}
+use Rattle.netlink_packet_core_grammar.specs.Bytes.{AreBytes}
+use Rattle.netlink_packet_core_grammar.specs.Numbers.{u16_at, u32_at}
+use Rattle.link_lines_values.specs.declared.flags.FlagSet.{FlagSet}
+use Rattle.link_lines_values.specs.declared.number_texts.NumberText.{NumberText}
+use Rattle.link_lines_values.specs.declared.numbers.Numbers.{Numbers}
+use Rattle.link_lines_values.specs.declared.numbers.Numbers.TheVariants.{AddressFamily, LinkLayerType, MessageType}
+use Rattle.link_lines_values.specs.declared.flags.FlagSet.TheVariants.{Link}
+use Rattle.link_lines_values.specs.Digits.{hex_number}
+use Rattle.link_lines_values.specs.Flags.{listed, named_flags, nameless, names_of, names_set}
+use Rattle.link_lines_values.specs.Names.{bracketed, named_number, name_or_nothing, text_in, texts_of}
+use Rattle.link_lines_values.specs.Laws.{DigitsAreTold, Ends}
+use Rattle.link_lines_texts.specs.Frames.{flag_set, header_line, labelled, link_flags, link_header_line, link_numbers, or_number, type_text}
+use Rattle.link_lines_texts.specs.Telling.{StartsFrame}
+use Rattle.link_lines_texts.proofs.ByteParts.{later_bytes}
+use Rattle.link_lines_texts.proofs.LineCuts.{IsWord, behind, cut_word}
+
+-- ---- numbers with their names
+
+bracket_ends : (name s : List ℕ) → Ends s → Ends (bracketed name ++ s)
+bracket_ends [] s h = h
+bracket_ends (c ∷ name) s h = omega arith
+
+listed_ends : (names : List (List ℕ)) (rest : ℕ) (s : List ℕ) → Ends s → Ends (listed names rest ++ s)
+listed_ends [] rest s h = h
+listed_ends (name ∷ names) rest s h = omega arith
+
+-- a number is told, with its name or without
+number_told : DigitsAreTold → (numbers : Numbers) (m n : ℕ) (s t : List ℕ) → m < 2 ^ 64 → n < 2 ^ 64 → Ends s → Ends t → named_number numbers m ++ s ≡ named_number numbers n ++ t → (m ≡ n) × (s ≡ t)
+number_told d numbers m n s t p q k l e =
+    let name : ℕ → List ℕ = λ n. bracketed (name_or_nothing numbers n) in
+    let shown = behind (decimal m) (name m) s (decimal n) (name n) t e in
+    let r = d.decimal_digits m n (name m ++ s) (name n ++ t) p q (bracket_ends _ s k) (bracket_ends _ t l) shown in
+    (r.0, append_cancel_left (name m) s t (r.1 ∙ ap (λ n. name n ++ t) (sym r.0)))
+
+flags_told : DigitsAreTold → (set other : FlagSet) (m n : ℕ) (s t : List ℕ) → set ≡ other → m < 2 ^ 64 → n < 2 ^ 64 → Ends s → Ends t → named_flags set m ++ s ≡ named_flags other n ++ t → (m ≡ n) × (s ≡ t)
+flags_told d set other m n s t same p q k l e =
+    let names : FlagSet → ℕ → List ℕ = λ f n. listed (names_set (names_of f) n) (nameless (names_of f) n) in
+    let shown = behind (hex_number m) (names set m) s (hex_number n) (names other n) t e in
+    let r = d.hex_digits m n (names set m ++ s) (names other n ++ t) p q (listed_ends _ _ s k) (listed_ends _ _ t l) shown in
+    let back : names other n ++ t ≡ names set m ++ t = ap (λ n. names other n ++ t) (sym r.0) ∙ ap (λ f. names f m ++ t) (sym same) in
+    (r.0, append_cancel_left (names set m) s t (r.1 ∙ back))
+
+-- ---- the names of types
+
+-- the number that has a name
+abbrev named : List NumberText → List ℕ → ℕ
+named [] name = 0
+named (r ∷ rs) name = cond (bytes_eq (take r.1 r.2) name) r.0 (named rs name)
+
+abbrev is_word : List ℕ → Bool
+is_word [] = true
+is_word (c ∷ a) = nat_le 48 c && is_word a
+
+-- no name, or a word that doesn't begin as `type` does and tells its number among all
+abbrev is_name : List NumberText → ℕ → List ℕ → Bool
+is_name all n [] = true
+is_name all n (c ∷ name) = nat_lt c 97 && (is_word (c ∷ name) && (named all (c ∷ name) == n))
+
+abbrev are_names : List NumberText → List NumberText → Bool
+are_names all [] = true
+are_names all (r ∷ rs) = is_name all r.0 (take r.1 r.2) && are_names all rs
+
+record TellsNumber (all : List NumberText) (n : ℕ) (c : ℕ) (name : List ℕ) : Type 0 where
+  no_type : c < 97
+  word : IsWord (c ∷ name)
+  number : named all (c ∷ name) ≡ n
+
+abbrev IsName : List NumberText → ℕ → List ℕ → Type 0
+IsName all n [] = ⊤
+IsName all n (c ∷ name) = TellsNumber all n c name
+
+are_word : (a : List ℕ) → is_word a ≡ true → IsWord a
+are_word [] h = record {}
+are_word (c ∷ a) h = let p = and_parts (nat_le 48 c) (is_word a) h in (leb-true 48 c p.0, are_word a p.1)
+
+is_a_name : (all : List NumberText) (n : ℕ) (name : List ℕ) → is_name all n name ≡ true → IsName all n name
+is_a_name all n [] h = record {}
+is_a_name all n (c ∷ name) h =
+    let p = and_parts (nat_lt c 97) (is_word (c ∷ name) && (named all (c ∷ name) == n)) h in
+    let q = and_parts (is_word (c ∷ name)) (named all (c ∷ name) == n) p.1 in
+    record { no_type = ltb-true c 97 p.0; word = are_word (c ∷ name) q.0; number = eqb-true _ n q.1 }
+
+-- of a row with that number, or of the rows behind it
+picked : (all : List NumberText) (n : ℕ) (b : Bool) (a name : List ℕ) → (b ≡ true → IsName all n a) → IsName all n name → IsName all n (cond b a name)
+picked all n true a name h k = h refl
+picked all n false a name h k = k
+
+text_is_name : (all rs : List NumberText) (n : ℕ) → are_names all rs ≡ true → IsName all n (text_in rs n)
+text_is_name all [] n h = record {}
+text_is_name all (r ∷ rs) n h =
+    let p = and_parts (is_name all r.0 (take r.1 r.2)) (are_names all rs) h in
+    picked all n (n == r.0) (take r.1 r.2) (text_in rs n)
+    (λ e. subst (λ k. IsName all k (take r.1 r.2)) (sym (eqb-true n r.0 e)) (is_a_name all r.0 (take r.1 r.2) p.0)) (text_is_name all rs n p.1)
+
+type_names : are_names (texts_of MessageType) (texts_of MessageType) ≡ true
+unfolding texts_of
+type_names = refl
+
+begins_otherwise : (c : ℕ) → c < 97 → 116 ≡ c → ⊥
+begins_otherwise c h e = omega arith
+
+type_by : DigitsAreTold → (all : List NumberText) (m n : ℕ) (x y s t : List ℕ) → IsName all m x → IsName all n y → m < 2 ^ 64 → n < 2 ^ 64 → Ends s → Ends t → or_number m x ++ s ≡ or_number n y ++ t → (m ≡ n) × (s ≡ t)
+type_by d all m n [] [] s t h k p q i j e = d.decimal_digits m n s t p q i j (ap (drop 5) e)
+type_by d all m n [] (c ∷ y) s t h k p q i j e = absurd (begins_otherwise c k.no_type (ap (λ l. get_or l 0 0) e))
+type_by d all m n (c ∷ x) [] s t h k p q i j e = absurd (begins_otherwise c h.no_type (sym (ap (λ l. get_or l 0 0) e)))
+type_by d all m n (c ∷ x) (b ∷ y) s t h k p q i j e =
+    let r = cut_word (c ∷ x) (b ∷ y) s t h.word k.word i j e in
+    (sym h.number ∙ ap (named all) r.0 ∙ k.number, r.1)
+
+type_told : DigitsAreTold → (m n : ℕ) (s t : List ℕ) → m < 2 ^ 64 → n < 2 ^ 64 → Ends s → Ends t → type_text m ++ s ≡ type_text n ++ t → (m ≡ n) × (s ≡ t)
+unfolding type_text
+type_told d m n s t =
+    let all = texts_of MessageType in
+    type_by d all m n (text_in all m) (text_in all n) s t (text_is_name all all m type_names) (text_is_name all all n type_names)
+
+starts_by : (all : List NumberText) (n : ℕ) (x s : List ℕ) → IsName all n x → StartsFrame (or_number n x ++ s)
+starts_by all n [] s h = omega arith
+starts_by all n (c ∷ x) s h = h.word.0
+
+pub type_starts : (n : ℕ) (s : List ℕ) → StartsFrame (type_text n ++ s)
+unfolding type_text
+type_starts n s = let all = texts_of MessageType in starts_by all n (text_in all n) s (text_is_name all all n type_names)
+
+-- ---- numbers at places of bytes
+
+byte_at : (p : List ℕ) (i : ℕ) → AreBytes p → slice_index p i < 256
+byte_at [] i a = omega arith
+byte_at (b ∷ p) zero a = a.0
+byte_at (b ∷ p) (suc i) a = byte_at p i a.1
+
+u16_small : (i : ℕ) (p : List ℕ) → AreBytes p → u16_at i p < 2 ^ 64
+unfolding u16_at
+u16_small i p a = omega (arith, byte_at p i a, byte_at p (i + 1) a)
+
+u32_small : (i : ℕ) (p : List ℕ) → AreBytes p → u32_at i p < 2 ^ 64
+unfolding u32_at
+u32_small i p a = omega (arith, byte_at p i a, byte_at p (i + 1) a, byte_at p (i + 2) a, byte_at p (i + 3) a)
+
+low_byte : (a b c d : ℕ) → a < 256 → c < 256 → a + 256 * b ≡ c + 256 * d → (a ≡ c) × (b ≡ d)
+low_byte a b c d h k e = (omega arith, omega arith)
+
+two_bytes : (a b : ℕ) (p : List ℕ) → u16_at 0 (a ∷ b ∷ p) ≡ a + 256 * b
+unfolding u16_at
+two_bytes a b p = omega arith
+
+four_bytes : (a b c d : ℕ) (p : List ℕ) → u32_at 0 (a ∷ b ∷ c ∷ d ∷ p) ≡ a + 256 * (b + 256 * (c + 256 * d))
+unfolding u32_at
+four_bytes a b c d p = omega arith
+
+-- two bytes in front are told by their number
+two_told : (p q : List ℕ) → AreBytes p → AreBytes q → 2 ≤ length p → 2 ≤ length q → u16_at 0 p ≡ u16_at 0 q → drop 2 p ≡ drop 2 q → p ≡ q
+two_told (a ∷ b ∷ p) (c ∷ d ∷ q) h k l m e r =
+    let x = low_byte a b c d h.0 k.0 (sym (two_bytes a b p) ∙ e ∙ two_bytes c d q) in
+    λ i. x.0 i ∷ x.1 i ∷ r i
+two_told [] q h k l m e r = absurd (omega arith)
+two_told (a ∷ []) q h k l m e r = absurd (omega arith)
+two_told (a ∷ b ∷ p) [] h k l m e r = absurd (omega arith)
+two_told (a ∷ b ∷ p) (c ∷ []) h k l m e r = absurd (omega arith)
+
+four_are : (p : List ℕ) → 4 ≤ length p → p ≡ slice_index p 0 ∷ slice_index p 1 ∷ slice_index p 2 ∷ slice_index p 3 ∷ drop 4 p
+four_are [] l = absurd (omega arith)
+four_are (a ∷ []) l = absurd (omega arith)
+four_are (a ∷ b ∷ []) l = absurd (omega arith)
+four_are (a ∷ b ∷ c ∷ []) l = absurd (omega arith)
+four_are (a ∷ b ∷ c ∷ d ∷ p) l = refl
+
+four_number : (p : List ℕ) → u32_at 0 p ≡ slice_index p 0 + 256 * (slice_index p 1 + 256 * (slice_index p 2 + 256 * slice_index p 3))
+unfolding u32_at
+four_number p = omega arith
+
+-- so are four
+four_told : (p q : List ℕ) → AreBytes p → AreBytes q → 4 ≤ length p → 4 ≤ length q → u32_at 0 p ≡ u32_at 0 q → drop 4 p ≡ drop 4 q → p ≡ q
+four_told p q h k l m e r =
+    let n = sym (four_number p) ∙ e ∙ four_number q in
+    let x = low_byte _ _ _ _ (byte_at p 0 h) (byte_at q 0 k) n in
+    let y = low_byte _ _ _ _ (byte_at p 1 h) (byte_at q 1 k) x.1 in
+    let z = low_byte _ _ _ _ (byte_at p 2 h) (byte_at q 2 k) y.1 in
+    four_are p l ∙ (λ i. x.0 i ∷ y.0 i ∷ z.0 i ∷ z.1 i ∷ r i) ∙ sym (four_are q m)
+
+place_after : (i k : ℕ) (p : List ℕ) → slice_index (drop i p) k ≡ slice_index p (i + k)
+place_after i k p = get_or-drop i p k 0
+
+first_after : (i : ℕ) (p : List ℕ) → slice_index (drop i p) 0 ≡ slice_index p i
+first_after i p = place_after i 0 p ∙ ap (λ k. slice_index p k) {x = i + 0} {y = i} (omega arith)
+
+u16_after : (i : ℕ) (p : List ℕ) → u16_at 0 (drop i p) ≡ u16_at i p
+unfolding u16_at
+u16_after i p = λ j. from_le_bytes w16 (first_after i p j ∷ place_after i 1 p j ∷ [])
+
+u32_after : (i : ℕ) (p : List ℕ) → u32_at 0 (drop i p) ≡ u32_at i p
+unfolding u32_at
+u32_after i p = λ j. from_le_bytes w32 (first_after i p j ∷ place_after i 1 p j ∷ place_after i 2 p j ∷ place_after i 3 p j ∷ [])
+
+skipped : (i n : ℕ) (p : List ℕ) → drop n (drop i p) ≡ drop (i + n) p
+skipped i n p = drop-drop n i p
+
+-- bytes from a place on are told by the number there and by the bytes behind it
+two_further : (i : ℕ) (p q : List ℕ) → AreBytes p → AreBytes q → i + 2 ≤ length p → i + 2 ≤ length q → u16_at i p ≡ u16_at i q → drop (i + 2) p ≡ drop (i + 2) q → drop i p ≡ drop i q
+two_further i p q h k l m e r =
+    two_told (drop i p) (drop i q) (later_bytes i p h) (later_bytes i q k) (omega (arith, length-drop i p)) (omega (arith, length-drop i q))
+    (u16_after i p ∙ e ∙ sym (u16_after i q)) (skipped i 2 p ∙ r ∙ sym (skipped i 2 q))
+
+four_further : (i : ℕ) (p q : List ℕ) → AreBytes p → AreBytes q → i + 4 ≤ length p → i + 4 ≤ length q → u32_at i p ≡ u32_at i q → drop (i + 4) p ≡ drop (i + 4) q → drop i p ≡ drop i q
+four_further i p q h k l m e r =
+    four_told (drop i p) (drop i q) (later_bytes i p h) (later_bytes i q k) (omega (arith, length-drop i p)) (omega (arith, length-drop i q))
+    (u32_after i p ∙ e ∙ sym (u32_after i q)) (skipped i 4 p ∙ r ∙ sym (skipped i 4 q))
+
+-- ---- the header's line
+
+abbrev port_part : List ℕ → List ℕ
+port_part f = labelled (codes " port ") (decimal (u32_at 12 f)) ++ 10 ∷ []
+
+abbrev number_part : List ℕ → List ℕ
+number_part f = labelled (codes " seq ") (decimal (u32_at 8 f)) ++ port_part f
+
+abbrev pub flags_part : List ℕ → List ℕ
+flags_part f = labelled (codes " flags ") (named_flags (flag_set (u16_at 4 f)) (u16_at 6 f)) ++ number_part f
+
+header_is : (f : List ℕ) → header_line f ≡ type_text (u16_at 4 f) ++ flags_part f
+unfolding header_line
+header_is f = refl
+
+module _ (d : DigitsAreTold) (f g : List ℕ) (a : AreBytes f) (b : AreBytes g) where
+  port_told : (s t : List ℕ) → port_part f ++ s ≡ port_part g ++ t → (u32_at 12 f ≡ u32_at 12 g) × (s ≡ t)
+  port_told s t e =
+      let m = decimal (u32_at 12 f) in
+      let n = decimal (u32_at 12 g) in
+      let shown : m ++ 10 ∷ s ≡ n ++ 10 ∷ t = behind m (10 ∷ []) s n (10 ∷ []) t (ap (drop 6) e) in
+      let r = d.decimal_digits _ _ (10 ∷ s) (10 ∷ t) (u32_small 12 f a) (u32_small 12 g b) (omega arith) (omega arith) shown in
+      (r.0, ap (drop 1) r.1)
+
+  seq_told : (s t : List ℕ) → number_part f ++ s ≡ number_part g ++ t → (u32_at 8 f ≡ u32_at 8 g) × (port_part f ++ s ≡ port_part g ++ t)
+  seq_told s t e =
+      d.decimal_digits _ _ (port_part f ++ s) (port_part g ++ t) (u32_small 8 f a) (u32_small 8 g b) (omega arith) (omega arith)
+      (behind (decimal (u32_at 8 f)) (port_part f) s (decimal (u32_at 8 g)) (port_part g) t (ap (drop 5) e))
+
+  header_flags_told : (s t : List ℕ) → u16_at 4 f ≡ u16_at 4 g → flags_part f ++ s ≡ flags_part g ++ t → (u16_at 6 f ≡ u16_at 6 g) × (number_part f ++ s ≡ number_part g ++ t)
+  header_flags_told s t k e =
+      let m = named_flags (flag_set (u16_at 4 f)) (u16_at 6 f) in
+      let n = named_flags (flag_set (u16_at 4 g)) (u16_at 6 g) in
+      flags_told d _ _ _ _ (number_part f ++ s) (number_part g ++ t) (ap flag_set k) (u16_small 6 f a) (u16_small 6 g b) (omega arith) (omega arith)
+      (behind m (number_part f) s n (number_part g) t (ap (drop 7) e))
+
+  header_type_told : (s t : List ℕ) → header_line f ++ s ≡ header_line g ++ t → (u16_at 4 f ≡ u16_at 4 g) × (flags_part f ++ s ≡ flags_part g ++ t)
+  header_type_told s t e =
+      let shown = sym (ap (λ z. z ++ s) (header_is f)) ∙ e ∙ ap (λ z. z ++ t) (header_is g) in
+      type_told d _ _ (flags_part f ++ s) (flags_part g ++ t) (u16_small 4 f a) (u16_small 4 g b) (omega arith) (omega arith)
+      (behind (type_text (u16_at 4 f)) (flags_part f) s (type_text (u16_at 4 g)) (flags_part g) t shown)
+
+-- two headers with the same line, and what stands behind it
+pub record SameHeader (f g s t : List ℕ) : Type 0 where
+  pub type : u16_at 4 f ≡ u16_at 4 g
+  pub bytes : drop 16 f ≡ drop 16 g → drop 4 f ≡ drop 4 g
+  pub rest : s ≡ t
+
+pub header_told : DigitsAreTold → (f g s t : List ℕ) → AreBytes f → AreBytes g → 16 ≤ length f → 16 ≤ length g → header_line f ++ s ≡ header_line g ++ t → SameHeader f g s t
+header_told d f g s t a b l m e =
+    let k = header_type_told d f g a b s t e in
+    let n = header_flags_told d f g a b s t k.0 k.1 in
+    let q = seq_told d f g a b s t n.1 in
+    let p = port_told d f g a b s t q.1 in
+    record {
+      type = k.0;
+      bytes = λ r. two_further 4 f g a b (omega arith) (omega arith) k.0 (two_further 6 f g a b (omega arith) (omega arith) n.0
+          (four_further 8 f g a b (omega arith) (omega arith) q.0 (four_further 12 f g a b (omega arith) (omega arith) p.0 r)));
+      rest = p.1;
+    }
+
+-- ---- a link's header
+
+abbrev index_part : List ℕ → List ℕ
+index_part b = labelled (codes " index ") (decimal (u32_at 4 b))
+
+abbrev layer_part : List ℕ → List ℕ
+layer_part b = labelled (codes " type ") (named_number LinkLayerType (u16_at 2 b)) ++ index_part b
+
+abbrev change_part : List ℕ → List ℕ
+change_part b = labelled (codes " change ") (named_flags Link (u32_at 12 b)) ++ 10 ∷ []
+
+numbers_are : (b : List ℕ) → link_numbers b ≡ labelled (codes "  ifinfomsg family ") (named_number AddressFamily (slice_index b 0)) ++ layer_part b
+unfolding link_numbers
+numbers_are b = refl
+
+flags_are : (b : List ℕ) → link_flags b ≡ labelled (codes " flags ") (named_flags Link (u32_at 8 b)) ++ change_part b
+unfolding link_flags
+flags_are b = refl
+
+module _ (d : DigitsAreTold) (p q : List ℕ) (a : AreBytes p) (b : AreBytes q) where
+  change_told : (s t : List ℕ) → change_part p ++ s ≡ change_part q ++ t → (u32_at 12 p ≡ u32_at 12 q) × (s ≡ t)
+  change_told s t e =
+      let m = named_flags Link (u32_at 12 p) in
+      let n = named_flags Link (u32_at 12 q) in
+      let shown : m ++ 10 ∷ s ≡ n ++ 10 ∷ t = behind m (10 ∷ []) s n (10 ∷ []) t (ap (drop 8) e) in
+      let r = flags_told d Link Link _ _ (10 ∷ s) (10 ∷ t) refl (u32_small 12 p a) (u32_small 12 q b) (omega arith) (omega arith) shown in
+      (r.0, ap (drop 1) r.1)
+
+  link_flags_told : (s t : List ℕ) → link_flags p ++ s ≡ link_flags q ++ t → (u32_at 8 p ≡ u32_at 8 q) × (change_part p ++ s ≡ change_part q ++ t)
+  link_flags_told s t e =
+      let m = named_flags Link (u32_at 8 p) in
+      let n = named_flags Link (u32_at 8 q) in
+      let lines = sym (ap (λ z. z ++ s) (flags_are p)) ∙ e ∙ ap (λ z. z ++ t) (flags_are q) in
+      flags_told d Link Link _ _ (change_part p ++ s) (change_part q ++ t) refl (u32_small 8 p a) (u32_small 8 q b) (omega arith) (omega arith)
+      (behind m (change_part p) s n (change_part q) t (ap (drop 7) lines))
+
+  index_told : (s t : List ℕ) → Ends s → Ends t → index_part p ++ s ≡ index_part q ++ t → (u32_at 4 p ≡ u32_at 4 q) × (s ≡ t)
+  index_told s t i j e = d.decimal_digits _ _ s t (u32_small 4 p a) (u32_small 4 q b) i j (ap (drop 7) e)
+
+  layer_told : (s t : List ℕ) → layer_part p ++ s ≡ layer_part q ++ t → (u16_at 2 p ≡ u16_at 2 q) × (index_part p ++ s ≡ index_part q ++ t)
+  layer_told s t e =
+      let m = named_number LinkLayerType (u16_at 2 p) in
+      let n = named_number LinkLayerType (u16_at 2 q) in
+      number_told d LinkLayerType _ _ (index_part p ++ s) (index_part q ++ t) (u16_small 2 p a) (u16_small 2 q b) (omega arith) (omega arith)
+      (behind m (index_part p) s n (index_part q) t (ap (drop 6) e))
+
+  family_told : (s t : List ℕ) → link_numbers p ++ s ≡ link_numbers q ++ t → (slice_index p 0 ≡ slice_index q 0) × (layer_part p ++ s ≡ layer_part q ++ t)
+  family_told s t e =
+      let m = named_number AddressFamily (slice_index p 0) in
+      let n = named_number AddressFamily (slice_index q 0) in
+      let lines = sym (ap (λ z. z ++ s) (numbers_are p)) ∙ e ∙ ap (λ z. z ++ t) (numbers_are q) in
+      number_told d AddressFamily _ _ (layer_part p ++ s) (layer_part q ++ t)
+      (omega (arith, byte_at p 0 a)) (omega (arith, byte_at q 0 b)) (omega arith) (omega arith)
+      (behind m (layer_part p) s n (layer_part q) t (ap (drop 19) lines))
+
+flags_end : (b s : List ℕ) → Ends (link_flags b ++ s)
+unfolding link_flags
+flags_end b s = omega arith
+
+-- two bodies of links with the same line of their headers, and what stands behind it
+pub record SameLink (p q s t : List ℕ) : Type 0 where
+  pub family : slice_index p 0 ≡ slice_index q 0
+  pub bytes : slice_index p 1 ≡ slice_index q 1 → drop 16 p ≡ drop 16 q → p ≡ q
+  pub rest : s ≡ t
+
+two_are : (p : List ℕ) → 2 ≤ length p → p ≡ slice_index p 0 ∷ slice_index p 1 ∷ drop 2 p
+two_are [] l = absurd (omega arith)
+two_are (a ∷ []) l = absurd (omega arith)
+two_are (a ∷ b ∷ p) l = refl
+
+pub link_header_told : DigitsAreTold → (p q s t : List ℕ) → AreBytes p → AreBytes q → 16 ≤ length p → 16 ≤ length q → link_header_line p ++ s ≡ link_header_line q ++ t → SameLink p q s t
+link_header_told d p q s t a b l m e =
+    let f = family_told d p q a b _ _ (behind (link_numbers p) (link_flags p) s (link_numbers q) (link_flags q) t e) in
+    let y = layer_told d p q a b _ _ f.1 in
+    let x = index_told d p q a b (link_flags p ++ s) (link_flags q ++ t) (flags_end p s) (flags_end q t) y.1 in
+    let g = link_flags_told d p q a b s t x.1 in
+    let c = change_told d p q a b s t g.1 in
+    let numbers : drop 16 p ≡ drop 16 q → drop 2 p ≡ drop 2 q =
+    λ r. two_further 2 p q a b (omega arith) (omega arith) y.0 (four_further 4 p q a b (omega arith) (omega arith) x.0
+    (four_further 8 p q a b (omega arith) (omega arith) g.0 (four_further 12 p q a b (omega arith) (omega arith) c.0 r))) in
+    record {
+      family = f.0;
+      bytes = λ z r. let n = numbers r in two_are p (omega arith) ∙ (λ i. f.0 i ∷ z i ∷ n i) ∙ sym (two_are q (omega arith));
+      rest = c.1;
+    }

@@ -1,0 +1,29 @@
+-- Lines tell the lists of link messages.
+use Rattle.std.proofs.Common.{◌≡◌, ℕ, Bool, true, false, cond, Some, refl}
+use Rattle.std.specs.Prelude.{◌==◌}
+use Rattle.attribute_tables_grammar.specs.Lists.{any}
+use Rattle.attribute_tables_grammar.specs.Tables.{Payload}
+use Rattle.link_message_grammar.specs.Body.{attributes_rule}
+use Rattle.link_message_grammar.specs.LinkMessage.{Family, unspec, bridge, inet_6, other, link_table}
+use Rattle.link_lines_texts.specs.declared.rows.Inside.TheVariants.{List as Nested}
+use Rattle.link_lines_texts.specs.Coverage.{holds_shown}
+use Rattle.link_lines_texts.specs.Frames.{family_table}
+use Rattle.link_lines_texts.specs.Laws.{RowsAreTold}
+use Rattle.link_lines_texts.specs.Telling.{ListsAreTold}
+use Rattle.link_lines_texts.proofs.ListsTold.{NestedTold}
+use Rattle.link_lines_texts.proofs.TablesTold.{TableLaws, payload_told}
+
+-- the attributes of a family, under its table of names
+family_told : TableLaws → (f : Family) (m : ℕ) → holds_shown (Payload.list any (link_table f)) (Some (Nested m)) ≡ true → NestedTold (attributes_rule f) m
+unfolding attributes_rule
+family_told laws f m h level p q s t o u sx sy same = payload_told laws (Payload.list any (link_table f)) (Nested m) h level p q s t o u sx sy refl same
+
+by_family : TableLaws → RowsAreTold → (a b c : Bool) → NestedTold (attributes_rule (cond a unspec (cond b bridge (cond c inet_6 other)))) (cond a 0 (cond b 1 (cond c 2 3)))
+by_family laws rows true b c = family_told laws unspec 0 rows.unspec_told
+by_family laws rows false true c = family_told laws bridge 1 rows.bridge_told
+by_family laws rows false false true = family_told laws inet_6 2 rows.inet6_told
+by_family laws rows false false false = family_told laws other 3 rows.other_told
+
+pub lists_are_told : TableLaws → RowsAreTold → ListsAreTold
+unfolding family_table
+lists_are_told laws rows n p q s t = by_family laws rows (n == 0) (n == 7) (n == 10) 1 p q s t

@@ -1,0 +1,386 @@
+-- Payloads of a shape are told by the text of a form.
+use Rattle.std.proofs.Common.{◌≡◌, ℕ, zero, suc, ◌-◌, ◌≤◌, Bool, true, false, cond, List, [], ◌∷◌, ◌++◌, length, take, drop, Some, None, refl, sym, ap, subst, ◌∙◌, arith}
+use Rattle.std.specs.Prelude.{◌==◌, ◌&&◌, ◌||◌, nat_le, get_or, map}
+use Rattle.std.proofs.lemmas.Bool.{and_parts, eqb-true, leb-true}
+use Rattle.std.proofs.lemmas.List.{length-append, length-take, length-drop, length-replicate}
+use Rattle.netlink_packet_core_grammar.specs.Attributes.{zeros}
+use Rattle.netlink_packet_core_grammar.specs.Texts.{without_nul}
+use Rattle.netlink_packet_core_grammar.specs.Truths.{truth_of, one_of}
+use Rattle.attribute_tables_grammar.specs.Rules.{shape_rule}
+use Rattle.attribute_tables_grammar.specs.Shapes.{Shape, exact, either, at_most, nonzero_byte, one_byte, truth_of_four, presence, text, raw, never, fixed_record, id_and_truth, resized, number, number_truth}
+use Rattle.link_lines_values.specs.declared.fields.Field.{Field}
+use Rattle.link_lines_values.specs.declared.fields.FieldShown.{FieldShown}
+use Rattle.link_lines_values.specs.declared.fields.FieldShown.TheVariants as F
+use Rattle.link_lines_values.specs.declared.records.Record.{Record}
+use Rattle.link_lines_values.specs.declared.values.Shown.TheVariants as V
+use Rattle.link_lines_values.specs.Bytes.{address_text, is_zero}
+use Rattle.link_lines_values.specs.Laws.{AddressSizesAreTold, AddressesAreTold, AllKnown, BytesAreTold, HoldsFields, IsKnown, NumbersAreTold, RecordsAreTold, SettingsAreTold}
+use Rattle.link_lines_values.specs.Records.{fields_of, total_size}
+use Rattle.link_lines_values.specs.Values.{sized_flags_value}
+use Rattle.link_lines_texts.specs.Coverage.{own_size, is_sized, is_size, is_truth, is_presence, is_string, is_optional, is_address, is_no_truth, lacks_truths, is_setting, has_fields}
+use Rattle.link_lines_texts.specs.Telling.{IsOwn, ShapesAreTold}
+
+-- the laws of values that are needed
+pub record ValueLaws : Type 0 where
+  pub bytes : BytesAreTold
+  pub numbers : NumbersAreTold
+  pub addresses : AddressesAreTold
+  pub address_sizes : AddressSizesAreTold
+  pub settings : SettingsAreTold
+  pub records : RecordsAreTold
+
+abbrev Own : Shape → List ℕ → Type 0
+Own s p = IsOwn (shape_rule s) p
+
+-- ---- sizes
+
+-- all own payloads of the shape have one size, of which this holds
+record HasSize (s : Shape) (f : ℕ → Bool) : Type 0 where
+  n : ℕ
+  known : f n ≡ true
+  size : (p : List ℕ) → Own s p → length p ≡ n
+
+record_length : (m n : ℕ) (p : List ℕ) → m ≤ n → m ≤ length p → take m p ++ zeros (n - m) ≡ p → length p ≡ n
+record_length m n p l h e =
+    let a = length-take m p in
+    let b : length (zeros (n - m)) ≡ n - m = length-replicate (n - m) 0 in
+    let c = length-append (take m p) (zeros (n - m)) in
+    let d : length (take m p ++ zeros (n - m)) ≡ length p = ap length e in
+    omega (arith, a, b, c, d)
+
+setting_length : (p : List ℕ) → 8 ≤ length p → take 4 p ++ number_truth (take 4 (drop 4 p)) ≡ p → length p ≡ 8
+setting_length p h e =
+    let a = length-take 4 p in
+    let c = length-append (take 4 p) (number_truth (take 4 (drop 4 p))) in
+    let d : length (take 4 p ++ number_truth (take 4 (drop 4 p))) ≡ length p = ap length e in
+    omega (arith, a, c, d)
+
+resized_length : (n : ℕ) (p : List ℕ) → take n (p ++ zeros n) ≡ p → length p ≡ n
+resized_length n p e =
+    let a = length-take n (p ++ zeros n) in
+    let b : length (zeros n) ≡ n = length-replicate n 0 in
+    let c = length-append p (zeros n) in
+    let d : length (take n (p ++ zeros n)) ≡ length p = ap length e in
+    omega (arith, a, b, c, d)
+
+record_sized : (m n : ℕ) (f : ℕ → Bool) (t : Bool) → nat_le m n ≡ t → is_sized (cond t (Some n) None) f ≡ true → HasSize (fixed_record m n) f
+record_sized m n f true l h = record { n = n; known = h; size = λ p o. record_length m n p (leb-true m n l) (leb-true m (length p) o.accepted) o.canonical }
+record_sized m n f false l h = absurd cc
+
+sized : (s : Shape) (f : ℕ → Bool) → is_sized (own_size s) f ≡ true → HasSize s f
+sized (exact n) f h = record { n = n; known = h; size = λ p o. eqb-true (length p) n o.accepted }
+sized (either m n) f h = absurd cc
+sized (at_most n) f h = absurd cc
+sized nonzero_byte f h = record { n = 1; known = h; size = λ p o. eqb-true (length p) 1 o.accepted }
+sized one_byte f h = record { n = 1; known = h; size = λ p o. eqb-true (length p) 1 o.accepted }
+sized truth_of_four f h = record { n = 4; known = h; size = λ p o. eqb-true (length p) 4 o.accepted }
+sized presence f h = record { n = 0; known = h; size = λ p o. ap length (sym o.canonical) }
+sized text f h = absurd cc
+sized raw f h = absurd cc
+sized never f h = absurd cc
+sized (fixed_record m n) f h = record_sized m n f (nat_le m n) refl h
+sized id_and_truth f h = record { n = 8; known = h; size = λ p o. setting_length p (leb-true 8 (length p) o.accepted) o.canonical }
+sized (resized n) f h = record { n = n; known = h; size = λ p o. resized_length n p o.canonical }
+
+same_length : (s : Shape) (f : ℕ → Bool) (p q : List ℕ) → HasSize s f → Own s p → Own s q → length p ≡ length q
+same_length s f p q h o u = h.size p o ∙ sym (h.size q u)
+
+length_holds : (s : Shape) (f : ℕ → Bool) (p : List ℕ) → HasSize s f → Own s p → f (length p) ≡ true
+length_holds s f p h o = ap f (h.size p o) ∙ h.known
+
+length_is : (s : Shape) (n : ℕ) (p : List ℕ) → HasSize s (λ m. m == n) → Own s p → length p ≡ n
+length_is s n p h o = eqb-true (length p) n (length_holds s (λ m. m == n) p h o)
+
+-- ---- truths
+
+truth_small : (n : ℕ) → truth_of n ≤ 1
+truth_small zero = omega arith
+truth_small (suc n) = omega arith
+
+one_small : (n : ℕ) → one_of n ≤ 1
+one_small zero = omega arith
+one_small (suc zero) = omega arith
+one_small (suc (suc n)) = omega arith
+
+mapped : (p : List ℕ) (f : ℕ → ℕ) → length p ≡ 1 → ((n : ℕ) → f n ≤ 1) → map f p ≡ p → number p ≤ 1
+mapped [] f l h e = omega arith
+mapped (x ∷ []) f l h e = let b = h x in let same : f x ≡ x = ap (λ q. get_or q 0 0) e in omega (arith, b, same)
+mapped (x ∷ y ∷ p) f l h e = absurd (omega arith)
+
+truth_number : (n : ℕ) → number (truth_of n ∷ 0 ∷ 0 ∷ 0 ∷ []) ≤ 1
+truth_number n = omega (arith, truth_small n)
+
+at_most_one : (s : Shape) (p : List ℕ) → is_truth s ≡ true → Own s p → number p ≤ 1
+at_most_one nonzero_byte p h o = mapped p truth_of (eqb-true (length p) 1 o.accepted) truth_small o.canonical
+at_most_one one_byte p h o = mapped p one_of (eqb-true (length p) 1 o.accepted) one_small o.canonical
+at_most_one truth_of_four p h o = subst (λ q. number q ≤ 1) o.canonical (truth_number (number p))
+at_most_one (exact n) p h o = absurd cc
+at_most_one (either m n) p h o = absurd cc
+at_most_one (at_most n) p h o = absurd cc
+at_most_one presence p h o = absurd cc
+at_most_one text p h o = absurd cc
+at_most_one raw p h o = absurd cc
+at_most_one never p h o = absurd cc
+at_most_one (fixed_record m n) p h o = absurd cc
+at_most_one id_and_truth p h o = absurd cc
+at_most_one (resized n) p h o = absurd cc
+
+truth_sized : (s : Shape) → is_truth s ≡ true → HasSize s (λ n. true)
+truth_sized nonzero_byte h = sized nonzero_byte (λ n. true) refl
+truth_sized one_byte h = sized one_byte (λ n. true) refl
+truth_sized truth_of_four h = sized truth_of_four (λ n. true) refl
+truth_sized (exact n) h = absurd cc
+truth_sized (either m n) h = absurd cc
+truth_sized (at_most n) h = absurd cc
+truth_sized presence h = absurd cc
+truth_sized text h = absurd cc
+truth_sized raw h = absurd cc
+truth_sized never h = absurd cc
+truth_sized (fixed_record m n) h = absurd cc
+truth_sized id_and_truth h = absurd cc
+truth_sized (resized n) h = absurd cc
+
+-- ---- records
+
+never_truth : (v : FieldShown) (p : List ℕ) → is_no_truth v ≡ true → IsKnown v p
+never_truth F.Number p h = record {}
+never_truth F.Signed p h = record {}
+never_truth F.BigEndian p h = record {}
+never_truth F.Address p h = record {}
+never_truth F.Truth p h = absurd cc
+
+no_truths : (fs : List Field) (p : List ℕ) → lacks_truths fs ≡ true → AllKnown fs p
+no_truths [] p h = record {}
+no_truths (f ∷ fs) p h =
+    let both = and_parts (is_no_truth f.3) (lacks_truths fs) h in
+    (never_truth f.3 (take f.2 p) both.0, no_truths fs (drop f.2 p) both.1)
+
+zeros_are : (n : ℕ) → is_zero (zeros n) ≡ true
+zeros_are zero = refl
+zeros_are (suc n) = zeros_are n
+
+take_whole : (p : List ℕ) (n : ℕ) → length p ≡ n → take n p ≡ p
+take_whole [] zero h = refl
+take_whole [] (suc n) h = refl
+take_whole (x ∷ p) zero h = absurd (omega arith)
+take_whole (x ∷ p) (suc n) h = ap (λ q. x ∷ q) (take_whole p n (omega arith))
+
+drop_whole : (p : List ℕ) (n : ℕ) → length p ≡ n → drop n p ≡ []
+drop_whole [] zero h = refl
+drop_whole [] (suc n) h = refl
+drop_whole (x ∷ p) zero h = absurd (omega arith)
+drop_whole (x ∷ p) (suc n) h = drop_whole p n (omega arith)
+
+drop_front : (xs ys : List ℕ) (n : ℕ) → length xs ≡ n → drop n (xs ++ ys) ≡ ys
+drop_front [] ys zero h = refl
+drop_front [] ys (suc n) h = absurd (omega arith)
+drop_front (x ∷ xs) ys zero h = absurd (omega arith)
+drop_front (x ∷ xs) ys (suc n) h = drop_front xs ys n (omega arith)
+
+-- a payload of just the fields' size
+whole_record : (s : Shape) (held : Record) (p : List ℕ) → Own s p → length p ≡ total_size (fields_of held) → lacks_truths (fields_of held) ≡ true → HoldsFields held p
+whole_record s held p o l h = record {
+  bytes = o.bytes;
+  whole = omega (arith, l);
+  zeros = ap is_zero (drop_whole p (total_size (fields_of held)) l);
+  known = no_truths (fields_of held) (take (total_size (fields_of held)) p) h;
+}
+
+-- one in which zeros follow them
+filled_record : (m n : ℕ) (held : Record) (p : List ℕ) → Own (fixed_record m n) p → total_size (fields_of held) ≡ m → lacks_truths (fields_of held) ≡ true → HoldsFields held p
+filled_record m n held p o l h =
+    let long = leb-true m (length p) o.accepted in
+    let front : length (take m p) ≡ m = omega (arith, length-take m p, long) in
+    let rest : drop m p ≡ zeros (n - m) = ap (drop m) (sym o.canonical) ∙ drop_front (take m p) (zeros (n - m)) m front in
+    record {
+      bytes = o.bytes;
+      whole = omega (arith, l, long);
+      zeros = ap (λ k. is_zero (drop k p)) l ∙ ap is_zero rest ∙ zeros_are (n - m);
+      known = no_truths (fields_of held) (take (total_size (fields_of held)) p) h;
+    }
+
+either_record : (m n : ℕ) (held : Record) (p : List ℕ) (t : Bool) → (total_size (fields_of held) == n) ≡ t → Own (fixed_record m n) p → m ≤ n → (t || (total_size (fields_of held) == m)) ≡ true → lacks_truths (fields_of held) ≡ true → HoldsFields held p
+either_record m n held p true e o l h k =
+    let long = leb-true m (length p) o.accepted in
+    whole_record (fixed_record m n) held p o (record_length m n p l long o.canonical ∙ sym (eqb-true (total_size (fields_of held)) n e)) k
+either_record m n held p false e o l h k = filled_record m n held p o (eqb-true (total_size (fields_of held)) m h) k
+
+known_setting : (v : FieldShown) (p : List ℕ) → number p ≤ 1 → IsKnown v p
+known_setting F.Number p h = record {}
+known_setting F.Signed p h = record {}
+known_setting F.BigEndian p h = record {}
+known_setting F.Address p h = record {}
+known_setting F.Truth p h = h
+
+-- a number and a truth of 4 bytes each
+setting_known : (fs : List Field) (p : List ℕ) → is_setting fs ≡ true → number (drop 4 p) ≤ 1 → length p ≡ 8 → (total_size fs ≡ 8) × AllKnown fs p
+setting_known [] p h n l = absurd cc
+setting_known (f ∷ []) p h n l = absurd cc
+setting_known (f ∷ g ∷ x ∷ fs) p h n l = absurd cc
+setting_known (f ∷ g ∷ []) p h n l =
+    let first = and_parts (f.2 == 4) (is_no_truth f.3 && (g.2 == 4)) h in
+    let second = and_parts (is_no_truth f.3) (g.2 == 4) first.1 in
+    let a = eqb-true f.2 4 first.0 in
+    let b = eqb-true g.2 4 second.1 in
+    let back : length (drop 4 p) ≡ 4 = omega (arith, length-drop 4 p, l) in
+    let same : take g.2 (drop f.2 p) ≡ drop 4 p = (λ i. take (b i) (drop (a i) p)) ∙ take_whole (drop 4 p) 4 back in
+    let small : number (take g.2 (drop f.2 p)) ≤ 1 = subst (λ q. number q ≤ 1) (sym same) n in
+    (omega (arith, a, b), (never_truth f.3 (take f.2 p) second.0, (known_setting g.3 (take g.2 (drop f.2 p)) small, record {})))
+
+setting_record : (held : Record) (p : List ℕ) → Own id_and_truth p → is_setting (fields_of held) ≡ true → HoldsFields held p
+setting_record held p o h =
+    let long = leb-true 8 (length p) o.accepted in
+    let l = setting_length p long o.canonical in
+    let front : length (take 4 p) ≡ 4 = omega (arith, length-take 4 p, long) in
+    let behind : drop 4 p ≡ number_truth (take 4 (drop 4 p)) = ap (drop 4) (sym o.canonical) ∙ drop_front (take 4 p) (number_truth (take 4 (drop 4 p))) 4 front in
+    let small : number (drop 4 p) ≤ 1 = subst (λ q. number q ≤ 1) (sym behind) (truth_number (number (take 4 (drop 4 p)))) in
+    let known = setting_known (fields_of held) p h small l in
+    let all : length p ≡ total_size (fields_of held) = l ∙ sym known.0 in
+    record {
+      bytes = o.bytes;
+      whole = omega (arith, all);
+      zeros = ap is_zero (drop_whole p (total_size (fields_of held)) all);
+      known = subst (AllKnown (fields_of held)) (sym (take_whole p (total_size (fields_of held)) all)) known.1;
+    }
+
+holds : (s : Shape) (held : Record) (p : List ℕ) → has_fields s (fields_of held) ≡ true → Own s p → HoldsFields held p
+holds (exact n) held p h o =
+    let both = and_parts (total_size (fields_of held) == n) (lacks_truths (fields_of held)) h in
+    whole_record (exact n) held p o (eqb-true (length p) n o.accepted ∙ sym (eqb-true (total_size (fields_of held)) n both.0)) both.1
+holds (resized n) held p h o =
+    let both = and_parts (total_size (fields_of held) == n) (lacks_truths (fields_of held)) h in
+    whole_record (resized n) held p o (resized_length n p o.canonical ∙ sym (eqb-true (total_size (fields_of held)) n both.0)) both.1
+holds (fixed_record m n) held p h o =
+    let total = total_size (fields_of held) in
+    let both = and_parts (nat_le m n) (((total == n) || (total == m)) && lacks_truths (fields_of held)) h in
+    let more = and_parts ((total == n) || (total == m)) (lacks_truths (fields_of held)) both.1 in
+    either_record m n held p (total == n) refl o (leb-true m n both.0) more.0 more.1
+holds id_and_truth held p h o = setting_record held p o h
+holds (either m n) held p h o = absurd cc
+holds (at_most n) held p h o = absurd cc
+holds nonzero_byte held p h o = absurd cc
+holds one_byte held p h o = absurd cc
+holds truth_of_four held p h o = absurd cc
+holds presence held p h o = absurd cc
+holds text held p h o = absurd cc
+holds raw held p h o = absurd cc
+holds never held p h o = absurd cc
+
+-- all payloads of a record have one size
+record_lengths : (s : Shape) (fs : List Field) → has_fields s fs ≡ true → HasSize s (λ n. true)
+record_lengths (exact n) fs h = sized (exact n) (λ n. true) refl
+record_lengths (resized n) fs h = sized (resized n) (λ n. true) refl
+record_lengths (fixed_record m n) fs h =
+    let l = leb-true m n (and_parts (nat_le m n) (((total_size fs == n) || (total_size fs == m)) && lacks_truths fs) h).0 in
+    record { n = n; known = refl; size = λ p o. record_length m n p l (leb-true m (length p) o.accepted) o.canonical }
+record_lengths id_and_truth fs h = sized id_and_truth (λ n. true) refl
+record_lengths (either m n) fs h = absurd cc
+record_lengths (at_most n) fs h = absurd cc
+record_lengths nonzero_byte fs h = absurd cc
+record_lengths one_byte fs h = absurd cc
+record_lengths truth_of_four fs h = absurd cc
+record_lengths presence fs h = absurd cc
+record_lengths text fs h = absurd cc
+record_lengths raw fs h = absurd cc
+record_lengths never fs h = absurd cc
+
+-- ---- addresses
+
+address_size : (s : Shape) (p : List ℕ) → is_address s ≡ true → Own s p → ((length p == 4) || (length p == 16)) ≡ true
+address_size (exact n) p h o = ap (λ k. (k == 4) || (k == 16)) (eqb-true (length p) n o.accepted) ∙ h
+address_size (either m n) p h o =
+    let both = and_parts (m == 4) (n == 16) h in
+    (λ i. (length p == sym (eqb-true m 4 both.0) i) || (length p == sym (eqb-true n 16 both.1) i)) ∙ o.accepted
+address_size (at_most n) p h o = absurd cc
+address_size nonzero_byte p h o = absurd cc
+address_size one_byte p h o = absurd cc
+address_size truth_of_four p h o = absurd cc
+address_size presence p h o = absurd cc
+address_size text p h o = absurd cc
+address_size raw p h o = absurd cc
+address_size never p h o = absurd cc
+address_size (fixed_record m n) p h o = absurd cc
+address_size id_and_truth p h o = absurd cc
+address_size (resized n) p h o = absurd cc
+
+module _ (laws : ValueLaws) (s : Shape) where
+  by_sizes : (p q : List ℕ) (t u : Bool) → (length p == 4) ≡ t → (length q == 4) ≡ u → (t || (length p == 16)) ≡ true → (u || (length q == 16)) ≡ true → Own s p → Own s q → address_text p ≡ address_text q → p ≡ q
+  by_sizes p q true true a b h k o u e = laws.addresses.ipv4 p q o.bytes u.bytes (eqb-true (length p) 4 a) (eqb-true (length q) 4 b) e
+  by_sizes p q true false a b h k o u e = absurd (laws.address_sizes p q o.bytes u.bytes (eqb-true (length p) 4 a) (eqb-true (length q) 16 k) e)
+  by_sizes p q false true a b h k o u e = absurd (laws.address_sizes q p u.bytes o.bytes (eqb-true (length q) 4 b) (eqb-true (length p) 16 h) (sym e))
+  by_sizes p q false false a b h k o u e = laws.addresses.ipv6 p q o.bytes u.bytes (eqb-true (length p) 16 h) (eqb-true (length q) 16 k) e
+
+  flags_by : (p q : List ℕ) (t : Bool) → (length p == 4) ≡ t → (t || (length p == 2)) ≡ true → length p ≡ length q → Own s p → Own s q → sized_flags_value p ≡ sized_flags_value q → p ≡ q
+  flags_by p q true a h l o u e = let four = eqb-true (length p) 4 a in laws.settings.sized_4 p q o.bytes u.bytes four (sym l ∙ four) e
+  flags_by p q false a h l o u e = let two = eqb-true (length p) 2 h in laws.settings.sized_2 p q o.bytes u.bytes two (sym l ∙ two) e
+
+-- ---- bytes that hold no number
+
+strings : (s : Shape) (p q : List ℕ) → is_string s ≡ true → Own s p → Own s q → without_nul p ≡ without_nul q → p ≡ q
+strings text p q h o u e = sym o.canonical ∙ ap (λ v. v ++ 0 ∷ []) e ∙ u.canonical
+strings (exact n) p q h o u e = absurd cc
+strings (either m n) p q h o u e = absurd cc
+strings (at_most n) p q h o u e = absurd cc
+strings nonzero_byte p q h o u e = absurd cc
+strings one_byte p q h o u e = absurd cc
+strings truth_of_four p q h o u e = absurd cc
+strings presence p q h o u e = absurd cc
+strings raw p q h o u e = absurd cc
+strings never p q h o u e = absurd cc
+strings (fixed_record m n) p q h o u e = absurd cc
+strings id_and_truth p q h o u e = absurd cc
+strings (resized n) p q h o u e = absurd cc
+
+presences : (s : Shape) (p q : List ℕ) → is_presence s ≡ true → Own s p → Own s q → p ≡ q
+presences presence p q h o u = sym o.canonical ∙ u.canonical
+presences (exact n) p q h o u = absurd cc
+presences (either m n) p q h o u = absurd cc
+presences (at_most n) p q h o u = absurd cc
+presences nonzero_byte p q h o u = absurd cc
+presences one_byte p q h o u = absurd cc
+presences truth_of_four p q h o u = absurd cc
+presences text p q h o u = absurd cc
+presences raw p q h o u = absurd cc
+presences never p q h o u = absurd cc
+presences (fixed_record m n) p q h o u = absurd cc
+presences id_and_truth p q h o u = absurd cc
+presences (resized n) p q h o u = absurd cc
+
+optional_size : (s : Shape) (p : List ℕ) → is_optional s ≡ true → Own s p → length p ≤ 1
+optional_size (at_most n) p h o = let a = leb-true (length p) n o.accepted in let b = eqb-true n 1 h in omega (arith, a, b)
+optional_size (exact n) p h o = absurd cc
+optional_size (either m n) p h o = absurd cc
+optional_size nonzero_byte p h o = absurd cc
+optional_size one_byte p h o = absurd cc
+optional_size truth_of_four p h o = absurd cc
+optional_size presence p h o = absurd cc
+optional_size text p h o = absurd cc
+optional_size raw p h o = absurd cc
+optional_size never p h o = absurd cc
+optional_size (fixed_record m n) p h o = absurd cc
+optional_size id_and_truth p h o = absurd cc
+optional_size (resized n) p h o = absurd cc
+
+-- ---- a form that tells the shape
+
+pub shapes_told : ValueLaws → ShapesAreTold
+shapes_told laws s (V.Number numbers) p q h o u e = let z = sized s is_size h in laws.numbers.little numbers p q o.bytes u.bytes (same_length s is_size p q z o u) (length_holds s is_size p z o) e
+shapes_told laws s (V.BigEndian numbers) p q h o u e = let z = sized s is_size h in laws.numbers.big numbers p q o.bytes u.bytes (same_length s is_size p q z o u) (length_holds s is_size p z o) e
+shapes_told laws s V.Signed p q h o u e = let z = sized s (λ n. n == 4) h in laws.numbers.signed p q o.bytes u.bytes (length_is s 4 p z o) (length_is s 4 q z u) e
+shapes_told laws s V.Flags p q h o u e = let z = sized s is_size h in laws.numbers.flags p q o.bytes u.bytes (same_length s is_size p q z o u) (length_holds s is_size p z o) e
+shapes_told laws s V.BigEndianFlags p q h o u e = let z = sized s is_size h in laws.settings.big p q o.bytes u.bytes (same_length s is_size p q z o u) (length_holds s is_size p z o) e
+shapes_told laws s V.FlagsBySize p q h o u e =
+    let z = sized s (λ n. (n == 4) || (n == 2)) h in
+    flags_by laws s p q (length p == 4) refl (length_holds s (λ n. (n == 4) || (n == 2)) p z o) (same_length s (λ n. (n == 4) || (n == 2)) p q z o u) o u e
+shapes_told laws s V.Truth p q h o u e =
+    laws.settings.truth p q o.bytes u.bytes (same_length s (λ n. true) p q (truth_sized s h) o u) (at_most_one s p h o) (at_most_one s q h u) (ap (drop 1) e)
+shapes_told laws s V.Presence p q h o u e = presences s p q h o u
+shapes_told laws s V.OptionalByte p q h o u e = laws.settings.optional p q o.bytes u.bytes (optional_size s p h o) (optional_size s q h u) e
+shapes_told laws s V.Text p q h o u e = strings s p q h o u (laws.bytes.text p q o.bytes u.bytes (ap (drop 1) e))
+shapes_told laws s V.Bytes p q h o u e = laws.bytes.bytes p q o.bytes u.bytes e
+shapes_told laws s V.HardwareAddress p q h o u e = laws.bytes.hardware p q o.bytes u.bytes e
+shapes_told laws s V.Address p q h o u e = by_sizes laws s p q (length p == 4) (length q == 4) refl refl (address_size s p h o) (address_size s q h u) o u e
+shapes_told laws s V.PortRange p q h o u e = let z = sized s (λ n. n == 4) h in laws.settings.ports p q o.bytes u.bytes (length_is s 4 p z o) (length_is s 4 q z u) e
+shapes_told laws s V.FlagsAndMask p q h o u e = let z = sized s (λ n. n == 8) h in laws.settings.masked p q o.bytes u.bytes (length_is s 8 p z o) (length_is s 8 q z u) e
+shapes_told laws s (V.Record held) p q h o u e = laws.records false held p q (holds s held p h o) (holds s held q h u) (same_length s (λ n. true) p q (record_lengths s (fields_of held) h) o u) e
+shapes_told laws s (V.SparseRecord held) p q h o u e = laws.records true held p q (holds s held p h o) (holds s held q h u) (same_length s (λ n. true) p q (record_lengths s (fields_of held) h) o u) e

@@ -1,0 +1,49 @@
+-- What lines tell of what they are of.
+use Rattle.std.specs.Prelude.{◌≡◌, ℕ, ◌≤◌, true, List, [], ◌∷◌, ◌++◌, ⊤, length, drop, Ok}
+use Rattle.netlink_packet_core_grammar.specs.Bytes.{AreBytes}
+use Rattle.netlink_packet_core_grammar.specs.Numbers.{u16_at}
+use Rattle.attribute_tables_grammar.specs.Rules.{Rule, shape_rule}
+use Rattle.attribute_tables_grammar.specs.Shapes.{Shape}
+use Rattle.link_message_grammar.specs.Body.{attributes_rule}
+use Rattle.link_message_grammar.specs.LinkMessage.{family_of}
+use Rattle.link_capture_grammar.specs.Bodies.{body_text}
+use Rattle.link_lines_values.specs.declared.values.Shown.{Shown}
+use Rattle.link_lines_values.specs.Values.{value_text}
+use Rattle.link_lines_texts.specs.Coverage.{shape_tells}
+use Rattle.link_lines_texts.specs.Frames.{family_table, frame_lines}
+use Rattle.link_lines_texts.specs.Lists.{indent, list_lines}
+
+-- bytes that a rule accepts and leaves as they are
+pub record IsOwn (r : Rule) (p : List ℕ) : Type 0 where
+  pub bytes : AreBytes p
+  pub accepted : r.accepted p ≡ true
+  pub canonical : r.canonical p ≡ p
+
+-- Payloads of a shape that are their own text are equal where a form that tells it shows them alike.
+abbrev pub ShapesAreTold : Type 0
+ShapesAreTold = (s : Shape) (v : Shown) (p q : List ℕ) → shape_tells s v ≡ true → IsOwn (shape_rule s) p → IsOwn (shape_rule s) q → value_text v p ≡ value_text v q → p ≡ q
+
+-- no line of this level, or of a deeper one, stands in front
+abbrev pub IsShallow : ℕ → List ℕ → Type 0
+IsShallow level s = (r : List ℕ) → s ≡ indent level ++ r → ⊥
+
+-- Lists of a link's attributes that are their own text, of one address family, are equal where their lines are, whatever shallower lines follow.
+abbrev pub ListsAreTold : Type 0
+ListsAreTold = (n : ℕ) (p q s t : List ℕ) → IsOwn (attributes_rule (family_of n)) p → IsOwn (attributes_rule (family_of n)) q → IsShallow 1 s → IsShallow 1 t →
+    list_lines 1 (family_table n) p ++ s ≡ list_lines 1 (family_table n) q ++ t → (p ≡ q) × (s ≡ t)
+
+-- the bytes of a frame without its padding, whose body is its own text
+pub record IsOwnFrame (f : List ℕ) : Type 0 where
+  pub bytes : AreBytes f
+  pub header : 16 ≤ length f
+  pub body : body_text (u16_at 4 f) (drop 16 f) ≡ Ok (drop 16 f)
+
+-- nothing, or the name of a type in front
+abbrev pub StartsFrame : List ℕ → Type 0
+StartsFrame [] = ⊤
+StartsFrame (c ∷ s) = 48 ≤ c
+
+-- Lines of a frame begin with the name of its type. They tell all of it but its length, and where they end.
+pub record FramesAreTold : Type 0 where
+  pub starts : (f s : List ℕ) → StartsFrame (frame_lines f ++ s)
+  pub told : (f g s t : List ℕ) → IsOwnFrame f → IsOwnFrame g → StartsFrame s → StartsFrame t → frame_lines f ++ s ≡ frame_lines g ++ t → (drop 4 f ≡ drop 4 g) × (s ≡ t)

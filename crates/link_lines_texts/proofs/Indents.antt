@@ -1,6 +1,7 @@
 -- One level more.
-use Rattle.std.proofs.Common.{◌≡◌, ℕ, zero, suc, ◌+◌, ◌*◌, [], ◌∷◌, ◌++◌, refl, ap, ◌∙◌, arith}
+use Rattle.std.proofs.Common.{◌≤◌, take, ◌≡◌, ℕ, zero, suc, ◌+◌, ◌*◌, [], ◌∷◌, ◌++◌, refl, ap, ◌∙◌, arith}
 use Rattle.std.specs.Prelude.{replicate}
+use Rattle.link_lines_texts.specs.declared.attributes.TheConstants.{SPACES}
 use Rattle.link_lines_texts.specs.Lists.{indent}
 
 two_more : (n : ℕ) → ◌++◌ {A = ℕ} (replicate n 32) (32 ∷ 32 ∷ []) ≡ 32 ∷ 32 ∷ replicate n 32
@@ -9,3 +10,11 @@ two_more (suc n) = ap (λ z. 32 ∷ z) (two_more n)
 
 pub one_deeper : (n : ℕ) → indent n ++ 32 ∷ 32 ∷ [] ≡ indent (n + 1)
 one_deeper n = let e : suc (suc (2 * n)) ≡ 2 * (n + 1) = omega arith in two_more (2 * n) ∙ ap (λ k. replicate k 32) e
+
+first_of : (n m : ℕ) → n ≤ m → take {A = ℕ} n (replicate m 32) ≡ replicate n 32
+first_of zero m h = refl
+first_of (suc n) zero h = absurd (omega arith)
+first_of (suc n) (suc m) h = ap (λ z. 32 ∷ z) (first_of n m (omega arith))
+
+pub spaces : (level : ℕ) → level ≤ 8 → take (2 * level) SPACES ≡ indent level
+spaces level h = first_of (2 * level) 16 (omega arith)

@@ -11,6 +11,7 @@ pub mod LinksTold
 pub mod ListSteps
 pub mod ListsTold
 pub mod RowFacts
+pub mod RowRanges
 pub mod ShapesTold
 pub mod TablesTold
 pub mod TitlesTold

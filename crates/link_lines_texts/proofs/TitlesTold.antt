@@ -8,23 +8,12 @@ use Rattle.link_lines_texts.specs.declared.rows.Title.{Title}
 use Rattle.link_lines_texts.specs.declared.titles.TheConstants.{TITLES}
 use Rattle.link_lines_texts.specs.Coverage.{all_titles, has_name, is_beside, is_name, is_word, kind_of, names_apart, table_of, takes_name}
 use Rattle.link_lines_texts.specs.Titles.{find_title, key_of, or_else, title_of, title_name}
-use Rattle.link_lines_texts.proofs.CanonicalLists.{some_told}
 use Rattle.link_lines_texts.proofs.LineCuts.{IsWord, Starts}
 use Rattle.link_lines_texts.proofs.ListsTold.{NamesTold}
+use Rattle.link_lines_texts.proofs.RowFacts.{found, one_title}
 use Rattle.link_lines_texts.proofs.Told.{all_are_apart, all_are_named}
 
--- ---- a row that is found
-
-found_by : (f : Title → Bool) (w : ℕ) (x t : Title) (o : Option Title) (b : Bool) → (key_of x == w) ≡ b → f x ≡ true → (o ≡ Some t → (f t ≡ true) × (key_of t ≡ w)) → cond b (Some x) o ≡ Some t → (f t ≡ true) × (key_of t ≡ w)
-found_by f w x t o true h k more e = let same = some_told x t e in (ap f (sym same) ∙ k, ap (λ z. key_of z) (sym same) ∙ eqb-true (key_of x) w h)
-found_by f w x t o false h k more e = more e
-
--- what holds of all rows holds of it, and it has the key
-pub found : (f : Title → Bool) (w : ℕ) (ts : List Title) (t : Title) → all_titles f ts ≡ true → find_title w ts ≡ Some t → (f t ≡ true) × (key_of t ≡ w)
-found f w [] t h e = absurd cc
-found f w (x ∷ ts) t h e =
-    let parts = and_parts (f x) (all_titles f ts) h in
-    found_by f w x t (find_title w ts) (key_of x == w) refl parts.0 (found f w ts t parts.1) e
+-- ---- rows of one name
 
 or_true : (a b : Bool) → b ≡ true → (a || b) ≡ true
 or_true true b h = refl
@@ -40,7 +29,7 @@ both true false h k = k
 both false b h k = h
 
 any_by : (f : Title → Bool) (w : ℕ) (x t : Title) (ts : List Title) (b : Bool) → (find_title w ts ≡ Some t → list_any f ts ≡ true) → f t ≡ true → cond b (Some x) (find_title w ts) ≡ Some t → (f x || list_any f ts) ≡ true
-any_by f w x t ts true more k e = true_or (f x) (list_any f ts) (ap f (some_told x t e) ∙ k)
+any_by f w x t ts true more k e = true_or (f x) (list_any f ts) (ap f (one_title x t e) ∙ k)
 any_by f w x t ts false more k e = or_true (f x) (list_any f ts) (more e)
 
 any_found : (f : Title → Bool) (w : ℕ) (ts : List Title) (t : Title) → f t ≡ true → find_title w ts ≡ Some t → list_any f ts ≡ true
@@ -56,8 +45,8 @@ not_any false h k = absurd cc
 apart_by : (w v : ℕ) (x t u : Title) (ts : List Title) (a b : Bool) → (key_of x == w) ≡ a → (key_of x == v) ≡ b → not (list_any (takes_name x) ts) ≡ true → (find_title w ts ≡ Some t → find_title v ts ≡ Some u → w ≡ v) →
     takes_name t u ≡ true → takes_name u t ≡ true → cond a (Some x) (find_title w ts) ≡ Some t → cond b (Some x) (find_title v ts) ≡ Some u → w ≡ v
 apart_by w v x t u ts true true h k n more c d e f = sym (eqb-true (key_of x) w h) ∙ eqb-true (key_of x) v k
-apart_by w v x t u ts true false h k n more c d e f = absurd (not_any (list_any (takes_name x) ts) n (any_found (takes_name x) v ts u (ap (λ z. takes_name z u) (some_told x t e) ∙ c) f))
-apart_by w v x t u ts false true h k n more c d e f = absurd (not_any (list_any (takes_name x) ts) n (any_found (takes_name x) w ts t (ap (λ z. takes_name z t) (some_told x u f) ∙ d) e))
+apart_by w v x t u ts true false h k n more c d e f = absurd (not_any (list_any (takes_name x) ts) n (any_found (takes_name x) v ts u (ap (λ z. takes_name z u) (one_title x t e) ∙ c) f))
+apart_by w v x t u ts false true h k n more c d e f = absurd (not_any (list_any (takes_name x) ts) n (any_found (takes_name x) w ts t (ap (λ z. takes_name z t) (one_title x u f) ∙ d) e))
 apart_by w v x t u ts false false h k n more c d e f = more e f
 
 apart_in : (w v : ℕ) (t u : Title) (ts : List Title) → names_apart ts ≡ true → takes_name t u ≡ true → takes_name u t ≡ true → find_title w ts ≡ Some t → find_title v ts ≡ Some u → w ≡ v

@@ -122,10 +122,17 @@ fn known_inside(force: InForce<'_>, inside: Inside) -> Inside
     }
 }
 
+/// What lines of the first levels begin with.
+const SPACES: [u8; 16] = [b' '; 16];
+
 /// Appends so many levels of two spaces.
+#[tactic(auto, using(crate::proofs::Indents::spaces))]
 fn push_indent(level: usize, out: &mut Vec<u8>) -> Result<(), AllocError>
     ensures ok { OnOk result (out.new.items ≡ out.old.items ++ indent level) }
 {
+    if level <= 8 {
+        return out.extend_from_slice(&SPACES[..2 * level]);
+    }
     for _ in 0..level {
         out.extend_from_slice(b"  ")?;
     }

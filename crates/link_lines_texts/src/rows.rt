@@ -55,18 +55,27 @@ fn look_up(titles: &[Title], table: u8, kind: u16) -> Option<Title>
     }
 }
 
+/// How many rows the tables of one family each have together; they stand first.
+const FAMILY_ROWS: usize = 6;
+
+/// Where the rows of links end, and those of what attributes hold begin.
+const LINK_ROWS: usize = 63;
+
 /// The row of a kind, which has no flag bits, in a table: of a link of some family, that of the family, or else that of
-/// all families.
+/// all families, which has none of the families' own kinds. Only the rows are searched among which it can stand.
 #[tactic(auto, unfolding(crate::specs::Titles::title_of), using(crate::proofs::RowFacts::titles_rise))]
 pub fn title_of(table: u8, kind: u16) -> Option<Title>
     ensures row { result ≡ title_of table kind }
     ensures name { IfSome result (λ title. title.2 ≤ 32) }
 {
-    let found = look_up(&TITLES, table, kind);
-    if found.is_none() && table < LINK {
-        look_up(&TITLES, LINK, kind)
+    if table > LINK {
+        return look_up(&TITLES[LINK_ROWS..], table, kind);
+    }
+    let shared = look_up(&TITLES[FAMILY_ROWS..LINK_ROWS], LINK, kind);
+    if shared.is_none() && table < LINK {
+        look_up(&TITLES[..FAMILY_ROWS], table, kind)
     } else {
-        found
+        shared
     }
 }
 

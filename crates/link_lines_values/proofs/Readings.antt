@@ -1,5 +1,6 @@
 -- The numbers that bytes stand for, as std reads them.
-use Rattle.std.proofs.Common.{◌++◌, codes, get_or, ◌≡◌, ◌∙◌, ap, Some, None, cond, length, ℕ, List, [], ◌∷◌, arith, w16, w32, w64}
+use Rattle.std.proofs.Common.{Bool, true, false, eq-eqb, lt-ltb, ◌+◌, ◌<◌, ◌/◌, ◌%◌, ◌++◌, codes, get_or, ◌≡◌, ◌∙◌, ap, Some, None, cond, length, ℕ, List, [], ◌∷◌, arith, w16, w32, w64}
+use Rattle.std.specs.Fmt.{decimal, digits}
 use Rattle.std.specs.Int.{from_le_bytes, from_be_bytes}
 use Rattle.attribute_tables_grammar.specs.Shapes.{number}
 use Rattle.link_lines_values.specs.Digits.{big_endian, is_number, hex_number}
@@ -52,3 +53,13 @@ mask_bytes (a ∷ b ∷ c ∷ d ∷ e ∷ f ∷ g ∷ h ∷ i ∷ p) flags mask 
 pub ruleset low_first = (low_2, low_4, low_8)
 
 pub ruleset high_first = (high_2, high_4, high_8)
+
+digit_by : (b c : Bool) (n m : ℕ) (more : List ℕ) → b ≡ true → c ≡ true → m ≡ n → cond b (cond c (48 + m) (87 + m) ∷ []) more ≡ (48 + n) ∷ []
+digit_by true true n m more h k e = ap (λ z. (48 + z) ∷ []) e
+digit_by true false n m more h k e = absurd cc
+digit_by false c n m more h k e = absurd cc
+
+-- a number under 10 has one digit
+pub one_digit : (n : ℕ) → n < 10 → decimal n ≡ (48 + n) ∷ []
+unfolding digits
+one_digit n h = digit_by _ _ n (n % 10) _ (eq-eqb (n / 10) 0 (omega (arith, h))) (lt-ltb (n % 10) 10 (omega arith)) (omega (arith, h))

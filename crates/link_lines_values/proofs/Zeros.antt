@@ -1,5 +1,8 @@
 -- The bytes without the zeros at the end, counted from the first on.
-use Rattle.std.proofs.Common.{◌≡◌, ◌≢◌, ℕ, ◌+◌, ◌&&◌, Bool, true, false, cond, List, [], ◌∷◌, refl, ap, sym, ◌∙◌, zero-add, add_assoc, eq-eqb, ne_eqb, ◌<◌, length, drop, get_or, drop-cons, add-one}
+use Rattle.std.proofs.Common.{◌≡◌, ◌≢◌, ℕ, ◌+◌, ◌&&◌, Bool, true, false, cond, List, [], ◌∷◌, refl, ap, sym, ◌∙◌, zero-add, add_assoc, eq-eqb, ne_eqb, ◌<◌, length, drop, get_or, drop-cons, add-one, arith}
+use Rattle.std.specs.Prelude.{◌*◌, ◌==◌}
+use Rattle.std.proofs.lemmas.Bool.Decides.{nat_tests}
+use Rattle.attribute_tables_grammar.specs.Shapes.{number}
 use Rattle.link_lines_values.specs.Bytes.{is_zero, count_without_zeros}
 
 -- the count, where count holds of the first i bytes, and these are the rest
@@ -45,3 +48,11 @@ pub counted_same : (i count n : ℕ) (bytes : List ℕ) → i < length bytes →
 counted_same i count n bytes l h e =
     ap (λ m. counted (i + 1) m (drop (i + 1) bytes)) e
     ∙ sym (ap (counted i count) (drop-cons bytes i 0 l ∙ ap (λ k. get_or bytes i 0 ∷ drop k bytes) (sym (add-one i))) ∙ counted_zero i count (get_or bytes i 0) (drop (i + 1) bytes) h)
+
+zero_by : (b n : ℕ) (t : Bool) → (n == 0) ≡ t → (b + 256 * n == 0) ≡ (b == 0) && t
+zero_by b n t h = grind (arith, nat_tests)
+
+-- bytes are zeros where their number is zero
+pub zero_by_number : (p : List ℕ) → (number p == 0) ≡ is_zero p
+zero_by_number [] = refl
+zero_by_number (b ∷ p) = zero_by b (number p) (is_zero p) (zero_by_number p)

@@ -36,10 +36,14 @@ pub(crate) fn big_endian(bytes: &[u8]) -> Option<u64>
     }
 }
 
-/// Appends a number in decimal.
+/// Appends a number in decimal. Most have one digit.
+#[tactic(auto, using(crate::proofs::Readings::one_digit))]
 pub fn push_decimal(number: u64, out: &mut Vec<u8>) -> Result<(), AllocError>
     ensures ok { OnOk result (out.new.items ≡ out.old.items ++ decimal number) }
 {
+    if number < 10 {
+        return out.extend_from_slice(&[b'0' + number as u8]);
+    }
     let mut buffer = Buffer::new();
     out.extend_from_slice(buffer.format(number).as_bytes())
 }

@@ -1,6 +1,7 @@
 //! Records, field by field.
 
 ghost use Rattle.std.specs.Prelude.{◌≡◌, ◌≤◌, ◌++◌, true, cond, length, OnOk};
+ghost use Rattle.link_lines_values.specs.Bytes.{is_zero};
 ghost use Rattle.link_lines_values.specs.Records.{field_text, field_value, fields_fit, fields_of, fields_text};
 ghost use Rattle.link_lines_values.specs.Records.{number_or_hex, record_text, total_size};
 
@@ -51,42 +52,30 @@ pub enum Record {
     VfLinkState,
 }
 
-// The fields of a record.
-fn fields(held: Record) -> &'static [Field]
-    ensures fields { result.now ≡ fields_of held }
-    ensures fit { fields_fit result.now ≡ true }
-    ensures small { total_size result.now ≤ 4096 }
+// The fields of a record, and how many bytes they have.
+fn fields(held: Record) -> (&'static [Field], usize)
+    ensures fields { result.0.now ≡ fields_of held }
+    ensures fit { fields_fit result.0.now ≡ true }
+    ensures size { result.1 ≡ total_size (fields_of held) }
 {
     match held {
-        Record::Stats => &STATS_FIELDS,
-        Record::Stats64 => &STATS64_FIELDS,
-        Record::Map => &MAP_FIELDS,
-        Record::Ipv4Devconf => &IPV4_DEVCONF_FIELDS,
-        Record::Ipv6Devconf => &IPV6_DEVCONF_FIELDS,
-        Record::Ip6Stats => &IP6_STATS_FIELDS,
-        Record::Icmp6Stats => &ICMP6_STATS_FIELDS,
-        Record::Cacheinfo => &CACHEINFO_FIELDS,
-        Record::VfMac => &VF_MAC_FIELDS,
-        Record::VfBroadcast => &VF_BROADCAST_FIELDS,
-        Record::VfVlan => &VF_VLAN_FIELDS,
-        Record::VfVlanInfo => &VF_VLAN_INFO_FIELDS,
-        Record::VfTxRate => &VF_TX_RATE_FIELDS,
-        Record::VfRate => &VF_RATE_FIELDS,
-        Record::VfSetting => &VF_SETTING_FIELDS,
-        Record::VfLinkState => &VF_LINK_STATE_FIELDS,
+        Record::Stats => (&STATS_FIELDS, 96),
+        Record::Stats64 => (&STATS64_FIELDS, 200),
+        Record::Map => (&MAP_FIELDS, 28),
+        Record::Ipv4Devconf => (&IPV4_DEVCONF_FIELDS, 132),
+        Record::Ipv6Devconf => (&IPV6_DEVCONF_FIELDS, 236),
+        Record::Ip6Stats => (&IP6_STATS_FIELDS, 304),
+        Record::Icmp6Stats => (&ICMP6_STATS_FIELDS, 56),
+        Record::Cacheinfo => (&CACHEINFO_FIELDS, 16),
+        Record::VfMac => (&VF_MAC_FIELDS, 36),
+        Record::VfBroadcast => (&VF_BROADCAST_FIELDS, 32),
+        Record::VfVlan => (&VF_VLAN_FIELDS, 12),
+        Record::VfVlanInfo => (&VF_VLAN_INFO_FIELDS, 14),
+        Record::VfTxRate => (&VF_TX_RATE_FIELDS, 8),
+        Record::VfRate => (&VF_RATE_FIELDS, 12),
+        Record::VfSetting => (&VF_SETTING_FIELDS, 8),
+        Record::VfLinkState => (&VF_LINK_STATE_FIELDS, 8),
     }
-}
-
-// How many bytes the fields have.
-fn total_size(rows: &[Field]) -> usize
-    requires { total_size rows.now ≤ 4096 }
-    ensures { result ≡ total_size rows.now }
-{
-    let mut size = 0;
-    for row in rows {
-        size += usize::from(row.2);
-    }
-    size
 }
 
 // Appends the number of a field, or its bytes where their size is not a number's.
@@ -133,6 +122,17 @@ fn push_field(field: &Field, part: &[u8], out: &mut Vec<u8>) -> Result<(), Alloc
     push_field_value(field.3, part, out)
 }
 
+// Whether a field is zero, by its number where it has one.
+#[tactic(auto, using(crate::proofs::Zeros::zero_by_number))]
+fn is_zero_field(part: &[u8]) -> bool
+    ensures { result ≡ is_zero part.now }
+{
+    match little_endian(part) {
+        Some(number) => number == 0,
+        None => is_zero(part),
+    }
+}
+
 // Appends the fields that are shown: of a sparse record those that aren't zero.
 fn push_fields(
     is_sparse: bool,
@@ -147,7 +147,7 @@ fn push_fields(
     let mut rest = bytes;
     for row in rows {
         let (part, after) = rest.split_at(usize::from(row.2));
-        if !(is_sparse && is_zero(part)) {
+        if !(is_sparse && is_zero_field(part)) {
             push_field(row, part, out)?;
         }
         rest = after;
@@ -166,8 +166,7 @@ pub(crate) fn push_record(
 ) -> Result<(), AllocError>
     ensures ok { OnOk result (out.new.items ≡ out.old.items ++ record_text is_sparse held bytes.now) }
 {
-    let rows = fields(held);
-    let size = total_size(rows);
+    let (rows, size) = fields(held);
     if bytes.len() < size || !is_zero(&bytes[size..]) {
         return push_bytes(bytes, out);
     }

@@ -5,7 +5,7 @@ use Rattle.link_lines_texts.proofs.attributes.push_indent.Goals as goal
 
 pub loop-preserved : goal.loop-preserved
 loop-preserved c =
-    let e : c.extend_from_slice.new.self.items ≡ c.loop.out.items ++ 32 ∷ 32 ∷ [] = search rules in
+    let e : c.extend_from_slice-in-loop.new.self.items ≡ c.loop.out.items ++ 32 ∷ 32 ∷ [] = search rules in
     record {
       within = omega arith;
       so_far = e ∙ ap (λ z. z ++ 32 ∷ 32 ∷ []) c.loop.invariant.so_far ∙ append_assoc c.args.out.now.items (indent c.loop.counter) (32 ∷ 32 ∷ []) ∙ ap (λ z. c.args.out.now.items ++ z) (one_deeper c.loop.counter);

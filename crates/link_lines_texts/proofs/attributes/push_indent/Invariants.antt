@@ -1,4 +1,4 @@
-use Rattle.std.proofs.Common.{◌≡◌, ◌++◌, ◌*◌, ◌+◌, ◌≤◌}
+use Rattle.std.proofs.Common.{◌≡◌, ◌++◌, ◌≤◌}
 use Rattle.link_lines_texts.specs.Lists.{indent}
 use Rattle.link_lines_texts.proofs.attributes.push_indent.Given as goal
 

@@ -1,4 +1,4 @@
-use Rattle.std.proofs.Common.{false, arith}
+use Rattle.std.proofs.Common.{arith}
 use Rattle.link_lines_texts.proofs.Bisection.{no_title, find_none, find_at, find_none_at, below_all, above_all}
 use Rattle.link_lines_texts.proofs.rows.look_up.Goals as goal
 

@@ -1,4 +1,4 @@
-use Rattle.std.proofs.Common.{◌-◌, ℕ, false, ◌<◌, ◌≤◌, length, get_or}
+use Rattle.std.proofs.Common.{◌-◌, ℕ, ◌<◌, ◌≤◌, length, get_or}
 use Rattle.link_lines_texts.proofs.Bisection.{no_title}
 use Rattle.link_lines_texts.specs.Titles.{key_of}
 use Rattle.link_lines_texts.proofs.rows.look_up.Given as goal

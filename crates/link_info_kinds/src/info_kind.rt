@@ -354,6 +354,8 @@ impl InfoKind {
 impl fmt::Display for InfoKind {
     ghost output = { λ k. Some (info_kind_text k) };
 
+    ghost styled_output = { λ k _. Some (info_kind_text k) };
+
     fn fmt<W: fmt::Write>(&self, f: &mut fmt::Formatter<W>) -> fmt::Result {
         f.write_str(self.as_str())
     }

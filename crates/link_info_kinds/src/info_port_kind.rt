@@ -85,6 +85,8 @@ impl InfoPortKind {
 impl fmt::Display for InfoPortKind {
     ghost output = { λ k. Some (info_port_kind_text k) };
 
+    ghost styled_output = { λ k _. Some (info_port_kind_text k) };
+
     fn fmt<W: fmt::Write>(&self, f: &mut fmt::Formatter<W>) -> fmt::Result {
         f.write_str(self.as_str())
     }

@@ -5,6 +5,7 @@ ghost use Rattle.std.specs.Result.{result_ok};
 ghost use Rattle.netlink_packet_core.specs.Errors.{is_memory};
 ghost use Rattle.link_info_tunnel_types.specs.AmtTypes.{amt_mode_number, amt_mode_of, amt_mode_text, amt_mode_named};
 
+use itoa::Buffer;
 use netlink_packet_core::DecodeError;
 use std::fmt;
 use std::str::FromStr;
@@ -51,11 +52,13 @@ impl From<AmtMode> for u32 {
 impl fmt::Display for AmtMode {
     ghost output = { λ m. Some (amt_mode_text m) };
 
+    ghost styled_output = { λ m _. Some (amt_mode_text m) };
+
     fn fmt<W: fmt::Write>(&self, f: &mut fmt::Formatter<W>) -> fmt::Result {
         match self {
             Self::Gateway => f.write_str("gateway"),
             Self::Relay => f.write_str("relay"),
-            Self::Other(number) => write!(f, "{number}"),
+            Self::Other(number) => f.write_str(Buffer::new().format(*number)),
         }
     }
 }

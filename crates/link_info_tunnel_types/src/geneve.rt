@@ -5,6 +5,7 @@ ghost use Rattle.std.specs.Result.{result_ok};
 ghost use Rattle.netlink_packet_core.specs.Errors.{is_memory};
 ghost use Rattle.link_info_tunnel_types.specs.GeneveTypes.{geneve_df_number, geneve_df_of, geneve_df_text, geneve_df_named};
 
+use itoa::Buffer;
 use netlink_packet_core::DecodeError;
 use std::fmt;
 use std::str::FromStr;
@@ -55,12 +56,14 @@ impl From<GeneveDf> for u8 {
 impl fmt::Display for GeneveDf {
     ghost output = { λ d. Some (geneve_df_text d) };
 
+    ghost styled_output = { λ d _. Some (geneve_df_text d) };
+
     fn fmt<W: fmt::Write>(&self, f: &mut fmt::Formatter<W>) -> fmt::Result {
         match self {
             Self::Unset => f.write_str("unset"),
             Self::Set => f.write_str("set"),
             Self::Inherit => f.write_str("inherit"),
-            Self::Other(number) => write!(f, "{number}"),
+            Self::Other(number) => f.write_str(Buffer::new().format(*number)),
         }
     }
 }

@@ -7,6 +7,7 @@ ghost use Rattle.link_info_tunnel_types.specs.GreTypes.{gre_encap_type_of, gre_e
 ghost use Rattle.link_info_tunnel_types.specs.GreTypes.{er_span_dir_of, er_span_dir_text};
 
 use bitflags::{Flag, Flags};
+use itoa::Buffer;
 use std::fmt;
 
 /// The flags of a GRE header, `GRE_*` of `linux/if_tunnel.h`. On the wire 2 bytes, big-endian; all
@@ -210,12 +211,18 @@ impl From<&GreEncapType> for u16 {
 impl fmt::Display for GreEncapType {
     ghost output = { λ t. Some (gre_encap_type_text t) };
 
+    ghost styled_output = { λ t _. Some (gre_encap_type_text t) };
+
     fn fmt<W: fmt::Write>(&self, f: &mut fmt::Formatter<W>) -> fmt::Result {
         match self {
             Self::None => f.write_str("none"),
             Self::Fou => f.write_str("fou"),
             Self::Gue => f.write_str("gue"),
-            Self::Other(number) => write!(f, "other({number})"),
+            Self::Other(number) => {
+                f.write_str("other(")?;
+                f.write_str(Buffer::new().format(*number))?;
+                f.write_str(")")
+            }
         }
     }
 }
@@ -263,11 +270,17 @@ impl From<&ErSpanDir> for u8 {
 impl fmt::Display for ErSpanDir {
     ghost output = { λ d. Some (er_span_dir_text d) };
 
+    ghost styled_output = { λ d _. Some (er_span_dir_text d) };
+
     fn fmt<W: fmt::Write>(&self, f: &mut fmt::Formatter<W>) -> fmt::Result {
         match self {
             Self::Ingress => f.write_str("ingress"),
             Self::Egress => f.write_str("egress"),
-            Self::Other(number) => write!(f, "other({number})"),
+            Self::Other(number) => {
+                f.write_str("other(")?;
+                f.write_str(Buffer::new().format(*number))?;
+                f.write_str(")")
+            }
         }
     }
 }

@@ -3,6 +3,7 @@
 ghost use Rattle.std.specs.Prelude.{◌≡◌, Some};
 ghost use Rattle.link_info_tunnel_types.specs.GtpTypes.{gtp_role_number, gtp_role_of, gtp_role_text};
 
+use itoa::Buffer;
 use std::fmt;
 
 /// Which end of a GTP tunnel the device is, `GTP_ROLE_*` of `linux/if_link.h`. On the wire 4 bytes
@@ -48,11 +49,17 @@ impl From<GtpRole> for u32 {
 impl fmt::Display for GtpRole {
     ghost output = { λ r. Some (gtp_role_text r) };
 
+    ghost styled_output = { λ r _. Some (gtp_role_text r) };
+
     fn fmt<W: fmt::Write>(&self, f: &mut fmt::Formatter<W>) -> fmt::Result {
         match self {
             Self::Ggsn => f.write_str("ggsn"),
             Self::Sgsn => f.write_str("sgsn"),
-            Self::Other(number) => write!(f, "unknown({number})"),
+            Self::Other(number) => {
+                f.write_str("unknown(")?;
+                f.write_str(Buffer::new().format(*number))?;
+                f.write_str(")")
+            }
         }
     }
 }

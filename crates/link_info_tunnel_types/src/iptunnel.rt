@@ -7,6 +7,7 @@ ghost use Rattle.link_info_tunnel_types.specs.IpTunnelTypes.{tunnel_encap_flags_
 ghost use Rattle.link_info_tunnel_types.specs.IpTunnelTypes.{ip6_tunnel_flags_table};
 
 use bitflags::{Flag, Flags};
+use itoa::Buffer;
 use std::fmt;
 
 /// What an IP tunnel is wrapped in, `TUNNEL_ENCAP_*` of `linux/if_tunnel.h`. On the wire 2 bytes in
@@ -59,13 +60,15 @@ impl From<TunnelEncapType> for u16 {
 impl fmt::Display for TunnelEncapType {
     ghost output = { λ t. Some (tunnel_encap_type_text t) };
 
+    ghost styled_output = { λ t _. Some (tunnel_encap_type_text t) };
+
     fn fmt<W: fmt::Write>(&self, f: &mut fmt::Formatter<W>) -> fmt::Result {
         match self {
             Self::None => f.write_str("none"),
             Self::Fou => f.write_str("fou"),
             Self::Gue => f.write_str("gue"),
             Self::Mpls => f.write_str("mpls"),
-            Self::Other(number) => write!(f, "{number}"),
+            Self::Other(number) => f.write_str(Buffer::new().format(*number)),
         }
     }
 }

@@ -3,6 +3,7 @@
 ghost use Rattle.std.specs.Prelude.{◌≡◌, Some};
 ghost use Rattle.link_info_tunnel_types.specs.VxlanTypes.{vxlan_df_number, vxlan_df_of, vxlan_df_text};
 
+use itoa::Buffer;
 use std::fmt;
 
 /// The "don't fragment" bit of the outer IPv4 header of a VXLAN tunnel, `VXLAN_DF_*` of
@@ -51,12 +52,14 @@ impl From<VxlanDf> for u8 {
 impl fmt::Display for VxlanDf {
     ghost output = { λ d. Some (vxlan_df_text d) };
 
+    ghost styled_output = { λ d _. Some (vxlan_df_text d) };
+
     fn fmt<W: fmt::Write>(&self, f: &mut fmt::Formatter<W>) -> fmt::Result {
         match self {
             Self::Unset => f.write_str("unset"),
             Self::Set => f.write_str("set"),
             Self::Inherit => f.write_str("inherit"),
-            Self::Other(number) => write!(f, "{number}"),
+            Self::Other(number) => f.write_str(Buffer::new().format(*number)),
         }
     }
 }

@@ -7,6 +7,7 @@ ghost use Rattle.link_info_types.specs.IpVlanTypes.{ip_vlan_mode_number, ip_vlan
 ghost use Rattle.link_info_types.specs.IpVlanTypes.{ip_vlan_mode_named, ip_vlan_flags_bits, ip_vlan_flags_table};
 
 use bitflags::{Flag, Flags};
+use itoa::Buffer;
 use netlink_packet_core::DecodeError;
 use std::fmt;
 use std::str::FromStr;
@@ -57,12 +58,14 @@ impl From<IpVlanMode> for u16 {
 impl fmt::Display for IpVlanMode {
     ghost output = { λ m. Some (ip_vlan_mode_text m) };
 
+    ghost styled_output = { λ m _. Some (ip_vlan_mode_text m) };
+
     fn fmt<W: fmt::Write>(&self, f: &mut fmt::Formatter<W>) -> fmt::Result {
         match self {
             Self::L2 => f.write_str("l2"),
             Self::L3 => f.write_str("l3"),
             Self::L3S => f.write_str("l3s"),
-            Self::Other(number) => write!(f, "{number}"),
+            Self::Other(number) => f.write_str(Buffer::new().format(*number)),
         }
     }
 }

@@ -8,6 +8,7 @@ ghost use Rattle.link_info_types.specs.MacVlanTypes.{mac_vlan_mode_named, mac_vl
 ghost use Rattle.link_info_types.specs.MacVlanTypes.{mac_vlan_mac_address_mode_number, mac_vlan_mac_address_mode_of};
 
 use bitflags::{Flag, Flags};
+use itoa::Buffer;
 use netlink_packet_core::DecodeError;
 use std::fmt;
 use std::str::FromStr;
@@ -66,6 +67,8 @@ impl From<MacVlanMode> for u32 {
 impl fmt::Display for MacVlanMode {
     ghost output = { λ m. Some (mac_vlan_mode_text m) };
 
+    ghost styled_output = { λ m _. Some (mac_vlan_mode_text m) };
+
     fn fmt<W: fmt::Write>(&self, f: &mut fmt::Formatter<W>) -> fmt::Result {
         match self {
             Self::Private => f.write_str("private"),
@@ -73,7 +76,7 @@ impl fmt::Display for MacVlanMode {
             Self::Bridge => f.write_str("bridge"),
             Self::Passthrough => f.write_str("passthru"),
             Self::Source => f.write_str("source"),
-            Self::Other(number) => write!(f, "{number}"),
+            Self::Other(number) => f.write_str(Buffer::new().format(*number)),
         }
     }
 }

@@ -8,6 +8,7 @@ ghost use Rattle.link_info_types.specs.NetkitTypes.{netkit_mode_named, netkit_po
 ghost use Rattle.link_info_types.specs.NetkitTypes.{netkit_policy_text, netkit_policy_named, netkit_scrub_number};
 ghost use Rattle.link_info_types.specs.NetkitTypes.{netkit_scrub_of, netkit_scrub_text, netkit_scrub_named};
 
+use itoa::Buffer;
 use netlink_packet_core::DecodeError;
 use std::fmt;
 use std::str::FromStr;
@@ -54,11 +55,13 @@ impl From<NetkitMode> for u32 {
 impl fmt::Display for NetkitMode {
     ghost output = { λ m. Some (netkit_mode_text m) };
 
+    ghost styled_output = { λ m _. Some (netkit_mode_text m) };
+
     fn fmt<W: fmt::Write>(&self, f: &mut fmt::Formatter<W>) -> fmt::Result {
         match self {
             Self::L2 => f.write_str("l2"),
             Self::L3 => f.write_str("l3"),
-            Self::Other(number) => write!(f, "{number}"),
+            Self::Other(number) => f.write_str(Buffer::new().format(*number)),
         }
     }
 }
@@ -132,12 +135,14 @@ impl From<NetkitPolicy> for u32 {
 impl fmt::Display for NetkitPolicy {
     ghost output = { λ m. Some (netkit_policy_text m) };
 
+    ghost styled_output = { λ m _. Some (netkit_policy_text m) };
+
     fn fmt<W: fmt::Write>(&self, f: &mut fmt::Formatter<W>) -> fmt::Result {
         match self {
             Self::Pass => f.write_str("forward"),
             Self::Drop => f.write_str("blackhole"),
             Self::Redirect => f.write_str("redirect"),
-            Self::Other(number) => write!(f, "{number}"),
+            Self::Other(number) => f.write_str(Buffer::new().format(*number)),
         }
     }
 }
@@ -198,6 +203,8 @@ impl From<NetkitScrub> for u32 {
 
 impl fmt::Display for NetkitScrub {
     ghost output = { λ m. Some (netkit_scrub_text m) };
+
+    ghost styled_output = { λ m _. Some (netkit_scrub_text m) };
 
     fn fmt<W: fmt::Write>(&self, f: &mut fmt::Formatter<W>) -> fmt::Result {
         match self {

@@ -1,11 +1,12 @@
 -- What is left to write of a set of flags.
 use denote.Shadow.{shadow}
 use denote.Text.{Utf8}
-use Rattle.std.proofs.Common.{◌≡◌, ◌+◌, ◌<◌, ◌≤◌, ℕ, true, false, List, [], ◌∷◌, ◌++◌, append_assoc, append-nil, drop, get_or, length, map, refl, sym, ap, ◌∙◌}
+use Rattle.std.proofs.Common.{◌≡◌, ◌+◌, ◌<◌, ◌≤◌, ℕ, true, false, List, [], ◌∷◌, ◌++◌, append_assoc, append-nil, drop, get_or, length, map, refl, subst, sym, ap, ◌∙◌}
 use Rattle.std.specs.Prelude.{codes, flat_map, ◌==◌}
 use Rattle.std.specs.Int.RustNames.{bit_and}
 use Rattle.std.specs.List.{join_by}
-use Rattle.std.specs.Fmt.{digits}
+use Rattle.std.specs.declared.fmt.Formatter.{Formatter}
+use Rattle.std.specs.Fmt.{HasWritten, HasWrittenStyled, IsDefaultSpec, IsPlainFormatter, digits}
 use Rattle.std.proofs.lemmas.List.{drop_all, drop_more}
 use Rattle.bitflags.specs.Sets.{known_bits, without}
 use Rattle.bitflags.specs.declared.traits.Flag.{Flag}
@@ -87,3 +88,7 @@ number_written v flags i n done separator h e p =
 -- where there are none, all is written
 pub nothing_written : (v : LinkFlags) (flags : List (Flag LinkFlags)) (i n : ℕ) (done separator : List ℕ) → length flags ≤ i → n ≡ unnamed_of v → true ≡ (n == 0) → done ≡ done ++ written_after separator (texts_left v (drop i flags))
 nothing_written v flags i n done separator h e p = rw (names_done v flags i h, ← e, ← p) (sym (append-nil done))
+
+-- what is written under any options is written under none
+pub plain_of_styled : {W : Type 0} {took : W → List ℕ → W → Type 0} {f : Formatter W} {bytes : List ℕ} {g : Formatter W} → IsPlainFormatter f → HasWrittenStyled took f bytes g → HasWritten took f bytes g
+plain_of_styled plain p = record { wrote = p.wrote; plain = record { bare = subst IsDefaultSpec (sym p.spec) plain.bare; flush = p.flush } }

@@ -6,6 +6,7 @@ ghost use Rattle.link_message_types.specs.Inet6Types.{inet_6_iface_flags_bits, i
 ghost use Rattle.link_message_types.specs.Inet6Types.{in_6_addr_gen_mode_number, in_6_addr_gen_mode_of, in_6_addr_gen_mode_text};
 
 use bitflags::{Flag, Flags};
+use itoa::Buffer;
 use std::fmt;
 
 /// How a link makes its own addresses, `IN6_ADDR_GEN_MODE_*` of `linux/if_link.h`. On the wire 1
@@ -58,13 +59,15 @@ impl From<&In6AddrGenMode> for u8 {
 impl fmt::Display for In6AddrGenMode {
     ghost output = { λ v. Some (in_6_addr_gen_mode_text v) };
 
+    ghost styled_output = { λ v _. Some (in_6_addr_gen_mode_text v) };
+
     fn fmt<W: fmt::Write>(&self, f: &mut fmt::Formatter<W>) -> fmt::Result {
         match self {
             Self::Eui64 => f.write_str("eui64"),
             Self::None => f.write_str("none"),
             Self::StablePrivacy => f.write_str("stable-privacy"),
             Self::Random => f.write_str("random"),
-            Self::Other(number) => write!(f, "{number}"),
+            Self::Other(number) => f.write_str(Buffer::new().format(*number)),
         }
     }
 }

@@ -1,10 +1,13 @@
 //! Flags of links.
 
-ghost use Rattle.std.specs.Prelude.{◌≡◌, ⊤, Some};
+ghost use Rattle.std.specs.Prelude.{◌≡◌, ⊤, Some, IfOk, false};
+ghost use Rattle.std.specs.Fmt.{digits};
 ghost use Rattle.link_message_types.specs.LinkFlagTypes.{link_flags_bits, link_flags_table, link_flags_text};
 
+use arrayvec::ArrayString;
 use bitflags::{Flag, Flags};
 use std::fmt;
+use std::fmt::Write;
 
 /// What a link is and does, `IFF_*` of `linux/if.h`. On the wire 4 bytes in native order; all bits
 /// are kept.
@@ -163,22 +166,38 @@ impl Default for LinkFlags {
 
 /// The names of the flags that are set, in the order of their bits, and then all bits that have no
 /// name, if any, as one number in hexadecimal, with ` | ` between each two:
-/// `Up | Broadcast | 0x80000`. Nothing is written where no bit is set.
+/// `Up | Broadcast | 0x80000`. Nothing is written where no bit is set. The options of a format change
+/// nothing.
 impl fmt::Display for LinkFlags {
     ghost output = { λ v. Some (link_flags_text v) };
+
+    ghost styled_output = { λ v _. Some (link_flags_text v) };
 
     fn fmt<W: fmt::Write>(&self, f: &mut fmt::Formatter<W>) -> fmt::Result {
         let mut separator = "";
         for flag in Self::flags() {
             if self.contains(flag.value) {
-                write!(f, "{separator}{}", flag.name)?;
+                f.write_str(separator)?;
+                f.write_str(flag.name)?;
                 separator = " | ";
             }
         }
         let unnamed = self.difference(Self::all());
         if !unnamed.is_empty() {
-            write!(f, "{separator}0x{:x}", unnamed.0)?;
+            let digits = hex_digits(unnamed.0)?;
+            f.write_str(separator)?;
+            f.write_str("0x")?;
+            f.write_str(digits.as_str())?;
         }
         Ok(())
     }
+}
+
+// A number in hexadecimal. Its digits have room.
+fn hex_digits(number: u32) -> Result<ArrayString<8>, fmt::Error>
+    ensures { IfOk result (λ text. text.bytes ≡ digits 16 false number) }
+{
+    let mut text = ArrayString::new();
+    write!(text, "{number:x}")?;
+    Ok(text)
 }

@@ -403,6 +403,8 @@ impl LinkLayerType {
 impl fmt::Display for LinkLayerType {
     ghost output = { λ v. Some (link_layer_type_text v) };
 
+    ghost styled_output = { λ v _. Some (link_layer_type_text v) };
+
     fn fmt<W: fmt::Write>(&self, f: &mut fmt::Formatter<W>) -> fmt::Result {
         f.write_str(self.name())
     }

@@ -5,6 +5,7 @@ ghost use Rattle.std.specs.Result.{result_ok};
 ghost use Rattle.netlink_packet_core.specs.Errors.{is_memory};
 ghost use Rattle.link_message_types.specs.LinkStates.{state_number, state_of, state_text, state_named};
 
+use itoa::Buffer;
 use netlink_packet_core::DecodeError;
 use std::fmt;
 use std::str::FromStr;
@@ -70,6 +71,8 @@ impl From<State> for u8 {
 impl fmt::Display for State {
     ghost output = { λ v. Some (state_text v) };
 
+    ghost styled_output = { λ v _. Some (state_text v) };
+
     fn fmt<W: fmt::Write>(&self, f: &mut fmt::Formatter<W>) -> fmt::Result {
         match self {
             Self::Unknown => f.write_str("UNKNOWN"),
@@ -79,7 +82,7 @@ impl fmt::Display for State {
             Self::Testing => f.write_str("TESTING"),
             Self::Dormant => f.write_str("DORMANT"),
             Self::Up => f.write_str("UP"),
-            Self::Other(number) => write!(f, "{number}"),
+            Self::Other(number) => f.write_str(Buffer::new().format(*number)),
         }
     }
 }

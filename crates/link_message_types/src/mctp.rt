@@ -3,6 +3,7 @@
 ghost use Rattle.std.specs.Prelude.{◌≡◌, Some};
 ghost use Rattle.link_message_types.specs.MctpTypes.{mctp_phys_binding_number, mctp_phys_binding_of, mctp_phys_binding_text};
 
+use itoa::Buffer;
 use std::fmt;
 
 /// What the management component transport protocol is carried over, `MCTP_PHYS_BINDING_*` of
@@ -79,6 +80,8 @@ impl From<&MctpPhysBinding> for u8 {
 impl fmt::Display for MctpPhysBinding {
     ghost output = { λ v. Some (mctp_phys_binding_text v) };
 
+    ghost styled_output = { λ v _. Some (mctp_phys_binding_text v) };
+
     fn fmt<W: fmt::Write>(&self, f: &mut fmt::Formatter<W>) -> fmt::Result {
         match self {
             Self::Smbus => f.write_str("smbus"),
@@ -91,7 +94,7 @@ impl fmt::Display for MctpPhysBinding {
             Self::Pcc => f.write_str("pcc"),
             Self::Ucie => f.write_str("ucie"),
             Self::Vendor => f.write_str("vendor"),
-            Self::Other(number) => write!(f, "{number}"),
+            Self::Other(number) => f.write_str(Buffer::new().format(*number)),
         }
     }
 }

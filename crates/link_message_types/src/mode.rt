@@ -3,6 +3,7 @@
 ghost use Rattle.std.specs.Prelude.{◌≡◌, Some};
 ghost use Rattle.link_message_types.specs.LinkModes.{link_mode_number, link_mode_of, link_mode_text};
 
+use itoa::Buffer;
 use std::fmt;
 
 /// Which states a link goes through, `IF_LINK_MODE_*` of `linux/if.h`. On the wire 1 byte.
@@ -50,12 +51,14 @@ impl From<LinkMode> for u8 {
 impl fmt::Display for LinkMode {
     ghost output = { λ v. Some (link_mode_text v) };
 
+    ghost styled_output = { λ v _. Some (link_mode_text v) };
+
     fn fmt<W: fmt::Write>(&self, f: &mut fmt::Formatter<W>) -> fmt::Result {
         match self {
             Self::Default => f.write_str("default"),
             Self::Dormant => f.write_str("dormant"),
             Self::Testing => f.write_str("testing"),
-            Self::Other(number) => write!(f, "{number}"),
+            Self::Other(number) => f.write_str(Buffer::new().format(*number)),
         }
     }
 }

@@ -1,6 +1,7 @@
 ghost use Rattle.std.specs.Prelude.{◌≡◌, Some};
 ghost use Rattle.netlink_packet_core.specs.Ethernet.{ethernet_protocol_number, ethernet_protocol_of, ethernet_protocol_text};
 
+use itoa::Buffer;
 use std::fmt;
 
 const ETH_P_IP: u16 = 0x0800;
@@ -83,6 +84,8 @@ impl From<EthernetProtocol> for u16 {
 impl fmt::Display for EthernetProtocol {
     ghost output = { λ p. Some (ethernet_protocol_text p) };
 
+    ghost styled_output = { λ p _. Some (ethernet_protocol_text p) };
+
     fn fmt<W: fmt::Write>(&self, f: &mut fmt::Formatter<W>) -> fmt::Result {
         match self {
             Self::Ipv4 => f.write_str("ipv4"),
@@ -91,7 +94,7 @@ impl fmt::Display for EthernetProtocol {
             Self::Ipv6 => f.write_str("ipv6"),
             Self::Vlan8021Ad => f.write_str("802.1ad"),
             Self::Lldp => f.write_str("lldp"),
-            Self::Other(number) => write!(f, "{number}"),
+            Self::Other(number) => f.write_str(Buffer::new().format(*number)),
         }
     }
 }

@@ -1,5 +1,7 @@
-ghost use Rattle.std.specs.Prelude.{◌≡◌, ℕ, Bool, true, false, List, Some, None, replicate, is_err};
+ghost use Rattle.std.specs.Prelude.{◌≡◌, ◌++◌, ℕ, Bool, true, false, List, Some, None, replicate, is_err};
 ghost use Rattle.std.specs.Borrow.{Bor};
+ghost use Rattle.netlink_packet_core_numbers.specs.declared.error.Cause.TheVariants.{Buffer};
+ghost use Rattle.std.specs.Fmt.{WritesOnOk, WritesStyledOnOk, decimal};
 ghost use Rattle.netlink_packet_core_numbers.specs.Errors.{is_memory, in_context, in_context_if, cause_text, prefix_text, display_text};
 ghost use Rattle.netlink_packet_core_numbers.specs.Errors.{out_of_memory, invalid_buffer, invalid_mac_address};
 ghost use Rattle.netlink_packet_core_numbers.specs.Errors.{invalid_ip_address, invalid_number, nla_buffer_too_small};
@@ -146,53 +148,72 @@ impl<T: Drop> From<AllocFailed<T>> for DecodeError {
     }
 }
 
+// Some words and then a number.
+fn write_count<W: fmt::Write>(f: &mut fmt::Formatter<W>, words: &str, number: usize) -> fmt::Result
+    ensures writes { WritesOnOk W.write_str_gives f.old result (words.now ++ decimal number) f.new }
+    ensures styled { WritesStyledOnOk W.write_str_gives f.old result (words.now ++ decimal number) f.new }
+{
+    f.write_str(words)?;
+    f.write_str(itoa::Buffer::new().format(number))
+}
+
+// What is said of a buffer that is too short for a `name`.
+fn write_buffer<W: fmt::Write>(
+    f: &mut fmt::Formatter<W>,
+    name: &'static str,
+    received: usize,
+    minimum: usize,
+) -> fmt::Result
+    ensures writes { WritesOnOk W.write_str_gives f.old result (cause_text (Buffer name.entry received minimum)) f.new }
+    ensures styled { WritesStyledOnOk W.write_str_gives f.old result (cause_text (Buffer name.entry received minimum)) f.new }
+{
+    f.write_str("invalid ")?;
+    f.write_str(name)?;
+    write_count(f, ": ", received)?;
+    write_count(f, " bytes, at least ", minimum)?;
+    f.write_str(" are needed")
+}
+
 impl fmt::Display for Cause {
     ghost output = { λ c. Some (cause_text c) };
+
+    ghost styled_output = { λ c _. Some (cause_text c) };
 
     fn fmt<W: fmt::Write>(&self, f: &mut fmt::Formatter<W>) -> fmt::Result {
         match self {
             Cause::Memory => f.write_str("out of memory"),
-            Cause::Buffer(name, received, minimum) => {
-                write!(
-                    f,
-                    "invalid {name}: {received} bytes, at least {minimum} are needed"
-                )
+            Cause::Buffer(name, received, minimum) => write_buffer(f, name, *received, *minimum),
+            Cause::MacAddress(received) => {
+                write_count(f, "invalid MAC address: ", *received)?;
+                f.write_str(" bytes, not 6")
             }
-            Cause::MacAddress(received) => write!(
-                f,
-                "invalid MAC address: {received} bytes, not 6"
-            ),
-            Cause::IpAddress(received) => write!(
-                f,
-                "invalid IP address: {received} bytes, not 4 or 16"
-            ),
-            Cause::Number(expected, received) => write!(
-                f,
-                "invalid number: {received} bytes, not {expected}"
-            ),
+            Cause::IpAddress(received) => {
+                write_count(f, "invalid IP address: ", *received)?;
+                f.write_str(" bytes, not 4 or 16")
+            }
+            Cause::Number(expected, received) => {
+                write_count(f, "invalid number: ", *received)?;
+                write_count(f, " bytes, not ", *expected)
+            }
             Cause::NlaBufferTooSmall(buffer_len, nla_len) => {
-                write!(
-                    f,
-                    "buffer of {buffer_len} bytes is too small for an attribute of {nla_len}"
-                )
+                write_count(f, "buffer of ", *buffer_len)?;
+                write_count(f, " bytes is too small for an attribute of ", *nla_len)
             }
             Cause::NlaLengthMismatch(buffer_len, nla_len) => {
-                write!(
-                    f,
-                    "attribute of {nla_len} bytes in a buffer of {buffer_len}"
-                )
+                write_count(f, "attribute of ", *nla_len)?;
+                write_count(f, " bytes in a buffer of ", *buffer_len)
             }
             Cause::NlaInvalidLength(buffer_len, nla_len) => {
-                write!(
+                write_count(f, "attribute of ", *nla_len)?;
+                write_count(
                     f,
-                    "attribute of {nla_len} bytes is shorter than its header, in a buffer of {buffer_len}"
+                    " bytes is shorter than its header, in a buffer of ",
+                    *buffer_len,
                 )
             }
             Cause::BufferTooSmall(buffer_len, value_len) => {
-                write!(
-                    f,
-                    "buffer of {buffer_len} bytes is too small for a value of {value_len}"
-                )
+                write_count(f, "buffer of ", *buffer_len)?;
+                write_count(f, " bytes is too small for a value of ", *value_len)
             }
             Cause::Text(text) => f.write_str(text),
         }
@@ -206,10 +227,15 @@ struct Prefix(Option<&'static str>);
 impl fmt::Display for Prefix {
     ghost output = { λ p. Some (prefix_text p.0) };
 
+    ghost styled_output = { λ p _. Some (prefix_text p.0) };
+
     fn fmt<W: fmt::Write>(&self, f: &mut fmt::Formatter<W>) -> fmt::Result {
         match self.0 {
             None => Ok(()),
-            Some(text) => write!(f, "{text} caused by "),
+            Some(text) => {
+                f.write_str(text)?;
+                f.write_str(" caused by ")
+            }
         }
     }
 }
@@ -217,11 +243,15 @@ impl fmt::Display for Prefix {
 impl fmt::Display for DecodeError {
     ghost output = { λ e. Some (display_text e) };
 
+    ghost styled_output = { λ e _. Some (display_text e) };
+
     fn fmt<W: fmt::Write>(&self, f: &mut fmt::Formatter<W>) -> fmt::Result {
         let [first, second, third, fourth] = self.contexts;
-        write!(f, "{}{}", Prefix(fourth), Prefix(third))?;
-        write!(f, "{}{}", Prefix(second), Prefix(first))?;
-        write!(f, "{}", self.cause)
+        fmt::Display::fmt(&Prefix(fourth), f)?;
+        fmt::Display::fmt(&Prefix(third), f)?;
+        fmt::Display::fmt(&Prefix(second), f)?;
+        fmt::Display::fmt(&Prefix(first), f)?;
+        fmt::Display::fmt(&self.cause, f)
     }
 }
 

@@ -9,6 +9,10 @@ use Rattle.netlink_packet_core.specs.Families.{attribute}
 use Rattle.link_info_devices.specs.declared.ipvlan.IpVlanData.{IpVlanData}
 use Rattle.link_info_devices.specs.declared.ipvlan.IpVlanData.TheVariants as IpVlan
 
+-- the number of the kind
+abbrev pub ipvlan_number : {n : ℕ} → IpVlanData n → ℕ
+ipvlan_number {n} v = n
+
 abbrev pub ipvlan_entry : {n : ℕ} → IpVlanData n → Attribute
 ipvlan_entry (IpVlan.Mode m) = attribute 1 (le2 (ip_vlan_mode_number m))
 ipvlan_entry (IpVlan.Flags f) = attribute 2 (le2 (ip_vlan_flags_bits f))

@@ -4,6 +4,7 @@
 mod batadv;
 mod ipoib;
 mod ipvlan;
+pub mod laws;
 mod rmnet;
 mod vrf;
 mod wwan;

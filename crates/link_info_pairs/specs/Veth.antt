@@ -7,6 +7,10 @@ use Rattle.link_info_grammar.specs.Families.{pair}
 use Rattle.link_info_pairs.specs.declared.veth.PairData.{PairData}
 use Rattle.link_info_pairs.specs.declared.veth.PairData.TheVariants as Pair
 
+-- the number of the kind
+abbrev pub pair_number : {n : ℕ} → PairData n → ℕ
+pair_number {n} v = n
+
 abbrev pub pair_entry : {n : ℕ} → PairData n → Attribute
 pair_entry (Pair.Peer b) = attribute 1 b.items
 pair_entry (Pair.Other a) = a

@@ -1,6 +1,7 @@
 // Link info of links that come in pairs: the attributes of their data.
 #![tactic(auto)]
 
+pub mod laws;
 mod netkit;
 mod peer;
 mod veth;

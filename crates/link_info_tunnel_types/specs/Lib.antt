@@ -5,3 +5,4 @@ pub mod GtpTypes
 pub mod IpProtocols
 pub mod IpTunnelTypes
 pub mod VxlanTypes
+pub mod Laws

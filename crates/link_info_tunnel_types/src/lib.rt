@@ -7,6 +7,7 @@ pub mod gre;
 pub mod gtp;
 pub mod ip_protocol;
 pub mod iptunnel;
+pub mod laws;
 pub mod vxlan;
 
 pub use amt::AmtMode;

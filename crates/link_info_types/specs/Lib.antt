@@ -4,3 +4,4 @@ pub mod MacVlanTypes
 pub mod MacSecTypes
 pub mod NetkitTypes
 pub mod RmNetTypes
+pub mod Laws

@@ -3,6 +3,7 @@
 
 pub mod ipoib;
 pub mod ipvlan;
+pub mod laws;
 pub mod mac_vlan;
 pub mod macsec;
 pub mod netkit;

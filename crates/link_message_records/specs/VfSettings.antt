@@ -5,6 +5,10 @@ use Rattle.netlink_packet_core.specs.Numbers.{le4}
 use Rattle.netlink_packet_core.specs.Truths.{truth_byte}
 use Rattle.link_message_records.specs.declared.vf_setting.VfInfoSetting.{VfInfoSetting}
 
+-- the kind of its attribute
+abbrev pub vf_info_setting_kind : {k : ℕ} → VfInfoSetting k → ℕ
+vf_info_setting_kind {k} v = k
+
 -- a number of 4 bytes and a truth of 4
 abbrev pub vf_info_setting_bytes : {k : ℕ} → VfInfoSetting k → List ℕ
 vf_info_setting_bytes v = le4 v.vf_id ++ (truth_byte v.enabled ++ zeros 3)

@@ -1,10 +1,11 @@
--- The laws of number types and of the header, as the functions of `laws` state them.
-use Rattle.std.specs.Prelude.{◌≡◌, ℕ, ◌<◌, ◌^◌, length}
+-- The laws of number types, of constants and of the header, as the functions of `laws` state them.
+use Rattle.std.specs.Prelude.{◌≡◌, ℕ, ◌<◌, ◌^◌, List, [], ◌∷◌, codes, length}
 use Rattle.link_message_types.specs.AddressFamilies.{address_family_number, address_family_of}
 use Rattle.link_message_types.specs.Events.{link_event_number, link_event_of}
 use Rattle.link_message_types.specs.ExtentMasks.{joined_extent_masks, link_extent_mask_number, link_extent_mask_of, link_extent_masks_of}
 use Rattle.link_message_types.specs.Headers.{link_header_bytes}
-use Rattle.link_message_types.specs.Inet6Types.{in_6_addr_gen_mode_number, in_6_addr_gen_mode_of}
+use Rattle.link_message_types.specs.Inet6Types.{in_6_addr_gen_mode_number, in_6_addr_gen_mode_of, inet_6_iface_flags_bits, inet_6_iface_flags_table}
+use Rattle.link_message_types.specs.LinkFlagTypes.{link_flags_bits, link_flags_table}
 use Rattle.link_message_types.specs.LinkLayerTypes.{link_layer_type_number, link_layer_type_of}
 use Rattle.link_message_types.specs.LinkModes.{link_mode_number, link_mode_of}
 use Rattle.link_message_types.specs.LinkStates.{state_number, state_of}
@@ -13,7 +14,10 @@ use Rattle.link_message_types.specs.VfTypes.{vf_link_state_number, vf_link_state
 use Rattle.link_message_types.specs.VlanTypes.{vlan_protocol_number, vlan_protocol_of}
 use Rattle.link_message_types.specs.XdpTypes.{xdp_attached_number, xdp_attached_of}
 use Rattle.link_message_types.specs.declared.header.LinkHeader.{LinkHeader}
+use Rattle.link_message_types.specs.declared.inet6.TheConstants.Inet6IfaceFlags.{RsSent, RaReceived, Managed, OtherConf, Ready}
+use Rattle.link_message_types.specs.declared.link_flag.TheConstants.LinkFlags.{Up, Broadcast, Debug, Loopback, Pointopoint, Notrailers, Running, Noarp, Promisc, Allmulti, Controller, Port, Multicast, Portsel, Automedia, Dynamic, LowerUp, Dormant, Echo}
 use Rattle.link_message_types.specs.declared.link_layer_type.LinkLayerType.{LinkLayerType}
+use Rattle.link_message_types.specs.declared.link_layer_type.TheConstants.LinkLayerType.{Cisco}
 
 -- a value of a number has that number
 abbrev pub Keeps : {V : Type 0} → (V → ℕ) → (ℕ → V) → Type 0
@@ -41,3 +45,44 @@ LayerTypesAreNamed = (t : LinkLayerType) → link_layer_type_of (link_layer_type
 -- a header is written as 16 bytes
 abbrev pub HeadersAreSixteenBytes : Type 0
 HeadersAreSixteenBytes = (h : LinkHeader) → length (link_header_bytes h) ≡ 16
+
+-- the constants of flags of links, each behind its name
+abbrev pub link_flags_constants : List (List ℕ × ℕ)
+link_flags_constants =
+    (codes "Up", link_flags_bits Up) ∷
+    (codes "Broadcast", link_flags_bits Broadcast) ∷
+    (codes "Debug", link_flags_bits Debug) ∷
+    (codes "Loopback", link_flags_bits Loopback) ∷
+    (codes "Pointopoint", link_flags_bits Pointopoint) ∷
+    (codes "Notrailers", link_flags_bits Notrailers) ∷
+    (codes "Running", link_flags_bits Running) ∷
+    (codes "Noarp", link_flags_bits Noarp) ∷
+    (codes "Promisc", link_flags_bits Promisc) ∷
+    (codes "Allmulti", link_flags_bits Allmulti) ∷
+    (codes "Controller", link_flags_bits Controller) ∷
+    (codes "Port", link_flags_bits Port) ∷
+    (codes "Multicast", link_flags_bits Multicast) ∷
+    (codes "Portsel", link_flags_bits Portsel) ∷
+    (codes "Automedia", link_flags_bits Automedia) ∷
+    (codes "Dynamic", link_flags_bits Dynamic) ∷
+    (codes "LowerUp", link_flags_bits LowerUp) ∷
+    (codes "Dormant", link_flags_bits Dormant) ∷
+    (codes "Echo", link_flags_bits Echo) ∷
+    []
+
+-- the constants of flags of IPv6 interfaces, each behind its name
+abbrev pub inet_6_iface_flags_constants : List (List ℕ × ℕ)
+inet_6_iface_flags_constants =
+    (codes "RsSent", inet_6_iface_flags_bits RsSent) ∷
+    (codes "RaReceived", inet_6_iface_flags_bits RaReceived) ∷
+    (codes "Managed", inet_6_iface_flags_bits Managed) ∷
+    (codes "OtherConf", inet_6_iface_flags_bits OtherConf) ∷
+    (codes "Ready", inet_6_iface_flags_bits Ready) ∷
+    []
+
+-- The constant of each flag has the bits that stand beside its name in the table, and the other name of a layer type means the same type: ARPHRD_CISCO of
+-- linux/if_arp.h is ARPHRD_HDLC.
+pub record ConstantsAreNamed : Type 0 where
+  pub flags_of_links : link_flags_constants ≡ link_flags_table
+  pub flags_of_interfaces : inet_6_iface_flags_constants ≡ inet_6_iface_flags_table
+  pub cisco : Cisco ≡ LinkLayerType.Hdlc

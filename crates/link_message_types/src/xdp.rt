@@ -1,6 +1,7 @@
 //! Where programs of the express data path are attached.
 
-ghost use Rattle.std.specs.Prelude.{◌≡◌, IsOk, IfOk};
+ghost use Rattle.std.specs.Prelude.{◌≡◌, Some, IsOk, IfOk};
+ghost use Rattle.std.specs.Result.{result_ok};
 ghost use Rattle.link_message_types.specs.XdpTypes.{xdp_attached_number, xdp_attached_of};
 
 use netlink_packet_core::DecodeError;
@@ -24,6 +25,8 @@ pub enum XdpAttached {
 
 impl TryFrom<u8> for XdpAttached {
     type Error = DecodeError;
+
+    ghost try_from_gives = { λ n r. result_ok r ≡ Some (xdp_attached_of n) };
 
     /// The attachment of a number: every number is one.
     fn try_from(number: u8) -> Result<Self, DecodeError>

@@ -4,3 +4,4 @@ pub mod TypedBodies
 pub mod Payloads
 pub mod Messages
 pub mod Refusals
+pub mod Laws

@@ -8,6 +8,7 @@ ghost use Rattle.netlink_packet_core_messages.specs.Headers.{header_of, header_t
 ghost use Rattle.netlink_packet_core_messages.specs.Payloads.{OfInner, written_body};
 ghost use Rattle.netlink_packet_core_messages.specs.Messages.{message_text, message_size, message_value, read_message};
 ghost use Rattle.netlink_packet_core_messages.specs.Messages.{finalized, unpadded_text, is_frame, IsFinalized};
+ghost use Rattle.netlink_packet_core_messages.specs.Laws.{ConstantsAreOfTheHeader};
 
 use super::header::NetlinkHeader;
 use super::message::NetlinkMessage;
@@ -157,4 +158,9 @@ pub fn padding_ends_a_frame(frame: &[u8], body: &[u8])
     ensures { frame_text frame.now body.now
         ≡ unpadded_text frame.now body.now
         ++ zeros (nla_align (16 + length body.now) - (16 + length body.now)) }
+{}
+
+/// The constants of flags and of types have the numbers of `linux/netlink.h`.
+pub fn constants_are_of_the_header()
+    ensures { ConstantsAreOfTheHeader }
 {}

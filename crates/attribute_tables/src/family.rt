@@ -79,7 +79,8 @@ pub fn parse_family<F: Family + Drop>(alloc: Global, bytes: &[u8]) -> Result<Vec
 }
 
 /// Reads the attribute of a family that a payload begins with; any bytes may follow it, and are
-/// dropped. It succeeds exactly where that attribute is accepted, memory aside.
+/// dropped. It succeeds exactly where that attribute is accepted, memory aside. It answers want of
+/// memory only where that attribute holds bytes or a text, and its payload isn't empty.
 pub fn parse_first<F: Family + Drop>(alloc: Global, bytes: &[u8]) -> Result<F, DecodeError>
     ensures ok { OnOk result (IsTrue ((list_of bytes_peer first_alone F.rows).accepted bytes.now)) }
     ensures text { IfOk result
@@ -92,6 +93,7 @@ pub fn parse_first<F: Family + Drop>(alloc: Global, bytes: &[u8]) -> Result<F, D
     ensures err { IfErr result
         (λ e. (list_of bytes_peer first_alone F.rows).accepted bytes.now ≡ is_memory e) }
     ensures not_empty { IfErr result (λ e. is_memory e ≡ true → 0 < length bytes.now) }
+    ensures wants { IfErr result (λ e. is_memory e ≡ true → may_want_memory F.rows bytes.now ≡ true) }
     ensures memory { IfErr result
         (λ e. is_memory e ≡ true → begins_accepted (family_row F.rows) bytes.now ≡ true) }
 {

@@ -1,10 +1,11 @@
 //! The data of a kind of links (if_link.h, IFLA_INFO_DATA).
 
-ghost use Rattle.std.specs.Prelude.{◌≡◌, false, true, IsTrue, IfOk, IfErr, OnOk};
+ghost use Rattle.std.specs.Prelude.{◌≡◌, ◌<◌, false, true, length, IsTrue, IfOk, IfErr, OnOk};
 ghost use Rattle.netlink_packet_core.specs.Errors.{is_memory};
 ghost use Rattle.link_info_data.specs.Data.{info_data_entry, info_data_fits, info_data_payload, info_data_names_row};
 ghost use Rattle.link_info_data.specs.Data.{data_rule_of, data_may_want_memory};
 
+use super::bytes::parse_bytes;
 use attribute_tables::{parse_family, parse_first};
 use link_info_devices::{
     InfoBatAdv, InfoIpVlan, InfoIpVtap, InfoIpoib, InfoRmNet, InfoVrf, InfoWwan,
@@ -131,6 +132,7 @@ impl InfoData {
             (λ e. is_memory e ≡ false → (data_rule_of kind.now).accepted payload.now ≡ false) }
         ensures memory { IfErr result
             (λ e. is_memory e ≡ true → data_may_want_memory kind.now payload.now ≡ true) }
+        ensures not_empty { IfErr result (λ e. is_memory e ≡ true → 0 < length payload.now) }
     {
         match kind {
             InfoKind::Bridge => data!(Bridge, parse_family(alloc, payload)),
@@ -179,7 +181,7 @@ impl InfoData {
             | InfoKind::VirtWifi
             | InfoKind::Team
             | InfoKind::Pfcp
-            | InfoKind::Other(_) => Ok(Self::Other(Vec::from_slice(alloc, payload)?)),
+            | InfoKind::Other(_) => Ok(Self::Other(parse_bytes(alloc, payload)?)),
         }
     }
 }

@@ -1,10 +1,11 @@
 //! The data of a kind of ports (if_link.h, IFLA_INFO_SLAVE_DATA).
 
-ghost use Rattle.std.specs.Prelude.{◌≡◌, false, true, IsTrue, IfOk, IfErr, OnOk};
+ghost use Rattle.std.specs.Prelude.{◌≡◌, ◌<◌, false, true, length, IsTrue, IfOk, IfErr, OnOk};
 ghost use Rattle.netlink_packet_core.specs.Errors.{is_memory};
 ghost use Rattle.link_info_data.specs.PortData.{info_port_data_entry, info_port_data_fits, info_port_data_payload};
 ghost use Rattle.link_info_data.specs.PortData.{info_port_data_names_row, port_data_rule_of, port_data_may_want_memory};
 
+use super::bytes::parse_bytes;
 use attribute_tables::parse_family;
 use link_info_devices::InfoVrf;
 use link_info_kinds::InfoPortKind;
@@ -52,13 +53,14 @@ impl InfoPortData {
             (λ e. is_memory e ≡ false → (port_data_rule_of kind.now).accepted payload.now ≡ false) }
         ensures memory { IfErr result
             (λ e. is_memory e ≡ true → port_data_may_want_memory kind.now payload.now ≡ true) }
+        ensures not_empty { IfErr result (λ e. is_memory e ≡ true → 0 < length payload.now) }
     {
         match kind {
             InfoPortKind::Bond => Ok(Self::BondPort(parse_family(alloc, payload)?)),
             InfoPortKind::Bridge => Ok(Self::BridgePort(parse_family(alloc, payload)?)),
             InfoPortKind::Vrf => Ok(Self::VrfPort(parse_family(alloc, payload)?)),
             InfoPortKind::Team => Ok(Self::TeamPort(parse_family(alloc, payload)?)),
-            InfoPortKind::Other(_) => Ok(Self::Other(Vec::from_slice(alloc, payload)?)),
+            InfoPortKind::Other(_) => Ok(Self::Other(parse_bytes(alloc, payload)?)),
         }
     }
 }

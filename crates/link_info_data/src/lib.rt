@@ -1,6 +1,7 @@
 // The data of kinds of links and of ports, each by its kind.
 #![tactic(auto)]
 
+mod bytes;
 mod info_data;
 mod info_port;
 mod xstats;

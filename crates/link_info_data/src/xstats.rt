@@ -1,11 +1,12 @@
 //! The statistics of a kind of links (if_link.h, IFLA_INFO_XSTATS), which its driver fills in
 //! (`rtnl_link_ops.fill_xstats`).
 
-ghost use Rattle.std.specs.Prelude.{◌≡◌, ⊤, true};
+ghost use Rattle.std.specs.Prelude.{◌≡◌, ⊤, nat_lt, true, length};
 ghost use Rattle.netlink_packet_core.specs.AttributeViews.{IsAttribute, viewed_payload};
 ghost use Rattle.netlink_packet_core.specs.NlaBuffers.{storage};
 ghost use Rattle.link_info_data.specs.Xstats.{xstats_bytes};
 
+use super::bytes::parse_bytes;
 use link_info_kinds::InfoKind;
 use netlink_packet_core::{DecodeError, Emitable, NlaBuffer, ParseableParametrized};
 use std::alloc::Global;
@@ -39,7 +40,7 @@ impl<'a, 'b> ParseableParametrized<NlaBuffer<&'a [u8]>, &'b InfoKind> for LinkXs
 
     ghost accepts = { λ _ _. true };
 
-    ghost may_want_memory = { λ _ _. true };
+    ghost may_want_memory = { λ b _. nat_lt 0 (length (viewed_payload (storage b).now)) };
 
     ghost gives = { λ b _ x. xstats_bytes x ≡ viewed_payload (storage b).now };
 
@@ -48,6 +49,6 @@ impl<'a, 'b> ParseableParametrized<NlaBuffer<&'a [u8]>, &'b InfoKind> for LinkXs
         buf: &NlaBuffer<&'a [u8]>,
         _params: &'b InfoKind,
     ) -> Result<Self, DecodeError> {
-        Ok(Self::Other(Vec::from_slice(alloc, buf.value())?))
+        Ok(Self::Other(parse_bytes(alloc, buf.value())?))
     }
 }

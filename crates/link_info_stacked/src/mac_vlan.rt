@@ -3,7 +3,7 @@
 ghost use Rattle.std.specs.Prelude.{◌≡◌, ◌≢◌, ◌<◌, length, map, true, false, Some, IsTrue, IfOk, IfErr, IfSome, IfNone, OnOk};
 ghost use Rattle.std.specs.List.{All};
 ghost use Rattle.netlink_packet_core.specs.Attributes.{proper_kind};
-ghost use Rattle.netlink_packet_core.specs.AttributeViews.{viewed_kind, IsAttribute};
+ghost use Rattle.netlink_packet_core.specs.AttributeViews.{viewed_kind, viewed_payload, IsAttribute};
 ghost use Rattle.netlink_packet_core.specs.Errors.{is_memory};
 ghost use Rattle.netlink_packet_core.specs.Families.{Gives, accepts, attribute, family_row, may_want_memory};
 ghost use Rattle.netlink_packet_core.specs.Lists.{text_by, all_fit_by};
@@ -217,6 +217,8 @@ impl InfoMacVlan {
             (λ e. is_memory e ≡ true
             → row_holds_bytes macvlan_address (proper_kind (viewed_kind (storage buf.now).now))
             ≡ true) }
+        ensures not_empty { IfErr result
+            (λ e. is_memory e ≡ true → 0 < length (viewed_payload (storage buf.now).now)) }
     {
         match Self::read_row(buf.kind(), buf.value()) {
             Ok(Some(value)) => Ok(value),

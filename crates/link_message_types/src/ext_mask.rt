@@ -1,6 +1,6 @@
 //! Which parts of a link a request asks for.
 
-ghost use Rattle.std.specs.Prelude.{◌≡◌, true, IfOk, IfErr};
+ghost use Rattle.std.specs.Prelude.{◌≡◌, ◌≢◌, true, IfOk, IfErr};
 ghost use Rattle.netlink_packet_core.specs.Errors.{is_memory};
 ghost use Rattle.link_message_types.specs.ExtentMasks.{link_extent_mask_number, link_extent_mask_of, set_extent_masks};
 ghost use Rattle.link_message_types.specs.ExtentMasks.{link_extent_masks_of, joined_extent_masks};
@@ -88,12 +88,13 @@ const OTHER_BITS: u32 = 0xffff_ff00;
 
 impl LinkExtentMask {
     /// The list of a number: each listed mask whose bit is set, in the order of the bits, and then
-    /// all other bits, if any, as one `Other`.
+    /// all other bits, if any, as one `Other`. No memory is taken for a number without a bit.
     #[tactic(auto, using(crate::proofs::Masks::masks))]
     pub fn list(alloc: Global, number: u32) -> Result<Vec<Self>, DecodeError>
         ensures listed { IfOk result (λ v. v.items ≡ link_extent_masks_of number) }
         ensures joined { IfOk result (λ v. joined_extent_masks v.items ≡ number) }
         ensures err { IfErr result (λ e. is_memory e ≡ true) }
+        ensures not_zero { IfErr result (λ _. number ≢ 0) }
     {
         Ok(masks_of(alloc, number)?)
     }
@@ -112,8 +113,12 @@ impl LinkExtentMask {
 
 /// The listed masks whose bit is set in a number, and its other bits, if any.
 fn masks_of(alloc: Global, number: u32) -> Result<Vec<LinkExtentMask>, AllocError>
-    ensures { IfOk result (λ v. v.items ≡ link_extent_masks_of number) }
+    ensures listed { IfOk result (λ v. v.items ≡ link_extent_masks_of number) }
+    ensures not_zero { IfErr result (λ _. number ≢ 0) }
 {
+    if number == 0 {
+        return Ok(Vec::new(alloc));
+    }
     let mut masks = set_masks(alloc, &LISTED, number)?;
     let others = number & OTHER_BITS;
     if others != 0 {

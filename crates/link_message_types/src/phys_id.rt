@@ -1,6 +1,6 @@
 //! Identifiers of ports and switches.
 
-ghost use Rattle.std.specs.Prelude.{◌≡◌, true, ⊤, IfOk, IfErr};
+ghost use Rattle.std.specs.Prelude.{◌≡◌, ◌<◌, true, ⊤, length, IfOk, IfErr};
 ghost use Rattle.netlink_packet_core.specs.Errors.{is_memory};
 ghost use Rattle.link_message_types.specs.PhysIds.{link_phys_id_bytes};
 
@@ -31,10 +31,11 @@ impl Emitable for LinkPhysId {
 }
 
 impl LinkPhysId {
-    /// Reads any bytes.
+    /// Reads any bytes. No memory is taken for none.
     pub fn parse(alloc: Global, payload: &[u8]) -> Result<Self, DecodeError>
         ensures ok { IfOk result (λ id. link_phys_id_bytes id ≡ payload.now) }
         ensures err { IfErr result (λ e. is_memory e ≡ true) }
+        ensures not_empty { IfErr result (λ _. 0 < length payload.now) }
     {
         Ok(LinkPhysId {
             bytes: ByteVec::from_slice(alloc, payload)?,

@@ -1,5 +1,5 @@
 -- Attributes of one family, by its table.
-use Rattle.std.specs.Prelude.{◌≡◌, ◌&&◌, ℕ, Bool, List}
+use Rattle.std.specs.Prelude.{◌≡◌, ◌&&◌, ℕ, Bool, List, length, nat_lt}
 use Rattle.netlink_packet_core_grammar.specs.Attributes.{Attribute, proper_kind}
 use Rattle.netlink_packet_core_grammar.specs.AttributeViews.{viewed_attribute, viewed_kind, viewed_payload}
 use Rattle.attribute_tables_grammar.specs.Lists.{Row, rewrite, row_at}
@@ -19,9 +19,9 @@ family_row t k = table_row bytes_peer t k
 abbrev pub accepts : Table → List ℕ → Bool
 accepts t b = (row_at (family_row t) (viewed_attribute b)).rule.accepted (viewed_payload b)
 
--- its row holds bytes or text, and accepts it
+-- its row holds bytes or text, the payload has bytes, and the row accepts it
 abbrev pub may_want_memory : Table → List ℕ → Bool
-may_want_memory t b = row_holds_bytes t (proper_kind (viewed_kind b)) && accepts t b
+may_want_memory t b = (row_holds_bytes t (proper_kind (viewed_kind b)) && nat_lt 0 (length (viewed_payload b))) && accepts t b
 
 -- it is written as this one: with its row's kind, and its canonical payload
 abbrev pub Gives : Table → List ℕ → Attribute → Type 0

@@ -1,8 +1,8 @@
 //! Values that are written as an attribute of one payload, and read from one.
 
-ghost use Rattle.std.specs.Prelude.{◌≡◌, true, IsTrue, IfOk, IfErr, IfSome, IfNone, OnOk};
+ghost use Rattle.std.specs.Prelude.{◌≡◌, ◌<◌, true, length, IsTrue, IfOk, IfErr, IfSome, IfNone, OnOk};
 ghost use Rattle.netlink_packet_core_grammar.specs.Attributes.{Attribute, proper_kind};
-ghost use Rattle.netlink_packet_core_grammar.specs.AttributeViews.{viewed_kind, IsAttribute};
+ghost use Rattle.netlink_packet_core_grammar.specs.AttributeViews.{viewed_kind, viewed_payload, IsAttribute};
 ghost use Rattle.netlink_packet_core_grammar.specs.Numbers.{as_usize};
 ghost use Rattle.netlink_packet_core_numbers.specs.Errors.{is_memory};
 ghost use Rattle.netlink_packet_core_attributes.specs.NlaBuffers.{storage};
@@ -73,7 +73,8 @@ pub trait Family: FieldNla + Sized {
         ensures err { IfErr result
             (λ e. (family_row rows kind).rule.accepted payload.now ≡ is_memory e) }
         ensures memory { IfErr result
-            (λ e. is_memory e ≡ true → row_holds_bytes rows kind ≡ true) };
+            (λ e. is_memory e ≡ true → row_holds_bytes rows kind ≡ true) }
+        ensures not_empty { IfErr result (λ e. is_memory e ≡ true → 0 < length payload.now) };
 
     /// An attribute of a kind that has no row.
     fn other(nla: DefaultNla) -> Self
@@ -95,6 +96,8 @@ pub fn read_attribute<F: Family>(alloc: Global, buf: &NlaBuffer<&[u8]>) -> Resul
     ensures memory { IfErr result
         (λ e. is_memory e ≡ true
         → row_holds_bytes F.rows (proper_kind (viewed_kind (storage buf.now).now)) ≡ true) }
+    ensures not_empty { IfErr result
+        (λ e. is_memory e ≡ true → 0 < length (viewed_payload (storage buf.now).now)) }
 {
     match F::read_row(alloc, buf.kind(), buf.value()) {
         Ok(Some(value)) => Ok(value),

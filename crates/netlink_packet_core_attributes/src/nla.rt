@@ -1,10 +1,10 @@
-ghost use Rattle.std.specs.Prelude.{◌≡◌, ◌==◌, ◌&&◌, ◌+◌, ◌≤◌, ◌++◌, nat_le, Bool, true, length, drop};
+ghost use Rattle.std.specs.Prelude.{◌≡◌, ◌==◌, ◌&&◌, ◌+◌, ◌≤◌, ◌++◌, nat_le, nat_lt, Bool, true, length, drop};
 ghost use Rattle.std.specs.Ordering.{on, eq_of_both};
 ghost use Rattle.std.specs.Cmp.Lexicographic.{pointwise};
 ghost use Rattle.std.specs.Cmp.Rules.{comparing};
 ghost use Rattle.std.proofs.Common.{rules};
 ghost use Rattle.netlink_packet_core_grammar.specs.Attributes.{nla_align, Attribute, attribute_length, attribute_text};
-ghost use Rattle.netlink_packet_core_grammar.specs.AttributeViews.{viewed_attribute, IsAttribute};
+ghost use Rattle.netlink_packet_core_grammar.specs.AttributeViews.{viewed_attribute, viewed_payload, IsAttribute};
 ghost use Rattle.netlink_packet_core_grammar.specs.Fits.{attribute_fits};
 ghost use Rattle.netlink_packet_core_grammar.specs.Numbers.{as_usize};
 ghost use Rattle.netlink_packet_core_attributes.specs.AttributeHeaders.{with_header};
@@ -213,12 +213,16 @@ impl<'a> Parseable<NlaBuffer<&'a [u8]>> for DefaultNla {
 
     ghost accepts = { λ _. true };
 
-    ghost may_want_memory = { λ _. true };
+    ghost may_want_memory = { λ b. nat_lt 0 (length (viewed_payload (storage b).now)) };
 
     ghost gives = { λ b v. v ≡ viewed_attribute (storage b).now };
 
     fn parse(alloc: Global, buf: &NlaBuffer<&'a [u8]>) -> Result<Self, DecodeError> {
-        let value = Vec::from_slice(alloc, buf.value())?;
+        let payload = buf.value();
+        if payload.is_empty() {
+            return Ok(DefaultNla::new(buf.raw_kind(), Vec::new(alloc)));
+        }
+        let value = Vec::from_slice(alloc, payload)?;
         Ok(DefaultNla::new(buf.raw_kind(), value))
     }
 }

@@ -1,5 +1,5 @@
 -- The bodies of frames, by the frame's type.
-use Rattle.std.specs.Prelude.{ℕ, List, [], ◌∷◌, length, Option, Some, option_map, Bool, true, false, cond, nat_eq, nat_le}
+use Rattle.std.specs.Prelude.{ℕ, List, [], ◌∷◌, length, Option, Some, option_map, Bool, true, false, cond, nat_eq, nat_lt}
 use Rattle.std.specs.Int.{w32}
 use Rattle.std.specs.Int.RustNames.{FitsSigned}
 use Rattle.netlink_packet_core_buffers.specs.Codes.{IsCode}
@@ -41,13 +41,13 @@ read_payload reads t b =
     (cond (nat_eq t 4) (Some (Overrun b))
     (option_map InnerMessage (reads t b)))))
 
--- Whether memory can be wanting where a frame of type t and body b is read: of a NOOP nothing is kept, and no body of ERROR or DONE under 4 bytes. Of other types `inner` tells.
+-- Whether memory can be wanting where a frame of type t and body b is read: of a NOOP nothing is kept, of ERROR and DONE what stands behind the 4 bytes of the code, and of OVERRUN the whole body. Of other types `inner` tells.
 abbrev pub payload_may_want_memory : (ℕ → List ℕ → Bool) → ℕ → List ℕ → Bool
 payload_may_want_memory inner t b =
     cond (nat_eq t 1) false
-    (cond (nat_eq t 2) (nat_le 4 (length b))
-    (cond (nat_eq t 3) (nat_le 4 (length b))
-    (cond (nat_eq t 4) true (inner t b))))
+    (cond (nat_eq t 2) (nat_lt 4 (length b))
+    (cond (nat_eq t 3) (nat_lt 4 (length b))
+    (cond (nat_eq t 4) (nat_lt 0 (length b)) (inner t b))))
 
 -- what is known of a payload's code: it is one of 32 bits, and an error's code is not 0
 abbrev pub HasCode : {A : Type 0} → NetlinkPayload A → Type 0

@@ -1,4 +1,4 @@
-ghost use Rattle.std.specs.Prelude.{◌≡◌, ◌==◌, ◌↔◌, ℕ, List, [], length, IsTrue, IfOk};
+ghost use Rattle.std.specs.Prelude.{◌≡◌, ◌<◌, ◌==◌, ◌↔◌, ℕ, List, [], length, IsTrue, IfOk, IfErr};
 ghost use Rattle.std.specs.Cmp.Lexicographic.{pointwise};
 ghost use Rattle.std.specs.Cmp.Rules.{comparing};
 ghost use Rattle.std.proofs.Common.{rules};
@@ -50,10 +50,14 @@ impl ByteVec {
         }
     }
 
-    /// A copy of some bytes.
+    /// A copy of some bytes. No memory is taken for none.
     pub fn from_slice(alloc: Global, bytes: &[u8]) -> Result<Self, AllocError>
-        ensures { IfOk result (λ b. b ≡ bytes.now) }
+        ensures ok { IfOk result (λ b. b ≡ bytes.now) }
+        ensures not_empty { IfErr result (λ _. 0 < length bytes.now) }
     {
+        if bytes.is_empty() {
+            return Ok(ByteVec::new(alloc));
+        }
         Ok(ByteVec {
             bytes: Vec::from_slice(alloc, bytes)?,
         })

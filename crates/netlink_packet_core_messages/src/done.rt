@@ -1,4 +1,4 @@
-ghost use Rattle.std.specs.Prelude.{◌≡◌, ◌≤◌, ◌++◌, true, false, ⊤, length, drop, Some, is_some, IfOk, IfErr};
+ghost use Rattle.std.specs.Prelude.{◌≡◌, ◌≤◌, ◌<◌, ◌++◌, nat_lt, true, false, ⊤, length, drop, Some, is_some, IfOk, IfErr};
 ghost use Rattle.netlink_packet_core_numbers.specs.Errors.{is_memory};
 ghost use Rattle.netlink_packet_core_buffers.specs.DoneBuffers.{storage};
 ghost use Rattle.netlink_packet_core_messages.specs.ControlMessages.{done_message_text, done_of, read_done};
@@ -26,7 +26,7 @@ impl<'a> Parseable<DoneBuffer<&'a [u8]>> for DoneMessage {
 
     ghost accepts = { λ _. true };
 
-    ghost may_want_memory = { λ _. true };
+    ghost may_want_memory = { λ b. nat_lt 4 (length (storage b).now) };
 
     ghost gives = { λ b m. m ≡ done_of (storage b).now };
 
@@ -60,7 +60,7 @@ impl DoneMessage {
     pub fn parse_body(alloc: Global, body: &[u8]) -> Result<Self, DecodeError>
         ensures ok { IfOk result (λ m. read_done body.now ≡ Some m) }
         ensures err { IfErr result (λ e. is_some (read_done body.now) ≡ is_memory e) }
-        ensures memory { IfErr result (λ e. is_memory e ≡ true → 4 ≤ length body.now) }
+        ensures memory { IfErr result (λ e. is_memory e ≡ true → 4 < length body.now) }
     {
         if body.is_empty() {
             return Ok(DoneMessage {

@@ -1,4 +1,4 @@
-ghost use Rattle.std.specs.Prelude.{◌≡◌, ◌≤◌, ◌++◌, true, false, ⊤, length, drop, Some, is_some, IfOk, IfErr, nat_abs};
+ghost use Rattle.std.specs.Prelude.{◌≡◌, ◌≤◌, ◌<◌, ◌++◌, nat_lt, true, false, ⊤, length, drop, Some, is_some, IfOk, IfErr, nat_abs};
 ghost use Rattle.netlink_packet_core_numbers.specs.Errors.{is_memory};
 ghost use Rattle.netlink_packet_core_buffers.specs.Codes.{raw_code, IsCode};
 ghost use Rattle.netlink_packet_core_buffers.specs.ErrorBuffers.{storage};
@@ -25,7 +25,7 @@ impl<'a> Parseable<ErrorBuffer<&'a [u8]>> for ErrorMessage {
 
     ghost accepts = { λ _. true };
 
-    ghost may_want_memory = { λ _. true };
+    ghost may_want_memory = { λ b. nat_lt 4 (length (storage b).now) };
 
     ghost gives = { λ b m. m ≡ error_of (storage b).now };
 
@@ -75,6 +75,7 @@ impl ErrorMessage {
     pub fn parse_body(alloc: Global, body: &[u8]) -> Result<Self, DecodeError>
         ensures ok { IfOk result (λ m. read_error body.now ≡ Some m) }
         ensures err { IfErr result (λ e. is_some (read_error body.now) ≡ is_memory e) }
+        ensures memory { IfErr result (λ e. is_memory e ≡ true → 4 < length body.now) }
     {
         let buf = ErrorBuffer::new_checked(body)?;
         ErrorMessage::parse(alloc, &buf)

@@ -1,6 +1,7 @@
 -- What is written of a message is read as the message.
-use Rattle.std.proofs.Common.{◌≡◌, ℕ, List, Ok, Some, refl, ap, arith}
-use Rattle.std.specs.Prelude.{false, true, is_ok, nat_eq}
+use Rattle.std.proofs.Common.{◌≡◌, ◌<◌, ℕ, Bool, List, length, Ok, Some, refl, ap, arith}
+use Rattle.std.specs.Prelude.{◌||◌, false, true, is_ok, nat_eq, nat_lt}
+use Rattle.std.proofs.lemmas.Bool.{and_from, lt-ltb}
 use Rattle.std.proofs.lemmas.Bool.Decides.{nat_tests}
 use Rattle.netlink_packet_core.specs.TypedBodies.{IsInner}
 use Rattle.link_capture_grammar.specs.Bodies.{is_link_type, body_text}
@@ -25,9 +26,13 @@ pub other_text : (t : ℕ) (b : List ℕ) → IsKeptType t → body_text t b ≡
 unfolding body_text
 other_text t b k = let n = not_listed t k in rw (n.noop, n.error, n.done, n.link) refl
 
--- keeping one may want memory
-pub other_wants : (t : ℕ) (b : List ℕ) → IsKeptType t → route_may_want_memory t b ≡ true
-other_wants t b k = ap is_ok (other_text t b k)
+with_bytes : (a b : Bool) → b ≡ true → (a || b) ≡ true
+with_bytes true b h = refl
+with_bytes false b h = h
+
+-- keeping one may want memory where it has bytes
+pub other_wants : (t : ℕ) (b : List ℕ) → IsKeptType t → 0 < length b → route_may_want_memory t b ≡ true
+other_wants t b k l = and_from (is_ok (body_text t b)) _ (ap is_ok (other_text t b k)) (with_bytes (is_link_type t) (nat_lt 0 (length b)) (lt-ltb 0 (length b) l))
 
 pub round_trip : (x : RouteLink) → reads_route (route_entry x).0 (route_entry x).1 ≡ Some (route_entry x)
 unfolding body_text

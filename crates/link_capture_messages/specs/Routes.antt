@@ -1,7 +1,7 @@
 -- Messages of captures: types and bodies, what is read, and why a body is refused.
-use Rattle.std.specs.Prelude.{◌≡◌, ℕ, List, Bool, true, false, Option, Some, None, Result, Ok, Err, is_ok}
+use Rattle.std.specs.Prelude.{◌≡◌, ◌&&◌, ◌||◌, nat_lt, ℕ, List, length, Bool, true, false, Option, Some, None, Result, Ok, Err, is_ok}
 use Rattle.netlink_packet_core.specs.TypedBodies.{TypedBody}
-use Rattle.link_capture_grammar.specs.Bodies.{Refusal, refused, empty_ports, unfit, body_text}
+use Rattle.link_capture_grammar.specs.Bodies.{Refusal, refused, empty_ports, unfit, body_text, is_link_type}
 use Rattle.link_capture_messages.specs.declared.fault.RouteFault.{RouteFault}
 use Rattle.link_capture_messages.specs.declared.route.RouteLink.{RouteLink}
 use Rattle.link_capture_messages.specs.Views.{other_type, other_bytes, readable_text}
@@ -20,9 +20,9 @@ abbrev pub route_wants_memory : RouteFault → Bool
 route_wants_memory RouteFault.Memory = true
 route_wants_memory _ = false
 
--- reading a body may want memory where it has a text
+-- reading a body may want memory where it has a text; one that is kept, where it has bytes
 abbrev pub route_may_want_memory : ℕ → List ℕ → Bool
-route_may_want_memory t b = is_ok (body_text t b)
+route_may_want_memory t b = is_ok (body_text t b) && (is_link_type t || nat_lt 0 (length b))
 
 -- the type of a message, and the bytes of its body
 abbrev pub route_entry : RouteLink → TypedBody

@@ -1,6 +1,6 @@
 //! Messages whose bodies are kept as they are.
 
-ghost use Rattle.std.specs.Prelude.{◌≡◌, ◌↔◌, IsTrue, IfOk};
+ghost use Rattle.std.specs.Prelude.{◌≡◌, ◌↔◌, ◌<◌, length, IsTrue, IfOk, IfErr};
 ghost use Rattle.link_capture_messages.specs.KeptTypes.{IsKeptType};
 ghost use Rattle.link_capture_messages.specs.Views.{other_type, other_bytes};
 
@@ -29,7 +29,7 @@ impl OtherMessage {
         }
     }
 
-    /// A message of a type, see `is_kept_type`, with a copy of the bytes of its body.
+    /// A message of a type, see `is_kept_type`, with a copy of the bytes of its body. No memory is taken for none.
     pub(crate) fn from_slice(
         alloc: Global,
         message_type: u16,
@@ -38,6 +38,7 @@ impl OtherMessage {
         requires { IsKeptType message_type }
         ensures message_type { IfOk result (λ m. other_type m ≡ message_type) }
         ensures bytes { IfOk result (λ m. other_bytes m ≡ bytes.now) }
+        ensures not_empty { IfErr result (λ _. 0 < length bytes.now) }
     {
         Ok(OtherMessage {
             message_type,

@@ -28,7 +28,7 @@ use Rattle.link_message_messages.specs.declared.message.LinkMessage.{LinkMessage
 use Rattle.link_message_types.specs.declared.header.LinkHeader.{LinkHeader}
 use Rattle.link_capture.specs.Readable.{IsReadable}
 use Rattle.link_capture_grammar.specs.declared.fault.CaptureFault.{CaptureFault}
-use Rattle.link_capture_grammar.specs.Bodies.{body_text, ruled_text}
+use Rattle.link_capture_grammar.specs.Bodies.{body_text, body_text_under, ruled_text}
 use Rattle.link_capture.specs.Captures.{first_fault, raised, texts}
 use Rattle.link_capture.specs.Laws.{CapturesAreCounted, FramesAreJudged}
 use Rattle.link_capture.specs.Routes.{route_entry}
@@ -98,8 +98,8 @@ not_raised None h = refl
 not_raised (Some fault) h = absurd cc
 
 -- it is the one frame of a legal capture
-normal : FramesAreJudged → CapturesAreCounted → (s limit : ℕ) (b : List ℕ) → 16 + length b < 2 ^ 32 → 16 + length b ≤ limit → length b % 4 ≡ 0 → ruled_text link_body b ≡ Ok b → IsNormal limit (new_link_text s b)
-unfolding body_text
+normal : FramesAreJudged link_body → CapturesAreCounted link_body → (s limit : ℕ) (b : List ℕ) → 16 + length b < 2 ^ 32 → 16 + length b ≤ limit → length b % 4 ≡ 0 → ruled_text link_body b ≡ Ok b → IsNormal limit (new_link_text s b)
+unfolding body_text_under
 normal judged counted s limit b small under aligned' own =
     let c = new_link_text s b in
     let size = length-new_link_text s b in
@@ -112,7 +112,7 @@ normal judged counted s limit b small under aligned' own =
     )
 
 -- a readable message, in the frame of a request to make its link
-pub readable_is_normal : FramesAreJudged → CapturesAreCounted → HeadersAreSixteenBytes → TextIsCut → (s limit : ℕ) (m : LinkMessage) → IsReadable m → 16 + length (link_message_text m) < 2 ^ 32 → length (new_link_text s (link_message_text m)) ≤ limit → IsNormal limit (new_link_text s (link_message_text m))
+pub readable_is_normal : FramesAreJudged link_body → CapturesAreCounted link_body → HeadersAreSixteenBytes → TextIsCut → (s limit : ℕ) (m : LinkMessage) → IsReadable m → 16 + length (link_message_text m) < 2 ^ 32 → length (new_link_text s (link_message_text m)) ≤ limit → IsNormal limit (new_link_text s (link_message_text m))
 readable_is_normal judged counted sixteen cut s limit m r small under =
     let b = link_message_text m in
     let size = length-new_link_text s b in

@@ -1,4 +1,5 @@
 pub use Rattle.link_capture_commands.specs.Commands
+pub use Rattle.link_capture_grammar.specs.Body
 pub use Rattle.link_capture_grammar.specs.Captures
 pub use Rattle.link_capture_grammar.specs.Faults
 pub use Rattle.link_capture_grammar.specs.Laws

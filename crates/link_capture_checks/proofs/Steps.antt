@@ -5,6 +5,7 @@ use Rattle.std.proofs.lemmas.Bool.{ne_eqb, cases_lt}
 use Rattle.std.proofs.lemmas.Slice.Eq.{bytes_eq-Decides}
 use Rattle.netlink_packet_core_grammar.specs.Attributes.{nla_align}
 use Rattle.netlink_packet_core_grammar.specs.Frames.{frame_length}
+use Rattle.link_message_grammar.specs.Body.{link_body}
 use Rattle.link_capture_grammar.specs.Captures.{IsLegal}
 use Rattle.link_capture_grammar.specs.Laws.{LegalFrame, SamenessGoesByFrames}
 use Rattle.link_capture_grammar.specs.Same.{SameFrame, SameCapture}
@@ -14,14 +15,14 @@ pub apart : true ≡ false → ⊥
 apart h = absurd cc
 
 -- a frame of the bytes of a legal one
-pub of_one_bytes : (law : SamenessGoesByFrames) (limit : ℕ) (a b : List ℕ) (n : ℕ) → LegalFrame limit a → n ≡ frame_length a → bytes_eq (take n a) (take n b) ≡ true → LegalFrame limit b × SameFrame a b
+pub of_one_bytes : (law : SamenessGoesByFrames link_body) (limit : ℕ) (a b : List ℕ) (n : ℕ) → LegalFrame limit a → n ≡ frame_length a → bytes_eq (take n a) (take n b) ≡ true → LegalFrame limit b × SameFrame a b
 of_one_bytes law limit a b n p e h = law.equal limit a b p (subst (λ k. take k b ≡ take k a) e (sym ((bytes_eq-Decides _ _).0 h)))
 
 pub some_bytes : (xs : List ℕ) (b : Bool) → b ≡ false → b ≡ eqb (length xs) 0 → 0 < length xs
 some_bytes [] b p q = absurd (apart (sym q ∙ p))
 some_bytes (x ∷ xs) b p q = omega arith
 
-module _ (law : SamenessGoesByFrames) (limit : ℕ) (a b l r : List ℕ) (so_far : SameCapture limit a b ↔ SameCapture limit l r) where
+module _ (law : SamenessGoesByFrames link_body) (limit : ℕ) (a b l r : List ℕ) (so_far : SameCapture limit a b ↔ SameCapture limit l r) where
   pub one_further : LegalFrame limit a → LegalFrame limit b → SameFrame a b → (x y : List ℕ) → x ≡ drop (nla_align (frame_length a)) a → y ≡ drop (nla_align (frame_length b)) b → SameCapture limit x y ↔ SameCapture limit l r
   one_further p q same x y e f =
       let more = law.more limit a b p q same in (

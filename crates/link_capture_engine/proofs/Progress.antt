@@ -2,10 +2,11 @@
 use Rattle.std.proofs.Common.{◌≡◌, ℕ, ◌+◌, ◌-◌, ◌^◌, ◌<◌, ◌≤◌, min, Option, None, Some, Result, Ok, Err, IfErr, OnOk, List, [], ◌++◌, length, take, drop, refl, sym, ap, subst, ◌∙◌, arith, append_assoc, length-append}
 use Rattle.std.proofs.lemmas.List.{take_at, append-nil, take-append-drop, length-take}
 use Rattle.std.specs.Io.KnownBytes.{Appends, Consumes}
+use Rattle.link_capture_grammar.specs.Body.{link_body}
 use Rattle.link_capture_grammar.specs.declared.fault.CaptureFault.{CaptureFault}
 use Rattle.link_capture_grammar.specs.declared.fault.FaultKind.{FaultKind}
 use Rattle.link_capture_grammar.specs.declared.fault.FaultKind.TheVariants.{Cut, ShortLength, OverLimit, Refused, EmptyPorts, Unfit, TextOverLimit, Memory, Read, Write, TooLong, Failed}
-use Rattle.link_capture_grammar.specs.Captures.{first_fault, texts, texts_after}
+use Rattle.link_capture_grammar.specs.Captures.{first_fault, texts, texts_after_under}
 use Rattle.link_capture_grammar.specs.Laws.{PrefixTexts}
 use Rattle.link_capture_reader.specs.Readers.{ReaderState, StandsFor, Resumes, Gains, FeedFault}
 use Rattle.link_capture_engine.specs.Outcomes.{IsOpen, IsPrefix, OutcomeAt}
@@ -21,7 +22,7 @@ pub record Came (limit : ℕ) (reader : ReaderState) (written : ℕ) (come_old c
 
 -- nothing has no texts
 texts_nil : (limit : ℕ) → texts limit [] ≡ []
-unfolding texts_after
+unfolding texts_after_under
 texts_nil limit = refl
 
 pub nothing_came : (limit : ℕ) (reader : ReaderState) (come holds : Option (List ℕ)) → reader.limit ≡ limit → StandsFor reader [] → Came limit reader 0 come come holds holds []
@@ -51,10 +52,10 @@ whole_is : (limit : ℕ) (c : List ℕ) → IsPrefix (texts limit c) (texts limi
 whole_is limit c = ([], sym (append-nil (texts limit c)))
 
 -- a front of a capture has a front of its texts
-prefix_take : PrefixTexts → (limit n : ℕ) (c : List ℕ) → IsPrefix (texts limit (take n c)) (texts limit c)
+prefix_take : PrefixTexts link_body → (limit n : ℕ) (c : List ℕ) → IsPrefix (texts limit (take n c)) (texts limit c)
 prefix_take stay limit n c = subst (λ x. IsPrefix (texts limit (take n c)) (texts limit x)) (take-append-drop n c) (stay limit (take n c) (drop n c))
 
-fed_front_at : PrefixTexts → (limit : ℕ) (s p out : List ℕ) (kind : FaultKind) (at : ℕ) → FeedFault limit s p [] out kind at → IsPrefix (texts limit s ++ out) (texts limit (s ++ p))
+fed_front_at : PrefixTexts link_body → (limit : ℕ) (s p out : List ℕ) (kind : FaultKind) (at : ℕ) → FeedFault limit s p [] out kind at → IsPrefix (texts limit s ++ out) (texts limit (s ++ p))
 fed_front_at stay limit s p out Cut at h = absurd h
 fed_front_at stay limit s p out ShortLength at h = front_is limit s (s ++ p) out (texts limit (s ++ p)) h.2 (whole_is limit (s ++ p))
 fed_front_at stay limit s p out OverLimit at h = front_is limit s (s ++ p) out (texts limit (s ++ p)) h.2 (whole_is limit (s ++ p))
@@ -75,7 +76,7 @@ FeedOk reader then p old out = (s : List ℕ) → StandsFor reader s → (length
 abbrev pub FeedErr : ReaderState → List ℕ → List ℕ → List ℕ → CaptureFault → Type 0
 FeedErr reader p old out fault = (s : List ℕ) → StandsFor reader s → FeedFault reader.limit s p old out fault.kind fault.offset
 
-pub fed_front : PrefixTexts → (limit : ℕ) (reader then : ReaderState) (s p old out : List ℕ) (r : Result (Unit {0}) CaptureFault) → reader.limit ≡ limit → old ≡ [] → StandsFor reader s → OnOk r (FeedOk reader then p old out) → IfErr r (FeedErr reader p old out) → IsPrefix (texts limit s ++ out) (texts limit (s ++ p))
+pub fed_front : PrefixTexts link_body → (limit : ℕ) (reader then : ReaderState) (s p old out : List ℕ) (r : Result (Unit {0}) CaptureFault) → reader.limit ≡ limit → old ≡ [] → StandsFor reader s → OnOk r (FeedOk reader then p old out) → IfErr r (FeedErr reader p old out) → IsPrefix (texts limit s ++ out) (texts limit (s ++ p))
 fed_front stay limit reader then s p old out (Ok x) l e h a b =
     subst (λ n. IsPrefix (texts n s ++ out) (texts n (s ++ p))) l
     (front_is reader.limit s (s ++ p) out (texts reader.limit (s ++ p)) (subst (λ o. Gains reader.limit s (s ++ p) o out) e (a s h).2) (whole_is reader.limit (s ++ p)))

@@ -7,11 +7,12 @@ use Rattle.netlink_packet_core_grammar.specs.Attributes.{nla_align}
 use Rattle.netlink_packet_core_grammar.specs.Numbers.{u16_at, u32_at}
 use Rattle.netlink_packet_core_grammar.specs.Frames.{frame_length, frame_type, frame_body, frame_text}
 use Rattle.netlink_packet_core_grammar.proofs.Numbers.{u16_at-append, u32_at-append, u16_at-drop_4}
+use Rattle.attribute_tables_grammar.specs.Rules.{Rule}
 use Rattle.link_capture_grammar.specs.declared.fault.FaultKind.{FaultKind}
 use Rattle.link_capture_grammar.specs.declared.fault.FaultKind.TheVariants.{Cut, ShortLength, OverLimit, Refused, EmptyPorts, Unfit, TextOverLimit}
 use Rattle.link_capture_grammar.specs.declared.fault.CaptureFault.{CaptureFault}
-use Rattle.link_capture_grammar.specs.Bodies.{Refusal, refused, empty_ports, unfit, body_text}
-use Rattle.link_capture_grammar.specs.Captures.{Judged, Accepted, CutInBody, first_frame, judged_text, tested, next_fault, next_texts, raised, fault_after, texts_after, first_fault, texts, reach_by, reach, IsLegal, IsOfFrames}
+use Rattle.link_capture_grammar.specs.Bodies.{Refusal, refused, empty_ports, unfit, body_text_under}
+use Rattle.link_capture_grammar.specs.Captures.{Judged, Accepted, CutInBody, first_frame_under, judged_text, tested, next_fault, next_texts, raised, fault_after_under, texts_after_under, first_fault_under, texts_under, reach_by, reach_under, IsLegalUnder, IsOfFrames}
 
 -- the chain of tests
 pub guard : {A : Type 0} (b : Bool) (x y z : A) → cond b x y ≡ z → ((b ≡ true) × (x ≡ z)) ⊎ ((b ≡ false) × (y ≡ z))
@@ -32,35 +33,6 @@ judged : (limit : ℕ) (c : List ℕ) (r : Result (List ℕ) Refusal) (frame : �
 judged limit c (Err why) frame h = cc
 judged limit c (Ok body) frame h =
     elim (guard (ltb limit (16 + length body)) _ _ _ h) [ inl a ↦ cc | inr a ↦ (let e = a.1 in cc) ]
-
--- what an accepted frame is
-pub accepted : (limit : ℕ) (c : List ℕ) (frame : ℕ × List ℕ) → first_frame limit c ≡ Ok frame → Accepted limit c frame
-unfolding first_frame
-accepted limit c frame h =
-    elim (guard (ltb (length c) 16) _ _ _ h) [
-      | inl a ↦ cc
-      | inr a ↦
-          elim (guard (ltb (frame_length c) 16) _ _ _ a.1) [
-            | inl b ↦ cc
-            | inr b ↦
-                elim (guard (ltb limit (frame_length c)) _ _ _ b.1) [
-                  | inl d ↦ cc
-                  | inr d ↦
-                      elim (guard (ltb (length c) (frame_length c)) _ _ _ d.1) [
-                        | inl e ↦ cc
-                        | inr e ↦
-                            let g = judged limit c (body_text (frame_type c) (frame_body c)) frame e.1 in
-                            record {
-                              header = ltb-false _ _ a.0;
-                              low = subst (λ n. 16 ≤ n) g (ltb-false _ _ b.0);
-                              high = subst (λ n. n ≤ limit) g (ltb-false _ _ d.0);
-                              whole = subst (λ n. n ≤ length c) g (ltb-false _ _ e.0);
-                              is = g;
-                            }
-                      ]
-                ]
-          ]
-    ]
 
 pub frame_header-more : (c d : List ℕ) → 16 ≤ length c → take 12 (drop 4 (c ++ d)) ≡ take 12 (drop 4 c)
 frame_header-more c d h = ap (take 12) (drop-append-le 4 c d (omega arith)) ∙ take-append-le 12 (drop 4 c) d (omega (arith, length-drop 4 c))
@@ -84,57 +56,7 @@ judged_text-more : (limit : ℕ) (c d : List ℕ) (r : Result (List ℕ) Refusal
 judged_text-more limit c d (Err why) h = refl
 judged_text-more limit c d (Ok body) h = rw (u32_at-append c d (omega arith), frame_text-more c d body h)
 
-judged-more : (limit : ℕ) (c d : List ℕ) → 16 ≤ length c → frame_length c ≤ length c → judged_text limit (c ++ d) (body_text (frame_type (c ++ d)) (frame_body (c ++ d))) ≡ judged_text limit c (body_text (frame_type c) (frame_body c))
-judged-more limit c d h k =
-    ap (λ t. judged_text limit (c ++ d) (body_text t (frame_body (c ++ d)))) (frame_type-more c d h)
-    ∙ ap (λ b. judged_text limit (c ++ d) (body_text (frame_type c) b)) (frame_body-more c d h k)
-    ∙ judged_text-more limit c d (body_text (frame_type c) (frame_body c)) h
-
--- what is judged of the frame, once it is there
-unfoldable pub judgement : ℕ → List ℕ → Judged
-judgement limit c = judged_text limit c (body_text (frame_type c) (frame_body c))
-
-pub first_frame_is : (limit : ℕ) (c : List ℕ) → first_frame limit c ≡ tested limit (length c) (frame_length c) (judgement limit c)
-unfolding first_frame judgement
-first_frame_is limit c = refl
-
-judgement-more : (limit : ℕ) (c d : List ℕ) → 16 ≤ length c → frame_length c ≤ length c → judgement limit (c ++ d) ≡ judgement limit c
-unfolding judgement
-judgement-more limit c d h k = judged-more limit c d h k
-
--- What is judged of a string, unless it is cut, is judged of it whatever follows.
-pub first_frame-more : (limit : ℕ) (c d : List ℕ) → first_frame limit c ≢ Err Cut → first_frame limit (c ++ d) ≡ first_frame limit c
-first_frame-more limit c d h =
-    elim (cases_lt (length c) 16) [
-      | inl a ↦ absurd (h (first_frame_is limit c ∙ tested_short limit (length c) (frame_length c) (judgement limit c) a))
-      | inr a ↦
-          first_frame_is limit (c ++ d)
-          ∙ ap (λ n. tested limit (length (c ++ d)) n (judgement limit (c ++ d))) (u32_at-append c d (omega arith))
-          ∙ tested_more limit (length c) (length (c ++ d)) (frame_length c) (judgement limit c) (judgement limit (c ++ d)) (omega (arith, length-append c d)) (judgement-more limit c d a) (λ e. h (first_frame_is limit c ∙ e))
-          ∙ sym (first_frame_is limit c)
-    ]
-
-pub first_frame_whole : (limit : ℕ) (c d : List ℕ) → 16 ≤ length c → frame_length c ≤ length c → first_frame limit (c ++ d) ≡ first_frame limit c
-first_frame_whole limit c d h k =
-    first_frame_is limit (c ++ d)
-    ∙ ap (λ n. tested limit (length (c ++ d)) n (judgement limit (c ++ d))) (u32_at-append c d (omega arith))
-    ∙ ap (λ j. tested limit (length (c ++ d)) (frame_length c) j) (judgement-more limit c d h k)
-    ∙ tested_whole limit (length (c ++ d)) (frame_length c) (judgement limit c) (omega (arith, length-append c d)) (omega (arith, length-append c d))
-    ∙ sym (tested_whole limit (length c) (frame_length c) (judgement limit c) h k)
-    ∙ sym (first_frame_is limit c)
-
--- An accepted frame is the same where at least its bytes are there.
-pub first_frame-take : (limit : ℕ) (c : List ℕ) (n : ℕ) (frame : ℕ × List ℕ) → first_frame limit c ≡ Ok frame → frame.0 ≤ n → first_frame limit (take n c) ≡ Ok frame
-first_frame-take limit c n frame h k =
-    let a = accepted limit c frame h in
-    let e : List ℕ = take n c in
-    let r : List ℕ = drop n c in
-    let whole : e ++ r ≡ c = take-append-drop n c in
-    let size : length e ≡ min n (length c) = length-take n c in
-    let claimed : frame_length c ≡ frame_length e = ap (u32_at 0) (sym whole) ∙ u32_at-append e r (omega arith) in
-    sym (first_frame_whole limit e r (omega arith) (omega (arith, a.is, claimed))) ∙ ap (first_frame limit) whole ∙ h
-
--- the two recursions after so many bytes
+-- faults further on
 pub raised_zero : (f : Option CaptureFault) → raised 0 f ≡ f
 raised_zero None = refl
 raised_zero (Some f) = ap (λ n. Some (record { kind = f.kind; offset = n })) (zero-add f.offset)
@@ -143,91 +65,10 @@ pub raised_add : (a b n : ℕ) (f : Option CaptureFault) → a + b ≡ n → rai
 raised_add a b n None e = refl
 raised_add a b n (Some f) e = let k : a + (b + f.offset) ≡ n + f.offset = omega arith in ap (λ m. Some (record { kind = f.kind; offset = m })) k
 
-pub texts_skip : (limit skip : ℕ) (c : List ℕ) → texts_after limit skip c ≡ texts limit (drop skip c)
-unfolding texts_after
-texts_skip limit zero c = refl
-texts_skip limit (suc skip) [] = refl
-texts_skip limit (suc skip) (b ∷ c) = texts_skip limit skip c
-
-pub fault_skip : (limit skip : ℕ) (c : List ℕ) → fault_after limit skip c ≡ raised skip (first_fault limit (drop skip c))
-unfolding fault_after
-fault_skip limit zero c = sym (raised_zero (first_fault limit c))
-fault_skip limit (suc skip) [] = refl
-fault_skip limit (suc skip) (b ∷ c) =
-    ap (raised 1) (fault_skip limit skip c) ∙ raised_add 1 skip (suc skip) (first_fault limit (drop skip c)) (omega arith)
-
--- one step of the two recursions
-step_fault : (limit : ℕ) (b : ℕ) (c : List ℕ) (frame : ℕ × List ℕ) → first_frame limit (b ∷ c) ≡ Ok frame → first_fault limit (b ∷ c) ≡ raised 1 (fault_after limit (nla_align frame.0 - 1) c)
-unfolding fault_after
-step_fault limit b c frame h = ap (λ j. next_fault j (λ skip. fault_after limit skip c)) h
-
-pub step_texts : (limit : ℕ) (b : ℕ) (c : List ℕ) (frame : ℕ × List ℕ) → first_frame limit (b ∷ c) ≡ Ok frame → texts limit (b ∷ c) ≡ frame.1 ++ texts_after limit (nla_align frame.0 - 1) c
-unfolding texts_after
-step_texts limit b c frame h = ap (λ j. next_texts j (λ skip. texts_after limit skip c)) h
-
-stop_fault : (limit : ℕ) (b : ℕ) (c : List ℕ) (kind : FaultKind) → first_frame limit (b ∷ c) ≡ Err kind → first_fault limit (b ∷ c) ≡ Some (record { kind = kind; offset = 0 })
-unfolding fault_after
-stop_fault limit b c kind h = ap (λ j. next_fault j (λ skip. fault_after limit skip c)) h
-
-pub stop_texts : (limit : ℕ) (b : ℕ) (c : List ℕ) (kind : FaultKind) → first_frame limit (b ∷ c) ≡ Err kind → texts limit (b ∷ c) ≡ []
-unfolding texts_after
-stop_texts limit b c kind h = ap (λ j. next_texts j (λ skip. texts_after limit skip c)) h
-
--- the first fault and the texts of nothing
-pub fault_nil : (limit skip : ℕ) → fault_after limit skip [] ≡ None
-unfolding fault_after
-fault_nil limit skip = refl
-
-pub texts_nil : (limit skip : ℕ) → texts_after limit skip [] ≡ []
-unfolding texts_after
-texts_nil limit skip = refl
-
--- An accepted frame in front: what is left of the string after it has the rest.
-pub texts_step : (limit : ℕ) (c : List ℕ) (frame : ℕ × List ℕ) → first_frame limit c ≡ Ok frame → texts limit c ≡ frame.1 ++ texts limit (drop (nla_align frame.0) c)
-texts_step limit [] frame h = let a = accepted limit [] frame h in absurd (omega (arith, a.header))
-texts_step limit (b ∷ c) frame h =
-    let a = accepted limit (b ∷ c) frame h in
-    let e : nla_align frame.0 ≡ suc (nla_align frame.0 - 1) = omega arith in
-    step_texts limit b c frame h ∙ ap (λ t. frame.1 ++ t) (texts_skip limit (nla_align frame.0 - 1) c) ∙ ap (λ n. frame.1 ++ texts limit (drop n (b ∷ c))) (sym e)
-
-pub fault_step : (limit : ℕ) (c : List ℕ) (frame : ℕ × List ℕ) → first_frame limit c ≡ Ok frame → first_fault limit c ≡ raised (nla_align frame.0) (first_fault limit (drop (nla_align frame.0) c))
-fault_step limit [] frame h = let a = accepted limit [] frame h in absurd (omega (arith, a.header))
-fault_step limit (b ∷ c) frame h =
-    let a = accepted limit (b ∷ c) frame h in
-    let e : nla_align frame.0 ≡ suc (nla_align frame.0 - 1) = omega arith in
-    step_fault limit b c frame h ∙ ap (raised 1) (fault_skip limit (nla_align frame.0 - 1) c)
-    ∙ raised_add 1 (nla_align frame.0 - 1) (nla_align frame.0) _ (omega arith)
-    ∙ ap (λ n. raised (nla_align frame.0) (first_fault limit (drop n (b ∷ c)))) (sym e)
-
--- A fault in front.
-pub fault_stop : (limit : ℕ) (c : List ℕ) (kind : FaultKind) → 0 < length c → first_frame limit c ≡ Err kind → first_fault limit c ≡ Some (record { kind = kind; offset = 0 })
-fault_stop limit [] kind p h = absurd (omega arith)
-fault_stop limit (b ∷ c) kind p h = stop_fault limit b c kind h
-
-pub texts_stop : (limit : ℕ) (c : List ℕ) (kind : FaultKind) → first_frame limit c ≡ Err kind → texts limit c ≡ []
-texts_stop limit [] kind h = texts_nil limit 0
-texts_stop limit (b ∷ c) kind h = stop_texts limit b c kind h
-
--- How far the whole frames reach, with the padding that the last one is owed: where the first fault stands, or would stand if more came.
+-- the place behind a frame in front
 abbrev next_place : Judged → (ℕ → ℕ) → ℕ
 next_place (Ok frame) after = suc (after (nla_align frame.0 - 1))
 next_place (Err kind) after = 0
-
-pub place_after : ℕ → ℕ → List ℕ → ℕ
-place_after limit skip [] = skip
-place_after limit (suc skip) (b ∷ c) = suc (place_after limit skip c)
-place_after limit zero (b ∷ c) = next_place (first_frame limit (b ∷ c)) (λ skip. place_after limit skip c)
-
-abbrev pub place : ℕ → List ℕ → ℕ
-place limit c = place_after limit 0 c
-
-step_place : (limit : ℕ) (b : ℕ) (c : List ℕ) (frame : ℕ × List ℕ) → first_frame limit (b ∷ c) ≡ Ok frame → place limit (b ∷ c) ≡ suc (place_after limit (nla_align frame.0 - 1) c)
-unfolding place_after
-step_place limit b c frame h = ap (λ j. next_place j (λ skip. place_after limit skip c)) h
-
-stop_place : (limit : ℕ) (b : ℕ) (c : List ℕ) (kind : FaultKind) → first_frame limit (b ∷ c) ≡ Err kind → place limit (b ∷ c) ≡ 0
-unfolding place_after
-stop_place limit b c kind h = ap (λ j. next_place j (λ skip. place_after limit skip c)) h
 
 -- which way a judgement went
 pub seen : (j : Judged) → ((frame : ℕ × List ℕ) × (j ≡ Ok frame)) ⊎ ((kind : FaultKind) × (j ≡ Err kind))
@@ -240,272 +81,12 @@ raised_one kind n = let e : 1 + n ≡ suc n = omega arith in ap (λ m. Some (rec
 pub not_cut : (j : Judged) (frame : ℕ × List ℕ) → j ≡ Ok frame → j ≢ Err Cut
 not_cut j frame h e = cc
 
--- a frame in front stays one, whatever follows
-frame-more : (limit b : ℕ) (s p : List ℕ) (frame : ℕ × List ℕ) → first_frame limit (b ∷ s) ≡ Ok frame → first_frame limit (b ∷ (s ++ p)) ≡ Ok frame
-frame-more limit b s p frame h = first_frame-more limit (b ∷ s) p (not_cut (first_frame limit (b ∷ s)) frame h) ∙ h
-
--- The texts of a longer string: those of its front, and those of what the front's whole frames leave.
-pub texts-append : (limit skip : ℕ) (s p : List ℕ) → texts_after limit skip (s ++ p) ≡ texts_after limit skip s ++ texts limit (drop (place_after limit skip s) (s ++ p))
-unfolding place_after texts_after
-texts-append limit skip [] p = texts_skip limit skip p
-texts-append limit (suc skip) (b ∷ s) p = texts-append limit skip s p
-texts-append limit zero (b ∷ s) p =
-    elim (seen (first_frame limit (b ∷ s))) [
-      | inl w ↦
-          let frame = w.0 in
-          step_texts limit b (s ++ p) frame (frame-more limit b s p frame w.1)
-          ∙ ap (λ t. frame.1 ++ t) (texts-append limit (nla_align frame.0 - 1) s p)
-          ∙ sym (append_assoc frame.1 _ _)
-          ∙ ap (λ t. t ++ texts limit (drop (place_after limit (nla_align frame.0 - 1) s) (s ++ p))) (sym (step_texts limit b s frame w.1))
-          ∙ ap (λ n. texts limit (b ∷ s) ++ texts limit (drop n (b ∷ (s ++ p)))) (sym (step_place limit b s frame w.1))
-      | inr w ↦
-          ap (λ n. texts limit (drop n (b ∷ (s ++ p)))) (sym (stop_place limit b s w.0 w.1))
-          ∙ ap (λ t. t ++ texts limit (drop (place limit (b ∷ s)) (b ∷ (s ++ p)))) (sym (stop_texts limit b s w.0 w.1))
-    ]
-
--- its first fault is that of what the front's whole frames leave
-pub fault-append : (limit skip : ℕ) (s p : List ℕ) → fault_after limit skip (s ++ p) ≡ raised (place_after limit skip s) (first_fault limit (drop (place_after limit skip s) (s ++ p)))
-unfolding place_after fault_after
-fault-append limit skip [] p = fault_skip limit skip p
-fault-append limit (suc skip) (b ∷ s) p =
-    ap (raised 1) (fault-append limit skip s p) ∙ raised_add 1 (place_after limit skip s) (suc (place_after limit skip s)) _ (omega arith)
-fault-append limit zero (b ∷ s) p =
-    elim (seen (first_frame limit (b ∷ s))) [
-      | inl w ↦
-          let frame = w.0 in
-          step_fault limit b (s ++ p) frame (frame-more limit b s p frame w.1)
-          ∙ ap (raised 1) (fault-append limit (nla_align frame.0 - 1) s p)
-          ∙ raised_add 1 (place_after limit (nla_align frame.0 - 1) s) (suc (place_after limit (nla_align frame.0 - 1) s)) _ (omega arith)
-          ∙ ap (λ n. raised n (first_fault limit (drop n (b ∷ (s ++ p))))) (sym (step_place limit b s frame w.1))
-      | inr w ↦
-          sym (raised_zero (first_fault limit (b ∷ (s ++ p))))
-          ∙ ap (λ n. raised n (first_fault limit (drop n (b ∷ (s ++ p))))) (sym (stop_place limit b s w.0 w.1))
-    ]
-
--- whole frames reach at least over what is passed over
-place_low : (limit skip : ℕ) (s : List ℕ) → skip ≤ place_after limit skip s
-unfolding place_after
-place_low limit skip [] = omega arith
-place_low limit (suc skip) (b ∷ s) = let h = place_low limit skip s in omega (arith, h)
-place_low limit zero (b ∷ s) = omega arith
-
--- What stands before the place is legal, and has the texts.
-pub base_fault : (limit skip : ℕ) (s p : List ℕ) → fault_after limit skip (take (place_after limit skip s) (s ++ p)) ≡ None
-unfolding place_after fault_after
-base_fault limit skip [] p =
-    fault_skip limit skip (take skip p)
-    ∙ ap (λ c. raised skip (first_fault limit c)) (drop_all skip (take skip p) (omega (arith, length-take skip p)))
-base_fault limit (suc skip) (b ∷ s) p = ap (raised 1) (base_fault limit skip s p)
-base_fault limit zero (b ∷ s) p =
-    elim (seen (first_frame limit (b ∷ s))) [
-      | inl w ↦
-          let frame = w.0 in
-          let reach : ℕ = place_after limit (nla_align frame.0 - 1) s in
-          let low = place_low limit (nla_align frame.0 - 1) s in
-          let h = first_frame-take limit (b ∷ (s ++ p)) (suc reach) frame (frame-more limit b s p frame w.1) (omega (arith, low)) in
-          ap (λ n. first_fault limit (take n (b ∷ (s ++ p)))) (step_place limit b s frame w.1)
-          ∙ step_fault limit b (take reach (s ++ p)) frame h
-          ∙ ap (raised 1) (base_fault limit (nla_align frame.0 - 1) s p)
-      | inr w ↦ ap (λ n. first_fault limit (take n (b ∷ (s ++ p)))) (stop_place limit b s w.0 w.1)
-    ]
-
-pub base_texts : (limit skip : ℕ) (s p : List ℕ) → texts_after limit skip (take (place_after limit skip s) (s ++ p)) ≡ texts_after limit skip s
-unfolding place_after texts_after
-base_texts limit skip [] p =
-    texts_skip limit skip (take skip p)
-    ∙ ap (λ c. texts limit c) (drop_all skip (take skip p) (omega (arith, length-take skip p)))
-base_texts limit (suc skip) (b ∷ s) p = base_texts limit skip s p
-base_texts limit zero (b ∷ s) p =
-    elim (seen (first_frame limit (b ∷ s))) [
-      | inl w ↦
-          let frame = w.0 in
-          let reach : ℕ = place_after limit (nla_align frame.0 - 1) s in
-          let low = place_low limit (nla_align frame.0 - 1) s in
-          let h = first_frame-take limit (b ∷ (s ++ p)) (suc reach) frame (frame-more limit b s p frame w.1) (omega (arith, low)) in
-          ap (λ n. texts limit (take n (b ∷ (s ++ p)))) (step_place limit b s frame w.1)
-          ∙ step_texts limit b (take reach (s ++ p)) frame h
-          ∙ ap (λ t. frame.1 ++ t) (base_texts limit (nla_align frame.0 - 1) s p)
-          ∙ sym (step_texts limit b s frame w.1)
-      | inr w ↦ ap (λ n. texts limit (take n (b ∷ (s ++ p)))) (stop_place limit b s w.0 w.1) ∙ sym (stop_texts limit b s w.0 w.1)
-    ]
-
--- the place is a multiple of 4, where c starts at a place a
-pub place_start : (limit a skip : ℕ) (s : List ℕ) → (a + skip) % 4 ≡ 0 → (a + place_after limit skip s) % 4 ≡ 0
-unfolding place_after
-place_start limit a skip [] h = h
-place_start limit a (suc skip) (b ∷ s) h = let k = place_start limit (a + 1) skip s (omega arith) in omega (arith, k)
-place_start limit a zero (b ∷ s) h =
-    elim (seen (first_frame limit (b ∷ s))) [
-      | inl w ↦
-          let frame = w.0 in
-          let f = accepted limit (b ∷ s) frame w.1 in
-          let k = place_start limit (a + 1) (nla_align frame.0 - 1) s (omega (arith, f.low)) in
-          rw (step_place limit b s frame w.1) (omega (arith, k))
-      | inr w ↦ rw (stop_place limit b s w.0 w.1) h
-    ]
-
--- and at most 3 past the end
-pub place_near : (limit skip : ℕ) (s : List ℕ) → skip ≤ length s + 3 → place_after limit skip s ≤ length s + 3
-unfolding place_after
-place_near limit skip [] h = h
-place_near limit (suc skip) (b ∷ s) h = let k = place_near limit skip s (omega arith) in omega (arith, k)
-place_near limit zero (b ∷ s) h =
-    elim (seen (first_frame limit (b ∷ s))) [
-      | inl w ↦
-          let frame = w.0 in
-          let f = accepted limit (b ∷ s) frame w.1 in
-          let k = place_near limit (nla_align frame.0 - 1) s (omega (arith, f.whole)) in
-          rw (step_place limit b s frame w.1) (omega (arith, k))
-      | inr w ↦ rw (stop_place limit b s w.0 w.1) (omega arith)
-    ]
-
--- What stands at the place: nothing more, or a fault.
-pub record Stuck (limit skip : ℕ) (s : List ℕ) (kind : FaultKind) : Type 0 where
-  pub inside : place_after limit skip s < length s
-  pub first_frame_is : first_frame limit (drop (place_after limit skip s) s) ≡ Err kind
-  pub fault_is : fault_after limit skip s ≡ Some (record { kind = kind; offset = place_after limit skip s })
-
-pub record Over (limit skip : ℕ) (s : List ℕ) : Type 0 where
-  pub outside : length s ≤ place_after limit skip s
-  pub fault_is : fault_after limit skip s ≡ None
-
-pub stops : (limit skip : ℕ) (s : List ℕ) → Over limit skip s ⊎ ((kind : FaultKind) × Stuck limit skip s kind)
-unfolding place_after fault_after
-stops limit skip [] = inl (record { outside = omega arith; fault_is = refl })
-stops limit (suc skip) (b ∷ s) =
-    elim (stops limit skip s) [
-      | inl w ↦ inl (record { outside = omega (arith, w.outside); fault_is = ap (raised 1) w.fault_is })
-      | inr w ↦ inr (
-        w.0,
-        record {
-          inside = omega (arith, w.1.inside);
-          first_frame_is = w.1.first_frame_is;
-          fault_is = ap (raised 1) w.1.fault_is ∙ raised_one w.0 (place_after limit skip s);
-        },
-      )
-    ]
-stops limit zero (b ∷ s) =
-    elim (seen (first_frame limit (b ∷ s))) [
-      | inl w ↦
-          let frame = w.0 in
-          let reach : ℕ = place_after limit (nla_align frame.0 - 1) s in
-          let at = step_place limit b s frame w.1 in
-          elim (stops limit (nla_align frame.0 - 1) s) [
-            | inl v ↦ inl (record { outside = omega (arith, v.outside, at); fault_is = step_fault limit b s frame w.1 ∙ ap (raised 1) v.fault_is })
-            | inr v ↦ inr (
-              v.0,
-              record {
-                inside = omega (arith, v.1.inside, at);
-                first_frame_is = ap (λ n. first_frame limit (drop n (b ∷ s))) at ∙ v.1.first_frame_is;
-                fault_is = step_fault limit b s frame w.1 ∙ ap (raised 1) v.1.fault_is ∙ raised_one v.0 reach ∙ ap (λ n. Some (record { kind = v.0; offset = n })) (sym at);
-              },
-            )
-          ]
-      | inr w ↦
-          let at = stop_place limit b s w.0 w.1 in
-          inr (
-            w.0,
-            record {
-              inside = omega (arith, at);
-              first_frame_is = ap (λ n. first_frame limit (drop n (b ∷ s))) at ∙ w.1;
-              fault_is = stop_fault limit b s w.0 w.1 ∙ ap (λ n. Some (record { kind = w.0; offset = n })) (sym at);
-            },
-          )
-    ]
-
--- A legal string reaches up to the next multiple of 4.
-pub place_legal : (limit : ℕ) (c : List ℕ) → IsLegal limit c → place limit c ≡ nla_align (length c)
-place_legal limit c h =
-    let near = place_near limit 0 c (omega arith) in
-    let start = place_start limit 0 0 c refl in
-    elim (stops limit 0 c) [
-      | inl w ↦ omega (arith, w.outside, near, start)
-      | inr w ↦ (let f = w.1.fault_is in cc)
-    ]
-
--- The place is where the first fault stands, or the next multiple of 4.
-pub reach_place : (limit : ℕ) (c : List ℕ) → place limit c ≡ reach limit c
-reach_place limit c =
-    elim (stops limit 0 c) [
-      | inl w ↦ place_legal limit c w.fault_is ∙ ap (reach_by (length c)) (sym w.fault_is)
-      | inr w ↦ ap (reach_by (length c)) (sym w.1.fault_is)
-    ]
-
--- What follows a legal string of a multiple of 4 bytes is judged by itself.
-pub joined_texts : (limit : ℕ) (a b : List ℕ) → IsLegal limit a → length a % 4 ≡ 0 → texts limit (a ++ b) ≡ texts limit a ++ texts limit b
-joined_texts limit a b h m =
-    let e : place limit a ≡ length a = place_legal limit a h ∙ omega arith in
-    texts-append limit 0 a b ∙ ap (λ n. texts limit a ++ texts limit (drop n (a ++ b))) e ∙ ap (λ c. texts limit a ++ texts limit c) (drop_at a b (length a) refl)
-
-pub joined_fault : (limit : ℕ) (a b : List ℕ) → IsLegal limit a → length a % 4 ≡ 0 → first_fault limit (a ++ b) ≡ raised (length a) (first_fault limit b)
-joined_fault limit a b h m =
-    let e : place limit a ≡ length a = place_legal limit a h ∙ omega arith in
-    fault-append limit 0 a b ∙ ap (λ n. raised n (first_fault limit (drop n (a ++ b)))) e ∙ ap (λ c. raised (length a) (first_fault limit c)) (drop_at a b (length a) refl)
-
--- one accepted frame with its padding, or as much of that as is there
-pub one_fault : (limit : ℕ) (c : List ℕ) (frame : ℕ × List ℕ) → first_frame limit c ≡ Ok frame → first_fault limit (take (nla_align frame.0) c) ≡ None
-one_fault limit c frame h =
-    let n : ℕ = nla_align frame.0 in
-    fault_step limit (take n c) frame (first_frame-take limit c n frame h (omega arith))
-    ∙ ap (λ x. raised n (first_fault limit x)) (drop_all n (take n c) (omega (arith, length-take n c)))
-    ∙ ap (raised n) (fault_nil limit 0)
-
-pub one_text : (limit : ℕ) (c : List ℕ) (frame : ℕ × List ℕ) → first_frame limit c ≡ Ok frame → texts limit (take (nla_align frame.0) c) ≡ frame.1
-one_text limit c frame h =
-    let n : ℕ = nla_align frame.0 in
-    texts_step limit (take n c) frame (first_frame-take limit c n frame h (omega arith))
-    ∙ ap (λ x. frame.1 ++ texts limit x) (drop_all n (take n c) (omega (arith, length-take n c)))
-    ∙ ap (λ t. frame.1 ++ t) (texts_nil limit 0)
-    ∙ append-nil frame.1
-
 -- no body is cut
 judged_not_cut : (limit : ℕ) (c : List ℕ) (r : Result (List ℕ) Refusal) → judged_text limit c r ≢ Err Cut
 judged_not_cut limit c (Err refused) h = cc
 judged_not_cut limit c (Err empty_ports) h = cc
 judged_not_cut limit c (Err unfit) h = cc
 judged_not_cut limit c (Ok body) h = grind (arith, nat_tests)
-
-judgement_not_cut : (limit : ℕ) (c : List ℕ) → judgement limit c ≢ Err Cut
-unfolding judgement
-judgement_not_cut limit c h = judged_not_cut limit c (body_text (frame_type c) (frame_body c)) h
-
--- What is cut is too short for its header, or for the length that this tells.
-pub cut_cases : (limit : ℕ) (c : List ℕ) → first_frame limit c ≡ Err Cut → (length c < 16) ⊎ CutInBody limit c
-cut_cases limit c h =
-    let t : tested limit (length c) (frame_length c) (judgement limit c) ≡ Err Cut = sym (first_frame_is limit c) ∙ h in
-    elim (guard (ltb (length c) 16) _ _ _ t) [
-      | inl a ↦ inl (ltb-true _ _ a.0)
-      | inr a ↦
-          elim (guard (ltb (frame_length c) 16) _ _ _ a.1) [
-            | inl b ↦ (let e = b.1 in cc)
-            | inr b ↦
-                elim (guard (ltb limit (frame_length c)) _ _ _ b.1) [
-                  | inl d ↦ (let e = d.1 in cc)
-                  | inr d ↦
-                      elim (guard (ltb (length c) (frame_length c)) _ _ _ d.1) [
-                        | inl e ↦ inr (record { header = ltb-false _ _ a.0; low = ltb-false _ _ b.0; high = ltb-false _ _ d.0; short = ltb-true _ _ e.0 })
-                        | inr e ↦ absurd (judgement_not_cut limit c e.1)
-                      ]
-                ]
-          ]
-    ]
-
--- the first fault stands where the whole frames end
-pub fault_place : (limit : ℕ) (c : List ℕ) (fault : CaptureFault) → first_fault limit c ≡ Some fault → place limit c ≡ fault.offset
-fault_place limit c fault h =
-    elim (stops limit 0 c) [
-      | inl w ↦ (let f = w.fault_is in cc)
-      | inr w ↦ (let f = w.1.fault_is in cc)
-    ]
-
-pub fault_inside : (limit : ℕ) (c : List ℕ) (fault : CaptureFault) → first_fault limit c ≡ Some fault → (fault.offset < length c) × (fault.offset % 4 ≡ 0)
-fault_inside limit c fault h =
-    let at = fault_place limit c fault h in
-    let start = place_start limit 0 0 c refl in
-    elim (stops limit 0 c) [
-      | inl w ↦ (let f = w.fault_is in cc)
-      | inr w ↦ (omega (arith, w.1.inside, at), omega (arith, start, at))
-    ]
 
 -- a body's faults are a frame's
 judged_kinds : (limit : ℕ) (c : List ℕ) (r : Result (List ℕ) Refusal) (kind : FaultKind) → judged_text limit c r ≡ Err kind → IsOfFrames kind
@@ -518,50 +99,473 @@ judged_kinds limit c (Ok body) kind h =
       | inr a ↦ (let f = a.1 in absurd (cc))
     ]
 
-first_frame_kinds : (limit : ℕ) (c : List ℕ) (kind : FaultKind) → first_frame limit c ≡ Err kind → IsOfFrames kind
-unfolding judgement
-first_frame_kinds limit c kind h =
-    let t : tested limit (length c) (frame_length c) (judgement limit c) ≡ Err kind = sym (first_frame_is limit c) ∙ h in
-    elim (guard (ltb (length c) 16) _ _ _ t) [
-      | inl a ↦ (let e : Cut ≡ kind = (let f = a.1 in cc) in subst IsOfFrames e tt)
-      | inr a ↦
-          elim (guard (ltb (frame_length c) 16) _ _ _ a.1) [
-            | inl b ↦ (let e : ShortLength ≡ kind = (let f = b.1 in cc) in subst IsOfFrames e tt)
-            | inr b ↦
-                elim (guard (ltb limit (frame_length c)) _ _ _ b.1) [
-                  | inl d ↦ (let e : OverLimit ≡ kind = (let f = d.1 in cc) in subst IsOfFrames e tt)
-                  | inr d ↦
-                      elim (guard (ltb (length c) (frame_length c)) _ _ _ d.1) [
-                        | inl e ↦ (let g : Cut ≡ kind = (let f = e.1 in cc) in subst IsOfFrames g tt)
-                        | inr e ↦ judged_kinds limit c (body_text (frame_type c) (frame_body c)) kind e.1
-                      ]
-                ]
-          ]
-    ]
+module _ (r : Rule) where
+  -- what an accepted frame is
+  pub accepted : (limit : ℕ) (c : List ℕ) (frame : ℕ × List ℕ) → first_frame_under r limit c ≡ Ok frame → Accepted limit c frame
+  unfolding first_frame_under
+  accepted limit c frame h =
+      elim (guard (ltb (length c) 16) _ _ _ h) [
+        | inl a ↦ cc
+        | inr a ↦
+            elim (guard (ltb (frame_length c) 16) _ _ _ a.1) [
+              | inl b ↦ cc
+              | inr b ↦
+                  elim (guard (ltb limit (frame_length c)) _ _ _ b.1) [
+                    | inl d ↦ cc
+                    | inr d ↦
+                        elim (guard (ltb (length c) (frame_length c)) _ _ _ d.1) [
+                          | inl e ↦ cc
+                          | inr e ↦
+                              let g = judged limit c (body_text_under r (frame_type c) (frame_body c)) frame e.1 in
+                              record {
+                                header = ltb-false _ _ a.0;
+                                low = subst (λ n. 16 ≤ n) g (ltb-false _ _ b.0);
+                                high = subst (λ n. n ≤ limit) g (ltb-false _ _ d.0);
+                                whole = subst (λ n. n ≤ length c) g (ltb-false _ _ e.0);
+                                is = g;
+                              }
+                        ]
+                  ]
+            ]
+      ]
 
-pub fault_kinds : (limit : ℕ) (c : List ℕ) (fault : CaptureFault) → first_fault limit c ≡ Some fault → IsOfFrames fault.kind
-fault_kinds limit c fault h =
-    elim (stops limit 0 c) [
-      | inl w ↦ (let f = w.fault_is in absurd (cc))
-      | inr w ↦ (let f = w.1.fault_is in let e : w.0 ≡ fault.kind = cc in subst IsOfFrames e (first_frame_kinds limit _ w.0 w.1.first_frame_is))
-    ]
+  judged-more : (limit : ℕ) (c d : List ℕ) → 16 ≤ length c → frame_length c ≤ length c → judged_text limit (c ++ d) (body_text_under r (frame_type (c ++ d)) (frame_body (c ++ d))) ≡ judged_text limit c (body_text_under r (frame_type c) (frame_body c))
+  judged-more limit c d h k =
+      ap (λ t. judged_text limit (c ++ d) (body_text_under r t (frame_body (c ++ d)))) (frame_type-more c d h)
+      ∙ ap (λ b. judged_text limit (c ++ d) (body_text_under r (frame_type c) b)) (frame_body-more c d h k)
+      ∙ judged_text-more limit c d (body_text_under r (frame_type c) (frame_body c)) h
 
--- a fault of a front, unless it is cut
-pub fault_more : (limit : ℕ) (a b : List ℕ) (fault : CaptureFault) → first_fault limit a ≡ Some fault → fault.kind ≢ Cut → first_fault limit (a ++ b) ≡ Some fault
-fault_more limit a b fault h n =
-    elim (stops limit 0 a) [
-      | inl w ↦ (let f = w.fault_is in absurd (cc))
-      | inr w ↦
-          let at : ℕ = place limit a in
-          let f = w.1.fault_is in
-          let k : w.0 ≡ fault.kind = cc in
-          let o : at ≡ fault.offset = cc in
-          let d = drop at a in
-          let kept : first_frame limit (d ++ b) ≡ Err w.0 = first_frame-more limit d b (λ e. n (let g = w.1.first_frame_is in cc)) ∙ w.1.first_frame_is in
-          let z : at + 0 ≡ fault.offset = omega (arith, o) in
-          fault-append limit 0 a b
-          ∙ ap (λ x. raised at (first_fault limit x)) (drop-append-le at a b (omega (arith, w.1.inside)))
-          ∙ ap (raised at) (fault_stop limit (d ++ b) w.0 (omega (arith, length-append d b, length-drop at a, w.1.inside)) kept)
-          ∙ ap (λ x. Some (record { kind = w.0; offset = x })) z
-          ∙ ap (λ x. Some (record { kind = x; offset = fault.offset })) k
-    ]
+  -- what is judged of the frame, once it is there
+  unfoldable pub judgement : ℕ → List ℕ → Judged
+  judgement limit c = judged_text limit c (body_text_under r (frame_type c) (frame_body c))
+
+  pub first_frame_is : (limit : ℕ) (c : List ℕ) → first_frame_under r limit c ≡ tested limit (length c) (frame_length c) (judgement limit c)
+  unfolding first_frame_under judgement
+  first_frame_is limit c = refl
+
+  judgement-more : (limit : ℕ) (c d : List ℕ) → 16 ≤ length c → frame_length c ≤ length c → judgement limit (c ++ d) ≡ judgement limit c
+  unfolding judgement
+  judgement-more limit c d h k = judged-more limit c d h k
+
+  -- What is judged of a string, unless it is cut, is judged of it whatever follows.
+  pub first_frame-more : (limit : ℕ) (c d : List ℕ) → first_frame_under r limit c ≢ Err Cut → first_frame_under r limit (c ++ d) ≡ first_frame_under r limit c
+  first_frame-more limit c d h =
+      elim (cases_lt (length c) 16) [
+        | inl a ↦ absurd (h (first_frame_is limit c ∙ tested_short limit (length c) (frame_length c) (judgement limit c) a))
+        | inr a ↦
+            first_frame_is limit (c ++ d)
+            ∙ ap (λ n. tested limit (length (c ++ d)) n (judgement limit (c ++ d))) (u32_at-append c d (omega arith))
+            ∙ tested_more limit (length c) (length (c ++ d)) (frame_length c) (judgement limit c) (judgement limit (c ++ d)) (omega (arith, length-append c d)) (judgement-more limit c d a) (λ e. h (first_frame_is limit c ∙ e))
+            ∙ sym (first_frame_is limit c)
+      ]
+
+  pub first_frame_whole : (limit : ℕ) (c d : List ℕ) → 16 ≤ length c → frame_length c ≤ length c → first_frame_under r limit (c ++ d) ≡ first_frame_under r limit c
+  first_frame_whole limit c d h k =
+      first_frame_is limit (c ++ d)
+      ∙ ap (λ n. tested limit (length (c ++ d)) n (judgement limit (c ++ d))) (u32_at-append c d (omega arith))
+      ∙ ap (λ j. tested limit (length (c ++ d)) (frame_length c) j) (judgement-more limit c d h k)
+      ∙ tested_whole limit (length (c ++ d)) (frame_length c) (judgement limit c) (omega (arith, length-append c d)) (omega (arith, length-append c d))
+      ∙ sym (tested_whole limit (length c) (frame_length c) (judgement limit c) h k)
+      ∙ sym (first_frame_is limit c)
+
+  -- An accepted frame is the same where at least its bytes are there.
+  pub first_frame-take : (limit : ℕ) (c : List ℕ) (n : ℕ) (frame : ℕ × List ℕ) → first_frame_under r limit c ≡ Ok frame → frame.0 ≤ n → first_frame_under r limit (take n c) ≡ Ok frame
+  first_frame-take limit c n frame h k =
+      let a = accepted limit c frame h in
+      let e : List ℕ = take n c in
+      let more : List ℕ = drop n c in
+      let whole : e ++ more ≡ c = take-append-drop n c in
+      let size : length e ≡ min n (length c) = length-take n c in
+      let claimed : frame_length c ≡ frame_length e = ap (u32_at 0) (sym whole) ∙ u32_at-append e more (omega arith) in
+      sym (first_frame_whole limit e more (omega arith) (omega (arith, a.is, claimed))) ∙ ap (first_frame_under r limit) whole ∙ h
+
+  -- the two recursions after so many bytes
+  pub texts_skip : (limit skip : ℕ) (c : List ℕ) → texts_after_under r limit skip c ≡ texts_under r limit (drop skip c)
+  unfolding texts_after_under
+  texts_skip limit zero c = refl
+  texts_skip limit (suc skip) [] = refl
+  texts_skip limit (suc skip) (b ∷ c) = texts_skip limit skip c
+
+  pub fault_skip : (limit skip : ℕ) (c : List ℕ) → fault_after_under r limit skip c ≡ raised skip (first_fault_under r limit (drop skip c))
+  unfolding fault_after_under
+  fault_skip limit zero c = sym (raised_zero (first_fault_under r limit c))
+  fault_skip limit (suc skip) [] = refl
+  fault_skip limit (suc skip) (b ∷ c) =
+      ap (raised 1) (fault_skip limit skip c) ∙ raised_add 1 skip (suc skip) (first_fault_under r limit (drop skip c)) (omega arith)
+
+  -- one step of the two recursions
+  step_fault : (limit : ℕ) (b : ℕ) (c : List ℕ) (frame : ℕ × List ℕ) → first_frame_under r limit (b ∷ c) ≡ Ok frame → first_fault_under r limit (b ∷ c) ≡ raised 1 (fault_after_under r limit (nla_align frame.0 - 1) c)
+  unfolding fault_after_under
+  step_fault limit b c frame h = ap (λ j. next_fault j (λ skip. fault_after_under r limit skip c)) h
+
+  pub step_texts : (limit : ℕ) (b : ℕ) (c : List ℕ) (frame : ℕ × List ℕ) → first_frame_under r limit (b ∷ c) ≡ Ok frame → texts_under r limit (b ∷ c) ≡ frame.1 ++ texts_after_under r limit (nla_align frame.0 - 1) c
+  unfolding texts_after_under
+  step_texts limit b c frame h = ap (λ j. next_texts j (λ skip. texts_after_under r limit skip c)) h
+
+  stop_fault : (limit : ℕ) (b : ℕ) (c : List ℕ) (kind : FaultKind) → first_frame_under r limit (b ∷ c) ≡ Err kind → first_fault_under r limit (b ∷ c) ≡ Some (record { kind = kind; offset = 0 })
+  unfolding fault_after_under
+  stop_fault limit b c kind h = ap (λ j. next_fault j (λ skip. fault_after_under r limit skip c)) h
+
+  pub stop_texts : (limit : ℕ) (b : ℕ) (c : List ℕ) (kind : FaultKind) → first_frame_under r limit (b ∷ c) ≡ Err kind → texts_under r limit (b ∷ c) ≡ []
+  unfolding texts_after_under
+  stop_texts limit b c kind h = ap (λ j. next_texts j (λ skip. texts_after_under r limit skip c)) h
+
+  -- the first fault and the texts of nothing
+  pub fault_nil : (limit skip : ℕ) → fault_after_under r limit skip [] ≡ None
+  unfolding fault_after_under
+  fault_nil limit skip = refl
+
+  pub texts_nil : (limit skip : ℕ) → texts_after_under r limit skip [] ≡ []
+  unfolding texts_after_under
+  texts_nil limit skip = refl
+
+  -- An accepted frame in front: what is left of the string after it has the rest.
+  pub texts_step : (limit : ℕ) (c : List ℕ) (frame : ℕ × List ℕ) → first_frame_under r limit c ≡ Ok frame → texts_under r limit c ≡ frame.1 ++ texts_under r limit (drop (nla_align frame.0) c)
+  texts_step limit [] frame h = let a = accepted limit [] frame h in absurd (omega (arith, a.header))
+  texts_step limit (b ∷ c) frame h =
+      let a = accepted limit (b ∷ c) frame h in
+      let e : nla_align frame.0 ≡ suc (nla_align frame.0 - 1) = omega arith in
+      step_texts limit b c frame h ∙ ap (λ t. frame.1 ++ t) (texts_skip limit (nla_align frame.0 - 1) c) ∙ ap (λ n. frame.1 ++ texts_under r limit (drop n (b ∷ c))) (sym e)
+
+  pub fault_step : (limit : ℕ) (c : List ℕ) (frame : ℕ × List ℕ) → first_frame_under r limit c ≡ Ok frame → first_fault_under r limit c ≡ raised (nla_align frame.0) (first_fault_under r limit (drop (nla_align frame.0) c))
+  fault_step limit [] frame h = let a = accepted limit [] frame h in absurd (omega (arith, a.header))
+  fault_step limit (b ∷ c) frame h =
+      let a = accepted limit (b ∷ c) frame h in
+      let e : nla_align frame.0 ≡ suc (nla_align frame.0 - 1) = omega arith in
+      step_fault limit b c frame h ∙ ap (raised 1) (fault_skip limit (nla_align frame.0 - 1) c)
+      ∙ raised_add 1 (nla_align frame.0 - 1) (nla_align frame.0) _ (omega arith)
+      ∙ ap (λ n. raised (nla_align frame.0) (first_fault_under r limit (drop n (b ∷ c)))) (sym e)
+
+  -- A fault in front.
+  pub fault_stop : (limit : ℕ) (c : List ℕ) (kind : FaultKind) → 0 < length c → first_frame_under r limit c ≡ Err kind → first_fault_under r limit c ≡ Some (record { kind = kind; offset = 0 })
+  fault_stop limit [] kind p h = absurd (omega arith)
+  fault_stop limit (b ∷ c) kind p h = stop_fault limit b c kind h
+
+  pub texts_stop : (limit : ℕ) (c : List ℕ) (kind : FaultKind) → first_frame_under r limit c ≡ Err kind → texts_under r limit c ≡ []
+  texts_stop limit [] kind h = texts_nil limit 0
+  texts_stop limit (b ∷ c) kind h = stop_texts limit b c kind h
+
+  -- How far the whole frames reach, with the padding that the last one is owed: where the first fault stands, or would stand if more came.
+  pub place_after : ℕ → ℕ → List ℕ → ℕ
+  place_after limit skip [] = skip
+  place_after limit (suc skip) (b ∷ c) = suc (place_after limit skip c)
+  place_after limit zero (b ∷ c) = next_place (first_frame_under r limit (b ∷ c)) (λ skip. place_after limit skip c)
+
+  abbrev pub place : ℕ → List ℕ → ℕ
+  place limit c = place_after limit 0 c
+
+  step_place : (limit : ℕ) (b : ℕ) (c : List ℕ) (frame : ℕ × List ℕ) → first_frame_under r limit (b ∷ c) ≡ Ok frame → place limit (b ∷ c) ≡ suc (place_after limit (nla_align frame.0 - 1) c)
+  unfolding place_after
+  step_place limit b c frame h = ap (λ j. next_place j (λ skip. place_after limit skip c)) h
+
+  stop_place : (limit : ℕ) (b : ℕ) (c : List ℕ) (kind : FaultKind) → first_frame_under r limit (b ∷ c) ≡ Err kind → place limit (b ∷ c) ≡ 0
+  unfolding place_after
+  stop_place limit b c kind h = ap (λ j. next_place j (λ skip. place_after limit skip c)) h
+
+  -- a frame in front stays one, whatever follows
+  frame-more : (limit b : ℕ) (s p : List ℕ) (frame : ℕ × List ℕ) → first_frame_under r limit (b ∷ s) ≡ Ok frame → first_frame_under r limit (b ∷ (s ++ p)) ≡ Ok frame
+  frame-more limit b s p frame h = first_frame-more limit (b ∷ s) p (not_cut (first_frame_under r limit (b ∷ s)) frame h) ∙ h
+
+  -- The texts of a longer string: those of its front, and those of what the front's whole frames leave.
+  pub texts-append : (limit skip : ℕ) (s p : List ℕ) → texts_after_under r limit skip (s ++ p) ≡ texts_after_under r limit skip s ++ texts_under r limit (drop (place_after limit skip s) (s ++ p))
+  unfolding place_after texts_after_under
+  texts-append limit skip [] p = texts_skip limit skip p
+  texts-append limit (suc skip) (b ∷ s) p = texts-append limit skip s p
+  texts-append limit zero (b ∷ s) p =
+      elim (seen (first_frame_under r limit (b ∷ s))) [
+        | inl w ↦
+            let frame = w.0 in
+            step_texts limit b (s ++ p) frame (frame-more limit b s p frame w.1)
+            ∙ ap (λ t. frame.1 ++ t) (texts-append limit (nla_align frame.0 - 1) s p)
+            ∙ sym (append_assoc frame.1 _ _)
+            ∙ ap (λ t. t ++ texts_under r limit (drop (place_after limit (nla_align frame.0 - 1) s) (s ++ p))) (sym (step_texts limit b s frame w.1))
+            ∙ ap (λ n. texts_under r limit (b ∷ s) ++ texts_under r limit (drop n (b ∷ (s ++ p)))) (sym (step_place limit b s frame w.1))
+        | inr w ↦
+            ap (λ n. texts_under r limit (drop n (b ∷ (s ++ p)))) (sym (stop_place limit b s w.0 w.1))
+            ∙ ap (λ t. t ++ texts_under r limit (drop (place limit (b ∷ s)) (b ∷ (s ++ p)))) (sym (stop_texts limit b s w.0 w.1))
+      ]
+
+  -- its first fault is that of what the front's whole frames leave
+  pub fault-append : (limit skip : ℕ) (s p : List ℕ) → fault_after_under r limit skip (s ++ p) ≡ raised (place_after limit skip s) (first_fault_under r limit (drop (place_after limit skip s) (s ++ p)))
+  unfolding place_after fault_after_under
+  fault-append limit skip [] p = fault_skip limit skip p
+  fault-append limit (suc skip) (b ∷ s) p =
+      ap (raised 1) (fault-append limit skip s p) ∙ raised_add 1 (place_after limit skip s) (suc (place_after limit skip s)) _ (omega arith)
+  fault-append limit zero (b ∷ s) p =
+      elim (seen (first_frame_under r limit (b ∷ s))) [
+        | inl w ↦
+            let frame = w.0 in
+            step_fault limit b (s ++ p) frame (frame-more limit b s p frame w.1)
+            ∙ ap (raised 1) (fault-append limit (nla_align frame.0 - 1) s p)
+            ∙ raised_add 1 (place_after limit (nla_align frame.0 - 1) s) (suc (place_after limit (nla_align frame.0 - 1) s)) _ (omega arith)
+            ∙ ap (λ n. raised n (first_fault_under r limit (drop n (b ∷ (s ++ p))))) (sym (step_place limit b s frame w.1))
+        | inr w ↦
+            sym (raised_zero (first_fault_under r limit (b ∷ (s ++ p))))
+            ∙ ap (λ n. raised n (first_fault_under r limit (drop n (b ∷ (s ++ p))))) (sym (stop_place limit b s w.0 w.1))
+      ]
+
+  -- whole frames reach at least over what is passed over
+  place_low : (limit skip : ℕ) (s : List ℕ) → skip ≤ place_after limit skip s
+  unfolding place_after
+  place_low limit skip [] = omega arith
+  place_low limit (suc skip) (b ∷ s) = let h = place_low limit skip s in omega (arith, h)
+  place_low limit zero (b ∷ s) = omega arith
+
+  -- What stands before the place is legal, and has the texts.
+  pub base_fault : (limit skip : ℕ) (s p : List ℕ) → fault_after_under r limit skip (take (place_after limit skip s) (s ++ p)) ≡ None
+  unfolding place_after fault_after_under
+  base_fault limit skip [] p =
+      fault_skip limit skip (take skip p)
+      ∙ ap (λ c. raised skip (first_fault_under r limit c)) (drop_all skip (take skip p) (omega (arith, length-take skip p)))
+  base_fault limit (suc skip) (b ∷ s) p = ap (raised 1) (base_fault limit skip s p)
+  base_fault limit zero (b ∷ s) p =
+      elim (seen (first_frame_under r limit (b ∷ s))) [
+        | inl w ↦
+            let frame = w.0 in
+            let far : ℕ = place_after limit (nla_align frame.0 - 1) s in
+            let low = place_low limit (nla_align frame.0 - 1) s in
+            let h = first_frame-take limit (b ∷ (s ++ p)) (suc far) frame (frame-more limit b s p frame w.1) (omega (arith, low)) in
+            ap (λ n. first_fault_under r limit (take n (b ∷ (s ++ p)))) (step_place limit b s frame w.1)
+            ∙ step_fault limit b (take far (s ++ p)) frame h
+            ∙ ap (raised 1) (base_fault limit (nla_align frame.0 - 1) s p)
+        | inr w ↦ ap (λ n. first_fault_under r limit (take n (b ∷ (s ++ p)))) (stop_place limit b s w.0 w.1)
+      ]
+
+  pub base_texts : (limit skip : ℕ) (s p : List ℕ) → texts_after_under r limit skip (take (place_after limit skip s) (s ++ p)) ≡ texts_after_under r limit skip s
+  unfolding place_after texts_after_under
+  base_texts limit skip [] p =
+      texts_skip limit skip (take skip p)
+      ∙ ap (λ c. texts_under r limit c) (drop_all skip (take skip p) (omega (arith, length-take skip p)))
+  base_texts limit (suc skip) (b ∷ s) p = base_texts limit skip s p
+  base_texts limit zero (b ∷ s) p =
+      elim (seen (first_frame_under r limit (b ∷ s))) [
+        | inl w ↦
+            let frame = w.0 in
+            let far : ℕ = place_after limit (nla_align frame.0 - 1) s in
+            let low = place_low limit (nla_align frame.0 - 1) s in
+            let h = first_frame-take limit (b ∷ (s ++ p)) (suc far) frame (frame-more limit b s p frame w.1) (omega (arith, low)) in
+            ap (λ n. texts_under r limit (take n (b ∷ (s ++ p)))) (step_place limit b s frame w.1)
+            ∙ step_texts limit b (take far (s ++ p)) frame h
+            ∙ ap (λ t. frame.1 ++ t) (base_texts limit (nla_align frame.0 - 1) s p)
+            ∙ sym (step_texts limit b s frame w.1)
+        | inr w ↦ ap (λ n. texts_under r limit (take n (b ∷ (s ++ p)))) (stop_place limit b s w.0 w.1) ∙ sym (stop_texts limit b s w.0 w.1)
+      ]
+
+  -- the place is a multiple of 4, where c starts at a place a
+  pub place_start : (limit a skip : ℕ) (s : List ℕ) → (a + skip) % 4 ≡ 0 → (a + place_after limit skip s) % 4 ≡ 0
+  unfolding place_after
+  place_start limit a skip [] h = h
+  place_start limit a (suc skip) (b ∷ s) h = let k = place_start limit (a + 1) skip s (omega arith) in omega (arith, k)
+  place_start limit a zero (b ∷ s) h =
+      elim (seen (first_frame_under r limit (b ∷ s))) [
+        | inl w ↦
+            let frame = w.0 in
+            let f = accepted limit (b ∷ s) frame w.1 in
+            let k = place_start limit (a + 1) (nla_align frame.0 - 1) s (omega (arith, f.low)) in
+            rw (step_place limit b s frame w.1) (omega (arith, k))
+        | inr w ↦ rw (stop_place limit b s w.0 w.1) h
+      ]
+
+  -- and at most 3 past the end
+  pub place_near : (limit skip : ℕ) (s : List ℕ) → skip ≤ length s + 3 → place_after limit skip s ≤ length s + 3
+  unfolding place_after
+  place_near limit skip [] h = h
+  place_near limit (suc skip) (b ∷ s) h = let k = place_near limit skip s (omega arith) in omega (arith, k)
+  place_near limit zero (b ∷ s) h =
+      elim (seen (first_frame_under r limit (b ∷ s))) [
+        | inl w ↦
+            let frame = w.0 in
+            let f = accepted limit (b ∷ s) frame w.1 in
+            let k = place_near limit (nla_align frame.0 - 1) s (omega (arith, f.whole)) in
+            rw (step_place limit b s frame w.1) (omega (arith, k))
+        | inr w ↦ rw (stop_place limit b s w.0 w.1) (omega arith)
+      ]
+
+  -- What stands at the place: nothing more, or a fault.
+  pub record Stuck (limit skip : ℕ) (s : List ℕ) (kind : FaultKind) : Type 0 where
+    pub inside : place_after limit skip s < length s
+    pub first_frame_is : first_frame_under r limit (drop (place_after limit skip s) s) ≡ Err kind
+    pub fault_is : fault_after_under r limit skip s ≡ Some (record { kind = kind; offset = place_after limit skip s })
+
+  pub record Over (limit skip : ℕ) (s : List ℕ) : Type 0 where
+    pub outside : length s ≤ place_after limit skip s
+    pub fault_is : fault_after_under r limit skip s ≡ None
+
+  pub stops : (limit skip : ℕ) (s : List ℕ) → Over limit skip s ⊎ ((kind : FaultKind) × Stuck limit skip s kind)
+  unfolding place_after fault_after_under
+  stops limit skip [] = inl (record { outside = omega arith; fault_is = refl })
+  stops limit (suc skip) (b ∷ s) =
+      elim (stops limit skip s) [
+        | inl w ↦ inl (record { outside = omega (arith, w.outside); fault_is = ap (raised 1) w.fault_is })
+        | inr w ↦ inr (
+          w.0,
+          record {
+            inside = omega (arith, w.1.inside);
+            first_frame_is = w.1.first_frame_is;
+            fault_is = ap (raised 1) w.1.fault_is ∙ raised_one w.0 (place_after limit skip s);
+          },
+        )
+      ]
+  stops limit zero (b ∷ s) =
+      elim (seen (first_frame_under r limit (b ∷ s))) [
+        | inl w ↦
+            let frame = w.0 in
+            let far : ℕ = place_after limit (nla_align frame.0 - 1) s in
+            let at = step_place limit b s frame w.1 in
+            elim (stops limit (nla_align frame.0 - 1) s) [
+              | inl v ↦ inl (record { outside = omega (arith, v.outside, at); fault_is = step_fault limit b s frame w.1 ∙ ap (raised 1) v.fault_is })
+              | inr v ↦ inr (
+                v.0,
+                record {
+                  inside = omega (arith, v.1.inside, at);
+                  first_frame_is = ap (λ n. first_frame_under r limit (drop n (b ∷ s))) at ∙ v.1.first_frame_is;
+                  fault_is = step_fault limit b s frame w.1 ∙ ap (raised 1) v.1.fault_is ∙ raised_one v.0 far ∙ ap (λ n. Some (record { kind = v.0; offset = n })) (sym at);
+                },
+              )
+            ]
+        | inr w ↦
+            let at = stop_place limit b s w.0 w.1 in
+            inr (
+              w.0,
+              record {
+                inside = omega (arith, at);
+                first_frame_is = ap (λ n. first_frame_under r limit (drop n (b ∷ s))) at ∙ w.1;
+                fault_is = stop_fault limit b s w.0 w.1 ∙ ap (λ n. Some (record { kind = w.0; offset = n })) (sym at);
+              },
+            )
+      ]
+
+  -- A legal string reaches up to the next multiple of 4.
+  pub place_legal : (limit : ℕ) (c : List ℕ) → IsLegalUnder r limit c → place limit c ≡ nla_align (length c)
+  place_legal limit c h =
+      let near = place_near limit 0 c (omega arith) in
+      let start = place_start limit 0 0 c refl in
+      elim (stops limit 0 c) [
+        | inl w ↦ omega (arith, w.outside, near, start)
+        | inr w ↦ (let f = w.1.fault_is in cc)
+      ]
+
+  -- The place is where the first fault stands, or the next multiple of 4.
+  pub reach_place : (limit : ℕ) (c : List ℕ) → place limit c ≡ reach_under r limit c
+  reach_place limit c =
+      elim (stops limit 0 c) [
+        | inl w ↦ place_legal limit c w.fault_is ∙ ap (reach_by (length c)) (sym w.fault_is)
+        | inr w ↦ ap (reach_by (length c)) (sym w.1.fault_is)
+      ]
+
+  -- What follows a legal string of a multiple of 4 bytes is judged by itself.
+  pub joined_texts : (limit : ℕ) (a b : List ℕ) → IsLegalUnder r limit a → length a % 4 ≡ 0 → texts_under r limit (a ++ b) ≡ texts_under r limit a ++ texts_under r limit b
+  joined_texts limit a b h m =
+      let e : place limit a ≡ length a = place_legal limit a h ∙ omega arith in
+      texts-append limit 0 a b ∙ ap (λ n. texts_under r limit a ++ texts_under r limit (drop n (a ++ b))) e ∙ ap (λ c. texts_under r limit a ++ texts_under r limit c) (drop_at a b (length a) refl)
+
+  pub joined_fault : (limit : ℕ) (a b : List ℕ) → IsLegalUnder r limit a → length a % 4 ≡ 0 → first_fault_under r limit (a ++ b) ≡ raised (length a) (first_fault_under r limit b)
+  joined_fault limit a b h m =
+      let e : place limit a ≡ length a = place_legal limit a h ∙ omega arith in
+      fault-append limit 0 a b ∙ ap (λ n. raised n (first_fault_under r limit (drop n (a ++ b)))) e ∙ ap (λ c. raised (length a) (first_fault_under r limit c)) (drop_at a b (length a) refl)
+
+  -- one accepted frame with its padding, or as much of that as is there
+  pub one_fault : (limit : ℕ) (c : List ℕ) (frame : ℕ × List ℕ) → first_frame_under r limit c ≡ Ok frame → first_fault_under r limit (take (nla_align frame.0) c) ≡ None
+  one_fault limit c frame h =
+      let n : ℕ = nla_align frame.0 in
+      fault_step limit (take n c) frame (first_frame-take limit c n frame h (omega arith))
+      ∙ ap (λ x. raised n (first_fault_under r limit x)) (drop_all n (take n c) (omega (arith, length-take n c)))
+      ∙ ap (raised n) (fault_nil limit 0)
+
+  pub one_text : (limit : ℕ) (c : List ℕ) (frame : ℕ × List ℕ) → first_frame_under r limit c ≡ Ok frame → texts_under r limit (take (nla_align frame.0) c) ≡ frame.1
+  one_text limit c frame h =
+      let n : ℕ = nla_align frame.0 in
+      texts_step limit (take n c) frame (first_frame-take limit c n frame h (omega arith))
+      ∙ ap (λ x. frame.1 ++ texts_under r limit x) (drop_all n (take n c) (omega (arith, length-take n c)))
+      ∙ ap (λ t. frame.1 ++ t) (texts_nil limit 0)
+      ∙ append-nil frame.1
+
+  judgement_not_cut : (limit : ℕ) (c : List ℕ) → judgement limit c ≢ Err Cut
+  unfolding judgement
+  judgement_not_cut limit c h = judged_not_cut limit c (body_text_under r (frame_type c) (frame_body c)) h
+
+  -- What is cut is too short for its header, or for the length that this tells.
+  pub cut_cases : (limit : ℕ) (c : List ℕ) → first_frame_under r limit c ≡ Err Cut → (length c < 16) ⊎ CutInBody limit c
+  cut_cases limit c h =
+      let t : tested limit (length c) (frame_length c) (judgement limit c) ≡ Err Cut = sym (first_frame_is limit c) ∙ h in
+      elim (guard (ltb (length c) 16) _ _ _ t) [
+        | inl a ↦ inl (ltb-true _ _ a.0)
+        | inr a ↦
+            elim (guard (ltb (frame_length c) 16) _ _ _ a.1) [
+              | inl b ↦ (let e = b.1 in cc)
+              | inr b ↦
+                  elim (guard (ltb limit (frame_length c)) _ _ _ b.1) [
+                    | inl d ↦ (let e = d.1 in cc)
+                    | inr d ↦
+                        elim (guard (ltb (length c) (frame_length c)) _ _ _ d.1) [
+                          | inl e ↦ inr (record { header = ltb-false _ _ a.0; low = ltb-false _ _ b.0; high = ltb-false _ _ d.0; short = ltb-true _ _ e.0 })
+                          | inr e ↦ absurd (judgement_not_cut limit c e.1)
+                        ]
+                  ]
+            ]
+      ]
+
+  -- the first fault stands where the whole frames end
+  pub fault_place : (limit : ℕ) (c : List ℕ) (fault : CaptureFault) → first_fault_under r limit c ≡ Some fault → place limit c ≡ fault.offset
+  fault_place limit c fault h =
+      elim (stops limit 0 c) [
+        | inl w ↦ (let f = w.fault_is in cc)
+        | inr w ↦ (let f = w.1.fault_is in cc)
+      ]
+
+  pub fault_inside : (limit : ℕ) (c : List ℕ) (fault : CaptureFault) → first_fault_under r limit c ≡ Some fault → (fault.offset < length c) × (fault.offset % 4 ≡ 0)
+  fault_inside limit c fault h =
+      let at = fault_place limit c fault h in
+      let start = place_start limit 0 0 c refl in
+      elim (stops limit 0 c) [
+        | inl w ↦ (let f = w.fault_is in cc)
+        | inr w ↦ (omega (arith, w.1.inside, at), omega (arith, start, at))
+      ]
+
+  first_frame_kinds : (limit : ℕ) (c : List ℕ) (kind : FaultKind) → first_frame_under r limit c ≡ Err kind → IsOfFrames kind
+  unfolding judgement
+  first_frame_kinds limit c kind h =
+      let t : tested limit (length c) (frame_length c) (judgement limit c) ≡ Err kind = sym (first_frame_is limit c) ∙ h in
+      elim (guard (ltb (length c) 16) _ _ _ t) [
+        | inl a ↦ (let e : Cut ≡ kind = (let f = a.1 in cc) in subst IsOfFrames e tt)
+        | inr a ↦
+            elim (guard (ltb (frame_length c) 16) _ _ _ a.1) [
+              | inl b ↦ (let e : ShortLength ≡ kind = (let f = b.1 in cc) in subst IsOfFrames e tt)
+              | inr b ↦
+                  elim (guard (ltb limit (frame_length c)) _ _ _ b.1) [
+                    | inl d ↦ (let e : OverLimit ≡ kind = (let f = d.1 in cc) in subst IsOfFrames e tt)
+                    | inr d ↦
+                        elim (guard (ltb (length c) (frame_length c)) _ _ _ d.1) [
+                          | inl e ↦ (let g : Cut ≡ kind = (let f = e.1 in cc) in subst IsOfFrames g tt)
+                          | inr e ↦ judged_kinds limit c (body_text_under r (frame_type c) (frame_body c)) kind e.1
+                        ]
+                  ]
+            ]
+      ]
+
+  pub fault_kinds : (limit : ℕ) (c : List ℕ) (fault : CaptureFault) → first_fault_under r limit c ≡ Some fault → IsOfFrames fault.kind
+  fault_kinds limit c fault h =
+      elim (stops limit 0 c) [
+        | inl w ↦ (let f = w.fault_is in absurd (cc))
+        | inr w ↦ (let f = w.1.fault_is in let e : w.0 ≡ fault.kind = cc in subst IsOfFrames e (first_frame_kinds limit _ w.0 w.1.first_frame_is))
+      ]
+
+  -- a fault of a front, unless it is cut
+  pub fault_more : (limit : ℕ) (a b : List ℕ) (fault : CaptureFault) → first_fault_under r limit a ≡ Some fault → fault.kind ≢ Cut → first_fault_under r limit (a ++ b) ≡ Some fault
+  fault_more limit a b fault h n =
+      elim (stops limit 0 a) [
+        | inl w ↦ (let f = w.fault_is in absurd (cc))
+        | inr w ↦
+            let at : ℕ = place limit a in
+            let f = w.1.fault_is in
+            let k : w.0 ≡ fault.kind = cc in
+            let o : at ≡ fault.offset = cc in
+            let d = drop at a in
+            let kept : first_frame_under r limit (d ++ b) ≡ Err w.0 = first_frame-more limit d b (λ e. n (let g = w.1.first_frame_is in cc)) ∙ w.1.first_frame_is in
+            let z : at + 0 ≡ fault.offset = omega (arith, o) in
+            fault-append limit 0 a b
+            ∙ ap (λ x. raised at (first_fault_under r limit x)) (drop-append-le at a b (omega (arith, w.1.inside)))
+            ∙ ap (raised at) (fault_stop limit (d ++ b) w.0 (omega (arith, length-append d b, length-drop at a, w.1.inside)) kept)
+            ∙ ap (λ x. Some (record { kind = w.0; offset = x })) z
+            ∙ ap (λ x. Some (record { kind = x; offset = fault.offset })) k
+      ]

@@ -2,39 +2,41 @@
 use Rattle.std.proofs.Common.{◌≡◌, ℕ, ◌+◌, ◌<◌, ◌≤◌, List, length, Result, Ok, Err, cond, refl, ap, ◌∙◌}
 use Rattle.std.proofs.lemmas.Bool.{le-ltb, lt-ltb}
 use Rattle.netlink_packet_core_grammar.specs.Frames.{IsFrame, frame_length, frame_type, frame_body, frame_text}
+use Rattle.attribute_tables_grammar.specs.Rules.{Rule}
 use Rattle.link_capture_grammar.specs.declared.fault.FaultKind.{FaultKind}
 use Rattle.link_capture_grammar.specs.declared.fault.FaultKind.TheVariants.{TextOverLimit}
-use Rattle.link_capture_grammar.specs.Bodies.{Refusal, body_text}
-use Rattle.link_capture_grammar.specs.Captures.{Judged, faulty, judged_text, tested, first_frame}
+use Rattle.link_capture_grammar.specs.Bodies.{Refusal, body_text_under}
+use Rattle.link_capture_grammar.specs.Captures.{Judged, faulty, judged_text, tested, first_frame_under}
 use Rattle.link_capture_grammar.specs.Laws.{FramesAreJudged}
 use Rattle.link_capture_grammar.proofs.Normal.{frame_text_size}
-
--- a fault of the header
-header_fault : (limit : ℕ) (c : List ℕ) (kind : FaultKind) → ((j : Judged) → tested limit (length c) (frame_length c) j ≡ Err kind) → first_frame limit c ≡ Err kind
-unfolding first_frame
-header_fault limit c kind h = h (judged_text limit c (body_text (frame_type c) (frame_body c)))
-
-whole : (limit : ℕ) (c : List ℕ) → IsFrame c → frame_length c ≤ limit → first_frame limit c ≡ judged_text limit c (body_text (frame_type c) (frame_body c))
-unfolding first_frame
-whole limit c f l = rw (le-ltb (length c) 16 f.has_header, le-ltb (frame_length c) 16 f.covers_header, le-ltb limit (frame_length c) l, le-ltb (length c) (frame_length c) f.within) refl
 
 faulty_text : (limit : ℕ) (c : List ℕ) (r : Result (List ℕ) Refusal) (kind : FaultKind) → faulty r ≡ Err kind → judged_text limit c r ≡ Err kind
 faulty_text limit c (Ok text) kind h = absurd cc
 faulty_text limit c (Err why) kind h = cc
 
--- a fault of the body
-body_fault : (limit : ℕ) (c : List ℕ) (kind : FaultKind) → IsFrame c → frame_length c ≤ limit → faulty (body_text (frame_type c) (frame_body c)) ≡ Err kind → first_frame limit c ≡ Err kind
-body_fault limit c kind f l h = whole limit c f l ∙ faulty_text limit c (body_text (frame_type c) (frame_body c)) kind h
+module _ (r : Rule) where
+  -- a fault of the header
+  header_fault : (limit : ℕ) (c : List ℕ) (kind : FaultKind) → ((j : Judged) → tested limit (length c) (frame_length c) j ≡ Err kind) → first_frame_under r limit c ≡ Err kind
+  unfolding first_frame_under
+  header_fault limit c kind h = h (judged_text limit c (body_text_under r (frame_type c) (frame_body c)))
 
--- a text over the limit
-text_fault : (limit : ℕ) (c text : List ℕ) → IsFrame c → frame_length c ≤ limit → body_text (frame_type c) (frame_body c) ≡ Ok text → limit < 16 + length text → first_frame limit c ≡ Err TextOverLimit
-text_fault limit c text f l h o =
-    whole limit c f l ∙ ap (judged_text limit c) h ∙ ap (λ b. cond b (Err TextOverLimit) (Ok (frame_length c, frame_text c text))) (lt-ltb limit (16 + length text) o)
+  whole : (limit : ℕ) (c : List ℕ) → IsFrame c → frame_length c ≤ limit → first_frame_under r limit c ≡ judged_text limit c (body_text_under r (frame_type c) (frame_body c))
+  unfolding first_frame_under
+  whole limit c f l = rw (le-ltb (length c) 16 f.has_header, le-ltb (frame_length c) 16 f.covers_header, le-ltb limit (frame_length c) l, le-ltb (length c) (frame_length c) f.within) refl
 
--- no fault
-judged_ok : (limit : ℕ) (c text : List ℕ) → IsFrame c → frame_length c ≤ limit → body_text (frame_type c) (frame_body c) ≡ Ok text → 16 + length text ≤ limit → first_frame limit c ≡ Ok (frame_length c, frame_text c text)
-judged_ok limit c text f l h o =
-    whole limit c f l ∙ ap (judged_text limit c) h ∙ ap (λ b. cond b (Err TextOverLimit) (Ok (frame_length c, frame_text c text))) (le-ltb limit (16 + length text) o)
+  -- a fault of the body
+  body_fault : (limit : ℕ) (c : List ℕ) (kind : FaultKind) → IsFrame c → frame_length c ≤ limit → faulty (body_text_under r (frame_type c) (frame_body c)) ≡ Err kind → first_frame_under r limit c ≡ Err kind
+  body_fault limit c kind f l h = whole limit c f l ∙ faulty_text limit c (body_text_under r (frame_type c) (frame_body c)) kind h
 
-pub frames_are_judged : FramesAreJudged
-frames_are_judged = record { header = header_fault; body = body_fault; over = text_fault; ok = judged_ok; size = frame_text_size }
+  -- a text over the limit
+  text_fault : (limit : ℕ) (c text : List ℕ) → IsFrame c → frame_length c ≤ limit → body_text_under r (frame_type c) (frame_body c) ≡ Ok text → limit < 16 + length text → first_frame_under r limit c ≡ Err TextOverLimit
+  text_fault limit c text f l h o =
+      whole limit c f l ∙ ap (judged_text limit c) h ∙ ap (λ b. cond b (Err TextOverLimit) (Ok (frame_length c, frame_text c text))) (lt-ltb limit (16 + length text) o)
+
+  -- no fault
+  judged_ok : (limit : ℕ) (c text : List ℕ) → IsFrame c → frame_length c ≤ limit → body_text_under r (frame_type c) (frame_body c) ≡ Ok text → 16 + length text ≤ limit → first_frame_under r limit c ≡ Ok (frame_length c, frame_text c text)
+  judged_ok limit c text f l h o =
+      whole limit c f l ∙ ap (judged_text limit c) h ∙ ap (λ b. cond b (Err TextOverLimit) (Ok (frame_length c, frame_text c text))) (le-ltb limit (16 + length text) o)
+
+  pub frames_are_judged : FramesAreJudged r
+  frames_are_judged = record { header = header_fault; body = body_fault; over = text_fault; ok = judged_ok; size = frame_text_size }

@@ -9,3 +9,4 @@ pub mod Judging
 pub mod SameFrames
 pub mod Keeping
 pub mod Unlisted
+pub mod EveryRule

@@ -8,13 +8,13 @@ use Rattle.netlink_packet_core_grammar.specs.Attributes.{nla_align, zeros}
 use Rattle.netlink_packet_core_grammar.specs.Numbers.{u16_at, le4}
 use Rattle.netlink_packet_core_grammar.specs.Frames.{frame_type, frame_body, frame_text}
 use Rattle.netlink_packet_core_grammar.proofs.Numbers.{u16_at-append, u16_at-drop_4}
-use Rattle.link_message_grammar.specs.Body.{link_body}
-use Rattle.link_capture_grammar.specs.Bodies.{done_text, ruled_text, is_link_type, body_text}
-use Rattle.link_capture_grammar.specs.Captures.{first_frame, texts, IsLegal}
+use Rattle.attribute_tables_grammar.specs.Rules.{Rule, Lawful}
+use Rattle.link_capture_grammar.specs.Bodies.{done_text, ruled_text, is_link_type, body_text_under}
+use Rattle.link_capture_grammar.specs.Captures.{first_frame_under, texts_under, IsLegalUnder}
 use Rattle.link_capture_grammar.specs.Laws.{BodiesTellMeanings, TextsTellMeanings}
-use Rattle.link_capture_grammar.specs.Same.{done_body, same_body, SameFrame, SameFrames, SameCapture}
+use Rattle.link_capture_grammar.specs.Same.{done_body, same_body_under, SameFrameUnder, SameFramesUnder, SameCaptureUnder}
 use Rattle.link_capture_grammar.proofs.Frames.{accepted, guard, texts_step}
-use Rattle.link_capture_grammar.proofs.Normal.{header_size, link_body_lawful, ruled, texted}
+use Rattle.link_capture_grammar.proofs.Normal.{header_size, ruled, texted}
 use Rattle.link_capture_grammar.proofs.Same.{equal_bytes, error_is, error_type, texts_mean_the_same}
 
 -- a test that was decided
@@ -24,7 +24,7 @@ yes b x y z k h = subst (λ c. cond c x y ≡ z) k h
 pub no : {A : Type 0} (b : Bool) (x y z : A) → b ≡ false → cond b x y ≡ z → y ≡ z
 no b x y z k h = subst (λ c. cond c x y ≡ z) k h
 
--- ---- the texts of two bodies tell whether they mean the same
+-- ---- bodies and frames in front
 
 bytes_from : (a b : List ℕ) → bytes_eq a b ≡ true → a ≡ b
 bytes_from a b h = (bytes_eq-Decides a b).0 h
@@ -36,90 +36,6 @@ done_text_is b text h =
       | inr k ↦ rw k.0 (error_is b text k.1)
     ]
 
-ruled_told : (a b x y : List ℕ) → ruled_text link_body a ≡ Ok x → ruled_text link_body b ≡ Ok y → link_body.same a b ≡ true → x ≡ y
-ruled_told a b x y h g s =
-    let k = ruled link_body a x h in
-    let m = ruled link_body b y g in
-    sym k.is ∙ link_body_lawful.one_text a b k.accepted m.accepted s ∙ m.is
-
-ruled_tells : (a b x y : List ℕ) → ruled_text link_body a ≡ Ok x → ruled_text link_body b ≡ Ok y → x ≡ y → link_body.same a b ≡ true
-ruled_tells a b x y h g e =
-    let k = ruled link_body a x h in
-    let m = ruled link_body b y g in
-    link_body_lawful.one_meaning a b k.accepted m.accepted (k.is ∙ e ∙ sym m.is)
-
--- the tests that lead to a link or another body
-last_told : (t : ℕ) (a b x y : List ℕ) → cond (is_link_type t) (ruled_text link_body a) (Ok a) ≡ Ok x → cond (is_link_type t) (ruled_text link_body b) (Ok b) ≡ Ok y → cond (is_link_type t) (link_body.same a b) (bytes_eq a b) ≡ true → x ≡ y
-last_told t a b x y h g s =
-    elim (cases_Bool (is_link_type t)) [
-      | inl k ↦ ruled_told a b x y (yes (is_link_type t) _ _ _ k h) (yes (is_link_type t) _ _ _ k g) (yes (is_link_type t) _ _ _ k s)
-      | inr k ↦
-          let p : a ≡ x = (let f = no (is_link_type t) _ _ _ k h in cc) in
-          let q : b ≡ y = (let f = no (is_link_type t) _ _ _ k g in cc) in
-          sym p ∙ bytes_from a b (no (is_link_type t) _ _ _ k s) ∙ q
-    ]
-
-last_tells : (t : ℕ) (a b x y : List ℕ) → cond (is_link_type t) (ruled_text link_body a) (Ok a) ≡ Ok x → cond (is_link_type t) (ruled_text link_body b) (Ok b) ≡ Ok y → x ≡ y → cond (is_link_type t) (link_body.same a b) (bytes_eq a b) ≡ true
-last_tells t a b x y h g e =
-    elim (cases_Bool (is_link_type t)) [
-      | inl k ↦ rw k (ruled_tells a b x y (yes (is_link_type t) _ _ _ k h) (yes (is_link_type t) _ _ _ k g) e)
-      | inr k ↦
-          let p : a ≡ x = (let f = no (is_link_type t) _ _ _ k h in cc) in
-          let q : b ≡ y = (let f = no (is_link_type t) _ _ _ k g in cc) in
-          rw k (equal_bytes a b (p ∙ e ∙ sym q))
-    ]
-
-body_told : (t : ℕ) (a b x y : List ℕ) → body_text t a ≡ Ok x → body_text t b ≡ Ok y → same_body t a b ≡ true → x ≡ y
-unfolding body_text same_body
-body_told t a b x y h g s =
-    elim (cases_Bool (eqb t 1)) [
-      | inl k ↦
-          let p : [] ≡ x = (let f = yes (eqb t 1) _ _ _ k h in cc) in
-          let q : [] ≡ y = (let f = yes (eqb t 1) _ _ _ k g in cc) in
-          sym p ∙ q
-      | inr k ↦
-          let h1 = no (eqb t 1) _ _ _ k h in
-          let g1 = no (eqb t 1) _ _ _ k g in
-          let s1 = no (eqb t 1) _ _ _ k s in
-          elim (cases_Bool (eqb t 2)) [
-            | inl m ↦
-                let e = error_type t m in
-                let s3 = no (is_link_type t) _ _ _ e.1 (no (eqb t 3) _ _ _ e.0 s1) in
-                sym (error_is a x (yes (eqb t 2) _ _ _ m h1)) ∙ bytes_from a b s3 ∙ error_is b y (yes (eqb t 2) _ _ _ m g1)
-            | inr m ↦
-                let h2 = no (eqb t 2) _ _ _ m h1 in
-                let g2 = no (eqb t 2) _ _ _ m g1 in
-                elim (cases_Bool (eqb t 3)) [
-                  | inl n ↦ sym (done_text_is a x (yes (eqb t 3) _ _ _ n h2)) ∙ bytes_from (done_body a) (done_body b) (yes (eqb t 3) _ _ _ n s1) ∙ done_text_is b y (yes (eqb t 3) _ _ _ n g2)
-                  | inr n ↦ last_told t a b x y (no (eqb t 3) _ _ _ n h2) (no (eqb t 3) _ _ _ n g2) (no (eqb t 3) _ _ _ n s1)
-                ]
-          ]
-    ]
-
-pub body_tells : (t : ℕ) (a b x y : List ℕ) → body_text t a ≡ Ok x → body_text t b ≡ Ok y → x ≡ y → same_body t a b ≡ true
-unfolding body_text same_body
-body_tells t a b x y h g z =
-    elim (cases_Bool (eqb t 1)) [
-      | inl k ↦ rw k refl
-      | inr k ↦
-          let h1 = no (eqb t 1) _ _ _ k h in
-          let g1 = no (eqb t 1) _ _ _ k g in
-          rw k (elim (cases_Bool (eqb t 2)) [
-            | inl m ↦
-                let e = error_type t m in
-                rw (e.0, e.1) (equal_bytes a b (error_is a x (yes (eqb t 2) _ _ _ m h1) ∙ z ∙ sym (error_is b y (yes (eqb t 2) _ _ _ m g1))))
-            | inr m ↦
-                let h2 = no (eqb t 2) _ _ _ m h1 in
-                let g2 = no (eqb t 2) _ _ _ m g1 in
-                elim (cases_Bool (eqb t 3)) [
-                  | inl n ↦ rw n (equal_bytes (done_body a) (done_body b) (done_text_is a x (yes (eqb t 3) _ _ _ n h2) ∙ z ∙ sym (done_text_is b y (yes (eqb t 3) _ _ _ n g2))))
-                  | inr n ↦ rw n (last_tells t a b x y (no (eqb t 3) _ _ _ n h2) (no (eqb t 3) _ _ _ n g2) z)
-                ]
-          ])
-    ]
-
--- ---- frames in front
-
 pub type_at : (c : List ℕ) → 16 ≤ length c → frame_type c ≡ u16_at 0 (take 12 (drop 4 c))
 type_at c h =
     u16_at-drop_4 c ∙ ap (u16_at 0) (sym (take-append-drop 12 (drop 4 c)))
@@ -129,100 +45,188 @@ one_header : (a b body : List ℕ) → take 12 (drop 4 a) ≡ take 12 (drop 4 b)
 unfolding frame_text
 one_header a b body h = ap (λ z. le4 (16 + length body) ++ (z ++ (body ++ zeros (nla_align (16 + length body) - (16 + length body))))) h
 
--- an accepted frame: its type, and the text of its body
-record Front (limit : ℕ) (c : List ℕ) (frame : ℕ × List ℕ) : Type 0 where
-  pub type : frame_type c ≡ u16_at 0 (take 12 (drop 4 c))
-  pub body : List ℕ
-  pub body_is : body_text (u16_at 0 (take 12 (drop 4 c))) (frame_body c) ≡ Ok body
-  pub text_is : frame.1 ≡ frame_text c body
+module _ (r : Rule) where
+  -- an accepted frame: its type, and the text of its body
+  record Front (limit : ℕ) (c : List ℕ) (frame : ℕ × List ℕ) : Type 0 where
+    pub type : frame_type c ≡ u16_at 0 (take 12 (drop 4 c))
+    pub body : List ℕ
+    pub body_is : body_text_under r (u16_at 0 (take 12 (drop 4 c))) (frame_body c) ≡ Ok body
+    pub text_is : frame.1 ≡ frame_text c body
 
-front : (limit : ℕ) (c : List ℕ) (frame : ℕ × List ℕ) → first_frame limit c ≡ Ok frame → Front limit c frame
-front limit c frame h =
-    let t = texted limit c frame h in
-    let k = type_at c (accepted limit c frame h).header in
-    record { type = k; body = t.body; body_is = sym (ap (λ n. body_text n (frame_body c)) k) ∙ t.body_is; text_is = t.text_is }
+  front : (limit : ℕ) (c : List ℕ) (frame : ℕ × List ℕ) → first_frame_under r limit c ≡ Ok frame → Front limit c frame
+  front limit c frame h =
+      let t = texted r limit c frame h in
+      let k = type_at c (accepted r limit c frame h).header in
+      record { type = k; body = t.body; body_is = sym (ap (λ n. body_text_under r n (frame_body c)) k) ∙ t.body_is; text_is = t.text_is }
 
--- two frames that mean the same have bodies with one text
-one_body : (limit : ℕ) (a b : List ℕ) (x y : ℕ × List ℕ) (p : Front limit a x) (q : Front limit b y) → SameFrame a b → p.body ≡ q.body
-one_body limit a b x y p q s =
-    body_told (frame_type a) (frame_body a) (frame_body b) p.body q.body (ap (λ n. body_text n (frame_body a)) p.type ∙ p.body_is)
-    (ap (λ n. body_text n (frame_body b)) (p.type ∙ ap (u16_at 0) s.header) ∙ q.body_is) s.body
+  not_nil : (limit : ℕ) (c : List ℕ) (frame : ℕ × List ℕ) → c ≡ [] → first_frame_under r limit c ≡ Ok frame → ⊥
+  not_nil limit c frame e h = let a = accepted r limit c frame h in let l = ap length e in omega (arith, a.header, l)
 
-same_from : (limit : ℕ) (a b : List ℕ) (x y : ℕ × List ℕ) (p : Front limit a x) (q : Front limit b y) → take 12 (drop 4 a) ≡ take 12 (drop 4 b) → p.body ≡ q.body → SameFrame a b
-same_from limit a b x y p q h e = record {
-  header = h;
-  body = body_tells (frame_type a) (frame_body a) (frame_body b) p.body q.body (ap (λ n. body_text n (frame_body a)) p.type ∙ p.body_is)
-      (ap (λ n. body_text n (frame_body b)) (p.type ∙ ap (u16_at 0) h) ∙ q.body_is) e;
-}
+module _ (r : Rule) (lawful : Lawful r) where
+  -- ---- the texts of two bodies tell whether they mean the same
 
-frame_told : (limit : ℕ) (a b : List ℕ) (x y : ℕ × List ℕ) → first_frame limit a ≡ Ok x → first_frame limit b ≡ Ok y → SameFrame a b → x.1 ≡ y.1
-frame_told limit a b x y h g s =
-    let p = front limit a x h in
-    let q = front limit b y g in
-    p.text_is ∙ ap (frame_text a) (one_body limit a b x y p q s) ∙ one_header a b q.body s.header ∙ sym q.text_is
+  ruled_told : (a b x y : List ℕ) → ruled_text r a ≡ Ok x → ruled_text r b ≡ Ok y → r.same a b ≡ true → x ≡ y
+  ruled_told a b x y h g s =
+      let k = ruled r a x h in
+      let m = ruled r b y g in
+      sym k.is ∙ lawful.one_text a b k.accepted m.accepted s ∙ m.is
 
-frame_turned : (limit : ℕ) (a b : List ℕ) (x y : ℕ × List ℕ) → first_frame limit a ≡ Ok x → first_frame limit b ≡ Ok y → SameFrame a b → SameFrame b a
-frame_turned limit a b x y h g s =
-    let p = front limit a x h in
-    let q = front limit b y g in
-    same_from limit b a y x q p (sym s.header) (sym (one_body limit a b x y p q s))
+  ruled_tells : (a b x y : List ℕ) → ruled_text r a ≡ Ok x → ruled_text r b ≡ Ok y → x ≡ y → r.same a b ≡ true
+  ruled_tells a b x y h g e =
+      let k = ruled r a x h in
+      let m = ruled r b y g in
+      lawful.one_meaning a b k.accepted m.accepted (k.is ∙ e ∙ sym m.is)
 
-frame_followed : (limit : ℕ) (a b c : List ℕ) (x y z : ℕ × List ℕ) → first_frame limit a ≡ Ok x → first_frame limit b ≡ Ok y → first_frame limit c ≡ Ok z → SameFrame a b → SameFrame b c → SameFrame a c
-frame_followed limit a b c x y z h g k s r =
-    let p = front limit a x h in
-    let q = front limit b y g in
-    let u = front limit c z k in
-    same_from limit a c x z p u (s.header ∙ r.header) (one_body limit a b x y p q s ∙ one_body limit b c y z q u r)
+  -- the tests that lead to a link or another body
+  last_told : (t : ℕ) (a b x y : List ℕ) → cond (is_link_type t) (ruled_text r a) (Ok a) ≡ Ok x → cond (is_link_type t) (ruled_text r b) (Ok b) ≡ Ok y → cond (is_link_type t) (r.same a b) (bytes_eq a b) ≡ true → x ≡ y
+  last_told t a b x y h g s =
+      elim (cases_Bool (is_link_type t)) [
+        | inl k ↦ ruled_told a b x y (yes (is_link_type t) _ _ _ k h) (yes (is_link_type t) _ _ _ k g) (yes (is_link_type t) _ _ _ k s)
+        | inr k ↦
+            let p : a ≡ x = (let f = no (is_link_type t) _ _ _ k h in cc) in
+            let q : b ≡ y = (let f = no (is_link_type t) _ _ _ k g in cc) in
+            sym p ∙ bytes_from a b (no (is_link_type t) _ _ _ k s) ∙ q
+      ]
 
--- ---- captures
+  last_tells : (t : ℕ) (a b x y : List ℕ) → cond (is_link_type t) (ruled_text r a) (Ok a) ≡ Ok x → cond (is_link_type t) (ruled_text r b) (Ok b) ≡ Ok y → x ≡ y → cond (is_link_type t) (r.same a b) (bytes_eq a b) ≡ true
+  last_tells t a b x y h g e =
+      elim (cases_Bool (is_link_type t)) [
+        | inl k ↦ rw k (ruled_tells a b x y (yes (is_link_type t) _ _ _ k h) (yes (is_link_type t) _ _ _ k g) e)
+        | inr k ↦
+            let p : a ≡ x = (let f = no (is_link_type t) _ _ _ k h in cc) in
+            let q : b ≡ y = (let f = no (is_link_type t) _ _ _ k g in cc) in
+            rw k (equal_bytes a b (p ∙ e ∙ sym q))
+      ]
 
-told : (limit n : ℕ) (a b : List ℕ) → SameFrames limit n a b → texts limit a ≡ texts limit b
-told limit zero a b s = ap (texts limit) (s.0 ∙ sym s.1)
-told limit (suc n) a b s =
-    let x = s.0 in
-    let y = s.1 in
-    texts_step limit a x s.2
-    ∙ ap (λ t. t ++ texts limit (drop (nla_align x.0) a)) (frame_told limit a b x y s.2 s.3 s.4)
-    ∙ ap (λ t. y.1 ++ t) (told limit n (drop (nla_align x.0) a) (drop (nla_align y.0) b) s.5)
-    ∙ sym (texts_step limit b y s.3)
+  body_told : (t : ℕ) (a b x y : List ℕ) → body_text_under r t a ≡ Ok x → body_text_under r t b ≡ Ok y → same_body_under r t a b ≡ true → x ≡ y
+  unfolding body_text_under same_body_under
+  body_told t a b x y h g s =
+      elim (cases_Bool (eqb t 1)) [
+        | inl k ↦
+            let p : [] ≡ x = (let f = yes (eqb t 1) _ _ _ k h in cc) in
+            let q : [] ≡ y = (let f = yes (eqb t 1) _ _ _ k g in cc) in
+            sym p ∙ q
+        | inr k ↦
+            let h1 = no (eqb t 1) _ _ _ k h in
+            let g1 = no (eqb t 1) _ _ _ k g in
+            let s1 = no (eqb t 1) _ _ _ k s in
+            elim (cases_Bool (eqb t 2)) [
+              | inl m ↦
+                  let e = error_type t m in
+                  let s3 = no (is_link_type t) _ _ _ e.1 (no (eqb t 3) _ _ _ e.0 s1) in
+                  sym (error_is a x (yes (eqb t 2) _ _ _ m h1)) ∙ bytes_from a b s3 ∙ error_is b y (yes (eqb t 2) _ _ _ m g1)
+              | inr m ↦
+                  let h2 = no (eqb t 2) _ _ _ m h1 in
+                  let g2 = no (eqb t 2) _ _ _ m g1 in
+                  elim (cases_Bool (eqb t 3)) [
+                    | inl n ↦ sym (done_text_is a x (yes (eqb t 3) _ _ _ n h2)) ∙ bytes_from (done_body a) (done_body b) (yes (eqb t 3) _ _ _ n s1) ∙ done_text_is b y (yes (eqb t 3) _ _ _ n g2)
+                    | inr n ↦ last_told t a b x y (no (eqb t 3) _ _ _ n h2) (no (eqb t 3) _ _ _ n g2) (no (eqb t 3) _ _ _ n s1)
+                  ]
+            ]
+      ]
 
-turned : (limit n : ℕ) (a b : List ℕ) → SameFrames limit n a b → SameFrames limit n b a
-turned limit zero a b s = (s.1, s.0)
-turned limit (suc n) a b s =
-    let x = s.0 in
-    let y = s.1 in
-    (y, x, s.3, s.2, frame_turned limit a b x y s.2 s.3 s.4, turned limit n (drop (nla_align x.0) a) (drop (nla_align y.0) b) s.5)
+  pub body_tells : (t : ℕ) (a b x y : List ℕ) → body_text_under r t a ≡ Ok x → body_text_under r t b ≡ Ok y → x ≡ y → same_body_under r t a b ≡ true
+  unfolding body_text_under same_body_under
+  body_tells t a b x y h g z =
+      elim (cases_Bool (eqb t 1)) [
+        | inl k ↦ rw k refl
+        | inr k ↦
+            let h1 = no (eqb t 1) _ _ _ k h in
+            let g1 = no (eqb t 1) _ _ _ k g in
+            rw k (elim (cases_Bool (eqb t 2)) [
+              | inl m ↦
+                  let e = error_type t m in
+                  rw (e.0, e.1) (equal_bytes a b (error_is a x (yes (eqb t 2) _ _ _ m h1) ∙ z ∙ sym (error_is b y (yes (eqb t 2) _ _ _ m g1))))
+              | inr m ↦
+                  let h2 = no (eqb t 2) _ _ _ m h1 in
+                  let g2 = no (eqb t 2) _ _ _ m g1 in
+                  elim (cases_Bool (eqb t 3)) [
+                    | inl n ↦ rw n (equal_bytes (done_body a) (done_body b) (done_text_is a x (yes (eqb t 3) _ _ _ n h2) ∙ z ∙ sym (done_text_is b y (yes (eqb t 3) _ _ _ n g2))))
+                    | inr n ↦ rw n (last_tells t a b x y (no (eqb t 3) _ _ _ n h2) (no (eqb t 3) _ _ _ n g2) z)
+                  ]
+            ])
+      ]
 
-not_nil : (limit : ℕ) (c : List ℕ) (frame : ℕ × List ℕ) → c ≡ [] → first_frame limit c ≡ Ok frame → ⊥
-not_nil limit c frame e h = let a = accepted limit c frame h in let l = ap length e in omega (arith, a.header, l)
+  -- ---- frames in front
 
-followed : (limit n m : ℕ) (a b c : List ℕ) → SameFrames limit n a b → SameFrames limit m b c → SameFrames limit n a c
-followed limit zero zero a b c s r = (s.0, r.1)
-followed limit zero (suc m) a b c s r = absurd (not_nil limit b r.0 s.1 r.2)
-followed limit (suc n) zero a b c s r = absurd (not_nil limit b s.1 r.0 s.3)
-followed limit (suc n) (suc m) a b c s r =
-    let x = s.0 in
-    let y = s.1 in
-    let z = r.1 in
-    let e : r.0 ≡ y = (let f = sym r.2 ∙ s.3 in cc) in
-    let rest : SameFrames limit m (drop (nla_align y.0) b) (drop (nla_align z.0) c) = subst (λ (w : ℕ × List ℕ). SameFrames limit m (drop (nla_align w.0) b) (drop (nla_align z.0) c)) e r.5 in
-    (x, z, s.2, r.3, frame_followed limit a b c x y z s.2 s.3 r.3 s.4 r.4, followed limit n m (drop (nla_align x.0) a) (drop (nla_align y.0) b) (drop (nla_align z.0) c) s.5 rest)
+  -- two frames that mean the same have bodies with one text
+  one_body : (limit : ℕ) (a b : List ℕ) (x y : ℕ × List ℕ) (p : Front r limit a x) (q : Front r limit b y) → SameFrameUnder r a b → p.body ≡ q.body
+  one_body limit a b x y p q s =
+      body_told (frame_type a) (frame_body a) (frame_body b) p.body q.body (ap (λ n. body_text_under r n (frame_body a)) p.type ∙ p.body_is)
+      (ap (λ n. body_text_under r n (frame_body b)) (p.type ∙ ap (u16_at 0) s.header) ∙ q.body_is) s.body
 
-tells : (limit : ℕ) (a b : List ℕ) → limit < 2 ^ 32 → IsLegal limit a → IsLegal limit b → texts limit a ≡ texts limit b → SameCapture limit a b
-tells limit a b l p q e =
-    let i = texts_mean_the_same limit a l p in
-    let j = texts_mean_the_same limit b l q in
-    let there : SameFrames limit i.0 a (texts limit b) = subst (λ t. SameFrames limit i.0 a t) e i.1 in
-    (i.0, followed limit i.0 j.0 a (texts limit b) b there (turned limit j.0 b (texts limit b) j.1))
+  same_from : (limit : ℕ) (a b : List ℕ) (x y : ℕ × List ℕ) (p : Front r limit a x) (q : Front r limit b y) → take 12 (drop 4 a) ≡ take 12 (drop 4 b) → p.body ≡ q.body → SameFrameUnder r a b
+  same_from limit a b x y p q h e = record {
+    header = h;
+    body = body_tells (frame_type a) (frame_body a) (frame_body b) p.body q.body (ap (λ n. body_text_under r n (frame_body a)) p.type ∙ p.body_is)
+        (ap (λ n. body_text_under r n (frame_body b)) (p.type ∙ ap (u16_at 0) h) ∙ q.body_is) e;
+  }
 
-pub texts_tell_meanings : TextsTellMeanings
-texts_tell_meanings = record {
-  one_text = λ limit a b s. told limit s.0 a b s.1;
-  one_meaning = tells;
-  itself = λ limit a l h. tells limit a a l h h refl;
-  turned = λ limit a b s. (s.0, turned limit s.0 a b s.1);
-  followed = λ limit a b c s r. (s.0, followed limit s.0 r.0 a b c s.1 r.1);
-}
+  frame_told : (limit : ℕ) (a b : List ℕ) (x y : ℕ × List ℕ) → first_frame_under r limit a ≡ Ok x → first_frame_under r limit b ≡ Ok y → SameFrameUnder r a b → x.1 ≡ y.1
+  frame_told limit a b x y h g s =
+      let p = front r limit a x h in
+      let q = front r limit b y g in
+      p.text_is ∙ ap (frame_text a) (one_body limit a b x y p q s) ∙ one_header a b q.body s.header ∙ sym q.text_is
 
-pub bodies_tell_meanings : BodiesTellMeanings
-bodies_tell_meanings t a b x y p q = (body_told t a b x y p q, body_tells t a b x y p q)
+  frame_turned : (limit : ℕ) (a b : List ℕ) (x y : ℕ × List ℕ) → first_frame_under r limit a ≡ Ok x → first_frame_under r limit b ≡ Ok y → SameFrameUnder r a b → SameFrameUnder r b a
+  frame_turned limit a b x y h g s =
+      let p = front r limit a x h in
+      let q = front r limit b y g in
+      same_from limit b a y x q p (sym s.header) (sym (one_body limit a b x y p q s))
+
+  frame_followed : (limit : ℕ) (a b c : List ℕ) (x y z : ℕ × List ℕ) → first_frame_under r limit a ≡ Ok x → first_frame_under r limit b ≡ Ok y → first_frame_under r limit c ≡ Ok z → SameFrameUnder r a b → SameFrameUnder r b c → SameFrameUnder r a c
+  frame_followed limit a b c x y z h g k s on =
+      let p = front r limit a x h in
+      let q = front r limit b y g in
+      let u = front r limit c z k in
+      same_from limit a c x z p u (s.header ∙ on.header) (one_body limit a b x y p q s ∙ one_body limit b c y z q u on)
+
+  -- ---- captures
+
+  told : (limit n : ℕ) (a b : List ℕ) → SameFramesUnder r limit n a b → texts_under r limit a ≡ texts_under r limit b
+  told limit zero a b s = ap (texts_under r limit) (s.0 ∙ sym s.1)
+  told limit (suc n) a b s =
+      let x = s.0 in
+      let y = s.1 in
+      texts_step r limit a x s.2
+      ∙ ap (λ t. t ++ texts_under r limit (drop (nla_align x.0) a)) (frame_told limit a b x y s.2 s.3 s.4)
+      ∙ ap (λ t. y.1 ++ t) (told limit n (drop (nla_align x.0) a) (drop (nla_align y.0) b) s.5)
+      ∙ sym (texts_step r limit b y s.3)
+
+  turned : (limit n : ℕ) (a b : List ℕ) → SameFramesUnder r limit n a b → SameFramesUnder r limit n b a
+  turned limit zero a b s = (s.1, s.0)
+  turned limit (suc n) a b s =
+      let x = s.0 in
+      let y = s.1 in
+      (y, x, s.3, s.2, frame_turned limit a b x y s.2 s.3 s.4, turned limit n (drop (nla_align x.0) a) (drop (nla_align y.0) b) s.5)
+
+  followed : (limit n m : ℕ) (a b c : List ℕ) → SameFramesUnder r limit n a b → SameFramesUnder r limit m b c → SameFramesUnder r limit n a c
+  followed limit zero zero a b c s on = (s.0, on.1)
+  followed limit zero (suc m) a b c s on = absurd (not_nil r limit b on.0 s.1 on.2)
+  followed limit (suc n) zero a b c s on = absurd (not_nil r limit b s.1 on.0 s.3)
+  followed limit (suc n) (suc m) a b c s on =
+      let x = s.0 in
+      let y = s.1 in
+      let z = on.1 in
+      let e : on.0 ≡ y = (let f = sym on.2 ∙ s.3 in cc) in
+      let rest : SameFramesUnder r limit m (drop (nla_align y.0) b) (drop (nla_align z.0) c) = subst (λ (w : ℕ × List ℕ). SameFramesUnder r limit m (drop (nla_align w.0) b) (drop (nla_align z.0) c)) e on.5 in
+      (x, z, s.2, on.3, frame_followed limit a b c x y z s.2 s.3 on.3 s.4 on.4, followed limit n m (drop (nla_align x.0) a) (drop (nla_align y.0) b) (drop (nla_align z.0) c) s.5 rest)
+
+  tells : (limit : ℕ) (a b : List ℕ) → limit < 2 ^ 32 → IsLegalUnder r limit a → IsLegalUnder r limit b → texts_under r limit a ≡ texts_under r limit b → SameCaptureUnder r limit a b
+  tells limit a b l p q e =
+      let i = texts_mean_the_same r lawful limit a l p in
+      let j = texts_mean_the_same r lawful limit b l q in
+      let there : SameFramesUnder r limit i.0 a (texts_under r limit b) = subst (λ t. SameFramesUnder r limit i.0 a t) e i.1 in
+      (i.0, followed limit i.0 j.0 a (texts_under r limit b) b there (turned limit j.0 b (texts_under r limit b) j.1))
+
+  pub texts_tell_meanings : TextsTellMeanings r
+  texts_tell_meanings = record {
+    one_text = λ limit a b s. told limit s.0 a b s.1;
+    one_meaning = tells;
+    itself = λ limit a l h. tells limit a a l h h refl;
+    turned = λ limit a b s. (s.0, turned limit s.0 a b s.1);
+    followed = λ limit a b c s on. (s.0, followed limit s.0 on.0 a b c s.1 on.1);
+  }
+
+  pub bodies_tell_meanings : BodiesTellMeanings r
+  bodies_tell_meanings t a b x y p q = (body_told t a b x y p q, body_tells t a b x y p q)

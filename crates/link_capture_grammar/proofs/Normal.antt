@@ -1,5 +1,5 @@
 -- The normal text is legal, and its own normal text.
-use Rattle.std.proofs.Common.{◌≡◌, ℕ, zero, suc, ◌+◌, ◌-◌, ◌*◌, ◌^◌, ◌<◌, ◌≤◌, ltb, eqb, true, false, cond, Result, List, [], ◌∷◌, ◌++◌, length, take, drop, Ok, Err, refl, sym, ap, subst, ◌∙◌, inl, inr, arith, length-append, length-drop, append_assoc}
+use Rattle.std.proofs.Common.{◌≡◌, ℕ, zero, suc, ◌+◌, ◌-◌, ◌^◌, ◌<◌, ◌≤◌, ltb, eqb, true, false, cond, Result, List, [], ◌∷◌, ◌++◌, length, take, drop, Ok, Err, refl, sym, ap, subst, ◌∙◌, inl, inr, arith, length-append, length-drop, append_assoc}
 use Rattle.std.proofs.lemmas.List.{take_at, drop_at, length-take, length-replicate, drop-drop, take-append-drop}
 use Rattle.std.proofs.lemmas.Bool.{le-ltb, ltb-false}
 use Rattle.netlink_packet_core_grammar.specs.Attributes.{nla_align, zeros}
@@ -8,13 +8,9 @@ use Rattle.netlink_packet_core_grammar.specs.Frames.{frame_length, frame_type, f
 use Rattle.netlink_packet_core_grammar.proofs.Numbers.{u16_at-append, u16_at-drop_4, u32_at-le4}
 use Rattle.netlink_packet_core_grammar.proofs.Sizes.{length-le4}
 use Rattle.attribute_tables_grammar.specs.Rules.{Rule, Lawful}
-use Rattle.attribute_tables_grammar.proofs.Tables.{bytes_peer_lawful}
-use Rattle.attribute_tables_grammar.specs.Peers.{bytes_peer}
-use Rattle.link_message_grammar.specs.Body.{link_body}
-use Rattle.link_message_grammar.proofs.Body.{body_lawful, body_size}
 use Rattle.link_capture_grammar.specs.declared.fault.FaultKind.TheVariants.{TextOverLimit}
-use Rattle.link_capture_grammar.specs.Bodies.{Refusal, error_text, done_text, ruled_text, is_link_type, body_text}
-use Rattle.link_capture_grammar.specs.Captures.{Judged, first_frame, judged_text, tested, raised, texts_after, first_fault, texts, IsLegal}
+use Rattle.link_capture_grammar.specs.Bodies.{Refusal, error_text, done_text, ruled_text, is_link_type, body_text_under}
+use Rattle.link_capture_grammar.specs.Captures.{Judged, first_frame_under, judged_text, tested, raised, texts_after_under, first_fault_under, texts_under, IsLegalUnder}
 use Rattle.link_capture_grammar.proofs.Frames.{accepted, first_frame_is, judgement, seen, step_texts, stop_texts, fault_step, texts_step, fault_nil, texts_nil, guard}
 
 -- ---- a body's text is its own
@@ -66,38 +62,6 @@ ruled_again r l b text h =
     let again : ruled_text r (r.canonical b) ≡ Ok (r.canonical b) = rw (o.0, o.1, l.fits_again b k.accepted k.fits, l.itself b k.accepted) refl in
     subst (λ x. ruled_text r x ≡ Ok x) k.is again
 
-pub link_body_lawful : Lawful link_body
-unfolding link_body
-link_body_lawful = body_lawful bytes_peer bytes_peer_lawful
-
-pub link_body_size : (b : List ℕ) → link_body.accepted b ≡ true → length (link_body.canonical b) ≤ 77 * length b
-unfolding link_body
-link_body_size b a = body_size bytes_peer bytes_peer_lawful b a
-
-pub body_again : (t : ℕ) (bytes text : List ℕ) → body_text t bytes ≡ Ok text → body_text t text ≡ Ok text
-unfolding body_text
-body_again t bytes text h =
-    elim (guard (eqb t 1) _ _ _ h) [
-      | inl a ↦ rw a.0 a.1
-      | inr a ↦ rw a.0 (elim (guard (eqb t 2) _ _ _ a.1) [
-        | inl b ↦ rw b.0 (error_again bytes text b.1)
-        | inr b ↦ rw b.0 (elim (guard (eqb t 3) _ _ _ b.1) [
-          | inl c ↦ rw c.0 (done_again bytes text c.1)
-          | inr c ↦ rw c.0 (elim (guard (is_link_type t) _ _ _ c.1) [
-            | inl d ↦ rw d.0 (ruled_again link_body link_body_lawful bytes text d.1)
-            | inr d ↦ rw d.0 refl
-          ])
-        ])
-      ])
-    ]
-
--- the text of an accepted frame
-pub record Texted (limit : ℕ) (c : List ℕ) (frame : ℕ × List ℕ) : Type 0 where
-  pub body : List ℕ
-  pub body_is : body_text (frame_type c) (frame_body c) ≡ Ok body
-  pub text_is : frame.1 ≡ frame_text c body
-  pub fits : 16 + length body ≤ limit
-
 judged_texted : (limit : ℕ) (c : List ℕ) (r : Result (List ℕ) Refusal) (frame : ℕ × List ℕ) → judged_text limit c r ≡ Ok frame → (body : List ℕ) × (r ≡ Ok body) × (frame.1 ≡ frame_text c body) × (16 + length body ≤ limit)
 judged_texted limit c (Err why) frame h = absurd (cc)
 judged_texted limit c (Ok body) frame h =
@@ -108,14 +72,6 @@ judged_texted limit c (Ok body) frame h =
 
 pub tested_ok : (limit size claimed : ℕ) (j : Judged) → 16 ≤ size → claimed ≤ size → 16 ≤ claimed → claimed ≤ limit → tested limit size claimed j ≡ j
 tested_ok limit size claimed j a b c d = rw (le-ltb size 16 a, le-ltb size claimed b, le-ltb claimed 16 c, le-ltb limit claimed d)
-
-pub texted : (limit : ℕ) (c : List ℕ) (frame : ℕ × List ℕ) → first_frame limit c ≡ Ok frame → Texted limit c frame
-unfolding judgement
-texted limit c frame h =
-    let a = accepted limit c frame h in
-    let t : judgement limit c ≡ Ok frame = sym (tested_ok limit (length c) (frame_length c) (judgement limit c) a.header (omega (arith, a.is, a.whole)) (omega (arith, a.is, a.low)) (omega (arith, a.is, a.high))) ∙ sym (first_frame_is limit c) ∙ h in
-    let q = judged_texted limit c (body_text (frame_type c) (frame_body c)) frame t in
-    record { body = q.0; body_is = q.1; text_is = q.2; fits = q.3 }
 
 -- a frame's text: how long it is, and what its parts are
 pub frame_text_size : (c body : List ℕ) → 16 ≤ length c → length (frame_text c body) ≡ nla_align (16 + length body)
@@ -161,64 +117,98 @@ unfolding frame_text
 text_again c body r h =
     ap (λ x. le4 (16 + length body) ++ (x ++ (body ++ zeros (nla_align (16 + length body) - (16 + length body))))) (text_header c body r h)
 
--- A frame's text in front is accepted, and is its own text.
-pub first_frame_again : (limit : ℕ) (c : List ℕ) (frame : ℕ × List ℕ) (r : List ℕ) → limit < 2 ^ 32 → first_frame limit c ≡ Ok frame → (n : ℕ) × (first_frame limit (frame.1 ++ r) ≡ Ok (n, frame.1)) × (drop (nla_align n) (frame.1 ++ r) ≡ r)
-unfolding judgement
-first_frame_again limit c frame r l h =
-    let a = accepted limit c frame h in
-    let t = texted limit c frame h in
-    let x = frame_text c t.body ++ r in
-    let n : ℕ = 16 + length t.body in
-    let size = frame_text_size c t.body a.header in
-    let total = length-append (frame_text c t.body) r in
-    let claimed = text_length c t.body r (omega (arith, t.fits)) in
-    let again : body_text (frame_type x) (frame_body x) ≡ Ok t.body =
-    ap (λ k. body_text k (frame_body x)) (text_type c t.body r a.header) ∙ ap (body_text (frame_type c)) (text_body c t.body r a.header (omega (arith, t.fits)))
-    ∙ body_again (frame_type c) (frame_body c) t.body t.body_is in
-    let judged : judgement limit x ≡ Ok (n, frame_text c t.body) =
-    ap (judged_text limit x) again
-    ∙ ap (λ b. cond b (Err TextOverLimit) (Ok (frame_length x, frame_text x t.body))) (le-ltb limit n t.fits)
-    ∙ ap (λ m. Ok (m, frame_text x t.body)) claimed
-    ∙ ap (λ y. Ok (n, y)) (text_again c t.body r a.header) in
-    let whole : first_frame limit x ≡ Ok (n, frame_text c t.body) =
-    first_frame_is limit x
-    ∙ tested_ok limit (length x) (frame_length x) (judgement limit x) (omega (arith, size, total)) (omega (arith, size, total, claimed)) (omega (arith, claimed)) (omega (arith, claimed, t.fits))
-    ∙ judged in
-    let e = t.text_is in
-    (n, subst (λ (y : List ℕ). first_frame limit (y ++ r) ≡ Ok (n, y)) (sym e) whole, subst (λ (y : List ℕ). drop (nla_align n) (y ++ r) ≡ r) (sym e) (drop_at (frame_text c t.body) r (nla_align n) size))
+module _ (r : Rule) where
+  -- the text of an accepted frame
+  pub record Texted (limit : ℕ) (c : List ℕ) (frame : ℕ × List ℕ) : Type 0 where
+    pub body : List ℕ
+    pub body_is : body_text_under r (frame_type c) (frame_body c) ≡ Ok body
+    pub text_is : frame.1 ≡ frame_text c body
+    pub fits : 16 + length body ≤ limit
 
--- The normal text is legal, whatever it is the text of, and is its own normal text.
-pub texts_legal : (limit skip : ℕ) (c : List ℕ) → limit < 2 ^ 32 → IsLegal limit (texts_after limit skip c)
-unfolding texts_after
-texts_legal limit skip [] l = fault_nil limit 0
-texts_legal limit (suc skip) (b ∷ c) l = texts_legal limit skip c l
-texts_legal limit zero (b ∷ c) l =
-    elim (seen (first_frame limit (b ∷ c))) [
-      | inl w ↦
-          let frame = w.0 in
-          let rest : List ℕ = texts_after limit (nla_align frame.0 - 1) c in
-          let f = first_frame_again limit (b ∷ c) frame rest l w.1 in
-          ap (first_fault limit) (step_texts limit b c frame w.1)
-          ∙ fault_step limit (frame.1 ++ rest) (f.0, frame.1) f.1
-          ∙ ap (λ x. raised (nla_align f.0) (first_fault limit x)) f.2
-          ∙ ap (raised (nla_align f.0)) (texts_legal limit (nla_align frame.0 - 1) c l)
-      | inr w ↦ ap (first_fault limit) (stop_texts limit b c w.0 w.1) ∙ fault_nil limit 0
-    ]
+  pub texted : (limit : ℕ) (c : List ℕ) (frame : ℕ × List ℕ) → first_frame_under r limit c ≡ Ok frame → Texted limit c frame
+  unfolding judgement
+  texted limit c frame h =
+      let a = accepted r limit c frame h in
+      let t : judgement r limit c ≡ Ok frame = sym (tested_ok limit (length c) (frame_length c) (judgement r limit c) a.header (omega (arith, a.is, a.whole)) (omega (arith, a.is, a.low)) (omega (arith, a.is, a.high))) ∙ sym (first_frame_is r limit c) ∙ h in
+      let q = judged_texted limit c (body_text_under r (frame_type c) (frame_body c)) frame t in
+      record { body = q.0; body_is = q.1; text_is = q.2; fits = q.3 }
 
-pub texts_again : (limit skip : ℕ) (c : List ℕ) → limit < 2 ^ 32 → texts limit (texts_after limit skip c) ≡ texts_after limit skip c
-unfolding texts_after
-texts_again limit skip [] l = texts_nil limit 0
-texts_again limit (suc skip) (b ∷ c) l = texts_again limit skip c l
-texts_again limit zero (b ∷ c) l =
-    elim (seen (first_frame limit (b ∷ c))) [
-      | inl w ↦
-          let frame = w.0 in
-          let rest : List ℕ = texts_after limit (nla_align frame.0 - 1) c in
-          let f = first_frame_again limit (b ∷ c) frame rest l w.1 in
-          ap (texts limit) (step_texts limit b c frame w.1)
-          ∙ texts_step limit (frame.1 ++ rest) (f.0, frame.1) f.1
-          ∙ ap (λ x. frame.1 ++ texts limit x) f.2
-          ∙ ap (λ x. frame.1 ++ x) (texts_again limit (nla_align frame.0 - 1) c l)
-          ∙ sym (step_texts limit b c frame w.1)
-      | inr w ↦ ap (texts limit) (stop_texts limit b c w.0 w.1) ∙ texts_nil limit 0 ∙ sym (stop_texts limit b c w.0 w.1)
-    ]
+module _ (r : Rule) (lawful : Lawful r) where
+  pub body_again : (t : ℕ) (bytes text : List ℕ) → body_text_under r t bytes ≡ Ok text → body_text_under r t text ≡ Ok text
+  unfolding body_text_under
+  body_again t bytes text h =
+      elim (guard (eqb t 1) _ _ _ h) [
+        | inl a ↦ rw a.0 a.1
+        | inr a ↦ rw a.0 (elim (guard (eqb t 2) _ _ _ a.1) [
+          | inl b ↦ rw b.0 (error_again bytes text b.1)
+          | inr b ↦ rw b.0 (elim (guard (eqb t 3) _ _ _ b.1) [
+            | inl c ↦ rw c.0 (done_again bytes text c.1)
+            | inr c ↦ rw c.0 (elim (guard (is_link_type t) _ _ _ c.1) [
+              | inl d ↦ rw d.0 (ruled_again r lawful bytes text d.1)
+              | inr d ↦ rw d.0 refl
+            ])
+          ])
+        ])
+      ]
+
+  -- A frame's text in front is accepted, and is its own text.
+  pub first_frame_again : (limit : ℕ) (c : List ℕ) (frame : ℕ × List ℕ) (more : List ℕ) → limit < 2 ^ 32 → first_frame_under r limit c ≡ Ok frame → (n : ℕ) × (first_frame_under r limit (frame.1 ++ more) ≡ Ok (n, frame.1)) × (drop (nla_align n) (frame.1 ++ more) ≡ more)
+  unfolding judgement
+  first_frame_again limit c frame more l h =
+      let a = accepted r limit c frame h in
+      let t = texted r limit c frame h in
+      let x = frame_text c t.body ++ more in
+      let n : ℕ = 16 + length t.body in
+      let size = frame_text_size c t.body a.header in
+      let total = length-append (frame_text c t.body) more in
+      let claimed = text_length c t.body more (omega (arith, t.fits)) in
+      let again : body_text_under r (frame_type x) (frame_body x) ≡ Ok t.body =
+      ap (λ k. body_text_under r k (frame_body x)) (text_type c t.body more a.header) ∙ ap (body_text_under r (frame_type c)) (text_body c t.body more a.header (omega (arith, t.fits)))
+      ∙ body_again (frame_type c) (frame_body c) t.body t.body_is in
+      let judged : judgement r limit x ≡ Ok (n, frame_text c t.body) =
+      ap (judged_text limit x) again
+      ∙ ap (λ b. cond b (Err TextOverLimit) (Ok (frame_length x, frame_text x t.body))) (le-ltb limit n t.fits)
+      ∙ ap (λ m. Ok (m, frame_text x t.body)) claimed
+      ∙ ap (λ y. Ok (n, y)) (text_again c t.body more a.header) in
+      let whole : first_frame_under r limit x ≡ Ok (n, frame_text c t.body) =
+      first_frame_is r limit x
+      ∙ tested_ok limit (length x) (frame_length x) (judgement r limit x) (omega (arith, size, total)) (omega (arith, size, total, claimed)) (omega (arith, claimed)) (omega (arith, claimed, t.fits))
+      ∙ judged in
+      let e = t.text_is in
+      (n, subst (λ (y : List ℕ). first_frame_under r limit (y ++ more) ≡ Ok (n, y)) (sym e) whole, subst (λ (y : List ℕ). drop (nla_align n) (y ++ more) ≡ more) (sym e) (drop_at (frame_text c t.body) more (nla_align n) size))
+
+  -- The normal text is legal, whatever it is the text of, and is its own normal text.
+  pub texts_legal : (limit skip : ℕ) (c : List ℕ) → limit < 2 ^ 32 → IsLegalUnder r limit (texts_after_under r limit skip c)
+  unfolding texts_after_under
+  texts_legal limit skip [] l = fault_nil r limit 0
+  texts_legal limit (suc skip) (b ∷ c) l = texts_legal limit skip c l
+  texts_legal limit zero (b ∷ c) l =
+      elim (seen (first_frame_under r limit (b ∷ c))) [
+        | inl w ↦
+            let frame = w.0 in
+            let rest : List ℕ = texts_after_under r limit (nla_align frame.0 - 1) c in
+            let f = first_frame_again limit (b ∷ c) frame rest l w.1 in
+            ap (first_fault_under r limit) (step_texts r limit b c frame w.1)
+            ∙ fault_step r limit (frame.1 ++ rest) (f.0, frame.1) f.1
+            ∙ ap (λ x. raised (nla_align f.0) (first_fault_under r limit x)) f.2
+            ∙ ap (raised (nla_align f.0)) (texts_legal limit (nla_align frame.0 - 1) c l)
+        | inr w ↦ ap (first_fault_under r limit) (stop_texts r limit b c w.0 w.1) ∙ fault_nil r limit 0
+      ]
+
+  pub texts_again : (limit skip : ℕ) (c : List ℕ) → limit < 2 ^ 32 → texts_under r limit (texts_after_under r limit skip c) ≡ texts_after_under r limit skip c
+  unfolding texts_after_under
+  texts_again limit skip [] l = texts_nil r limit 0
+  texts_again limit (suc skip) (b ∷ c) l = texts_again limit skip c l
+  texts_again limit zero (b ∷ c) l =
+      elim (seen (first_frame_under r limit (b ∷ c))) [
+        | inl w ↦
+            let frame = w.0 in
+            let rest : List ℕ = texts_after_under r limit (nla_align frame.0 - 1) c in
+            let f = first_frame_again limit (b ∷ c) frame rest l w.1 in
+            ap (texts_under r limit) (step_texts r limit b c frame w.1)
+            ∙ texts_step r limit (frame.1 ++ rest) (f.0, frame.1) f.1
+            ∙ ap (λ x. frame.1 ++ texts_under r limit x) f.2
+            ∙ ap (λ x. frame.1 ++ x) (texts_again limit (nla_align frame.0 - 1) c l)
+            ∙ sym (step_texts r limit b c frame w.1)
+        | inr w ↦ ap (texts_under r limit) (stop_texts r limit b c w.0 w.1) ∙ texts_nil r limit 0 ∙ sym (stop_texts r limit b c w.0 w.1)
+      ]

@@ -1,31 +1,29 @@
 -- The text of a list holds the attributes that no table lists as the list does.
-use Rattle.std.proofs.Common.{◌≡◌, ℕ, zero, suc, true, false, List, [], ◌∷◌, ◌++◌, length, Ok, refl, sym, ap, subst, ◌∙◌, arith}
+use Rattle.std.proofs.Common.{◌≡◌, ℕ, zero, suc, true, false, List, [], ◌∷◌, ◌++◌, length, Ok, refl, sym, ap, subst, ◌∙◌}
 use Rattle.std.specs.Prelude.{nat_le}
 use Rattle.std.proofs.lemmas.Bool.{and_parts}
-use Rattle.std.proofs.lemmas.List.{append-nil}
 use Rattle.netlink_packet_core_grammar.specs.Attributes.{Attribute, proper_kind, list_text}
-use Rattle.netlink_packet_core_grammar.specs.Frames.{frame_type, frame_body, frame_text}
+use Rattle.netlink_packet_core_grammar.specs.Frames.{frame_type, frame_body}
 use Rattle.attribute_tables_grammar.specs.Lists.{Context, nothing, Row, raw_row, Grammar, LawfulGrammar, row_of, context_after, all_accepted, rewrite, rewritten, written_kind, without_context, ListForm, any, non_empty, of_kind_one, ports, first_alone, read_as, kept, is_empty_ports, if_read, list_rule}
-use Rattle.attribute_tables_grammar.specs.LookUps.{rows_rule}
-use Rattle.attribute_tables_grammar.specs.Peers.{bytes_peer}
+use Rattle.attribute_tables_grammar.specs.LookUps.{row_of_line}
+use Rattle.attribute_tables_grammar.specs.Peers.{Peer, LawfulPeer, bytes_peer}
 use Rattle.attribute_tables_grammar.specs.Rules.{Rule}
+use Rattle.attribute_tables_grammar.specs.Tables.{grammar}
 use Rattle.attribute_tables_grammar.proofs.Attributes.{proper_kind-written}
 use Rattle.attribute_tables_grammar.proofs.Lists.{read_again}
+use Rattle.attribute_tables_grammar.proofs.LookUps.{grammar-table}
 use Rattle.attribute_tables_grammar.proofs.Named.{next_rewritten}
 use Rattle.attribute_tables_grammar.proofs.Tables.{bytes_peer_lawful, table_lawful}
-use Rattle.link_message_grammar.specs.Body.{attribute_bytes, attribute_row, attributes_rule, family, link_body}
-use Rattle.link_message_grammar.specs.LinkMessage.{Family, link_table}
-use Rattle.link_message_grammar.proofs.Body.{WrittenHeader, written_header}
-use Rattle.link_message_grammar.proofs.Lines.{attributes-grammar}
-use Rattle.link_message_grammar.proofs.Parts.{attributes_are_looked_up, bodies_are_headers_and_attributes}
+use Rattle.link_message_grammar.specs.Body.{attribute_bytes, attribute_row, body_rule, family, link_body, list_rule_of}
+use Rattle.link_message_grammar.specs.LinkMessage.{Family, link_line, link_table}
+use Rattle.link_message_grammar.proofs.Body.{written_header}
+use Rattle.link_message_grammar.proofs.Lines.{kinds_are_looked_up}
 use Rattle.link_message_grammar.proofs.Tables.{table_bounded}
 use Rattle.link_capture_grammar.specs.Bodies.{is_link_type}
-use Rattle.link_capture_grammar.specs.Captures.{first_frame}
+use Rattle.link_capture_grammar.specs.Captures.{first_frame, first_frame_under}
 use Rattle.link_capture_grammar.specs.Laws.{IsLimit, UnlistedAttributesAreKept}
-use Rattle.link_capture_grammar.specs.Unlisted.{Keeps, row_there, HoldsUnlisted}
-use Rattle.link_capture_grammar.proofs.Frames.{accepted}
-use Rattle.link_capture_grammar.proofs.Normal.{ruled, text_body, texted}
-use Rattle.link_capture_grammar.proofs.SameFrames.{link_ruled}
+use Rattle.link_capture_grammar.specs.Unlisted.{Keeps, row_there, HoldsUnlisted, KeepsUnlisted}
+use Rattle.link_capture_grammar.proofs.Keeping.{link}
 
 -- what becomes of an attribute that stands behind some and before others
 record Rewritten (g : Grammar) (c : Context) (before after : List Attribute) (x : Attribute) : Type 0 where
@@ -98,30 +96,32 @@ unlisted_again (suc depth) form g bytes e lawful a w =
 
 -- ---- of frames
 
-rows_lawful : (f : Family) → LawfulGrammar (without_context (attribute_row f))
-rows_lawful f = subst LawfulGrammar (attributes-grammar f) (table_lawful bytes_peer bytes_peer_lawful (link_table f) (table_bounded f))
+module _ (p : Peer) (lawful : LawfulPeer p) where
+  abbrev row : Family → ℕ → Row
+  row f k = row_of_line p (link_line f k)
 
-attributes_again : (f : Family) (r : Rule) → r ≡ rows_rule any (attribute_row f) → (b : List ℕ) (depth : ℕ) (e : Attribute) → r.accepted b ≡ true → HoldsUnlisted depth any (without_context (attribute_row f)) b e → HoldsUnlisted depth any (without_context (attribute_row f)) (r.canonical b) e
-unfolding rows_rule
-attributes_again f r h b depth e a w =
-    subst (λ (q : Rule). HoldsUnlisted depth any (without_context (attribute_row f)) (q.canonical b) e) (sym h)
-    (unlisted_again depth any (without_context (attribute_row f)) b e (rows_lawful f) (sym (ap (λ (q : Rule). q.accepted b) h) ∙ a) w)
+  rows_are : (f : Family) → grammar p (link_table f) ≡ without_context (row f)
+  rows_are f = grammar-table p (link_table f) ∙ ap without_context (λ i k. row_of_line p (kinds_are_looked_up f k i))
 
-of_frames : (limit : ℕ) (c : List ℕ) (frame : ℕ × List ℕ) → IsLimit limit → is_link_type (frame_type c) ≡ true → first_frame limit c ≡ Ok frame → (depth : ℕ) (e : Attribute) →
-    HoldsUnlisted depth any (without_context (attribute_row (family (frame_body c)))) (attribute_bytes (frame_body c)) e →
-    HoldsUnlisted depth any (without_context (attribute_row (family (frame_body c)))) (attribute_bytes (frame_body frame.1)) e
-of_frames limit c frame l link h depth e w =
-    let b = frame_body c in
-    let t = texted limit c frame h in
-    let k = ruled link_body b t.body (link_ruled (frame_type c) b t.body link t.body_is) in
-    let p = bodies_are_headers_and_attributes b in
-    let r = attributes_rule (family b) in
-    let s = and_parts (nat_le 16 (length b)) (r.accepted (attribute_bytes b)) (sym p.accepted ∙ k.accepted) in
-    let header : WrittenHeader b = written_header b s.0 in
-    let body : frame_body frame.1 ≡ t.body = ap frame_body (t.text_is ∙ sym (append-nil (frame_text c t.body))) ∙ text_body c t.body [] (accepted limit c frame h).header (omega (arith, t.fits, l)) in
-    let text : attribute_bytes (frame_body frame.1) ≡ r.canonical (attribute_bytes b) = ap attribute_bytes (body ∙ sym k.is ∙ p.canonical) ∙ header.rest (r.canonical (attribute_bytes b)) in
-    subst (λ x. HoldsUnlisted depth any (without_context (attribute_row (family b))) x e) (sym text)
-    (attributes_again (family b) r (attributes_are_looked_up (family b)) (attribute_bytes b) depth e s.1 w)
+  attributes_again : (f : Family) (b : List ℕ) (depth : ℕ) (e : Attribute) → (list_rule_of p f).accepted b ≡ true → HoldsUnlisted depth any (without_context (row f)) b e → HoldsUnlisted depth any (without_context (row f)) ((list_rule_of p f).canonical b) e
+  attributes_again f b depth e a =
+      subst (λ g. HoldsUnlisted depth any g b e → HoldsUnlisted depth any g ((list_rule_of p f).canonical b) e) (rows_are f)
+      (unlisted_again depth any (grammar p (link_table f)) b e (table_lawful p lawful (link_table f) (table_bounded f)) a)
+
+  pub of_frames_under : (limit : ℕ) (c : List ℕ) (frame : ℕ × List ℕ) → IsLimit limit → is_link_type (frame_type c) ≡ true → first_frame_under (body_rule p) limit c ≡ Ok frame → KeepsUnlisted row (frame_body c) (frame_body frame.1)
+  unfolding body_rule
+  of_frames_under limit c frame l is_link h depth e w =
+      let b = frame_body c in
+      let k = link (body_rule p) limit c frame l is_link h in
+      let r = list_rule_of p (family b) in
+      let s = and_parts (nat_le 16 (length b)) (r.accepted (attribute_bytes b)) k.0 in
+      let text : attribute_bytes (frame_body frame.1) ≡ r.canonical (attribute_bytes b) = ap attribute_bytes k.1 ∙ (written_header b s.0).rest (r.canonical (attribute_bytes b)) in
+      subst (λ x. HoldsUnlisted depth any (without_context (row (family b))) x e) (sym text) (attributes_again (family b) (attribute_bytes b) depth e s.1 w)
+
+-- the rule in force
+of_frames : (limit : ℕ) (c : List ℕ) (frame : ℕ × List ℕ) → IsLimit limit → is_link_type (frame_type c) ≡ true → first_frame limit c ≡ Ok frame → KeepsUnlisted attribute_row (frame_body c) (frame_body frame.1)
+unfolding link_body
+of_frames = of_frames_under bytes_peer bytes_peer_lawful
 
 pub unlisted_attributes_are_kept : UnlistedAttributesAreKept
-unlisted_attributes_are_kept = record { of_lists = unlisted_again; of_frames = of_frames }
+unlisted_attributes_are_kept = record { of_lists = unlisted_again; of_frames = of_frames; of_frames_under = of_frames_under }

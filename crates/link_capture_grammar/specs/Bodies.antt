@@ -23,10 +23,15 @@ ruled_text r b = cond (r.accepted b) (cond (r.empty_ports b) (Err empty_ports) (
 abbrev pub is_link_type : ℕ → Bool
 is_link_type t = nat_le 16 t && nat_le t 19
 
--- NOOP has no text, and OVERRUN and every type that is not known are kept
-unfoldable pub body_text : ℕ → List ℕ → Result (List ℕ) Refusal
-body_text t b =
+-- NOOP has no text, links have theirs under a rule of link bodies, and OVERRUN and every type that is not known are kept
+unfoldable pub body_text_under : Rule → ℕ → List ℕ → Result (List ℕ) Refusal
+body_text_under r t b =
     cond (nat_eq t 1) (Ok [])
     (cond (nat_eq t 2) (error_text b)
     (cond (nat_eq t 3) (done_text b)
-    (cond (is_link_type t) (ruled_text link_body b) (Ok b))))
+    (cond (is_link_type t) (ruled_text r b) (Ok b))))
+
+-- ---- the same under the rule of link bodies in force
+
+abbrev pub body_text : ℕ → List ℕ → Result (List ℕ) Refusal
+body_text = body_text_under link_body

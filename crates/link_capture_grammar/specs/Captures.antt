@@ -1,11 +1,13 @@
--- Captures: the first fault with its place, and the normal text.
+-- Captures: the first fault with its place, and the normal text, under a rule of link bodies.
 use Rattle.std.specs.Prelude.{◌≡◌, ℕ, zero, suc, ◌+◌, ◌-◌, ◌%◌, ◌<◌, ◌≤◌, List, [], ◌∷◌, ◌++◌, length, take, Option, None, Some, Result, Ok, Err, nat_lt, cond}
 use Rattle.netlink_packet_core_grammar.specs.Attributes.{nla_align}
 use Rattle.netlink_packet_core_grammar.specs.Frames.{frame_length, frame_type, frame_body, frame_text}
+use Rattle.attribute_tables_grammar.specs.Rules.{Rule}
+use Rattle.link_message_grammar.specs.Body.{link_body}
 use Rattle.link_capture_grammar.specs.declared.fault.FaultKind.{FaultKind}
 use Rattle.link_capture_grammar.specs.declared.fault.FaultKind.TheVariants.{Cut, ShortLength, OverLimit, Refused, EmptyPorts, Unfit, TextOverLimit, Memory, Read, Write, TooLong, Failed}
 use Rattle.link_capture_grammar.specs.declared.fault.CaptureFault.{CaptureFault}
-use Rattle.link_capture_grammar.specs.Bodies.{Refusal, refused, empty_ports, unfit, body_text}
+use Rattle.link_capture_grammar.specs.Bodies.{Refusal, refused, empty_ports, unfit, body_text_under}
 
 -- the fault of a frame whose body has no text
 abbrev pub fault_of : Refusal → FaultKind
@@ -35,8 +37,8 @@ tested limit size length' judged =
     (cond (nat_lt size length') (Err Cut) judged)))
 
 -- the frame in front: its length and its text, or its fault
-unfoldable pub first_frame : ℕ → List ℕ → Judged
-first_frame limit c = tested limit (length c) (frame_length c) (judged_text limit c (body_text (frame_type c) (frame_body c)))
+unfoldable pub first_frame_under : Rule → ℕ → List ℕ → Judged
+first_frame_under r limit c = tested limit (length c) (frame_length c) (judged_text limit c (body_text_under r (frame_type c) (frame_body c)))
 
 -- an accepted frame: its bytes are there, and it has the length that its header tells, within the limit
 pub record Accepted (limit : ℕ) (c : List ℕ) (frame : ℕ × List ℕ) : Type 0 where
@@ -63,27 +65,27 @@ next_fault (Ok frame) after = raised 1 (after (nla_align frame.0 - 1))
 next_fault (Err kind) after = Some (record { kind = kind; offset = 0 })
 
 -- The first fault of what c has after its first bytes, so many of them as skip says, which are passed over. Places are counted from c's start.
-unfoldable pub fault_after : ℕ → ℕ → List ℕ → Option CaptureFault
-fault_after limit skip [] = None
-fault_after limit (suc skip) (b ∷ c) = raised 1 (fault_after limit skip c)
-fault_after limit zero (b ∷ c) = next_fault (first_frame limit (b ∷ c)) (λ skip. fault_after limit skip c)
+unfoldable pub fault_after_under : Rule → ℕ → ℕ → List ℕ → Option CaptureFault
+fault_after_under r limit skip [] = None
+fault_after_under r limit (suc skip) (b ∷ c) = raised 1 (fault_after_under r limit skip c)
+fault_after_under r limit zero (b ∷ c) = next_fault (first_frame_under r limit (b ∷ c)) (λ skip. fault_after_under r limit skip c)
 
 abbrev pub next_texts : Judged → (ℕ → List ℕ) → List ℕ
 next_texts (Ok frame) after = frame.1 ++ after (nla_align frame.0 - 1)
 next_texts (Err kind) after = []
 
 -- the texts of the frames before it
-unfoldable pub texts_after : ℕ → ℕ → List ℕ → List ℕ
-texts_after limit skip [] = []
-texts_after limit (suc skip) (b ∷ c) = texts_after limit skip c
-texts_after limit zero (b ∷ c) = next_texts (first_frame limit (b ∷ c)) (λ skip. texts_after limit skip c)
+unfoldable pub texts_after_under : Rule → ℕ → ℕ → List ℕ → List ℕ
+texts_after_under r limit skip [] = []
+texts_after_under r limit (suc skip) (b ∷ c) = texts_after_under r limit skip c
+texts_after_under r limit zero (b ∷ c) = next_texts (first_frame_under r limit (b ∷ c)) (λ skip. texts_after_under r limit skip c)
 
 -- The first fault of a capture with its place, and the texts of the frames before it.
-abbrev pub first_fault : ℕ → List ℕ → Option CaptureFault
-first_fault limit c = fault_after limit 0 c
+abbrev pub first_fault_under : Rule → ℕ → List ℕ → Option CaptureFault
+first_fault_under r limit c = fault_after_under r limit 0 c
 
-abbrev pub texts : ℕ → List ℕ → List ℕ
-texts limit c = texts_after limit 0 c
+abbrev pub texts_under : Rule → ℕ → List ℕ → List ℕ
+texts_under r limit c = texts_after_under r limit 0 c
 
 -- How far the whole frames reach, with the padding that the last one is owed: to the first fault, or to the next
 -- multiple of 4.
@@ -91,18 +93,18 @@ abbrev pub reach_by : ℕ → Option CaptureFault → ℕ
 reach_by size None = nla_align size
 reach_by size (Some fault) = fault.offset
 
-abbrev pub reach : ℕ → List ℕ → ℕ
-reach limit c = reach_by (length c) (first_fault limit c)
+abbrev pub reach_under : Rule → ℕ → List ℕ → ℕ
+reach_under r limit c = reach_by (length c) (first_fault_under r limit c)
 
 -- Such a capture's normal text is its texts.
-abbrev pub IsLegal : ℕ → List ℕ → Type 0
-IsLegal limit c = first_fault limit c ≡ None
+abbrev pub IsLegalUnder : Rule → ℕ → List ℕ → Type 0
+IsLegalUnder r limit c = first_fault_under r limit c ≡ None
 
 -- a frame starts at this place of c, and what c has before it is legal
-pub record StopsAt (limit : ℕ) (c : List ℕ) (place : ℕ) : Type 0 where
+pub record StopsAtUnder (r : Rule) (limit : ℕ) (c : List ℕ) (place : ℕ) : Type 0 where
   pub inside : place < length c
   pub start : place % 4 ≡ 0
-  pub legal : IsLegal limit (take place c)
+  pub legal : IsLegalUnder r limit (take place c)
 
 -- the kinds of fault that a frame itself can have
 abbrev pub IsOfFrames : FaultKind → Type 0
@@ -112,3 +114,29 @@ IsOfFrames Write = ⊥
 IsOfFrames TooLong = ⊥
 IsOfFrames Failed = ⊥
 IsOfFrames kind = Unit {0}
+
+-- ---- the same under the rule of link bodies in force
+
+abbrev pub first_frame : ℕ → List ℕ → Judged
+first_frame = first_frame_under link_body
+
+abbrev pub fault_after : ℕ → ℕ → List ℕ → Option CaptureFault
+fault_after = fault_after_under link_body
+
+abbrev pub texts_after : ℕ → ℕ → List ℕ → List ℕ
+texts_after = texts_after_under link_body
+
+abbrev pub first_fault : ℕ → List ℕ → Option CaptureFault
+first_fault = first_fault_under link_body
+
+abbrev pub texts : ℕ → List ℕ → List ℕ
+texts = texts_under link_body
+
+abbrev pub reach : ℕ → List ℕ → ℕ
+reach = reach_under link_body
+
+abbrev pub IsLegal : ℕ → List ℕ → Type 0
+IsLegal = IsLegalUnder link_body
+
+abbrev pub StopsAt : ℕ → List ℕ → ℕ → Type 0
+StopsAt = StopsAtUnder link_body

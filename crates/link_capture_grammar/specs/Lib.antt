@@ -1,3 +1,4 @@
+pub use Rattle.link_message_grammar.specs.Body
 pub mod Faults
 pub mod Bodies
 pub mod Captures

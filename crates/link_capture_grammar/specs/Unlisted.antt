@@ -1,7 +1,9 @@
 -- Attributes that no table lists, at any depth of a list.
 use Rattle.std.specs.Prelude.{◌≡◌, ℕ, zero, suc, List, ◌∷◌, ◌++◌, Some}
 use Rattle.netlink_packet_core_grammar.specs.Attributes.{Attribute}
-use Rattle.attribute_tables_grammar.specs.Lists.{nothing, Row, raw_row, Grammar, LawfulGrammar, row_of, context_after, ListForm, read_as, kept, list_rule}
+use Rattle.attribute_tables_grammar.specs.Lists.{nothing, Row, raw_row, Grammar, LawfulGrammar, row_of, context_after, ListForm, any, read_as, kept, list_rule, without_context}
+use Rattle.link_message_grammar.specs.Body.{attribute_bytes, family}
+use Rattle.link_message_grammar.specs.LinkMessage.{Family}
 
 -- among the attributes that a list keeps, this one stands behind some and before others
 pub record Keeps (form : ListForm) (bytes : List ℕ) (e : Attribute) : Type 0 where
@@ -21,3 +23,8 @@ HoldsUnlisted zero form g bytes e = (k : Keeps form bytes e) × (row_there g k �
 HoldsUnlisted (suc depth) form g bytes e =
     (outer : Attribute) × (k : Keeps form bytes outer) × (inner : ListForm) × (h : Grammar) × LawfulGrammar h × ((row_there g k).rule ≡ list_rule inner h)
     × HoldsUnlisted depth inner h outer.payload e
+
+-- under such rows of each family, a text of a link's body holds the attributes that no table lists and that the body holds
+abbrev pub KeepsUnlisted : (Family → ℕ → Row) → List ℕ → List ℕ → Type 0
+KeepsUnlisted row b text = (depth : ℕ) (e : Attribute) → HoldsUnlisted depth any (without_context (row (family b))) (attribute_bytes b) e →
+    HoldsUnlisted depth any (without_context (row (family b))) (attribute_bytes text) e

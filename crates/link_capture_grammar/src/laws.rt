@@ -1,5 +1,7 @@
-//! Facts of the definitions. No function here makes a call.
+//! Facts of the definitions, under the rule of link bodies in force. No function here makes a call.
 
+ghost use Rattle.link_message_grammar.specs.Body.{link_body};
+ghost use Rattle.link_capture_grammar.specs.Laws.{CapturesStandUnderEveryRule};
 ghost use Rattle.link_capture_grammar.specs.Laws.{TextsAreLegal, TextsAreNormal, JoinedFaults, JoinedLegal};
 ghost use Rattle.link_capture_grammar.specs.Laws.{JoinedTexts, PrefixFaults, PrefixTexts, TextsAreSmall, FaultsStand};
 ghost use Rattle.link_capture_grammar.specs.Laws.{BodiesAreNormal, TextsMeanTheSame, SameAreLegal};
@@ -10,83 +12,84 @@ ghost use Rattle.link_capture_grammar.specs.Laws.{BodiesTellMeanings, TextsTellM
 
 /// The texts of any bytes are legal under the same limit.
 pub fn texts_are_legal()
-    ensures { TextsAreLegal }
+    ensures { TextsAreLegal link_body }
 {}
 
 /// The texts of any bytes are their own normal text.
 pub fn texts_are_normal()
-    ensures { TextsAreNormal }
+    ensures { TextsAreNormal link_body }
 {}
 
 /// The first fault of what follows a legal capture, whose size is a multiple of 4, is found as if it stood alone.
 pub fn joined_captures_have_the_faults_of_the_second()
-    ensures { JoinedFaults }
+    ensures { JoinedFaults link_body }
 {}
 
 /// A legal capture, whose size is a multiple of 4, followed by another is legal exactly where the other is.
 pub fn joined_captures_are_legal()
-    ensures { JoinedLegal }
+    ensures { JoinedLegal link_body }
 {}
 
 /// Their texts are the two joined.
 pub fn joined_captures_have_joined_texts()
-    ensures { JoinedTexts }
+    ensures { JoinedTexts link_body }
 {}
 
 /// A first fault of a prefix, other than a cut frame, is that of the whole.
 pub fn faults_of_a_prefix_stay()
-    ensures { PrefixFaults }
+    ensures { PrefixFaults link_body }
 {}
 
 /// The texts of a prefix begin the texts of the whole.
 pub fn texts_of_a_prefix_stay()
-    ensures { PrefixTexts }
+    ensures { PrefixTexts link_body }
 {}
 
 /// Texts are at most 77 times as long as the capture.
 pub fn texts_are_small()
-    ensures { TextsAreSmall }
+    ensures { TextsAreSmall link_body }
 {}
 
 /// A first fault stands inside the capture, at a multiple of 4, and is of a kind that a frame can have.
 pub fn faults_stand_at_frames()
-    ensures { FaultsStand }
+    ensures { FaultsStand link_body }
 {}
 
 /// The text of a body is its own text.
 pub fn bodies_are_normal()
-    ensures { BodiesAreNormal }
+    ensures { BodiesAreNormal link_body }
 {}
 
 /// A legal capture and its normal text mean the same.
 pub fn texts_mean_the_same()
-    ensures { TextsMeanTheSame }
+    ensures { TextsMeanTheSame link_body }
 {}
 
 /// Captures that mean the same are legal.
 pub fn same_captures_are_legal()
-    ensures { SameAreLegal }
+    ensures { SameAreLegal link_body }
 {}
 
 /// Captures mean the same exactly where they are legal and have one normal text. A legal capture means what it means
 /// itself, and meaning the same goes both ways and on.
 pub fn texts_tell_meanings()
-    ensures { TextsTellMeanings }
+    ensures { TextsTellMeanings link_body }
 {}
 
 /// Two bodies of messages of one type that have texts mean the same exactly where these are equal.
 pub fn same_bodies_have_one_text()
-    ensures { BodiesTellMeanings }
+    ensures { BodiesTellMeanings link_body }
 {}
 
 /// The text of a legal frame keeps its type, flags, sequence number and port number; its length and its body, too, but
-/// for a NOOP, a DONE without a code, and the messages of links.
+/// for a NOOP, a DONE without a code, and the messages of links, whose bodies are written by their rule.
 pub fn texts_keep_frames()
-    ensures { TextsKeepFrames }
+    ensures { TextsKeepFrames link_body }
 {}
 
 /// An attribute that no table lists is kept with its kind, flag bits and payload, at any depth: one that a list keeps,
-/// or a list inside that is kept, stands in the text of the list, and of a link's frame, as it does in its bytes.
+/// or a list inside that is kept, stands in the text of the list, and of a link's frame, as it does in its bytes, under
+/// every lawful rule of peers.
 pub fn unlisted_attributes_are_kept()
     ensures { UnlistedAttributesAreKept }
 {}
@@ -94,29 +97,35 @@ pub fn unlisted_attributes_are_kept()
 /// A frame is judged by its own bytes: one that isn't cut is judged so whatever follows, and one that is has no
 /// header, or less than the length that its header tells.
 pub fn frames_stand_alone()
-    ensures { FramesStandAlone }
+    ensures { FramesStandAlone link_body }
 {}
 
 /// A capture is judged and written frame by frame: what stands before the place to which the whole frames of its
 /// first bytes reach is legal and written, whatever follows, and what stands behind it is judged by itself.
 pub fn captures_go_by_frames()
-    ensures { CapturesGoByFrames }
+    ensures { CapturesGoByFrames link_body }
 {}
 
 /// The frame in front is judged by its header, then by its body, then by the size of its text, which is the header's,
 /// the body's, and padding.
 pub fn frames_are_judged()
-    ensures { FramesAreJudged }
+    ensures { FramesAreJudged link_body }
 {}
 
 /// A capture is counted frame by frame: its frames, their attributes and its text. Four times the attributes are at
 /// most its length.
 pub fn captures_are_counted()
-    ensures { CapturesAreCounted }
+    ensures { CapturesAreCounted link_body }
 {}
 
 /// Whether captures mean the same is found frame by frame: they do as far as the frames in front are legal and do, and
 /// what is behind these; where one ends, both end. Frames of the same bytes do where one is legal.
 pub fn sameness_goes_by_frames()
-    ensures { SamenessGoesByFrames }
+    ensures { SamenessGoesByFrames link_body }
+{}
+
+/// These laws hold under every lawful rule of link bodies, that of `sameness_goes_by_frames` where the rule accepts
+/// nothing without a header. That of unlisted attributes speaks of tables, and holds under every lawful rule of peers.
+pub fn captures_stand_under_every_rule()
+    ensures { CapturesStandUnderEveryRule }
 {}

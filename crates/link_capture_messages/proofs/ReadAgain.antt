@@ -10,7 +10,7 @@ use Rattle.link_message_types.specs.AddressFamilies.{address_family_of}
 use Rattle.link_message_messages.specs.declared.message.LinkMessage.{LinkMessage}
 use Rattle.link_message_messages.specs.LinkMessages.{link_message_text, link_message_fits, link_message_names_row}
 use Rattle.link_message_messages.specs.contracts.message.LinkMessageEq.TheImpl.Laws.{laws-law}
-use Rattle.link_capture_grammar.specs.Bodies.{refused, empty_ports, unfit, ruled_text, body_text}
+use Rattle.link_capture_grammar.specs.Bodies.{refused, empty_ports, unfit, ruled_text, body_text_under}
 use Rattle.link_capture_grammar.specs.Laws.{BodiesAreNormal}
 use Rattle.link_capture_messages.specs.Readable.{IsReadFrom, IsReadable, equal_messages, says_the_same}
 
@@ -56,11 +56,11 @@ same_text t = (bytes_eq-Decides t t).1 refl
 pub says_itself : (m : LinkMessage) → link_message_fits m ≡ true → says_the_same m m ≡ true
 says_itself m f = and_from _ _ (laws-law.refl m) (and_from _ _ f (same_text (link_message_text m)))
 
-normal_text : BodiesAreNormal → (b t : List ℕ) → ruled_text link_body b ≡ Ok t → ruled_text link_body t ≡ Ok t
-unfolding body_text
+normal_text : BodiesAreNormal link_body → (b t : List ℕ) → ruled_text link_body b ≡ Ok t → ruled_text link_body t ≡ Ok t
+unfolding body_text_under
 normal_text law b t h = law 16 b t h
 
-pub readable_from : BodiesAreNormal → BodiesAreHeadersAndAttributes → (b : List ℕ) (m : LinkMessage) → IsReadFrom b m → link_body.empty_ports b ≡ false → link_message_fits m ≡ link_body.fits b → link_message_fits m ≡ true → IsReadable m
+pub readable_from : BodiesAreNormal link_body → BodiesAreHeadersAndAttributes → (b : List ℕ) (m : LinkMessage) → IsReadFrom b m → link_body.empty_ports b ≡ false → link_message_fits m ≡ link_body.fits b → link_message_fits m ≡ true → IsReadable m
 readable_from law parts b m r ports s f =
     let t = link_message_text m in
     let text : ruled_text link_body t ≡ Ok t = normal_text law b t (ruled_ok b r.accepted ports (sym s ∙ f) ∙ ap Ok (sym r.text)) in

@@ -5,7 +5,7 @@ use Rattle.std.proofs.lemmas.Bool.{cases_Bool, eqb-true}
 use Rattle.netlink_packet_core.specs.Payloads.{written_body}
 use Rattle.netlink_packet_core.specs.TypedBodies.{TypedBody}
 use Rattle.link_message_grammar.specs.Body.{link_body}
-use Rattle.link_capture_grammar.specs.Bodies.{error_text, ruled_text, is_link_type, body_text}
+use Rattle.link_capture_grammar.specs.Bodies.{error_text, ruled_text, is_link_type, body_text, body_text_under}
 
 -- the chain of tests
 guard : {A : Type 0} (b : Bool) (x y z : A) → cond b x y ≡ z → ((b ≡ true) × (x ≡ z)) ⊎ ((b ≡ false) × (y ≡ z))
@@ -34,7 +34,7 @@ last_written t b text h =
 
 -- the body that the core writes is the canonical one
 pub body_written : (t : ℕ) (b text : List ℕ) → body_text t b ≡ Ok text → written_body text t b ≡ text
-unfolding body_text
+unfolding body_text_under
 body_written t b text h =
     elim (guard (eqb t 1) _ _ _ h) [
       | inl k ↦ rw k.0 (let f = k.1 in cc)

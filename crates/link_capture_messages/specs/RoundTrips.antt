@@ -4,7 +4,7 @@ use Rattle.std.specs.Prelude.{◌||◌, false, true, is_ok, nat_eq, nat_lt}
 use Rattle.std.proofs.lemmas.Bool.{and_from, lt-ltb}
 use Rattle.std.proofs.lemmas.Bool.Decides.{nat_tests}
 use Rattle.netlink_packet_core.specs.TypedBodies.{IsInner}
-use Rattle.link_capture_grammar.specs.Bodies.{is_link_type, body_text}
+use Rattle.link_capture_grammar.specs.Bodies.{is_link_type, body_text, body_text_under}
 use Rattle.link_capture_messages.specs.declared.route.RouteLink.{RouteLink}
 use Rattle.link_capture_messages.specs.KeptTypes.{IsKeptType}
 use Rattle.link_capture_messages.specs.Routes.{route_entry, route_may_want_memory, typed_text, reads_route}
@@ -23,7 +23,7 @@ not_listed t k =
 
 -- a body of another type is kept
 pub other_text : (t : ℕ) (b : List ℕ) → IsKeptType t → body_text t b ≡ Ok b
-unfolding body_text
+unfolding body_text_under
 other_text t b k = let n = not_listed t k in rw (n.noop, n.error, n.done, n.link) refl
 
 with_bytes : (a b : Bool) → b ≡ true → (a || b) ≡ true
@@ -35,7 +35,7 @@ pub other_wants : (t : ℕ) (b : List ℕ) → IsKeptType t → 0 < length b →
 other_wants t b k l = and_from (is_ok (body_text t b)) _ (ap is_ok (other_text t b k)) (with_bytes (is_link_type t) (nat_lt 0 (length b)) (lt-ltb 0 (length b) l))
 
 pub round_trip : (x : RouteLink) → reads_route (route_entry x).0 (route_entry x).1 ≡ Some (route_entry x)
-unfolding body_text
+unfolding body_text_under
 round_trip (RouteLink.NewLink link) = ap (typed_text 16) link.readable.text
 round_trip (RouteLink.DelLink link) = ap (typed_text 17) link.readable.text
 round_trip (RouteLink.GetLink link) = ap (typed_text 18) link.readable.text

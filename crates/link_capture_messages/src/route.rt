@@ -86,7 +86,7 @@ impl NetlinkDeserializable for RouteLink {
 
     ghost tells = { route_tells };
 
-    #[tactic(auto, using(crate::proofs::Others::others), unfolding(link_capture_grammar::specs::Bodies::body_text))]
+    #[tactic(auto, using(crate::proofs::Others::others), unfolding(link_capture_grammar::specs::Bodies::body_text_under))]
     fn deserialize(
         alloc: Global,
         header: &NetlinkHeader,

@@ -2,6 +2,7 @@
 use Rattle.std.proofs.Common.{◌≡◌, ◌≢◌, ℕ, ◌+◌, ◌-◌, ◌<◌, ◌≤◌, ◌⊎◌, inl, inr, Ok, Err, List, ◌++◌, length, take, drop, max, sym, ap, ◌∙◌, arith, length-append, append_assoc}
 use Rattle.std.proofs.lemmas.List.{length-drop, drop-drop, take-append-drop}
 use Rattle.std.proofs.Math.Seq.{take-add, drop-append-add}
+use Rattle.link_capture_grammar.specs.Body.{link_body}
 use Rattle.link_capture_grammar.specs.declared.fault.FaultKind.TheVariants.{Cut}
 use Rattle.netlink_packet_core_grammar.specs.Attributes.{nla_align}
 use Rattle.netlink_packet_core_grammar.specs.Numbers.{u32_at}
@@ -15,7 +16,7 @@ two_steps old piece one two m n e f =
     f ∙ ap (λ x. x ++ take n (drop m piece)) e ∙ append_assoc old (take m piece) (take n (drop m piece)) ∙ ap (λ x. old ++ x) (sym (take-add m n piece))
 
 -- A cut frame of 16 bytes or more, to which a fill nla_align to 16 adds none, tells a length within the limit that it does not reach.
-pub header_exact : NumbersStandAlone → FramesStandAlone → (limit : ℕ) (old new : List ℕ) → first_frame limit old ≡ Err Cut → length new ≤ max 16 (length old) → (more : List ℕ) → new ≡ old ++ more → (length new ≤ 16) ⊎ ((u32_at 0 new ≡ u32_at 0 old) × (16 ≤ u32_at 0 old) × (u32_at 0 old ≤ limit) × (length new < u32_at 0 old))
+pub header_exact : NumbersStandAlone → FramesStandAlone link_body → (limit : ℕ) (old new : List ℕ) → first_frame limit old ≡ Err Cut → length new ≤ max 16 (length old) → (more : List ℕ) → new ≡ old ++ more → (length new ≤ 16) ⊎ ((u32_at 0 new ≡ u32_at 0 old) × (16 ≤ u32_at 0 old) × (u32_at 0 old ≤ limit) × (length new < u32_at 0 old))
 header_exact numbers frames limit old new h le more e =
     elim (frames.cut limit old h) [
       | inl a ↦ inl (omega arith)
@@ -25,7 +26,7 @@ header_exact numbers frames limit old new h le more e =
     ]
 
 -- a frame whose length is known, and is there, isn't cut
-pub not_cut_short : FramesStandAlone → (limit : ℕ) (c : List ℕ) → 16 ≤ length c → (u32_at 0 c < 16) ⊎ (limit < u32_at 0 c) ⊎ (u32_at 0 c ≤ length c) → first_frame limit c ≢ Err Cut
+pub not_cut_short : FramesStandAlone link_body → (limit : ℕ) (c : List ℕ) → 16 ≤ length c → (u32_at 0 c < 16) ⊎ (limit < u32_at 0 c) ⊎ (u32_at 0 c ≤ length c) → first_frame limit c ≢ Err Cut
 not_cut_short frames limit c h w e =
     elim (frames.cut limit c e) [
       | inl a ↦ omega arith
@@ -47,7 +48,7 @@ pub record Completed (limit : ℕ) (old piece new : List ℕ) (m claimed : ℕ) 
   pub total : length (old ++ piece) ≡ claimed + (length piece - m)
   pub left : drop (nla_align claimed) (old ++ piece) ≡ drop (m + (nla_align claimed - claimed)) piece
 
-pub completed : FramesStandAlone → (limit : ℕ) (old piece new : List ℕ) (m claimed : ℕ) (text : List ℕ) → new ≡ old ++ take m piece → m ≤ length piece → length new ≤ max 16 (u32_at 0 new) → first_frame limit new ≡ Ok (claimed, text) → Completed limit old piece new m claimed text
+pub completed : FramesStandAlone link_body → (limit : ℕ) (old piece new : List ℕ) (m claimed : ℕ) (text : List ℕ) → new ≡ old ++ take m piece → m ≤ length piece → length new ≤ max 16 (u32_at 0 new) → first_frame limit new ≡ Ok (claimed, text) → Completed limit old piece new m claimed text
 completed frames limit old piece new m claimed text e l x h =
     let a = frames.accepted limit new (claimed, text) h in
     let w = whole old piece new m e in

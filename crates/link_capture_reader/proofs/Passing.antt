@@ -2,22 +2,23 @@
 use Rattle.std.proofs.Common.{◌≡◌, ℕ, ◌+◌, ◌%◌, ◌<◌, ◌≤◌, Option, None, Some, Ok, Err, List, [], ◌++◌, length, take, drop, sym, ap, subst, ◌∙◌, refl, arith, append_assoc}
 use Rattle.std.proofs.lemmas.List.{length-take, length-drop, append-nil, drop_at, drop-drop, take_all, take-append-drop}
 use Rattle.std.proofs.Math.Seq.{take-add}
+use Rattle.link_capture_grammar.specs.Body.{link_body}
 use Rattle.link_capture_grammar.specs.declared.fault.CaptureFault.{CaptureFault}
 use Rattle.link_capture_grammar.specs.declared.fault.FaultKind.{FaultKind}
 use Rattle.link_capture_grammar.specs.declared.fault.FaultKind.TheVariants.{Cut}
 use Rattle.netlink_packet_core_grammar.specs.Attributes.{nla_align}
-use Rattle.link_capture_grammar.specs.Captures.{first_frame, first_fault, fault_after, texts, texts_after, raised, reach, reach_by, IsLegal, StopsAt}
+use Rattle.link_capture_grammar.specs.Captures.{first_frame, first_fault, fault_after_under, texts, texts_after_under, raised, reach, reach_by, IsLegal, StopsAt}
 use Rattle.link_capture_grammar.specs.Laws.{CapturesGoByFrames}
 use Rattle.link_capture_reader.specs.Readers.{Resumes}
 use Rattle.link_capture_reader.specs.Walks.{Goes, Faults, Lacks, Passed}
 
 -- nothing has no fault and no texts
 pub fault_nil : (limit : ℕ) → first_fault limit [] ≡ None
-unfolding fault_after
+unfolding fault_after_under
 fault_nil limit = refl
 
 pub texts_nil : (limit : ℕ) → texts limit [] ≡ []
-unfolding texts_after
+unfolding texts_after_under
 texts_nil limit = refl
 
 raised_add : (a b n : ℕ) (f : Option CaptureFault) → a + b ≡ n → raised a (raised b f) ≡ raised n f
@@ -43,7 +44,7 @@ left_resumes : (c : List ℕ) (m : ℕ) (kept : List ℕ) (owed : ℕ) (f : Opti
 left_resumes c m kept owed None l h r = (r.0, r.1 ∙ (let n = length-drop m c in omega (arith, n)))
 left_resumes c m kept owed (Some fault) l h r = (r.0, r.1 ∙ drop-drop fault.offset m c, r.2)
 
-module _ (go : CapturesGoByFrames) where
+module _ (go : CapturesGoByFrames link_body) where
   -- what follows legal frames is judged and written by itself
   legal_reach : (limit : ℕ) (a : List ℕ) → IsLegal limit a → length a % 4 ≡ 0 → reach limit a ≡ length a
   legal_reach limit a h m = ap (reach_by (length a)) h ∙ omega arith

@@ -3,10 +3,11 @@ use Rattle.std.proofs.Common.{◌≡◌, ◌≢◌, ℕ, ◌+◌, ◌-◌, ◌^�
 use Rattle.std.proofs.lemmas.List.{length-drop, append-nil, drop_all, drop-append-le, nil_from_length}
 use Rattle.std.proofs.Math.Seq.{drop-append-add}
 use Rattle.netlink_packet_core_grammar.specs.Attributes.{nla_align}
+use Rattle.link_capture_grammar.specs.Body.{link_body}
 use Rattle.link_capture_grammar.specs.declared.fault.CaptureFault.{CaptureFault}
 use Rattle.link_capture_grammar.specs.declared.fault.FaultKind.{FaultKind}
 use Rattle.link_capture_grammar.specs.declared.fault.FaultKind.TheVariants.{Cut, ShortLength, OverLimit, Refused, EmptyPorts, Unfit, TextOverLimit, Memory, Read, Write, TooLong, Failed}
-use Rattle.link_capture_grammar.specs.Captures.{first_frame, first_fault, texts, raised, reach, reach_by, StopsAt, IsOfFrames}
+use Rattle.link_capture_grammar.specs.Captures.{first_frame, first_frame_under, first_fault, texts, raised, reach, reach_by, StopsAt, IsOfFrames}
 use Rattle.link_capture_grammar.specs.Laws.{FramesStandAlone, CapturesGoByFrames, FaultsStand}
 use Rattle.link_capture_reader.proofs.Passing.{fault_nil, texts_nil, left_fault, left_stop_texts, then_resumes, then_stop, resume_passed, resume_texts}
 use Rattle.link_capture_reader.specs.Readers.{IsReader, StandsFor, Resumes, Gains, FeedFault}
@@ -14,7 +15,7 @@ use Rattle.link_capture_reader.specs.Walks.{Goes, Faults, Lacks, Passed}
 
 -- no frame is there where no bytes are
 cut_nil : (limit : ℕ) → first_frame limit [] ≡ Err Cut
-unfolding first_frame
+unfolding first_frame_under
 cut_nil limit = refl
 
 -- a string is legal, or has a first fault
@@ -30,7 +31,7 @@ pub new_stands : (limit : ℕ) → StandsFor (record { limit = limit; accepted =
 new_stands limit = record { going = refl; accepted = refl; rest = subst (λ f. Resumes f [] [] 0) (sym (fault_nil limit)) (refl, refl) }
 
 -- a piece of padding alone
-module _ (go : CapturesGoByFrames) where
+module _ (go : CapturesGoByFrames link_body) where
   pub padding_resumes : (limit : ℕ) (s p kept : List ℕ) (owed : ℕ) → length p ≤ owed → Resumes (first_fault limit s) s kept owed → Resumes (first_fault limit (s ++ p)) (s ++ p) kept (owed - length p)
   padding_resumes limit s p kept owed l r =
       elim (judged (first_fault limit s)) [
@@ -71,7 +72,7 @@ pub record Resumed (limit : ℕ) (s p kept : List ℕ) (owed start : ℕ) : Type
   pub left : kept ++ drop owed p ≡ drop (reach limit s) (s ++ p)
   pub passed : Passed limit (s ++ p) (reach limit s)
 
-pub resumed : CapturesGoByFrames → FaultsStand → (limit : ℕ) (s p kept : List ℕ) (owed start : ℕ) → owed < length p → Resumes (first_fault limit s) s kept owed → start + length kept ≡ length s + owed → Resumed limit s p kept owed start
+pub resumed : CapturesGoByFrames link_body → FaultsStand link_body → (limit : ℕ) (s p kept : List ℕ) (owed start : ℕ) → owed < length p → Resumes (first_fault limit s) s kept owed → start + length kept ≡ length s + owed → Resumed limit s p kept owed start
 resumed go stand limit s p kept owed start l r e =
     let n = length-append s p in
     elim (judged (first_fault limit s)) [
@@ -97,10 +98,10 @@ resumed go stand limit s p kept owed start l r e =
           }
     ]
 
-gained : CapturesGoByFrames → (limit : ℕ) (s p kept : List ℕ) (owed start : ℕ) → Resumed limit s p kept owed start → texts limit (s ++ p) ≡ texts limit s ++ texts limit (kept ++ drop owed p)
+gained : CapturesGoByFrames link_body → (limit : ℕ) (s p kept : List ℕ) (owed start : ℕ) → Resumed limit s p kept owed start → texts limit (s ++ p) ≡ texts limit s ++ texts limit (kept ++ drop owed p)
 gained go limit s p kept owed start w = go.rest_texts limit s p ∙ ap (λ x. texts limit s ++ texts limit x) (sym w.left)
 
-pub goes_on : CapturesGoByFrames → (limit : ℕ) (s p kept : List ℕ) (owed start : ℕ) (old new more : List ℕ) (then : ℕ) → Resumed limit s p kept owed start → Goes limit (kept ++ drop owed p) old new more then → Resumes (first_fault limit (s ++ p)) (s ++ p) more then × Gains limit s (s ++ p) old new
+pub goes_on : CapturesGoByFrames link_body → (limit : ℕ) (s p kept : List ℕ) (owed start : ℕ) (old new more : List ℕ) (then : ℕ) → Resumed limit s p kept owed start → Goes limit (kept ++ drop owed p) old new more then → Resumes (first_fault limit (s ++ p)) (s ++ p) more then × Gains limit s (s ++ p) old new
 goes_on go limit s p kept owed start old new more then w h = (
   then_resumes go limit (s ++ p) (reach limit s) (kept ++ drop owed p) more then w.passed w.left h.0,
   (texts limit (kept ++ drop owed p), gained go limit s p kept owed start w, h.1),
@@ -138,7 +139,7 @@ is_memory Write = inr (λ e. cc)
 is_memory TooLong = inr (λ e. cc)
 is_memory Failed = inr (λ e. cc)
 
-pub faults_on : CapturesGoByFrames → FaultsStand → (limit : ℕ) (s p kept : List ℕ) (owed start : ℕ) (old new : List ℕ) (fault : CaptureFault) → length s + length p < 2 ^ 64 → Resumed limit s p kept owed start → Faults limit start (kept ++ drop owed p) old new fault → Lacks limit start (kept ++ drop owed p) old new fault → FeedFault limit s p old new fault.kind fault.offset
+pub faults_on : CapturesGoByFrames link_body → FaultsStand link_body → (limit : ℕ) (s p kept : List ℕ) (owed start : ℕ) (old new : List ℕ) (fault : CaptureFault) → length s + length p < 2 ^ 64 → Resumed limit s p kept owed start → Faults limit start (kept ++ drop owed p) old new fault → Lacks limit start (kept ++ drop owed p) old new fault → FeedFault limit s p old new fault.kind fault.offset
 faults_on go stand limit s p kept owed start old new fault l w h k =
     let d = kept ++ drop owed p in
     elim (is_memory fault.kind) [
@@ -160,7 +161,7 @@ faults_on go stand limit s p kept owed start old new fault l w h k =
     ]
 
 -- what a string resumes at makes a reader
-pub resumes_reader : CapturesGoByFrames → FramesStandAlone → (limit accepted : ℕ) (c kept : List ℕ) (owed : ℕ) → 16 ≤ limit → length c ≤ accepted → Resumes (first_fault limit c) c kept owed → IsReader (record { limit = limit; accepted = accepted; kept = kept; owed = owed; failed = None })
+pub resumes_reader : CapturesGoByFrames link_body → FramesStandAlone link_body → (limit accepted : ℕ) (c kept : List ℕ) (owed : ℕ) → 16 ≤ limit → length c ≤ accepted → Resumes (first_fault limit c) c kept owed → IsReader (record { limit = limit; accepted = accepted; kept = kept; owed = owed; failed = None })
 resumes_reader go alone limit accepted c kept owed h l r =
     elim (judged (first_fault limit c)) [
       | inl w ↦
@@ -200,7 +201,7 @@ pub failed_reader : (limit accepted offset : ℕ) → 16 ≤ limit → IsReader 
 failed_reader limit accepted offset h = record { limit = h; cut = cut_nil limit; small = omega arith; inside = omega arith; owed = inl refl; padding = omega arith; failed = refl }
 
 -- no frame is cut where no bytes of it are there
-pub nothing_cut : FaultsStand → (limit : ℕ) (s : List ℕ) (owed : ℕ) → Resumes (first_fault limit s) s [] owed → first_fault limit s ≡ None
+pub nothing_cut : FaultsStand link_body → (limit : ℕ) (s : List ℕ) (owed : ℕ) → Resumes (first_fault limit s) s [] owed → first_fault limit s ≡ None
 nothing_cut stand limit s owed r =
     elim (judged (first_fault limit s)) [
       | inl w ↦ w

@@ -3,7 +3,7 @@ use Rattle.std.proofs.Common.{◌≡◌, ◌≢◌, ℕ, ◌%◌, ◌<◌, Some,
 use Rattle.std.proofs.lemmas.List.{append-nil}
 use Rattle.link_capture_grammar.specs.declared.fault.CaptureFault.{CaptureFault}
 use Rattle.link_capture_grammar.specs.declared.fault.FaultKind.TheVariants.{Memory}
-use Rattle.link_capture_grammar.specs.Captures.{first_fault, texts, fault_after, IsLegal, StopsAt}
+use Rattle.link_capture_grammar.specs.Captures.{first_fault, texts, fault_after_under, IsLegal, StopsAt}
 use Rattle.link_lines_texts.specs.Captures.{text_lines, lines}
 use Rattle.link_lines_texts.specs.Laws.{LinesAreJoined}
 use Rattle.link_lines.proofs.Joined.{texts_nil, lines_nil}
@@ -37,7 +37,7 @@ some_bytes (Ok x) limit (b ∷ c) slice start items h p e s l = omega arith
 some_bytes (Err fault) limit c slice start items h p e s l = omega (arith, p.0)
 
 legal_nil : (limit : ℕ) → IsLegal limit []
-unfolding fault_after
+unfolding fault_after_under
 legal_nil limit = refl
 
 -- no memory for the lines: nothing is shown, and what stands before the first frame is nothing

@@ -1,7 +1,7 @@
 -- Lines of texts that go on.
 use Rattle.std.proofs.Common.{◌≡◌, ℕ, ◌^◌, ◌<◌, List, [], ◌∷◌, ◌++◌, length, Result, Ok, Err, OnOk, OnErr, is_err, true, false, refl, sym, ap, ◌∙◌, arith, length-append}
 use Rattle.std.proofs.lemmas.List.{append-nil}
-use Rattle.link_capture_grammar.specs.Captures.{texts, texts_after}
+use Rattle.link_capture_grammar.specs.Captures.{texts, texts_after_under}
 use Rattle.link_capture_reader.specs.Readers.{Gains}
 use Rattle.link_capture_engine.specs.Outcomes.{IsPrefix}
 use Rattle.link_lines_texts.specs.Captures.{text_lines, lines}
@@ -18,7 +18,7 @@ on_err (Err x) P e h = h
 
 -- nothing has no texts
 pub texts_nil : (limit : ℕ) → texts limit [] ≡ []
-unfolding texts_after
+unfolding texts_after_under
 texts_nil limit = refl
 
 nothing_twice : (x : List ℕ) → x ≡ x ++ x → x ≡ []

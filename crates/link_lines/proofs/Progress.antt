@@ -4,6 +4,7 @@ use Rattle.std.proofs.lemmas.List.{take_at, append-nil, take-append-drop, length
 use Rattle.std.proofs.lemmas.Bool.{ne_eqb}
 use Rattle.std.specs.Io.KnownBytes.{Appends, Consumes}
 use Rattle.std.proofs.KnownBytes.{Appends-nil, Appends-trans, Consumes-nil, Consumes-trans}
+use Rattle.link_capture_grammar.specs.Body.{link_body}
 use Rattle.link_capture_grammar.specs.declared.fault.CaptureFault.{CaptureFault}
 use Rattle.link_capture_grammar.specs.declared.fault.FaultKind.{FaultKind}
 use Rattle.link_capture_grammar.specs.declared.fault.FaultKind.TheVariants.{Cut, ShortLength, OverLimit, Refused, EmptyPorts, Unfit, TextOverLimit, Memory, Read, Write, TooLong, Failed}
@@ -75,7 +76,7 @@ reaches_all limit s p out g = record {
   begins = ([], sym (append-nil (texts limit (s ++ p))));
 }
 
-reaches : PrefixTexts → (limit : ℕ) (s p out : List ℕ) (kind : FaultKind) (at : ℕ) → FeedFault limit s p [] out kind at → Reaches limit s p out
+reaches : PrefixTexts link_body → (limit : ℕ) (s p out : List ℕ) (kind : FaultKind) (at : ℕ) → FeedFault limit s p [] out kind at → Reaches limit s p out
 reaches stay limit s p out Cut at h = absurd h
 reaches stay limit s p out ShortLength at h = reaches_all limit s p out h.2
 reaches stay limit s p out OverLimit at h = reaches_all limit s p out h.2
@@ -102,7 +103,7 @@ lines_reach : LinesAreJoined → (limit : ℕ) (s p out : List ℕ) → limit < 
 lines_reach joined limit s p out b r =
     subst (λ x. IsPrefix x (lines limit (s ++ p))) (lines_go_on joined limit s r.front out b r.is) (lines_begin joined limit r.front (s ++ p) b r.begins)
 
-pub fed_lines : PrefixTexts → LinesAreJoined → (limit : ℕ) (reader then : ReaderState) (s p old out : List ℕ) (r : Result (Unit {0}) CaptureFault) → limit < 2 ^ 32 → reader.limit ≡ limit → old ≡ [] → StandsFor reader s → OnOk r (FeedOk reader then p old out) → IfErr r (FeedErr reader p old out) → IsPrefix (lines limit s ++ text_lines out) (lines limit (s ++ p))
+pub fed_lines : PrefixTexts link_body → LinesAreJoined → (limit : ℕ) (reader then : ReaderState) (s p old out : List ℕ) (r : Result (Unit {0}) CaptureFault) → limit < 2 ^ 32 → reader.limit ≡ limit → old ≡ [] → StandsFor reader s → OnOk r (FeedOk reader then p old out) → IfErr r (FeedErr reader p old out) → IsPrefix (lines limit s ++ text_lines out) (lines limit (s ++ p))
 fed_lines stay joined limit reader then s p old out (Ok x) b l e h good bad =
     lines_reach joined limit s p out b
     (subst (λ n. Reaches n s p out) l (reaches_all reader.limit s p out (subst (λ o. Gains reader.limit s (s ++ p) o out) e (good s h).2)))

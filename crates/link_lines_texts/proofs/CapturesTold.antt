@@ -12,8 +12,8 @@ use Rattle.attribute_tables_grammar.specs.Rules.{Rule, Lawful}
 use Rattle.link_message_grammar.specs.Body.{link_body}
 use Rattle.link_message_grammar.specs.Laws.{BodiesAreLawful}
 use Rattle.link_capture_grammar.specs.declared.fault.FaultKind.{FaultKind}
-use Rattle.link_capture_grammar.specs.Bodies.{Refusal, refused, empty_ports, unfit, error_text, done_text, ruled_text, body_text, is_link_type}
-use Rattle.link_capture_grammar.specs.Captures.{Judged, first_frame, next_texts, texts_after, texts}
+use Rattle.link_capture_grammar.specs.Bodies.{Refusal, refused, empty_ports, unfit, error_text, done_text, ruled_text, body_text, body_text_under, is_link_type}
+use Rattle.link_capture_grammar.specs.Captures.{Judged, first_frame, next_texts, texts_after, texts_after_under, texts}
 use Rattle.link_capture_grammar.specs.Laws.{FramesAreJudged, FramesStandAlone, CapturesAreCounted, BodiesAreNormal, TextsTellMeanings}
 use Rattle.link_lines_values.specs.Flags.{named_flags}
 use Rattle.link_lines_texts.specs.Frames.{labelled, flag_set, type_text, header_line, body_lines, frame_lines}
@@ -59,7 +59,7 @@ typed_bytes l b text false false false true h e =
 typed_bytes l b text false false false false h e = kept_bytes b text h e
 
 body_bytes : Lawful link_body → (t : ℕ) (b text : List ℕ) → AreBytes b → body_text t b ≡ Ok text → AreBytes text
-unfolding body_text
+unfolding body_text_under
 body_bytes l t b text h e = typed_bytes l b text (nat_eq t 1) (nat_eq t 2) (nat_eq t 3) (is_link_type t) h e
 
 link_lawful : BodiesAreLawful → BytesAreLawful → Lawful link_body
@@ -169,11 +169,11 @@ record Front (limit : ℕ) (s : List ℕ) : Type 0 where
   pub bytes : AreBytes after
 
 stopped_texts : (limit : ℕ) (s : List ℕ) (kind : FaultKind) → first_frame limit s ≡ Err kind → texts limit s ≡ []
-unfolding texts_after
+unfolding texts_after_under
 stopped_texts limit [] kind e = refl
 stopped_texts limit (b ∷ s) kind e = ap (λ j. next_texts j (λ skip. texts_after limit skip s)) e
 
-module _ (judged : FramesAreJudged) (counted : CapturesAreCounted) (alone : FramesStandAlone) (normal : BodiesAreNormal) (lawful : Lawful link_body) where
+module _ (judged : FramesAreJudged link_body) (counted : CapturesAreCounted link_body) (alone : FramesStandAlone link_body) (normal : BodiesAreNormal link_body) (lawful : Lawful link_body) where
   own_is : (c body : List ℕ) → 16 ≤ length c → AreBytes c → body_text (frame_type c) (frame_body c) ≡ Ok body → IsOwnFrame (own_frame c body)
   own_is c body h p o =
       let size = own_size c body h in
@@ -259,11 +259,11 @@ module _ (judged : FramesAreJudged) (counted : CapturesAreCounted) (alone : Fram
     told_within zero s t h p q e = absurd (omega (arith, h))
     told_within (suc n) s t h p q e = from_front n s t (told_within n) h (first_of limit s l p) (first_of limit t l q) e
 
-pub captures_told : FramesAreTold → FramesAreJudged → CapturesAreCounted → FramesStandAlone → BodiesAreNormal → BodiesAreLawful → BytesAreLawful → LinesTellTexts
+pub captures_told : FramesAreTold → FramesAreJudged link_body → CapturesAreCounted link_body → FramesStandAlone link_body → BodiesAreNormal link_body → BodiesAreLawful → BytesAreLawful → LinesTellTexts
 captures_told tell judged counted alone normal lawful peers limit s t l p q =
     (told_within judged counted alone normal (link_lawful lawful peers) tell limit l (suc (length s)) s t (omega arith) p q, λ e. ap (λ z. text_lines z) e)
 
-pub meanings_told : LinesTellTexts → TextsTellMeanings → LinesTellMeanings
+pub meanings_told : LinesTellTexts → TextsTellMeanings link_body → LinesTellMeanings
 meanings_told lines meanings limit a b l p q x y =
     let told = lines limit a b l p q in
     (λ e. meanings.one_meaning limit a b l x y (told.0 e), λ s. told.1 (meanings.one_text limit a b s))

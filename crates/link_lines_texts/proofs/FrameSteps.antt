@@ -7,9 +7,10 @@ use Rattle.std.proofs.lemmas.Nat.{from_le_bytes-to_le_bytes_4}
 use Rattle.netlink_packet_core_grammar.specs.Attributes.{nla_align, zeros}
 use Rattle.netlink_packet_core_grammar.specs.Frames.{frame_length, frame_type, frame_body, frame_text}
 use Rattle.netlink_packet_core_grammar.specs.Numbers.{u32_at, le4}
+use Rattle.link_message_grammar.specs.Body.{link_body}
 use Rattle.link_capture_grammar.specs.declared.fault.FaultKind.TheVariants.{Cut, ShortLength, OverLimit, TextOverLimit}
 use Rattle.link_capture_grammar.specs.Bodies.{Refusal, body_text}
-use Rattle.link_capture_grammar.specs.Captures.{Judged, judged_text, first_frame, next_texts, texts_after}
+use Rattle.link_capture_grammar.specs.Captures.{Judged, judged_text, first_frame, first_frame_under, next_texts, texts_after, texts_after_under}
 use Rattle.link_capture_grammar.specs.Laws.{FramesAreJudged}
 use Rattle.link_lines_texts.specs.Frames.{frame_lines}
 use Rattle.link_lines_texts.specs.Captures.{is_frame, lines_after, text_lines}
@@ -70,7 +71,7 @@ told_length c body r h =
 true_and : (a b : Bool) → a ≡ true → b ≡ true → (a && b) ≡ true
 true_and a b h k = ap (λ z. z && b) h ∙ k
 
-pub in_front : FramesAreJudged → (c body r : List ℕ) → 16 ≤ length c → 16 + length body < 2 ^ 32 → text_lines (frame_text c body ++ r) ≡ frame_lines (take (16 + length body) (frame_text c body)) ++ text_lines r
+pub in_front : FramesAreJudged link_body → (c body r : List ℕ) → 16 ≤ length c → 16 + length body < 2 ^ 32 → text_lines (frame_text c body ++ r) ≡ frame_lines (take (16 + length body) (frame_text c body)) ++ text_lines r
 in_front j c body r h b =
     let n = 16 + length body in
     let t = frame_text c body in
@@ -113,7 +114,7 @@ tested_is false false false true j frame h = absurd cc
 tested_is false false false false j frame h = (refl, h)
 
 pub accepted_is : (limit : ℕ) (c : List ℕ) (frame : ℕ × List ℕ) → first_frame limit c ≡ Ok frame → IsText limit c frame.1
-unfolding first_frame
+unfolding first_frame_under
 accepted_is limit c frame h =
     let o = body_text (frame_type c) (frame_body c) in
     let p = tested_is (nat_lt (length c) 16) (nat_lt (frame_length c) 16) (nat_lt limit (frame_length c)) (nat_lt (length c) (frame_length c)) (judged_text limit c o) frame h in
@@ -122,12 +123,12 @@ accepted_is limit c frame h =
 
 -- ---- texts in front of other bytes
 
-frame_first : FramesAreJudged → (limit : ℕ) (c : List ℕ) (text : List ℕ) → limit < 2 ^ 32 → IsText limit c text → (own : List ℕ) × ((r : List ℕ) → text_lines (text ++ r) ≡ own ++ text_lines r)
+frame_first : FramesAreJudged link_body → (limit : ℕ) (c : List ℕ) (text : List ℕ) → limit < 2 ^ 32 → IsText limit c text → (own : List ℕ) × ((r : List ℕ) → text_lines (text ++ r) ≡ own ++ text_lines r)
 frame_first j limit c text l i =
     let s = i.small in
     (frame_lines (take (16 + length i.body) (frame_text c i.body)), λ r. ap (λ z. text_lines (z ++ r)) i.is ∙ in_front j c i.body r i.header (omega (arith, s, l)))
 
-module _ (j : FramesAreJudged) (limit : ℕ) (l : limit < 2 ^ 32) where
+module _ (j : FramesAreJudged link_body) (limit : ℕ) (l : limit < 2 ^ 32) where
   next_joined : (c : List ℕ) (judged : Judged) (after : ℕ → List ℕ) (t : List ℕ) → first_frame limit c ≡ judged → ((k : ℕ) → text_lines (after k ++ t) ≡ text_lines (after k) ++ text_lines t) → text_lines (next_texts judged after ++ t) ≡ text_lines (next_texts judged after) ++ text_lines t
   unfolding text_lines lines_after
   next_joined c (Err kind) after t h i = refl
@@ -138,10 +139,10 @@ module _ (j : FramesAreJudged) (limit : ℕ) (l : limit < 2 ^ 32) where
       ∙ sym (append_assoc f.0 (text_lines more) (text_lines t)) ∙ sym (ap (λ z. z ++ text_lines t) (f.1 more))
 
   joined_after : (s : List ℕ) (skip : ℕ) (t : List ℕ) → text_lines (texts_after limit skip s ++ t) ≡ text_lines (texts_after limit skip s) ++ text_lines t
-  unfolding texts_after text_lines lines_after
+  unfolding texts_after_under text_lines lines_after
   joined_after [] skip t = refl
   joined_after (b ∷ s) (suc skip) t = joined_after s skip t
   joined_after (b ∷ s) zero t = next_joined (b ∷ s) (first_frame limit (b ∷ s)) (λ skip. texts_after limit skip s) t refl (λ k. joined_after s k t)
 
-pub joined : FramesAreJudged → LinesAreJoined
+pub joined : FramesAreJudged link_body → LinesAreJoined
 joined j limit s t l = joined_after j limit l s 0 t

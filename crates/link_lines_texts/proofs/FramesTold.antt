@@ -9,7 +9,7 @@ use Rattle.netlink_packet_core_grammar.specs.Numbers.{u16_at}
 use Rattle.link_message_grammar.specs.Body.{attributes_rule, header_text, layer_type_text, is_listed, link_body, family}
 use Rattle.link_message_grammar.specs.LinkMessage.{family_of}
 use Rattle.link_message_grammar.specs.Laws.{BodiesAreHeadersAndAttributes}
-use Rattle.link_capture_grammar.specs.Bodies.{error_text, done_text, refused, empty_ports, unfit, is_link_type, body_text, ruled_text}
+use Rattle.link_capture_grammar.specs.Bodies.{error_text, done_text, refused, empty_ports, unfit, is_link_type, body_text, body_text_under, ruled_text}
 use Rattle.link_lines_values.specs.declared.values.Shown.TheVariants.{Signed, Bytes}
 use Rattle.link_lines_values.specs.Bytes.{bytes_text}
 use Rattle.link_lines_values.specs.Values.{value_text}
@@ -153,7 +153,7 @@ BodiesOfTypeAreTold n = (p q s t : List ℕ) → AreBytes p → AreBytes q → b
     body_lines n p ++ s ≡ body_lines n q ++ t → (p ≡ q) × (s ≡ t)
 
 noop_is : (p : List ℕ) → body_text 1 p ≡ Ok p → [] ≡ p
-unfolding body_text
+unfolding body_text_under
 noop_is p h = cc
 
 some_is_none : {x : ℕ} {p : List ℕ} → [] ≡ x ∷ p → ⊥
@@ -170,7 +170,7 @@ code_by true p q h = absurd cc
 code_by false p q h = refl
 
 error_size : (p : List ℕ) → body_text 2 p ≡ Ok p → 4 ≤ length p
-unfolding body_text
+unfolding body_text_under
 error_size p h = let l = ltb-false (length p) 4 (code_by _ p p h) in omega (arith, l)
 
 zeros_are_some : (p : List ℕ) → 0 ∷ 0 ∷ 0 ∷ 0 ∷ [] ≡ p → length p ≡ 0 → ⊥
@@ -181,7 +181,7 @@ done_by true b p l h = let z : 0 ∷ 0 ∷ 0 ∷ 0 ∷ [] ≡ p = cc in absurd (
 done_by false b p l h = code_by b p p h
 
 done_size : (p : List ℕ) → body_text 3 p ≡ Ok p → 4 ≤ length p
-unfolding body_text
+unfolding body_text_under
 done_size p h = let l = ltb-false (length p) 4 (done_by (length p == 0) _ p (eqb-true (length p) 0) h) in omega (arith, l)
 
 errors_told : Premises → BodiesOfTypeAreTold 2
@@ -201,7 +201,7 @@ text_by n p false false true h k l = absurd cc
 
 -- a body of a type other than 1, 2 and 3
 text_is : (n : ℕ) (p : List ℕ) → (n ≡ 1 → ⊥) → (n ≡ 2 → ⊥) → (n ≡ 3 → ⊥) → body_text n p ≡ cond (is_link_type n) (ruled_text link_body p) (Ok p)
-unfolding body_text
+unfolding body_text_under
 text_is n p a b c = text_by n p (n == 1) (n == 2) (n == 3) (ne_eqb n 1 a) (ne_eqb n 2 b) (ne_eqb n 3 c)
 
 lines_by : (p : List ℕ) (l b c : Bool) → b ≡ false → c ≡ false →

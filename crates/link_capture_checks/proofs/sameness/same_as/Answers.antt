@@ -1,5 +1,6 @@
 use Rattle.std.proofs.Common.{ℕ, List, length, drop, sym, ap, subst, ◌∙◌, arith, length-drop}
 use Rattle.std.proofs.lemmas.List.{drop_all, take_rest}
+use Rattle.link_message_grammar.specs.Body.{link_body}
 use Rattle.link_capture_grammar.specs.Captures.{first_fault, raised, IsLegal}
 use Rattle.link_capture_grammar.proofs.Frames.{fault_nil}
 use Rattle.link_capture_checks.proofs.Steps.{apart, frames_differ, right_ended}
@@ -8,7 +9,7 @@ use Rattle.link_capture_checks.proofs.sameness.same_as.Goals as goal
 pub returns-then-at-right-clause-legal : goal.returns-then-at-right-clause-legal
 returns-then-at-right-clause-legal c =
     let at = c.parting-at.result.1 in
-    c.parting-at.ensures.alike.fault ∙ ap (λ x. raised at (first_fault c.args.limit x)) (drop_all at c.args.right.now c.if-at-right.true) ∙ ap (raised at) (fault_nil c.args.limit 0)
+    c.parting-at.ensures.alike.fault ∙ ap (λ x. raised at (first_fault c.args.limit x)) (drop_all at c.args.right.now c.if-at-right.true) ∙ ap (raised at) (fault_nil link_body c.args.limit 0)
 
 pub returns-then-at-right-clause-same : goal.returns-then-at-right-clause-same
 returns-then-at-right-clause-same c =

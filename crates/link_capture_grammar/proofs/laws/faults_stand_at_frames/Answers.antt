@@ -1,5 +1,5 @@
-use Rattle.link_capture_grammar.proofs.Together.{faults_stand}
+use Rattle.link_capture_grammar.proofs.EveryRule.{in_force}
 use Rattle.link_capture_grammar.proofs.laws.faults_stand_at_frames.Goals as goal
 
 pub returns : goal.returns
-returns c = faults_stand
+returns c = in_force.faults_stand_at_frames

@@ -1,5 +1,5 @@
-use Rattle.link_capture_grammar.proofs.Together.{texts_are_normal}
+use Rattle.link_capture_grammar.proofs.EveryRule.{in_force}
 use Rattle.link_capture_grammar.proofs.laws.texts_are_normal.Goals as goal
 
 pub returns : goal.returns
-returns c = texts_are_normal
+returns c = in_force.texts_are_normal

@@ -1,0 +1,59 @@
+-- The laws of captures under every lawful rule of link bodies, and so under the one in force.
+use Rattle.std.proofs.Common.{length, sym, ◌∙◌}
+use Rattle.std.specs.Prelude.{nat_le}
+use Rattle.std.proofs.lemmas.Bool.{leb-true, and_parts}
+use Rattle.attribute_tables_grammar.specs.Peers.{bytes_peer}
+use Rattle.attribute_tables_grammar.specs.Rules.{Lawful}
+use Rattle.attribute_tables_grammar.proofs.Tables.{bytes_peer_lawful}
+use Rattle.link_message_grammar.specs.Body.{link_body}
+use Rattle.link_message_grammar.proofs.Body.{body_lawful}
+use Rattle.link_message_grammar.proofs.Parts.{bodies_are_headers_and_attributes}
+use Rattle.link_capture_grammar.specs.Laws.{CaptureLaws, CapturesStandUnderEveryRule, SamenessGoesByFrames, WantsHeaders}
+use Rattle.link_capture_grammar.proofs.Frames.{joined_fault, joined_texts, fault_more}
+use Rattle.link_capture_grammar.proofs.Normal.{body_again}
+use Rattle.link_capture_grammar.proofs.Together.{texts_are_legal, texts_are_normal, joined_legal, prefix_texts, texts_are_small, faults_stand, frames_stand_alone, captures_go_by_frames}
+use Rattle.link_capture_grammar.proofs.Same.{texts_mean_the_same, same_are_legal}
+use Rattle.link_capture_grammar.proofs.Meanings.{texts_tell_meanings, bodies_tell_meanings}
+use Rattle.link_capture_grammar.proofs.Keeping.{texts_keep_frames}
+use Rattle.link_capture_grammar.proofs.Judging.{frames_are_judged}
+use Rattle.link_capture_grammar.proofs.Numbers.{captures_are_counted}
+use Rattle.link_capture_grammar.proofs.SameFrames.{sameness_goes_by_frames}
+
+pub every_rule : CapturesStandUnderEveryRule
+every_rule r lawful = record {
+  texts_are_legal = texts_are_legal r lawful;
+  texts_are_normal = texts_are_normal r lawful;
+  joined_captures_have_the_faults_of_the_second = joined_fault r;
+  joined_captures_are_legal = joined_legal r;
+  joined_captures_have_joined_texts = joined_texts r;
+  faults_of_a_prefix_stay = fault_more r;
+  texts_of_a_prefix_stay = prefix_texts r;
+  texts_are_small = texts_are_small r lawful;
+  faults_stand_at_frames = faults_stand r;
+  bodies_are_normal = body_again r lawful;
+  texts_mean_the_same = texts_mean_the_same r lawful;
+  same_captures_are_legal = same_are_legal r;
+  texts_tell_meanings = texts_tell_meanings r lawful;
+  same_bodies_have_one_text = bodies_tell_meanings r lawful;
+  texts_keep_frames = texts_keep_frames r;
+  frames_stand_alone = frames_stand_alone r;
+  captures_go_by_frames = captures_go_by_frames r;
+  frames_are_judged = frames_are_judged r;
+  captures_are_counted = captures_are_counted r lawful;
+  sameness_goes_by_frames = sameness_goes_by_frames r lawful;
+}
+
+-- ---- the rule in force
+
+link_body_lawful : Lawful link_body
+unfolding link_body
+link_body_lawful = body_lawful bytes_peer bytes_peer_lawful
+
+link_bodies_want_headers : WantsHeaders link_body
+link_bodies_want_headers b a = leb-true 16 (length b) (and_parts (nat_le 16 (length b)) _ (sym (bodies_are_headers_and_attributes b).accepted ∙ a)).0
+
+pub in_force : CaptureLaws link_body
+in_force = every_rule link_body link_body_lawful
+
+pub sameness_in_force : SamenessGoesByFrames link_body
+sameness_in_force = in_force.sameness_goes_by_frames link_bodies_want_headers

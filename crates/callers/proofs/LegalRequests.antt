@@ -14,7 +14,7 @@ use Rattle.link_info.specs.Families.{kinds, port_kinds, vxlan}
 use Rattle.link_info.specs.Lists.{nothing, Grammar, all_accepted, all_fit, some_empty_ports, rewritten, any, non_empty, not_empty, if_read, list_rule, without_context}
 use Rattle.link_info.specs.Peers.{bytes_peer}
 use Rattle.link_info.specs.Tables.{named, names_grammar, row_in, rule}
-use Rattle.link_message.specs.Body.{body_rule, is_listed, link_body}
+use Rattle.link_message.specs.Body.{body_rule, is_listed, link_body, list_rule_of}
 use Rattle.link_message.specs.LinkTables.{info, link_table, unspec}
 use Rattle.link_message.specs.LinkMessages.{link_message_text}
 use Rattle.link_message_messages.specs.declared.message.LinkMessage.{LinkMessage}
@@ -112,7 +112,7 @@ attributes cut name vni mtu utf8 short =
 -- ---- the body
 
 pub own_body : TextIsCut → (name : List ℕ) (vni mtu : ℕ) → is_utf8 name ≡ true → length name ≤ 65530 → IsOwnText link_body (vxlan_body name vni mtu)
-unfolding link_body body_rule is_listed
+unfolding list_rule_of body_rule is_listed
 own_body cut name vni mtu utf8 short =
     let t = list_text (vxlan_attributes name vni mtu) in
     let own = own_list cut (without_context (row_in bytes_peer (link_table unspec))) (vxlan_attributes name vni mtu) (attributes cut name vni mtu utf8 short) in

@@ -46,11 +46,10 @@ every_rule r lawful = record {
 -- ---- the rule in force
 
 link_body_lawful : Lawful link_body
-unfolding link_body
 link_body_lawful = body_lawful bytes_peer bytes_peer_lawful
 
 link_bodies_want_headers : WantsHeaders link_body
-link_bodies_want_headers b a = leb-true 16 (length b) (and_parts (nat_le 16 (length b)) _ (sym (bodies_are_headers_and_attributes b).accepted ∙ a)).0
+link_bodies_want_headers b a = leb-true 16 (length b) (and_parts (nat_le 16 (length b)) _ (sym (bodies_are_headers_and_attributes bytes_peer b).accepted ∙ a)).0
 
 pub in_force : CaptureLaws link_body
 in_force = every_rule link_body link_body_lawful

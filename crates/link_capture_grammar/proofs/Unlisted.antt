@@ -5,19 +5,17 @@ use Rattle.std.proofs.lemmas.Bool.{and_parts}
 use Rattle.netlink_packet_core_grammar.specs.Attributes.{Attribute, proper_kind, list_text}
 use Rattle.netlink_packet_core_grammar.specs.Frames.{frame_type, frame_body}
 use Rattle.attribute_tables_grammar.specs.Lists.{Context, nothing, Row, raw_row, Grammar, LawfulGrammar, row_of, context_after, all_accepted, rewrite, rewritten, written_kind, without_context, ListForm, any, non_empty, of_kind_one, ports, first_alone, read_as, kept, is_empty_ports, if_read, list_rule}
-use Rattle.attribute_tables_grammar.specs.LookUps.{row_of_line}
 use Rattle.attribute_tables_grammar.specs.Peers.{Peer, LawfulPeer, bytes_peer}
 use Rattle.attribute_tables_grammar.specs.Rules.{Rule}
 use Rattle.attribute_tables_grammar.specs.Tables.{grammar}
 use Rattle.attribute_tables_grammar.proofs.Attributes.{proper_kind-written}
 use Rattle.attribute_tables_grammar.proofs.Lists.{read_again}
-use Rattle.attribute_tables_grammar.proofs.LookUps.{grammar-table}
 use Rattle.attribute_tables_grammar.proofs.Named.{next_rewritten}
 use Rattle.attribute_tables_grammar.proofs.Tables.{bytes_peer_lawful, table_lawful}
-use Rattle.link_message_grammar.specs.Body.{attribute_bytes, attribute_row, body_rule, family, link_body, list_rule_of}
-use Rattle.link_message_grammar.specs.LinkMessage.{Family, link_line, link_table}
+use Rattle.link_message_grammar.specs.Body.{attribute_bytes, attribute_row, attribute_row_under, body_rule, family, list_rule_of}
+use Rattle.link_message_grammar.specs.LinkMessage.{Family, link_table}
 use Rattle.link_message_grammar.proofs.Body.{written_header}
-use Rattle.link_message_grammar.proofs.Lines.{kinds_are_looked_up}
+use Rattle.link_message_grammar.proofs.Lines.{attributes-grammar}
 use Rattle.link_message_grammar.proofs.Tables.{table_bounded}
 use Rattle.link_capture_grammar.specs.Bodies.{is_link_type}
 use Rattle.link_capture_grammar.specs.Captures.{first_frame, first_frame_under}
@@ -97,18 +95,13 @@ unlisted_again (suc depth) form g bytes e lawful a w =
 -- ---- of frames
 
 module _ (p : Peer) (lawful : LawfulPeer p) where
-  abbrev row : Family → ℕ → Row
-  row f k = row_of_line p (link_line f k)
-
-  rows_are : (f : Family) → grammar p (link_table f) ≡ without_context (row f)
-  rows_are f = grammar-table p (link_table f) ∙ ap without_context (λ i k. row_of_line p (kinds_are_looked_up f k i))
-
-  attributes_again : (f : Family) (b : List ℕ) (depth : ℕ) (e : Attribute) → (list_rule_of p f).accepted b ≡ true → HoldsUnlisted depth any (without_context (row f)) b e → HoldsUnlisted depth any (without_context (row f)) ((list_rule_of p f).canonical b) e
+  attributes_again : (f : Family) (b : List ℕ) (depth : ℕ) (e : Attribute) → (list_rule_of p f).accepted b ≡ true → HoldsUnlisted depth any (without_context (attribute_row_under p f)) b e → HoldsUnlisted depth any (without_context (attribute_row_under p f)) ((list_rule_of p f).canonical b) e
+  unfolding list_rule_of
   attributes_again f b depth e a =
-      subst (λ g. HoldsUnlisted depth any g b e → HoldsUnlisted depth any g ((list_rule_of p f).canonical b) e) (rows_are f)
+      subst (λ g. HoldsUnlisted depth any g b e → HoldsUnlisted depth any g ((list_rule_of p f).canonical b) e) (attributes-grammar p f)
       (unlisted_again depth any (grammar p (link_table f)) b e (table_lawful p lawful (link_table f) (table_bounded f)) a)
 
-  pub of_frames_under : (limit : ℕ) (c : List ℕ) (frame : ℕ × List ℕ) → IsLimit limit → is_link_type (frame_type c) ≡ true → first_frame_under (body_rule p) limit c ≡ Ok frame → KeepsUnlisted row (frame_body c) (frame_body frame.1)
+  pub of_frames_under : (limit : ℕ) (c : List ℕ) (frame : ℕ × List ℕ) → IsLimit limit → is_link_type (frame_type c) ≡ true → first_frame_under (body_rule p) limit c ≡ Ok frame → KeepsUnlisted (attribute_row_under p) (frame_body c) (frame_body frame.1)
   unfolding body_rule
   of_frames_under limit c frame l is_link h depth e w =
       let b = frame_body c in
@@ -116,11 +109,10 @@ module _ (p : Peer) (lawful : LawfulPeer p) where
       let r = list_rule_of p (family b) in
       let s = and_parts (nat_le 16 (length b)) (r.accepted (attribute_bytes b)) k.0 in
       let text : attribute_bytes (frame_body frame.1) ≡ r.canonical (attribute_bytes b) = ap attribute_bytes k.1 ∙ (written_header b s.0).rest (r.canonical (attribute_bytes b)) in
-      subst (λ x. HoldsUnlisted depth any (without_context (row (family b))) x e) (sym text) (attributes_again (family b) (attribute_bytes b) depth e s.1 w)
+      subst (λ x. HoldsUnlisted depth any (without_context (attribute_row_under p (family b))) x e) (sym text) (attributes_again (family b) (attribute_bytes b) depth e s.1 w)
 
 -- the rule in force
 of_frames : (limit : ℕ) (c : List ℕ) (frame : ℕ × List ℕ) → IsLimit limit → is_link_type (frame_type c) ≡ true → first_frame limit c ≡ Ok frame → KeepsUnlisted attribute_row (frame_body c) (frame_body frame.1)
-unfolding link_body
 of_frames = of_frames_under bytes_peer bytes_peer_lawful
 
 pub unlisted_attributes_are_kept : UnlistedAttributesAreKept

@@ -4,10 +4,8 @@ use Rattle.netlink_packet_core_grammar.specs.Attributes.{Attribute, nla_align}
 use Rattle.netlink_packet_core_grammar.specs.Frames.{IsFrame, frame_length, frame_type, frame_body, frame_text}
 use Rattle.attribute_tables_grammar.specs.Rules.{Rule, Lawful}
 use Rattle.attribute_tables_grammar.specs.Lists.{Grammar, LawfulGrammar, ListForm, list_rule}
-use Rattle.attribute_tables_grammar.specs.LookUps.{row_of_line}
 use Rattle.attribute_tables_grammar.specs.Peers.{Peer, LawfulPeer}
-use Rattle.link_message_grammar.specs.Body.{attribute_row, body_rule, link_body}
-use Rattle.link_message_grammar.specs.LinkMessage.{link_line}
+use Rattle.link_message_grammar.specs.Body.{attribute_row, attribute_row_under, body_rule, link_body}
 use Rattle.link_capture_grammar.specs.declared.fault.FaultKind.{FaultKind}
 use Rattle.link_capture_grammar.specs.declared.fault.CaptureFault.{CaptureFault}
 use Rattle.link_capture_grammar.specs.declared.fault.FaultKind.TheVariants.{Cut, TextOverLimit}
@@ -138,7 +136,7 @@ pub record UnlistedAttributesAreKept : Type 0 where
       KeepsUnlisted attribute_row (frame_body c) (frame_body frame.1)
   -- the same under every lawful rule of peers, by its rows
   pub of_frames_under : (p : Peer) → LawfulPeer p → (limit : ℕ) (c : List ℕ) (frame : ℕ × List ℕ) → IsLimit limit → is_link_type (frame_type c) ≡ true → first_frame_under (body_rule p) limit c ≡ Ok frame →
-      KeepsUnlisted (λ f k. row_of_line p (link_line f k)) (frame_body c) (frame_body frame.1)
+      KeepsUnlisted (attribute_row_under p) (frame_body c) (frame_body frame.1)
 
 -- a frame is judged by its own bytes
 pub record FramesStandAlone (r : Rule) : Type 0 where

@@ -63,7 +63,6 @@ unfolding body_text_under
 body_bytes l t b text h e = typed_bytes l b text (nat_eq t 1) (nat_eq t 2) (nat_eq t 3) (is_link_type t) h e
 
 link_lawful : BodiesAreLawful → BytesAreLawful → Lawful link_body
-unfolding link_body
 link_lawful lawful peers = lawful bytes_peer peers
 
 -- ---- a frame's bytes without their padding

@@ -6,6 +6,7 @@ use Rattle.std.proofs.lemmas.Bool.Decides.{eqb_tells}
 use Rattle.std.proofs.lemmas.List.{append_cancel_left, length-append, length-take, take-append-drop}
 use Rattle.netlink_packet_core_grammar.specs.Bytes.{AreBytes}
 use Rattle.netlink_packet_core_grammar.specs.Numbers.{u16_at}
+use Rattle.attribute_tables_grammar.specs.Peers.{bytes_peer}
 use Rattle.link_message_grammar.specs.Body.{attributes_rule, header_text, layer_type_text, is_listed, link_body, family}
 use Rattle.link_message_grammar.specs.LinkMessage.{family_of}
 use Rattle.link_message_grammar.specs.Laws.{BodiesAreHeadersAndAttributes}
@@ -105,7 +106,7 @@ drop_front [] q = refl
 drop_front (x ∷ p) q = drop_front p q
 
 -- a link's body that is its own text has a header that is, and attributes that are
-own_link : BodiesAreHeadersAndAttributes → (b : List ℕ) → AreBytes b → ruled_text link_body b ≡ Ok b → IsOwnLink b
+own_link : BodiesAreHeadersAndAttributes bytes_peer → (b : List ℕ) → AreBytes b → ruled_text link_body b ≡ Ok b → IsOwnLink b
 own_link h b a e =
     let parts = h b in
     let rule = attributes_rule (family b) in
@@ -146,7 +147,7 @@ pub record Premises : Type 0 where
   pub digits : DigitsAreTold
   pub bytes : BytesAreTold
   pub numbers : NumbersAreTold
-  pub parts : BodiesAreHeadersAndAttributes
+  pub parts : BodiesAreHeadersAndAttributes bytes_peer
 
 abbrev BodiesOfTypeAreTold : ℕ → Type 0
 BodiesOfTypeAreTold n = (p q s t : List ℕ) → AreBytes p → AreBytes q → body_text n p ≡ Ok p → body_text n q ≡ Ok q → StartsFrame s → StartsFrame t →

@@ -3,7 +3,7 @@ use Rattle.std.proofs.Common.{◌≡◌, ℕ, Bool, true, false, cond, Some, ref
 use Rattle.std.specs.Prelude.{◌==◌}
 use Rattle.attribute_tables_grammar.specs.Lists.{any}
 use Rattle.attribute_tables_grammar.specs.Tables.{Payload}
-use Rattle.link_message_grammar.specs.Body.{attributes_rule}
+use Rattle.link_message_grammar.specs.Body.{attributes_rule, list_rule_of}
 use Rattle.link_message_grammar.specs.LinkMessage.{Family, unspec, bridge, inet_6, other, link_table}
 use Rattle.link_lines_texts.specs.declared.rows.Inside.TheVariants.{List as Nested}
 use Rattle.link_lines_texts.specs.Coverage.{holds_shown}
@@ -15,7 +15,7 @@ use Rattle.link_lines_texts.proofs.TablesTold.{TableLaws, payload_told}
 
 -- the attributes of a family, under its table of names
 family_told : TableLaws → (f : Family) (m : ℕ) → holds_shown (Payload.list any (link_table f)) (Some (Nested m)) ≡ true → NestedTold (attributes_rule f) m
-unfolding attributes_rule
+unfolding list_rule_of
 family_told laws f m h level p q s t o u sx sy same = payload_told laws (Payload.list any (link_table f)) (Nested m) h level p q s t o u sx sy refl same
 
 by_family : TableLaws → RowsAreTold → (a b c : Bool) → NestedTold (attributes_rule (cond a unspec (cond b bridge (cond c inet_6 other)))) (cond a 0 (cond b 1 (cond c 2 3)))

@@ -29,7 +29,7 @@ unfolding link_info_of info_rule_under info_grammar_under
 info_some laws b l = sym (laws.non_empty (names_grammar (named bytes_peer kinds) (named bytes_peer port_kinds)) b l)
 
 -- its canonical text, by what its length and an own text need
-pub info_canonical : InfoIsAListInside → (b : List ℕ) → 0 < length b → info_rule.canonical b ≡ b → (link_info_of bytes_peer non_empty kinds port_kinds).canonical b ≡ b
+pub info_canonical : InfoIsAListInside bytes_peer → (b : List ℕ) → 0 < length b → info_rule.canonical b ≡ b → (link_info_of bytes_peer non_empty kinds port_kinds).canonical b ≡ b
 info_canonical law b l h = (law.of_some_bytes b l).canonical ∙ h
 
 -- no bytes are link info, so they mean the same as none

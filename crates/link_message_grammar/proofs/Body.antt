@@ -14,10 +14,10 @@ use Rattle.attribute_tables_grammar.specs.Lists.{any}
 use Rattle.attribute_tables_grammar.specs.Tables.{Payload.list}
 use Rattle.link_message_grammar.specs.LinkMessage.{link_table}
 use Rattle.attribute_tables_grammar.proofs.Renewed.{renewed}
-use Rattle.attribute_tables_grammar.proofs.Tables.{bytes_peer_lawful}
 use Rattle.link_message_grammar.proofs.Tables.{table_lawful, table_bounded}
 use Rattle.link_message_grammar.specs.LinkMessage.{Family, family_of}
-use Rattle.link_message_grammar.specs.Body.{is_listed, layer_type_text, header_text, attribute_bytes, family, list_rule_of, body_rule, link_peer_of, link_peer}
+use Rattle.link_message_grammar.specs.Body.{is_listed, layer_type_text, header_text, attribute_bytes, family, list_rule_of, body_rule, link_peer_of}
+use Rattle.link_message_grammar.specs.Laws.{LinkPeersAreLawful}
 
 -- ---- the header
 
@@ -101,6 +101,7 @@ small_rest L l h = omega arith
 
 module _ (p : Peer) (lawful_peer : LawfulPeer p) where
   law : (f : Family) → Lawful (list_rule_of p f)
+  unfolding list_rule_of
   law f = table_lawful p lawful_peer f
 
   pub body_lawful : Lawful (body_rule p)
@@ -179,7 +180,7 @@ module _ (p : Peer) (lawful_peer : LawfulPeer p) where
 
 -- under a rule of peers an old text becomes what the first bytes become
 pub body_renewed : (p : Peer) → Renews (body_rule bytes_peer) (body_rule p)
-unfolding body_rule
+unfolding list_rule_of body_rule
 body_renewed p b x y =
     let s = and_parts (nat_le 16 (length b)) ((list_rule_of bytes_peer (family b)).accepted (attribute_bytes b)) x in
     let t = and_parts (nat_le 16 (length b)) ((list_rule_of p (family b)).accepted (attribute_bytes b)) y in
@@ -213,5 +214,5 @@ link_peer_lawful_of r l small = record {
         let t = and_parts (r.accepted b) (not (r.empty_ports b)) s.0 in
         (t.0, not-true (r.empty_ports b) t.1, s.1)
 
-pub link_peer_lawful : LawfulPeer link_peer
-link_peer_lawful = link_peer_lawful_of (body_rule bytes_peer) (body_lawful bytes_peer bytes_peer_lawful) (body_size bytes_peer bytes_peer_lawful)
+pub link_peers_are_lawful : LinkPeersAreLawful
+link_peers_are_lawful p l = link_peer_lawful_of (body_rule p) (body_lawful p l) (body_size p l)

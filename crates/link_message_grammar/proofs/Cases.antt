@@ -6,11 +6,11 @@ use Rattle.netlink_packet_core_grammar.specs.Attributes.{attribute_text, list_te
 use Rattle.attribute_tables_grammar.specs.Lists.{all_accepted, some_empty_ports, rewritten, all_fit, attributes_inside, all_same}
 use Rattle.attribute_tables_grammar.specs.Peers.{peer_rule}
 use Rattle.link_message_grammar.specs.NestedTables.{settings}
-use Rattle.link_message_grammar.specs.Body.{is_listed, body_rule, link_body, link_peer}
+use Rattle.link_message_grammar.specs.Body.{body_rule, is_listed, link_body, link_peer, list_rule_of}
 
 -- all that has to compute
 everything : ℕ
-unfolding is_utf8 chars encode attribute_text list_text first_attribute attributes_within all_accepted some_empty_ports rewritten all_fit attributes_inside all_same is_listed body_rule link_body settings
+unfolding is_utf8 chars encode attribute_text list_text first_attribute attributes_within all_accepted some_empty_ports rewritten all_fit attributes_inside all_same is_listed list_rule_of body_rule settings
 everything = 0
 
 -- a header alone

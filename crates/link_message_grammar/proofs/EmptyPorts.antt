@@ -9,10 +9,10 @@ use Rattle.netlink_packet_core_grammar.proofs.Attributes.{option_map-got}
 use Rattle.attribute_tables_grammar.specs.Rules.{Rule}
 use Rattle.attribute_tables_grammar.specs.Lists.{Context, nothing, Row, Grammar, row_of, written_kind, rewrite, rewritten, all_accepted, some_empty_ports, ListForm, any, non_empty, of_kind_one, ports, first_alone, read_as, kept, is_empty_ports, if_read, list_rule, without_context}
 use Rattle.attribute_tables_grammar.specs.LookUps.{Line, list_of, link_info_of, payload_rule, line_at, row_of_line, rows_rule}
-use Rattle.attribute_tables_grammar.specs.Peers.{Peer, bytes_peer}
+use Rattle.attribute_tables_grammar.specs.Peers.{Peer}
 use Rattle.attribute_tables_grammar.specs.Readings.{Written, written_list, reading_as}
 use Rattle.attribute_tables_grammar.specs.Tables.{Payload, Payload.plain, Payload.peer, Payload.list, Payload.link_info, Table, Table.end, Table.row, Names, Names.others, Names.name, row_in_force, info_row, names_grammar, rule, row_in, named, grammar}
-use Rattle.link_message_grammar.specs.Body.{attribute_row, is_emptied}
+use Rattle.link_message_grammar.specs.Body.{attribute_row_under, is_emptied}
 use Rattle.link_message_grammar.specs.Laws.{EmptyPortsAreTold}
 use Rattle.link_message_grammar.specs.LinkMessage.{Family, unspec, bridge, inet_6, other, protocol_line, below_protocol, above_protocol, link_line}
 use Rattle.link_message_grammar.specs.NestedTables.{settings, vf_ports}
@@ -86,57 +86,11 @@ info_full data' port_data d p c (suc (suc (suc (suc zero)))) b = refl
 info_full data' port_data d p c (suc (suc (suc (suc (suc zero))))) b = in_force_full c.port_kind port_data p b
 info_full data' port_data d p c (suc (suc (suc (suc (suc (suc k)))))) b = refl
 
--- ---- payloads without ports
-
-pick_row : (b : Bool) (r s : Row) → NeverEmpty r.rule → NeverEmpty s.rule → NeverEmpty (elim b as (λ x. Row) [ true ↦ r | false ↦ s ]).rule
-pick_row true r s p q = p
-pick_row false r s p q = q
-
-pick_rule : (b : Bool) (r s : Rule) → NeverEmpty r → NeverEmpty s → NeverEmpty (elim b as (λ x. Rule) [ true ↦ r | false ↦ s ])
-pick_rule true r s p q = p
-pick_rule false r s p q = q
-
-module _ (p : Peer) where
-  mutual
-    full : (s : Payload) → without_ports s ≡ true → NeverEmpty (rule p s)
-    full (plain s) m b = refl
-    full peer m b = refl
-    full (list form t) m b =
-        let h = and_parts (is_other form) (rows_without_ports t) m in
-        list_full form (grammar p t) h.0 (λ c k. rows_full t h.1 k) b
-    full (link_info form data' port_data) m b =
-        let h = and_parts (is_other form) (names_without_ports data' && names_without_ports port_data) m in
-        let i = and_parts (names_without_ports data') (names_without_ports port_data) h.1 in
-        list_full form (names_grammar (named p data') (named p port_data)) h.0 (info_full (named p data') (named p port_data) (names_full data' i.0) (names_full port_data i.1)) b
-
-    rows_full : (t : Table) → rows_without_ports t ≡ true → (k : ℕ) → NeverEmpty (row_in p t k).rule
-    rows_full end m k = λ b. refl
-    rows_full (row l n s t) m k =
-        let h = and_parts (without_ports s) (rows_without_ports t) m in
-        pick_row (k == l) (record { is_typed = true; is_nested = n; rule = rule p s }) (row_in p t k) (full s h.0) (rows_full t h.1 k)
-
-    names_full : (ns : Names) → names_without_ports ns ≡ true → (n : List ℕ) → NeverEmpty (named p ns n)
-    names_full others m n = λ b. refl
-    names_full (name l s ns) m n =
-        let h = and_parts (without_ports s) (names_without_ports ns) m in
-        pick_rule (bytes_eq n l) (rule p s) (named p ns n) (full s h.0) (names_full ns h.1 n)
-
--- ---- the rows of links but IFLA_VF_PORTS
+-- ---- the lines of links but that of IFLA_VF_PORTS
 
 abbrev line_without_ports : Option Line → Bool
 line_without_ports None = true
 line_without_ports (Some l) = without_ports l.payload
-
-payload_full : (s : Payload) → without_ports s ≡ true → NeverEmpty (payload_rule bytes_peer s)
-unfolding list_of link_info_of
-payload_full (plain s) m b = refl
-payload_full peer m b = refl
-payload_full (list form t) m b = full bytes_peer (list form t) m b
-payload_full (link_info form data' port_data) m b = full bytes_peer (link_info form data' port_data) m b
-
-line_full : (o : Option Line) → line_without_ports o ≡ true → NeverEmpty (row_of_line bytes_peer o).rule
-line_full None m b = refl
-line_full (Some l) m b = payload_full l.payload m b
 
 -- a test whose first part is known to fail has to hold by the second
 second : (a b : Bool) → a ≡ false → (a || b) ≡ true → b ≡ true
@@ -171,85 +125,137 @@ at_twelve : (f : Family) (o : Option Line) (b : Bool) → line_without_ports o �
 at_twelve f o true h = protocol_full f
 at_twelve f o false h = h
 
-other_full : (f : Family) (k : ℕ) → (k == 24) ≡ false → NeverEmpty (attribute_row f k).rule
-other_full f k d = line_full (link_line f k) (at_twelve f (line_at (below_protocol (above_protocol f)) k) (k == 12) (lines_full (below_protocol (above_protocol f)) k (table_full f) d))
+-- ---- choices
 
--- ---- the row of IFLA_VF_PORTS
+pick_row : (b : Bool) (r s : Row) → NeverEmpty r.rule → NeverEmpty s.rule → NeverEmpty (elim b as (λ x. Row) [ true ↦ r | false ↦ s ]).rule
+pick_row true r s p q = p
+pick_row false r s p q = q
 
-abbrev inside : Grammar
-inside = grammar bytes_peer vf_ports
+pick_rule : (b : Bool) (r s : Rule) → NeverEmpty r → NeverEmpty s → NeverEmpty (elim b as (λ x. Rule) [ true ↦ r | false ↦ s ])
+pick_rule true r s p q = p
+pick_rule false r s p q = q
 
-ports_inside : (c : Context) (k : ℕ) → NeverEmpty (inside.row c k).rule
-ports_inside c k = rows_full bytes_peer vf_ports refl k
+guard : {A : Type 0} (b : Bool) (x y z : A) → cond b x y ≡ z → ((b ≡ true) × (x ≡ z)) ⊎ ((b ≡ false) × (y ≡ z))
+guard b x y z = elim b as (λ v. cond v x y ≡ z → ((v ≡ true) × (x ≡ z)) ⊎ ((v ≡ false) × (y ≡ z))) [ true ↦ (λ h. inl (refl, h)) | false ↦ (λ h. inr (refl, h)) ]
+
+-- ---- attributes as they are written
 
 not_none : (e : Attribute) (es : List Attribute) → (length (list_text (e ∷ es)) == 0) ≡ false
 unfolding list_text attribute_text
 not_none e es = ne_eqb _ 0 (λ h. cc)
-
-kept_told : (ks : List Attribute) → (is_empty_ports ports ks || some_empty_ports inside nothing ks) ≡ (length (list_text (rewritten inside nothing ks)) == 0)
-unfolding rewritten list_text
-kept_told [] = refl
-kept_told (k ∷ ks) = some_full inside ports_inside nothing (k ∷ ks) ∙ sym (not_none (rewrite (row_of inside nothing k) k) (rewritten inside (inside.next nothing k) ks))
-
-at_ports : (o : Option (List Attribute)) → if_read false (λ es. all_accepted inside nothing (kept ports es)) o ≡ true →
-    if_read false (λ es. is_empty_ports ports (kept ports es) || some_empty_ports inside nothing (kept ports es)) o
-    ≡ (length (if_read [] (λ es. list_text (rewritten inside nothing (kept ports es))) o) == 0)
-at_ports None h = absurd cc
-at_ports (Some es) h = kept_told (kept ports es)
-
-ports_told : (b : List ℕ) → (list_of bytes_peer ports vf_ports).accepted b ≡ true → (list_of bytes_peer ports vf_ports).empty_ports b ≡ (length ((list_of bytes_peer ports vf_ports).canonical b) == 0)
-unfolding list_of
-ports_told b h = at_ports (read_as ports b) h
-
--- ---- an attribute
 
 kind_kept : (t n : Bool) (k : ℕ) → (proper_kind k == 24) ≡ false → (cond t (proper_kind k + cond n 0x8000 0) k == 24) ≡ false
 kind_kept true true k d = ne_eqb (proper_kind k + 0x8000) 24 (λ h. absurd (omega (arith, h)))
 kind_kept true false k d = ne_eqb (proper_kind k + 0) 24 (λ h. eqb-false (proper_kind k) 24 d (omega (arith, h)))
 kind_kept false n k d = ne_eqb k 24 (λ h. eqb-false (proper_kind k) 24 d (ap proper_kind h))
 
-at_ports_row : (f : Family) (k : ℕ) (e : Attribute) → proper_kind e.kind ≡ k → k ≡ 24 → (attribute_row f k).rule.accepted e.payload ≡ true →
-    (attribute_row f k).rule.empty_ports e.payload ≡ is_emptied (rewrite (attribute_row f k) e)
-at_ports_row f k e p q a =
-    let h : (attribute_row f 24).rule.accepted e.payload ≡ true = subst (λ x. (attribute_row f x).rule.accepted e.payload ≡ true) q a in
-    let w : (proper_kind e.kind + 0 == 24) ≡ true = ap (λ x. x + 0 == 24) (p ∙ q) in
-    subst (λ x. (attribute_row f x).rule.empty_ports e.payload ≡ is_emptied (rewrite (attribute_row f x) e)) (sym q)
-    (ports_told e.payload h ∙ sym (ap (λ t. t && (length ((list_of bytes_peer ports vf_ports).canonical e.payload) == 0)) w))
+-- ---- payloads without ports
 
-by_row : (f : Family) (k : ℕ) (e : Attribute) → proper_kind e.kind ≡ k → (b : Bool) → (k == 24) ≡ b → (attribute_row f k).rule.accepted e.payload ≡ true →
-    (attribute_row f k).rule.empty_ports e.payload ≡ is_emptied (rewrite (attribute_row f k) e)
-by_row f k e p false d a =
-    other_full f k d e.payload
-    ∙ sym (and_left (written_kind (attribute_row f k) e.kind == 24) (length ((attribute_row f k).rule.canonical e.payload) == 0) (kind_kept (attribute_row f k).is_typed (attribute_row f k).is_nested e.kind (ap (λ x. x == 24) p ∙ d)))
-by_row f k e p true d a = at_ports_row f k e p (eqb-true k 24 d) a
+module _ (p : Peer) where
+  mutual
+    full : (s : Payload) → without_ports s ≡ true → NeverEmpty (rule p s)
+    full (plain s) m b = refl
+    full peer m b = refl
+    full (list form t) m b =
+        let h = and_parts (is_other form) (rows_without_ports t) m in
+        list_full form (grammar p t) h.0 (λ c k. rows_full t h.1 k) b
+    full (link_info form data' port_data) m b =
+        let h = and_parts (is_other form) (names_without_ports data' && names_without_ports port_data) m in
+        let i = and_parts (names_without_ports data') (names_without_ports port_data) h.1 in
+        list_full form (names_grammar (named p data') (named p port_data)) h.0 (info_full (named p data') (named p port_data) (names_full data' i.0) (names_full port_data i.1)) b
 
--- ---- a list of attributes
+    rows_full : (t : Table) → rows_without_ports t ≡ true → (k : ℕ) → NeverEmpty (row_in p t k).rule
+    rows_full end m k = λ b. refl
+    rows_full (row l n s t) m k =
+        let h = and_parts (without_ports s) (rows_without_ports t) m in
+        pick_row (k == l) (record { is_typed = true; is_nested = n; rule = rule p s }) (row_in p t k) (full s h.0) (rows_full t h.1 k)
 
-abbrev rows : Family → Grammar
-rows f = without_context (attribute_row f)
+    names_full : (ns : Names) → names_without_ports ns ≡ true → (n : List ℕ) → NeverEmpty (named p ns n)
+    names_full others m n = λ b. refl
+    names_full (name l s ns) m n =
+        let h = and_parts (without_ports s) (names_without_ports ns) m in
+        pick_rule (bytes_eq n l) (rule p s) (named p ns n) (full s h.0) (names_full ns h.1 n)
 
-guard : {A : Type 0} (b : Bool) (x y z : A) → cond b x y ≡ z → ((b ≡ true) × (x ≡ z)) ⊎ ((b ≡ false) × (y ≡ z))
-guard b x y z = elim b as (λ v. cond v x y ≡ z → ((v ≡ true) × (x ≡ z)) ⊎ ((v ≡ false) × (y ≡ z))) [ true ↦ (λ h. inl (refl, h)) | false ↦ (λ h. inr (refl, h)) ]
+  -- ---- the rows of links but IFLA_VF_PORTS
 
-list_told : (f : Family) (c : Context) (es : List Attribute) (ws : List Written) → written_list (rows f) c es ≡ Some ws → some_empty_ports (rows f) c es ≡ list_any (λ w. is_emptied w.entry) ws
-unfolding written_list some_empty_ports
-list_told f c [] ws h = let e : [] ≡ ws = cc in ap (list_any (λ w. is_emptied w.entry)) e
-list_told f c (e ∷ es) ws h =
-    elim (guard ((row_of (rows f) c e).rule.accepted e.payload) _ _ _ h) [
-      | inl a ↦
-          let k = option_map-got _ (written_list (rows f) c es) ws a.1 in
-          ap₂ (λ x y. x || y) (by_row f (proper_kind e.kind) e refl (proper_kind e.kind == 24) refl a.0) (list_told f c es k.0 k.1)
-          ∙ ap (list_any (λ w. is_emptied w.entry)) k.2
-      | inr a ↦ absurd (none-some ws a.1)
-    ]
+  payload_full : (s : Payload) → without_ports s ≡ true → NeverEmpty (payload_rule p s)
+  unfolding list_of link_info_of
+  payload_full (plain s) m b = refl
+  payload_full peer m b = refl
+  payload_full (list form t) m b = full (list form t) m b
+  payload_full (link_info form data' port_data) m b = full (link_info form data' port_data) m b
 
--- ---- the attributes of a body
+  line_full : (o : Option Line) → line_without_ports o ≡ true → NeverEmpty (row_of_line p o).rule
+  line_full None m b = refl
+  line_full (Some l) m b = payload_full l.payload m b
 
-at_bytes : (f : Family) (o : Option (List Attribute)) (ws : List Written) → if_some o (λ es. written_list (rows f) nothing (kept any es)) ≡ Some ws →
-    if_read false (λ es. is_empty_ports any (kept any es) || some_empty_ports (rows f) nothing (kept any es)) o ≡ list_any (λ w. is_emptied w.entry) ws
-at_bytes f None ws h = absurd (none-some ws h)
-at_bytes f (Some es) ws h = list_told f nothing es ws h
+  other_full : (f : Family) (k : ℕ) → (k == 24) ≡ false → NeverEmpty (attribute_row_under p f k).rule
+  other_full f k d = line_full (link_line f k) (at_twelve f (line_at (below_protocol (above_protocol f)) k) (k == 12) (lines_full (below_protocol (above_protocol f)) k (table_full f) d))
 
-pub empty_ports_are_told : EmptyPortsAreTold
-unfolding rows_rule reading_as
-empty_ports_are_told f b ws h = ap (λ r. r.empty_ports b) (attributes_are_looked_up f) ∙ at_bytes f (attributes_of b) ws h
+  -- ---- the row of IFLA_VF_PORTS
+
+  abbrev inside : Grammar
+  inside = grammar p vf_ports
+
+  ports_inside : (c : Context) (k : ℕ) → NeverEmpty (inside.row c k).rule
+  ports_inside c k = rows_full vf_ports refl k
+
+  kept_told : (ks : List Attribute) → (is_empty_ports ports ks || some_empty_ports inside nothing ks) ≡ (length (list_text (rewritten inside nothing ks)) == 0)
+  unfolding rewritten list_text
+  kept_told [] = refl
+  kept_told (k ∷ ks) = some_full inside ports_inside nothing (k ∷ ks) ∙ sym (not_none (rewrite (row_of inside nothing k) k) (rewritten inside (inside.next nothing k) ks))
+
+  at_ports : (o : Option (List Attribute)) → if_read false (λ es. all_accepted inside nothing (kept ports es)) o ≡ true →
+      if_read false (λ es. is_empty_ports ports (kept ports es) || some_empty_ports inside nothing (kept ports es)) o
+      ≡ (length (if_read [] (λ es. list_text (rewritten inside nothing (kept ports es))) o) == 0)
+  at_ports None h = absurd cc
+  at_ports (Some es) h = kept_told (kept ports es)
+
+  ports_told : (b : List ℕ) → (list_of p ports vf_ports).accepted b ≡ true → (list_of p ports vf_ports).empty_ports b ≡ (length ((list_of p ports vf_ports).canonical b) == 0)
+  unfolding list_of
+  ports_told b h = at_ports (read_as ports b) h
+
+  -- ---- an attribute
+
+  at_ports_row : (f : Family) (k : ℕ) (e : Attribute) → proper_kind e.kind ≡ k → k ≡ 24 → (attribute_row_under p f k).rule.accepted e.payload ≡ true →
+      (attribute_row_under p f k).rule.empty_ports e.payload ≡ is_emptied (rewrite (attribute_row_under p f k) e)
+  at_ports_row f k e kind q a =
+      let h : (attribute_row_under p f 24).rule.accepted e.payload ≡ true = subst (λ x. (attribute_row_under p f x).rule.accepted e.payload ≡ true) q a in
+      let w : (proper_kind e.kind + 0 == 24) ≡ true = ap (λ x. x + 0 == 24) (kind ∙ q) in
+      subst (λ x. (attribute_row_under p f x).rule.empty_ports e.payload ≡ is_emptied (rewrite (attribute_row_under p f x) e)) (sym q)
+      (ports_told e.payload h ∙ sym (ap (λ t. t && (length ((list_of p ports vf_ports).canonical e.payload) == 0)) w))
+
+  by_row : (f : Family) (k : ℕ) (e : Attribute) → proper_kind e.kind ≡ k → (b : Bool) → (k == 24) ≡ b → (attribute_row_under p f k).rule.accepted e.payload ≡ true →
+      (attribute_row_under p f k).rule.empty_ports e.payload ≡ is_emptied (rewrite (attribute_row_under p f k) e)
+  by_row f k e kind false d a =
+      other_full f k d e.payload
+      ∙ sym (and_left (written_kind (attribute_row_under p f k) e.kind == 24) (length ((attribute_row_under p f k).rule.canonical e.payload) == 0) (kind_kept (attribute_row_under p f k).is_typed (attribute_row_under p f k).is_nested e.kind (ap (λ x. x == 24) kind ∙ d)))
+  by_row f k e kind true d a = at_ports_row f k e kind (eqb-true k 24 d) a
+
+  -- ---- a list of attributes
+
+  abbrev rows : Family → Grammar
+  rows f = without_context (attribute_row_under p f)
+
+  list_told : (f : Family) (c : Context) (es : List Attribute) (ws : List Written) → written_list (rows f) c es ≡ Some ws → some_empty_ports (rows f) c es ≡ list_any (λ w. is_emptied w.entry) ws
+  unfolding written_list some_empty_ports
+  list_told f c [] ws h = let e : [] ≡ ws = cc in ap (list_any (λ w. is_emptied w.entry)) e
+  list_told f c (e ∷ es) ws h =
+      elim (guard ((row_of (rows f) c e).rule.accepted e.payload) _ _ _ h) [
+        | inl a ↦
+            let k = option_map-got _ (written_list (rows f) c es) ws a.1 in
+            ap₂ (λ x y. x || y) (by_row f (proper_kind e.kind) e refl (proper_kind e.kind == 24) refl a.0) (list_told f c es k.0 k.1)
+            ∙ ap (list_any (λ w. is_emptied w.entry)) k.2
+        | inr a ↦ absurd (none-some ws a.1)
+      ]
+
+  -- ---- the attributes of a body
+
+  at_bytes : (f : Family) (o : Option (List Attribute)) (ws : List Written) → if_some o (λ es. written_list (rows f) nothing (kept any es)) ≡ Some ws →
+      if_read false (λ es. is_empty_ports any (kept any es) || some_empty_ports (rows f) nothing (kept any es)) o ≡ list_any (λ w. is_emptied w.entry) ws
+  at_bytes f None ws h = absurd (none-some ws h)
+  at_bytes f (Some es) ws h = list_told f nothing es ws h
+
+  pub empty_ports_are_told : EmptyPortsAreTold p
+  unfolding rows_rule reading_as
+  empty_ports_are_told f b ws h = ap (λ r. r.empty_ports b) (attributes_are_looked_up p f) ∙ at_bytes f (attributes_of b) ws h

@@ -4,10 +4,10 @@ use Rattle.std.specs.Prelude.{◌==◌}
 use Rattle.std.proofs.lemmas.Bool.{eqb-true}
 use Rattle.attribute_tables_grammar.specs.Lists.{without_context}
 use Rattle.attribute_tables_grammar.specs.LookUps.{line_at, row_of_line}
-use Rattle.attribute_tables_grammar.specs.Peers.{bytes_peer}
+use Rattle.attribute_tables_grammar.specs.Peers.{Peer}
 use Rattle.attribute_tables_grammar.specs.Tables.{Table, grammar}
 use Rattle.attribute_tables_grammar.proofs.LookUps.{grammar-table}
-use Rattle.link_message_grammar.specs.Body.{attribute_row}
+use Rattle.link_message_grammar.specs.Body.{attribute_row_under}
 use Rattle.link_message_grammar.specs.LinkMessage.{Family, unspec, bridge, inet_6, other, protocol_line, with_protocol, below_protocol, above_protocol, link_table, link_line}
 use Rattle.link_message_grammar.specs.Laws.{KindsAreLookedUp}
 
@@ -35,5 +35,5 @@ lines_by f k false e =
 pub kinds_are_looked_up : KindsAreLookedUp
 kinds_are_looked_up f k = lines_by f k (k == 12) refl
 
-pub attributes-grammar : (f : Family) → grammar bytes_peer (link_table f) ≡ without_context (attribute_row f)
-attributes-grammar f = grammar-table bytes_peer (link_table f) ∙ ap without_context (λ i k. row_of_line bytes_peer (kinds_are_looked_up f k i))
+pub attributes-grammar : (p : Peer) (f : Family) → grammar p (link_table f) ≡ without_context (attribute_row_under p f)
+attributes-grammar p f = grammar-table p (link_table f) ∙ ap without_context (λ i k. row_of_line p (kinds_are_looked_up f k i))

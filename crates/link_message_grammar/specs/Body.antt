@@ -1,4 +1,4 @@
--- The body of a link message: a header of 16 bytes and a list of attributes.
+-- The body of a link message: a header of 16 bytes and a list of attributes. What the attributes hold hangs on a rule of peers.
 use Rattle.std.specs.Prelude.{ℕ, ◌+◌, ◌*◌, ◌==◌, ◌&&◌, not, nat_le, Bool, cond, List, [], ◌∷◌, ◌++◌, length, take, drop, bytes_eq, slice_index}
 use Rattle.std.specs.List.{list_any}
 use Rattle.netlink_packet_core_grammar.specs.Attributes.{Attribute}
@@ -34,10 +34,11 @@ attribute_bytes b = drop 16 b
 abbrev pub family : List ℕ → Family
 family b = family_of (slice_index b 0)
 
--- the attributes of a body of this family
-abbrev pub list_rule_of : Peer → Family → Rule
+-- the attributes of a family
+unfoldable pub list_rule_of : Peer → Family → Rule
 list_rule_of p f = rule p (list any (link_table f))
 
+-- a header, and the attributes of its family
 unfoldable pub body_rule : Peer → Rule
 body_rule p = record {
   accepted = λ b. nat_le 16 (length b) && (list_rule_of p (family b)).accepted (attribute_bytes b);
@@ -48,7 +49,16 @@ body_rule p = record {
   empty_ports = λ b. (list_rule_of p (family b)).empty_ports (attribute_bytes b);
 }
 
--- a peer that is itself a link body, whose own peers are bytes
+-- the row of a kind without its flag bits, under a family
+abbrev pub attribute_row_under : Peer → Family → ℕ → Row
+attribute_row_under p f k = row_of_line p (link_line f k)
+
+-- link info in an attribute
+abbrev pub info_payload_rule_under : Peer → Rule
+info_payload_rule_under p = payload_rule p info
+
+-- ---- peers that are themselves link bodies
+
 abbrev pub link_peer_of : Rule → Peer
 link_peer_of r = record {
   accepted = λ b. r.accepted b && not (r.empty_ports b) && r.fits b;
@@ -57,26 +67,28 @@ link_peer_of r = record {
   attributes = r.attributes;
 }
 
-abbrev pub link_peer : Peer
-link_peer = link_peer_of (body_rule bytes_peer)
+-- a peer that is itself a link body, whose own peers are judged by this rule
+abbrev pub link_peer_under : Peer → Peer
+link_peer_under p = link_peer_of (body_rule p)
 
--- the rule of link bodies in force: peers are bytes
-unfoldable pub link_body : Rule
+-- ---- the same where peers are bytes, which is in force
+
+abbrev pub link_body : Rule
 link_body = body_rule bytes_peer
 
--- ---- the parts of the rule in force
+abbrev pub attributes_rule : Family → Rule
+attributes_rule = list_rule_of bytes_peer
 
--- the row of a kind without its flag bits, under a family
 abbrev pub attribute_row : Family → ℕ → Row
-attribute_row f k = row_of_line bytes_peer (link_line f k)
+attribute_row = attribute_row_under bytes_peer
 
--- the attributes of a family
-unfoldable pub attributes_rule : Family → Rule
-attributes_rule f = list_rule_of bytes_peer f
-
--- link info in an attribute
 abbrev pub info_payload_rule : Rule
-info_payload_rule = payload_rule bytes_peer info
+info_payload_rule = info_payload_rule_under bytes_peer
+
+abbrev pub link_peer : Peer
+link_peer = link_peer_under bytes_peer
+
+-- ---- what the laws speak of
 
 -- an attribute is IFLA_VF_PORTS without an entry, which no payload of that kind is read as, save one of which no entry is kept
 abbrev pub is_emptied : Attribute → Bool

@@ -9,9 +9,9 @@ use Rattle.attribute_tables_grammar.specs.Peers.{Peer, LawfulPeer, bytes_peer}
 use Rattle.attribute_tables_grammar.specs.Tables.{Payload.list, rule, rising}
 use Rattle.attribute_tables_grammar.specs.Walks.{Measure, measure}
 use Rattle.attribute_tables_grammar.specs.Laws.{OneTextEach, KeepsMeaning}
-use Rattle.link_info_grammar.specs.LinkInfo.{info_rule}
+use Rattle.link_info_grammar.specs.LinkInfo.{info_rule_under}
 use Rattle.link_message_grammar.specs.LinkMessage.{Family, link_line, link_table}
-use Rattle.link_message_grammar.specs.Body.{attribute_bytes, attribute_row, attributes_rule, behind_header, body_rule, family, header_text, info_payload_rule, is_emptied, link_body, link_peer, list_rule_of}
+use Rattle.link_message_grammar.specs.Body.{attribute_bytes, attribute_row_under, behind_header, body_rule, family, header_text, info_payload_rule_under, is_emptied, link_peer_under, list_rule_of}
 
 abbrev pub AttributesAreLawful : Type 0
 AttributesAreLawful = (p : Peer) → LawfulPeer p → (f : Family) → Lawful (rule p (list any (link_table f)))
@@ -27,9 +27,9 @@ BodiesAreLawful = (p : Peer) → LawfulPeer p → Lawful (body_rule p)
 abbrev pub BodiesAreSmall : Type 0
 BodiesAreSmall = (p : Peer) → LawfulPeer p → (b : List ℕ) → (body_rule p).accepted b ≡ true → length ((body_rule p).canonical b) ≤ 77 * length b
 
--- a peer that is itself a link body is a lawful one
+-- a peer that is itself a link body is a lawful one, under every lawful rule of its own peers
 abbrev pub LinkPeersAreLawful : Type 0
-LinkPeersAreLawful = LawfulPeer link_peer
+LinkPeersAreLawful = (p : Peer) → LawfulPeer p → LawfulPeer (link_peer_under p)
 
 abbrev pub BodiesTellMeanings : Type 0
 BodiesTellMeanings = (p : Peer) → LawfulPeer p → OneTextEach (body_rule p)
@@ -42,56 +42,68 @@ abbrev pub OldBodiesAreRenewed : Type 0
 OldBodiesAreRenewed = (p : Peer) → Renews (body_rule bytes_peer) (body_rule p)
 
 -- a body is a header and the attributes of its family
-pub record BodyParts (b : List ℕ) : Type 0 where
-  pub accepted : link_body.accepted b ≡ nat_le 16 (length b) && (attributes_rule (family b)).accepted (attribute_bytes b)
-  pub canonical : link_body.canonical b ≡ header_text b ++ (attributes_rule (family b)).canonical (attribute_bytes b)
-  pub attributes : link_body.attributes b ≡ (attributes_rule (family b)).attributes (attribute_bytes b)
-  pub fits : link_body.fits b ≡ (attributes_rule (family b)).fits (attribute_bytes b)
-  pub empty_ports : link_body.empty_ports b ≡ (attributes_rule (family b)).empty_ports (attribute_bytes b)
-  pub same : (c : List ℕ) → link_body.same b c ≡ bytes_eq (header_text b) (header_text c) && (attributes_rule (family b)).same (attribute_bytes b) (attribute_bytes c)
+pub record BodyParts (p : Peer) (b : List ℕ) : Type 0 where
+  pub accepted : (body_rule p).accepted b ≡ nat_le 16 (length b) && (list_rule_of p (family b)).accepted (attribute_bytes b)
+  pub canonical : (body_rule p).canonical b ≡ header_text b ++ (list_rule_of p (family b)).canonical (attribute_bytes b)
+  pub attributes : (body_rule p).attributes b ≡ (list_rule_of p (family b)).attributes (attribute_bytes b)
+  pub fits : (body_rule p).fits b ≡ (list_rule_of p (family b)).fits (attribute_bytes b)
+  pub empty_ports : (body_rule p).empty_ports b ≡ (list_rule_of p (family b)).empty_ports (attribute_bytes b)
+  pub same : (c : List ℕ) → (body_rule p).same b c ≡ bytes_eq (header_text b) (header_text c) && (list_rule_of p (family b)).same (attribute_bytes b) (attribute_bytes c)
 
-abbrev pub BodiesAreHeadersAndAttributes : Type 0
-BodiesAreHeadersAndAttributes = (b : List ℕ) → BodyParts b
+abbrev pub BodiesAreHeadersAndAttributes : Peer → Type 0
+BodiesAreHeadersAndAttributes p = (b : List ℕ) → BodyParts p b
 
 -- what the attributes of a body are read as
-abbrev pub reading_of : List ℕ → Option (List Written)
-reading_of b = reading_as any (without_context (attribute_row (family b))) (attribute_bytes b)
+abbrev pub reading_of : Peer → List ℕ → Option (List Written)
+reading_of p b = reading_as any (without_context (attribute_row_under p (family b))) (attribute_bytes b)
 
 -- the canonical text of a body has its header, and attributes that are read as the body's
-pub record IsReadAgain (b : List ℕ) : Type 0 where
-  pub header : header_text (link_body.canonical b) ≡ header_text b
-  pub family : family (link_body.canonical b) ≡ family b
-  pub attributes : reading_of (link_body.canonical b) ≡ reading_of b
+pub record IsReadAgain (p : Peer) (b : List ℕ) : Type 0 where
+  pub header : header_text ((body_rule p).canonical b) ≡ header_text b
+  pub family : family ((body_rule p).canonical b) ≡ family b
+  pub attributes : reading_of p ((body_rule p).canonical b) ≡ reading_of p b
 
-abbrev pub CanonicalTextsAreReadAgain : Type 0
-CanonicalTextsAreReadAgain = (b : List ℕ) → link_body.accepted b ≡ true → link_body.fits b ≡ true → link_body.empty_ports b ≡ false → IsReadAgain b
+abbrev pub CanonicalTextsAreReadAgain : Peer → Type 0
+CanonicalTextsAreReadAgain p = (b : List ℕ) → (body_rule p).accepted b ≡ true → (body_rule p).fits b ≡ true → (body_rule p).empty_ports b ≡ false → IsReadAgain p b
 
 -- what is looked up of a kind is what the table says of it
 abbrev pub KindsAreLookedUp : Type 0
 KindsAreLookedUp = (f : Family) (k : ℕ) → line_at (link_table f) k ≡ link_line f k
 
 -- the attributes of a family have the rule of the rows that a look-up of each kind finds
-abbrev pub AttributesAreLookedUp : Type 0
-AttributesAreLookedUp = (f : Family) → attributes_rule f ≡ rows_rule any (attribute_row f)
+abbrev pub AttributesAreLookedUp : Peer → Type 0
+AttributesAreLookedUp p = (f : Family) → list_rule_of p f ≡ rows_rule any (attribute_row_under p f)
 
 -- attributes have a list of ports of which nothing is kept exactly where one of what they are read as is such a list without an entry
-abbrev pub EmptyPortsAreTold : Type 0
-EmptyPortsAreTold = (f : Family) (b : List ℕ) (ws : List Written) → reading_as any (without_context (attribute_row f)) b ≡ Some ws → (attributes_rule f).empty_ports b ≡ list_any (λ w. is_emptied w.entry) ws
+abbrev pub EmptyPortsAreTold : Peer → Type 0
+EmptyPortsAreTold p = (f : Family) (b : List ℕ) (ws : List Written) → reading_as any (without_context (attribute_row_under p f)) b ≡ Some ws →
+    (list_rule_of p f).empty_ports b ≡ list_any (λ w. is_emptied w.entry) ws
 
 -- link info in an attribute is the list of link info, and is refused where there is no attribute in it
-pub record InfoParts (b : List ℕ) : Type 0 where
-  pub accepted : info_payload_rule.accepted b ≡ info_rule.accepted b
-  pub canonical : info_payload_rule.canonical b ≡ info_rule.canonical b
-  pub attributes : info_payload_rule.attributes b ≡ info_rule.attributes b
-  pub fits : info_payload_rule.fits b ≡ info_rule.fits b
+pub record InfoParts (p : Peer) (b : List ℕ) : Type 0 where
+  pub accepted : (info_payload_rule_under p).accepted b ≡ (info_rule_under p).accepted b
+  pub canonical : (info_payload_rule_under p).canonical b ≡ (info_rule_under p).canonical b
+  pub attributes : (info_payload_rule_under p).attributes b ≡ (info_rule_under p).attributes b
+  pub fits : (info_payload_rule_under p).fits b ≡ (info_rule_under p).fits b
 
-pub record InfoIsAListInside : Type 0 where
-  pub of_some_bytes : (b : List ℕ) → 0 < length b → InfoParts b
-  pub of_no_bytes : (b : List ℕ) → length b ≡ 0 → info_payload_rule.accepted b ≡ false
-  pub same : (a b : List ℕ) → 0 < length a → 0 < length b → info_rule.same a b ≡ info_payload_rule.same a b
+pub record InfoIsAListInside (p : Peer) : Type 0 where
+  pub of_some_bytes : (b : List ℕ) → 0 < length b → InfoParts p b
+  pub of_no_bytes : (b : List ℕ) → length b ≡ 0 → (info_payload_rule_under p).accepted b ≡ false
+  pub same : (a b : List ℕ) → 0 < length a → 0 < length b → (info_rule_under p).same a b ≡ (info_payload_rule_under p).same a b
 
 -- a body has the measure of its attributes behind a header of 16 bytes, under every rule of peers; it is its own text where header and attributes are theirs
 pub record BodiesAreMeasured : Type 0 where
   pub short : (p : Peer) (b : List ℕ) → length b < 16 → None ≡ measure (body_rule p) b
   pub long : (p : Peer) (b : List ℕ) (o : Option Measure) → 16 ≤ length b → o ≡ measure (list_rule_of p (family b)) (attribute_bytes b) → option_map behind_header o ≡ measure (body_rule p) b
   pub own : (p : Peer) (b : List ℕ) → header_text b ≡ take 16 b → (list_rule_of p (family b)).canonical (attribute_bytes b) ≡ attribute_bytes b → (body_rule p).canonical b ≡ b
+
+-- the laws that functions state where peers are bytes, under any rule of peers
+pub record BodyLaws (p : Peer) : Type 0 where
+  pub headers_and_attributes : BodiesAreHeadersAndAttributes p
+  pub read_again : CanonicalTextsAreReadAgain p
+  pub looked_up : AttributesAreLookedUp p
+  pub empty_ports : EmptyPortsAreTold p
+  pub info_inside : InfoIsAListInside p
+
+abbrev pub BodyLawsHoldForAnyPeers : Type 0
+BodyLawsHoldForAnyPeers = (p : Peer) → LawfulPeer p → BodyLaws p

@@ -5,6 +5,8 @@ ghost use Rattle.link_message_grammar.specs.Laws.{LinkPeersAreLawful, BodiesTell
 ghost use Rattle.link_message_grammar.specs.Laws.{BodiesAreHeadersAndAttributes, KindsAreLookedUp};
 ghost use Rattle.link_message_grammar.specs.Laws.{AttributesAreLookedUp, InfoIsAListInside};
 ghost use Rattle.link_message_grammar.specs.Laws.{EmptyPortsAreTold, CanonicalTextsAreReadAgain, BodiesAreMeasured};
+ghost use Rattle.link_message_grammar.specs.Laws.{BodyLawsHoldForAnyPeers};
+ghost use Rattle.attribute_tables_grammar.specs.Peers.{bytes_peer};
 
 use attribute_tables_grammar::laws::{
     lists_are_read_again, peers_that_are_bytes_are_lawful, table_grammars_are_lawful,
@@ -52,13 +54,13 @@ pub fn old_bodies_are_renewed()
 
 /// A body is a header of 16 bytes and the attributes of its family.
 pub fn bodies_are_headers_and_attributes()
-    ensures { BodiesAreHeadersAndAttributes }
+    ensures { BodiesAreHeadersAndAttributes bytes_peer }
 {}
 
 /// A legal body that fits, and in which no ports are left empty, is read from its canonical text
 /// as from its own bytes.
 pub fn canonical_texts_are_read_again()
-    ensures { CanonicalTextsAreReadAgain }
+    ensures { CanonicalTextsAreReadAgain bytes_peer }
 {
     lists_are_read_again();
     table_grammars_are_lawful();
@@ -72,17 +74,17 @@ pub fn kinds_are_looked_up()
 
 /// The attributes of a family have the rule of the rows that a look-up of each kind finds.
 pub fn attributes_are_looked_up()
-    ensures { AttributesAreLookedUp }
+    ensures { AttributesAreLookedUp bytes_peer }
 {}
 
 /// What a list of attributes is read as tells whether it has a list of ports of which nothing is kept.
 pub fn empty_ports_are_told()
-    ensures { EmptyPortsAreTold }
+    ensures { EmptyPortsAreTold bytes_peer }
 {}
 
 /// Link info in an attribute is the list of link info, and is refused where it is empty.
 pub fn info_is_a_list_inside()
-    ensures { InfoIsAListInside }
+    ensures { InfoIsAListInside bytes_peer }
 {}
 
 /// A body has the measure of its attributes behind a header of 16 bytes, and is its own text where
@@ -90,3 +92,11 @@ pub fn info_is_a_list_inside()
 pub fn bodies_are_measured()
     ensures { BodiesAreMeasured }
 {}
+
+/// What is stated here of bodies whose peers are bytes holds under every lawful rule of peers.
+pub fn body_laws_hold_for_any_peers()
+    ensures { BodyLawsHoldForAnyPeers }
+{
+    lists_are_read_again();
+    table_grammars_are_lawful();
+}

@@ -5,14 +5,14 @@ use Rattle.attribute_tables_grammar.specs.Lists.{any}
 use Rattle.attribute_tables_grammar.specs.Peers.{bytes_peer}
 use Rattle.attribute_tables_grammar.specs.Tables.{Payload.list, rule}
 use Rattle.attribute_tables_grammar.specs.Walks.{measure}
-use Rattle.link_message_grammar.specs.Body.{attributes_rule}
+use Rattle.link_message_grammar.specs.Body.{list_rule_of}
 use Rattle.link_message_checks.proofs.message.measure_attributes.Goals as goal
 
 pub returns-clause-measure : goal.returns-clause-measure
-unfolding list_of attributes_rule
+unfolding list_of list_rule_of
 returns-clause-measure c = c.measure_held.ensures.measure ∙ ap (λ t. measure (rule bytes_peer (list any t)) c.args.bytes.now) c.table_of_family.ensures.table
 
 pub returns-clause-own : goal.returns-clause-own
-unfolding list_of attributes_rule
+unfolding list_of list_rule_of
 returns-clause-own c =
     subst (λ t. IfSome c.measure_held.result (λ m. m.is_own ≡ true → (rule bytes_peer (list any t)).canonical c.args.bytes.now ≡ c.args.bytes.now)) c.table_of_family.ensures.table c.measure_held.ensures.own

@@ -3,20 +3,17 @@ use Rattle.std.proofs.lemmas.List.{take_rest}
 use Rattle.std.proofs.lemmas.Bool.{and_parts}
 use Rattle.attribute_tables_grammar.specs.Peers.{bytes_peer}
 use Rattle.attribute_tables_grammar.specs.Walks.{measure}
-use Rattle.link_message_grammar.specs.Body.{attributes_rule, behind_header, body_rule, family, link_body, list_rule_of}
+use Rattle.link_message_grammar.specs.Body.{behind_header, body_rule, family, list_rule_of}
 use Rattle.attribute_checks.specs.Measures.{view}
 use Rattle.link_message_checks.proofs.message.measure_body.Goals as goal
 
 pub returns-then-bytes-lt-HEADER_LEN-clause-measure : goal.returns-then-bytes-lt-HEADER_LEN-clause-measure
-unfolding link_body
 returns-then-bytes-lt-HEADER_LEN-clause-measure c = c.bodies_are_measured.ensures.short bytes_peer c.args.bytes.now (omega arith)
 
 pub returns-in_default-clause-measure : goal.returns-in_default-clause-measure
-unfolding link_body attributes_rule
 returns-in_default-clause-measure c = c.bodies_are_measured.ensures.long bytes_peer c.args.bytes.now None (omega arith) (c.in_default.ensures.measure ∙ ap (measure (list_rule_of bytes_peer (family c.args.bytes.now))) (take_rest c.args.bytes.now 16))
 
 pub overflow_add-result : goal.overflow_add-result
-unfolding attributes_rule
 overflow_add-result c =
     let h = c.bodies_are_measured.ensures.long bytes_peer c.args.bytes.now (Some (view c.in-Some.found)) (omega arith) (c.in-Some.ensures.measure ∙ ap (measure (list_rule_of bytes_peer (family c.args.bytes.now))) (take_rest c.args.bytes.now 16)) in
     let m = c.measures_tell_rules.ensures.tells (body_rule bytes_peer) c.args.bytes.now (behind_header (view c.in-Some.found)) h in
@@ -24,11 +21,9 @@ overflow_add-result c =
     omega (arith, m.size, s)
 
 pub returns-clause-measure : goal.returns-clause-measure
-unfolding link_body attributes_rule
 returns-clause-measure c = c.bodies_are_measured.ensures.long bytes_peer c.args.bytes.now (Some (view c.in-Some.found)) (omega arith) (c.in-Some.ensures.measure ∙ ap (measure (list_rule_of bytes_peer (family c.args.bytes.now))) (take_rest c.args.bytes.now 16))
 
 pub returns-clause-own : goal.returns-clause-own
-unfolding link_body attributes_rule
 returns-clause-own c = λ h.
     let a = and_parts c.in-Some.found.is_own c.is_own_header.result h in
     c.bodies_are_measured.ensures.own bytes_peer c.args.bytes.now (c.is_own_header.ensures a.1) (subst (λ x. (list_rule_of bytes_peer (family c.args.bytes.now)).canonical x ≡ x) (take_rest c.args.bytes.now 16) (c.in-Some.ensures.own a.0))

@@ -1,5 +1,6 @@
+use Rattle.attribute_tables_grammar.specs.Peers.{bytes_peer}
 use Rattle.link_message_grammar.proofs.Parts.{attributes_are_looked_up}
 use Rattle.link_message_grammar.proofs.laws.attributes_are_looked_up.Goals as goal
 
 pub returns : goal.returns
-returns c = attributes_are_looked_up
+returns c = attributes_are_looked_up bytes_peer

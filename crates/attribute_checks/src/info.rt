@@ -19,7 +19,7 @@ use crate::room::{append_header, append_padding};
 use crate::rows::{Held, Shape};
 use crate::same::same_held;
 use crate::shapes::{Measured, NOTHING_YET};
-use crate::tables::TableSet;
+use crate::tables::{TableSet, WriteSet};
 use crate::write::{plan, write_held};
 use attribute_tables_grammar::laws::{
     attributes_are_compared, measures_go_by_steps, names_are_looked_up, own_texts_go_by_steps,
@@ -160,7 +160,7 @@ pub fn measure_info<T: NameSet>(set: &T, bytes: &[u8]) -> Option<Measured>
 
 /// Appends the canonical text of an accepted list of link info that fits, for which there has to be
 /// room.
-pub fn write_info<T: NameSet>(set: &T, bytes: &[u8], out: &mut Vec<u8>)
+pub fn write_info<T: NameSet + WriteSet>(set: &T, bytes: &[u8], out: &mut Vec<u8>)
     requires accepted { (list_rule any (names_grammar (named T.peer T.kinds) (named T.peer T.port_kinds))).accepted
         bytes.now ≡ true }
     requires fits { (list_rule any (names_grammar (named T.peer T.kinds) (named T.peer T.port_kinds))).fits

@@ -49,24 +49,6 @@ pub trait TableSet {
         ensures own { IfSome result
             (λ m. m.is_own ≡ true → (payload_rule peer info).canonical payload.now ≡ payload.now) };
 
-    /// Appends a peer's canonical payload, for which there has to be room.
-    fn write_peer(&self, payload: &[u8], out: &mut Vec<u8>)
-        requires accepted { (peer_rule peer).accepted payload.now ≡ true }
-        requires fits { (peer_rule peer).fits payload.now ≡ true }
-        requires room { length out.old.items + length ((peer_rule peer).canonical payload.now)
-            ≤ vec_capacity out.old }
-        ensures text { out.new.items ≡ out.old.items ++ (peer_rule peer).canonical payload.now }
-        ensures room { vec_capacity out.old ≤ vec_capacity out.new };
-
-    /// Appends the canonical text of link info, for which there has to be room.
-    fn write_info(&self, payload: &[u8], out: &mut Vec<u8>)
-        requires accepted { (payload_rule peer info).accepted payload.now ≡ true }
-        requires fits { (payload_rule peer info).fits payload.now ≡ true }
-        requires room { length out.old.items + length ((payload_rule peer info).canonical payload.now)
-            ≤ vec_capacity out.old }
-        ensures text { out.new.items ≡ out.old.items ++ (payload_rule peer info).canonical payload.now }
-        ensures room { vec_capacity out.old ≤ vec_capacity out.new };
-
     /// Whether two peers' payloads mean the same.
     fn same_peer(&self, left: &[u8], right: &[u8]) -> bool
         ensures { result ≡ (peer_rule peer).same left.now right.now };
@@ -74,6 +56,27 @@ pub trait TableSet {
     /// Whether two payloads mean the same as link info.
     fn same_info(&self, left: &[u8], right: &[u8]) -> bool
         ensures { result ≡ (payload_rule peer info).same left.now right.now };
+}
+
+/// Tables whose peers and link info can be written.
+pub trait WriteSet: TableSet {
+    /// Appends a peer's canonical payload, for which there has to be room.
+    fn write_peer(&self, payload: &[u8], out: &mut Vec<u8>)
+        requires accepted { (peer_rule Self.peer).accepted payload.now ≡ true }
+        requires fits { (peer_rule Self.peer).fits payload.now ≡ true }
+        requires room { length out.old.items + length ((peer_rule Self.peer).canonical payload.now)
+            ≤ vec_capacity out.old }
+        ensures text { out.new.items ≡ out.old.items ++ (peer_rule Self.peer).canonical payload.now }
+        ensures room { vec_capacity out.old ≤ vec_capacity out.new };
+
+    /// Appends the canonical text of link info, for which there has to be room.
+    fn write_info(&self, payload: &[u8], out: &mut Vec<u8>)
+        requires accepted { (payload_rule Self.peer Self.info).accepted payload.now ≡ true }
+        requires fits { (payload_rule Self.peer Self.info).fits payload.now ≡ true }
+        requires room { length out.old.items + length ((payload_rule Self.peer Self.info).canonical payload.now)
+            ≤ vec_capacity out.old }
+        ensures text { out.new.items ≡ out.old.items ++ (payload_rule Self.peer Self.info).canonical payload.now }
+        ensures room { vec_capacity out.old ≤ vec_capacity out.new };
 }
 
 /// What the row of an attribute's kind says.

@@ -9,7 +9,7 @@ use crate::attribute::{first_attribute, is_own_attribute};
 use crate::measure::{is_kept, measure_held};
 use crate::room::{append, append_header, append_padding};
 use crate::rows::{Form, Held, Shape};
-use crate::tables::{TableSet, find};
+use crate::tables::{TableSet, WriteSet, find};
 use crate::write_shapes::write_shape;
 use attribute_tables_grammar::laws::{
     measures_tell_rules, rows_are_looked_up, texts_are_written_by_steps,
@@ -57,7 +57,7 @@ pub fn plan<T: TableSet>(set: &T, held: Held, payload: &[u8]) -> Option<Planned>
 }
 
 /// Appends the canonical text of accepted bytes that fit, for which there has to be room.
-pub fn write_held<T: TableSet>(set: &T, held: Held, bytes: &[u8], out: &mut Vec<u8>)
+pub fn write_held<T: WriteSet>(set: &T, held: Held, bytes: &[u8], out: &mut Vec<u8>)
     requires known { is_below T.count held ≡ true }
     requires accepted { (payload_rule T.peer (payload_of T.tables T.info held)).accepted bytes.now
         ≡ true }

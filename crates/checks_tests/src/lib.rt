@@ -5,3 +5,5 @@
 mod bodies;
 #[cfg(test)]
 mod lists;
+#[cfg(test)]
+mod peers;

@@ -1,61 +1,53 @@
 //! Checks of link info, without memory and without a typed value.
 
-ghost use Rattle.std.specs.Prelude.{◌≡◌, ◌≤◌, ◌+◌, ◌++◌, true, false, length, is_ok, option_map, vec_capacity, IfSome, IfOk, IfErr, refl};
-ghost use Rattle.attribute_tables_grammar.specs.Peers.{bytes_peer};
-ghost use Rattle.attribute_tables_grammar.specs.Tables.{Payload.peer};
+ghost use Rattle.std.specs.Prelude.{◌≡◌, ◌≤◌, ◌+◌, ◌++◌, true, false, length, is_ok, option_map, vec_capacity, IfSome, IfOk, IfErr};
+ghost use Rattle.attribute_tables_grammar.specs.Shapes.{raw};
+ghost use Rattle.attribute_tables_grammar.specs.Tables.{Payload.plain};
 ghost use Rattle.attribute_tables_grammar.specs.Walks.{measure};
 ghost use Rattle.netlink_packet_core_numbers.specs.Errors.{is_memory};
 ghost use Rattle.link_info_grammar.specs.Families.{kinds, port_kinds};
-ghost use Rattle.link_info_grammar.specs.LinkInfo.{info_rule};
+ghost use Rattle.link_info_grammar.specs.LinkInfo.{info_rule, info_rule_under};
 ghost use Rattle.attribute_checks.specs.Measures.{view};
 ghost use Rattle.link_info_checks.specs.Tables.{table_of, IsListMeasure};
 
 use crate::rows::{KINDS, PORT_KINDS, ROWS};
 use attribute_checks::{
-    Held, Measured, NameSet, Row, Shape, TableSet, held_by_name, measure_info, measure_shape,
-    same_info, write_info, write_shape,
+    BytesPeer, Held, Measured, NameSet, PeerRule, PeerSet, Row, Ruled, Shape, TableSet, WritePeer,
+    WriteSet, held_by_name, measure_info, measure_shape, same_info, write_info, write_shape,
 };
-use attribute_tables_grammar::laws::{measures_tell_rules, peers_that_are_bytes_are_lawful};
+use attribute_tables_grammar::laws::measures_tell_rules;
 use link_info_grammar::laws::info_grammar_is_lawful;
 use netlink_packet_core_numbers::DecodeError;
 
-// The tables of link info, whose peers are bytes.
-#[derive(Clone, Copy)]
-struct InfoTables;
+// The tables of link info, over peers.
+#[derive_where(Clone, Copy)]
+struct InfoTables<'p, P>(&'p P);
 
-impl TableSet for InfoTables {
+impl<P: PeerSet> TableSet for InfoTables<'_, P> {
     ghost tables = { table_of };
 
     ghost count = { 23 };
 
-    ghost peer = { bytes_peer };
+    ghost peer = { P.peer };
 
     // No row of these holds link info.
-    ghost info = { peer };
+    ghost info = { plain raw };
 
     fn rows(&self) -> &[Row] {
-        peers_that_are_bytes_are_lawful();
+        self.0.peers_are_lawful();
         &ROWS
     }
 
     fn measure_peer(&self, payload: &[u8]) -> Option<Measured> {
-        measure_shape(Shape::Raw, payload)
+        self.0.measure_peer(payload)
     }
 
     fn measure_info(&self, payload: &[u8]) -> Option<Measured> {
         measure_shape(Shape::Raw, payload)
     }
 
-    fn write_peer(&self, payload: &[u8], out: &mut Vec<u8>) {
-        write_shape(Shape::Raw, payload, out);
-    }
-
-    fn write_info(&self, payload: &[u8], out: &mut Vec<u8>) {
-        write_shape(Shape::Raw, payload, out);
-    }
-
     fn same_peer(&self, left: &[u8], right: &[u8]) -> bool {
-        left == right
+        self.0.same_peer(left, right)
     }
 
     fn same_info(&self, left: &[u8], right: &[u8]) -> bool {
@@ -63,7 +55,17 @@ impl TableSet for InfoTables {
     }
 }
 
-impl NameSet for InfoTables {
+impl<P: WritePeer> WriteSet for InfoTables<'_, P> {
+    fn write_peer(&self, payload: &[u8], out: &mut Vec<u8>) {
+        self.0.write_peer(payload, out);
+    }
+
+    fn write_info(&self, payload: &[u8], out: &mut Vec<u8>) {
+        write_shape(Shape::Raw, payload, out);
+    }
+}
+
+impl<P: PeerSet> NameSet for InfoTables<'_, P> {
     ghost kinds = { kinds };
 
     ghost port_kinds = { port_kinds };
@@ -77,7 +79,7 @@ impl NameSet for InfoTables {
     }
 
     fn rows_are_lawful(&self) {
-        peers_that_are_bytes_are_lawful();
+        self.0.peers_are_lawful();
         info_grammar_is_lawful();
     }
 }
@@ -93,25 +95,23 @@ pub struct ListMeasure {
     pub fits: bool,
 }
 
-/// Whether the bytes are a list of link info, and what is found in one walk of them; for the crates
-/// that check messages.
-pub fn measure_list(bytes: &[u8]) -> Option<Measured>
-    ensures measure { option_map view result ≡ measure info_rule bytes.now }
+// Whether the bytes are a list of link info over these peers, and what is found in one walk of them.
+fn measure_over<P: PeerSet>(peers: &P, bytes: &[u8]) -> Option<Measured>
+    ensures measure { option_map view result ≡ measure (info_rule_under P.peer) bytes.now }
     ensures own { IfSome result
-        (λ m. m.is_own ≡ true → info_rule.canonical bytes.now ≡ bytes.now) }
+        (λ m. m.is_own ≡ true → (info_rule_under P.peer).canonical bytes.now ≡ bytes.now) }
 {
-    measure_info(&InfoTables, bytes)
+    measure_info(&InfoTables(peers), bytes)
 }
 
-/// Whether the bytes of IFLA_LINKINFO are a list of link info, and what it is written as. It takes
-/// no memory. A list that isn't accepted is refused; no bytes are the empty list.
-pub fn check_list(bytes: &[u8]) -> Result<ListMeasure, DecodeError>
-    ensures ok { is_ok result ≡ info_rule.accepted bytes.now }
-    ensures measure { IfOk result (λ m. IsListMeasure info_rule bytes.now m) }
+// Whether the bytes are a list of link info over these peers, and what it is written as.
+fn check_over<P: PeerSet>(peers: &P, bytes: &[u8]) -> Result<ListMeasure, DecodeError>
+    ensures ok { is_ok result ≡ (info_rule_under P.peer).accepted bytes.now }
+    ensures measure { IfOk result (λ m. IsListMeasure (info_rule_under P.peer) bytes.now m) }
     ensures err { IfErr result (λ e. is_memory e ≡ false) }
 {
     measures_tell_rules();
-    let Some(found) = measure_list(bytes) else {
+    let Some(found) = measure_over(peers, bytes) else {
         return Err(DecodeError::from("not a list of link info"));
     };
     Ok(ListMeasure {
@@ -121,19 +121,79 @@ pub fn check_list(bytes: &[u8]) -> Result<ListMeasure, DecodeError>
     })
 }
 
+// Whether two lists of link info over these peers mean the same.
+#[tactic(auto, unfolding(link_info_grammar::specs::LinkInfo::info_rule_under, link_info_grammar::specs::LinkInfo::info_grammar_under))]
+fn same_over<P: PeerSet>(peers: &P, left: &[u8], right: &[u8]) -> bool
+    ensures { result ≡ (info_rule_under P.peer).same left.now right.now }
+{
+    same_info(&InfoTables(peers), left, right)
+}
+
+// Appends the canonical text of an accepted list of link info over these peers that fits, for which
+// there has to be room.
+#[tactic(auto, unfolding(link_info_grammar::specs::LinkInfo::info_rule_under, link_info_grammar::specs::LinkInfo::info_grammar_under))]
+fn write_over<P: WritePeer>(peers: &P, bytes: &[u8], out: &mut Vec<u8>)
+    requires accepted { (info_rule_under P.peer).accepted bytes.now ≡ true }
+    requires fits { (info_rule_under P.peer).fits bytes.now ≡ true }
+    requires room { length out.old.items + length ((info_rule_under P.peer).canonical bytes.now)
+        ≤ vec_capacity out.old }
+    ensures text { out.new.items ≡ out.old.items ++ (info_rule_under P.peer).canonical bytes.now }
+    ensures room { vec_capacity out.old ≤ vec_capacity out.new }
+{
+    write_info(&InfoTables(peers), bytes, out);
+}
+
+/// Whether the bytes are a list of link info, and what is found in one walk of them; for the crates
+/// that check messages.
+pub fn measure_list(bytes: &[u8]) -> Option<Measured>
+    ensures measure { option_map view result ≡ measure info_rule bytes.now }
+    ensures own { IfSome result
+        (λ m. m.is_own ≡ true → info_rule.canonical bytes.now ≡ bytes.now) }
+{
+    measure_over(&BytesPeer, bytes)
+}
+
+/// Whether the bytes of IFLA_LINKINFO are a list of link info, and what it is written as. It takes
+/// no memory. A list that isn't accepted is refused; no bytes are the empty list.
+pub fn check_list(bytes: &[u8]) -> Result<ListMeasure, DecodeError>
+    ensures ok { is_ok result ≡ info_rule.accepted bytes.now }
+    ensures measure { IfOk result (λ m. IsListMeasure info_rule bytes.now m) }
+    ensures err { IfErr result (λ e. is_memory e ≡ false) }
+{
+    check_over(&BytesPeer, bytes)
+}
+
+/// Whether the bytes of IFLA_LINKINFO are a list of link info whose peers a rule accepts, and what
+/// it is written as, its peers by that rule. It takes no memory. A list that isn't accepted is
+/// refused; no bytes are the empty list. `check_list` is this under `BytesPeer`.
+pub fn check_list_with<R: PeerRule>(bytes: &[u8], rule: &R) -> Result<ListMeasure, DecodeError>
+    ensures ok { is_ok result ≡ (info_rule_under R.peer).accepted bytes.now }
+    ensures measure { IfOk result (λ m. IsListMeasure (info_rule_under R.peer) bytes.now m) }
+    ensures err { IfErr result (λ e. is_memory e ≡ false) }
+{
+    check_over(&Ruled(rule), bytes)
+}
+
 /// Whether two lists of link info mean the same: each attribute of the one that of the other, kinds
 /// and names, data and port data by the tables of the kinds in force, whatever bytes spell them. It
 /// takes no memory, and builds no value. It is of use where `check_list` accepts both.
-#[tactic(auto, unfolding(link_info_grammar::specs::LinkInfo::info_rule_under, link_info_grammar::specs::LinkInfo::info_grammar_under))]
 pub fn same_list(left: &[u8], right: &[u8]) -> bool
     ensures { result ≡ info_rule.same left.now right.now }
 {
-    same_info(&InfoTables, left, right)
+    same_over(&BytesPeer, left, right)
+}
+
+/// Whether two lists of link info mean the same, their peers by a rule. It takes no memory, and
+/// builds no value. It is of use where `check_list_with` accepts both under that rule. `same_list`
+/// is this under `BytesPeer`.
+pub fn same_list_with<R: PeerRule>(left: &[u8], right: &[u8], rule: &R) -> bool
+    ensures { result ≡ (info_rule_under R.peer).same left.now right.now }
+{
+    same_over(&Ruled(rule), left, right)
 }
 
 /// Appends the canonical text of an accepted list of link info that fits, for which there has to be
 /// room; for the crates that write messages.
-#[tactic(auto, unfolding(link_info_grammar::specs::LinkInfo::info_rule_under, link_info_grammar::specs::LinkInfo::info_grammar_under))]
 pub fn write_list(bytes: &[u8], out: &mut Vec<u8>)
     requires accepted { info_rule.accepted bytes.now ≡ true }
     requires fits { info_rule.fits bytes.now ≡ true }
@@ -142,5 +202,5 @@ pub fn write_list(bytes: &[u8], out: &mut Vec<u8>)
     ensures text { out.new.items ≡ out.old.items ++ info_rule.canonical bytes.now }
     ensures room { vec_capacity out.old ≤ vec_capacity out.new }
 {
-    write_info(&InfoTables, bytes, out);
+    write_over(&BytesPeer, bytes, out);
 }

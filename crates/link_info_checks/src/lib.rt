@@ -4,4 +4,6 @@
 mod info;
 mod rows;
 
-pub use info::{ListMeasure, check_list, measure_list, same_list, write_list};
+pub use info::{
+    ListMeasure, check_list, check_list_with, measure_list, same_list, same_list_with, write_list,
+};

@@ -13,8 +13,8 @@ ghost use Rattle.link_message_checks.specs.Tables.{table_of, IsBodyMeasure};
 
 use crate::rows::{LAYER_TYPES, ROWS};
 use attribute_checks::{
-    Form, Held, Measured, Row, Shape, TableSet, append, measure_held, measure_shape, same_held,
-    write_held, write_shape,
+    Form, Held, Measured, Row, Shape, TableSet, WriteSet, append, measure_held, measure_shape,
+    same_held, write_held, write_shape,
 };
 use attribute_tables_grammar::laws::{
     measures_tell_rules, peers_that_are_bytes_are_lawful, sameness_goes_by_steps,
@@ -66,16 +66,6 @@ impl TableSet for MessageTables {
     }
 
     // No row of these is a peer's.
-    fn write_peer(&self, payload: &[u8], out: &mut Vec<u8>) {
-        write_shape(Shape::Raw, payload, out);
-    }
-
-    fn write_info(&self, payload: &[u8], out: &mut Vec<u8>) {
-        info_is_a_list_inside();
-        write_list(payload, out);
-    }
-
-    // No row of these is a peer's.
     fn same_peer(&self, left: &[u8], right: &[u8]) -> bool {
         left == right
     }
@@ -88,6 +78,18 @@ impl TableSet for MessageTables {
         } else {
             same_list(left, right)
         }
+    }
+}
+
+impl WriteSet for MessageTables {
+    // No row of these is a peer's.
+    fn write_peer(&self, payload: &[u8], out: &mut Vec<u8>) {
+        write_shape(Shape::Raw, payload, out);
+    }
+
+    fn write_info(&self, payload: &[u8], out: &mut Vec<u8>) {
+        info_is_a_list_inside();
+        write_list(payload, out);
     }
 }
 

@@ -2,16 +2,16 @@ use Rattle.link_info_checks.proofs.Built.{rows_rise, rows_known, rows_built, tab
 use Rattle.link_info_checks.proofs.info.InfoTablesTableSet.rows.Goals as goal
 
 pub returns-clause-rise : goal.returns-clause-rise
-returns-clause-rise c = rows_rise
+returns-clause-rise g c = rows_rise
 
 pub returns-clause-known : goal.returns-clause-known
-returns-clause-known c = rows_known
+returns-clause-known g c = rows_known
 
 pub returns-clause-built : goal.returns-clause-built
-returns-clause-built c = rows_built
+returns-clause-built g c = rows_built
 
 pub returns-clause-bounded : goal.returns-clause-bounded
-returns-clause-bounded c = tables_bounded
+returns-clause-bounded g c = tables_bounded
 
 pub returns-clause-lawful_peer : goal.returns-clause-lawful_peer
-returns-clause-lawful_peer c = c.peers_that_are_bytes_are_lawful.ensures
+returns-clause-lawful_peer g c = c.peers_are_lawful.ensures

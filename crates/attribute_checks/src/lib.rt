@@ -23,6 +23,6 @@ pub use room::{append, append_zeros};
 pub use rows::{Form, Held, Row, Shape};
 pub use same::same_held;
 pub use shapes::{Measured, measure_shape};
-pub use tables::{TableSet, WriteSet};
+pub use tables::{Found, TableSet, WriteSet, find};
 pub use write::write_held;
 pub use write_shapes::write_shape;

@@ -1,2 +1,1 @@
-pub mod InForce
 pub mod InfoReading

@@ -1,13 +1,13 @@
 //! Facts of the definitions. A function here calls nothing but laws of the crates below.
 
-ghost use Rattle.link_info.specs.Laws.{LinkInfoIsLawful, NamesTellRules, PortNamesTellRules, KindsAreTheNames};
+ghost use Rattle.link_info.specs.Laws.{LinkInfoIsLawful, KindsAreTheNames};
 
-use attribute_tables_grammar::laws::names_are_looked_up;
 pub use attribute_tables_grammar::laws::{
     canonical_texts_are_cut_again, old_texts_are_renewed, peers_that_are_bytes_are_lawful,
     same_lists_leave_one_context, tables_are_lawful, texts_keep_meanings, texts_tell_meanings,
 };
-use link_info_grammar::laws::{info_is_lawful, unlisted_names_hold_bytes};
+pub use link_info_data::laws::{names_tell_rules, port_names_tell_rules};
+use link_info_grammar::laws::info_is_lawful;
 pub use link_info_grammar::laws::{
     info_grammar_is_lawful, info_is_a_payload, tables_are_listed, tables_pass,
 };
@@ -19,22 +19,6 @@ pub fn link_info_is_lawful()
     ensures { LinkInfoIsLawful }
 {
     info_is_lawful();
-}
-
-/// The data under a name in force have the rule of the kind that the name names.
-pub fn names_tell_rules()
-    ensures { NamesTellRules }
-{
-    names_are_looked_up();
-    unlisted_names_hold_bytes();
-}
-
-/// The port data under a name in force have the rule of the port kind that the name names.
-pub fn port_names_tell_rules()
-    ensures { PortNamesTellRules }
-{
-    names_are_looked_up();
-    unlisted_names_hold_bytes();
 }
 
 /// The kinds that aren't `Other` have the listed names, each its own, and so have the port kinds.

@@ -21,7 +21,7 @@ use netlink_packet_core_numbers::DecodeError;
 
 // The tables of link info, over peers.
 #[derive_where(Clone, Copy)]
-struct InfoTables<'p, P>(&'p P);
+pub(crate) struct InfoTables<'p, P>(pub &'p P);
 
 impl<P: PeerSet> TableSet for InfoTables<'_, P> {
     ghost tables = { table_of };

@@ -1,9 +1,11 @@
 // Link info judged on its bytes.
 #![tactic(auto)]
 
+mod data;
 mod info;
 mod rows;
 
+pub use data::{accepts_data, accepts_port_data};
 pub use info::{
     ListMeasure, check_list, check_list_with, measure_list, same_list, same_list_with, write_list,
 };

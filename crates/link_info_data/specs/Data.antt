@@ -3,15 +3,13 @@ use Rattle.std.specs.Prelude.{◌≡◌, ℕ, Bool, true, ⊤, List, Option, Non
 use Rattle.std.specs.Option.{is_none}
 use Rattle.std.specs.List.{All}
 use Rattle.netlink_packet_core.specs.Attributes.{Attribute, attribute_text}
-use Rattle.netlink_packet_core.specs.Families.{family_row}
 use Rattle.netlink_packet_core.specs.Fits.{attribute_fits}
 use Rattle.netlink_packet_core.specs.Lists.{text_by, all_fit_by}
 use Rattle.attribute_tables_grammar.specs.LookUps.{payload_at, rule_or_raw}
 use Rattle.attribute_tables_grammar.specs.Peers.{Peer, bytes_peer}
 use Rattle.attribute_tables_grammar.specs.Rules.{Rule}
 use Rattle.attribute_tables_grammar.specs.Tables.{Payload}
-use Rattle.attribute_tables.specs.Beginnings.{begins_readable, payload_may_want_memory}
-use Rattle.link_info_grammar.specs.Families.{kinds, macvlan}
+use Rattle.link_info_grammar.specs.Families.{kinds}
 use Rattle.link_info_devices.specs.Batadv.{batadv_entry, batadv_names_row}
 use Rattle.link_info_devices.specs.Ipoib.{ipoib_entry, ipoib_names_row}
 use Rattle.link_info_devices.specs.Ipvlan.{ipvlan_entry, ipvlan_names_row}
@@ -25,7 +23,7 @@ use Rattle.link_info_overlays.specs.Vxlan.{vxlan_entry, vxlan_names_row}
 use Rattle.link_info_raw.specs.RawData.{raw_entry}
 use Rattle.link_info_pairs.specs.Netkit.{netkit_entry, netkit_names_row}
 use Rattle.link_info_pairs.specs.Veth.{pair_entry, pair_names_row}
-use Rattle.link_info_stacked.specs.MacVlan.{mac_vlan_entry, mac_vlan_fits, mac_vlan_may_want_memory, mac_vlan_names_row}
+use Rattle.link_info_stacked.specs.MacVlan.{mac_vlan_entry, mac_vlan_fits, mac_vlan_names_row}
 use Rattle.link_info_stacked.specs.Macsec.{macsec_entry, macsec_names_row}
 use Rattle.link_info_tunnels.specs.Bareudp.{bareudp_entry, bareudp_names_row}
 use Rattle.link_info_tunnels.specs.Gre.{gre_entry, gre_names_row}
@@ -53,12 +51,6 @@ data_rule_of = data_rule_of_under bytes_peer
 
 abbrev pub keeps_bytes : InfoKind → Bool
 keeps_bytes k = is_none (data_payload_of k)
-
--- bytes may want memory, and so may a list where its first attribute is accepted, or itself a list that may want it
-abbrev pub data_may_want_memory : InfoKind → List ℕ → Bool
-data_may_want_memory Kind.MacVlan p = begins_readable (family_row macvlan) mac_vlan_may_want_memory p
-data_may_want_memory Kind.MacVtap p = begins_readable (family_row macvlan) mac_vlan_may_want_memory p
-data_may_want_memory k p = payload_may_want_memory (data_payload_of k) p
 
 -- the payload that a value is written as
 abbrev pub info_data_payload : InfoData → List ℕ

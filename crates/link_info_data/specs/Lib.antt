@@ -1,3 +1,4 @@
 pub mod Data
 pub mod PortData
 pub mod Xstats
+pub mod Laws

@@ -7,7 +7,6 @@ use Rattle.attribute_tables_grammar.specs.LookUps.{payload_at, rule_or_raw}
 use Rattle.attribute_tables_grammar.specs.Peers.{Peer, bytes_peer}
 use Rattle.attribute_tables_grammar.specs.Rules.{Rule}
 use Rattle.attribute_tables_grammar.specs.Tables.{Payload}
-use Rattle.attribute_tables.specs.Beginnings.{payload_may_want_memory}
 use Rattle.link_info_grammar.specs.Families.{port_kinds}
 use Rattle.link_info_devices.specs.Vrf.{vrf_entry, vrf_names_row}
 use Rattle.link_info_raw.specs.RawData.{raw_entry}
@@ -28,10 +27,6 @@ port_data_rule_of_under p k = rule_or_raw p (port_data_payload_of k)
 
 abbrev pub port_data_rule_of : InfoPortKind → Rule
 port_data_rule_of = port_data_rule_of_under bytes_peer
-
--- bytes may want memory, and so may a list where its first attribute is accepted
-abbrev pub port_data_may_want_memory : InfoPortKind → List ℕ → Bool
-port_data_may_want_memory k p = payload_may_want_memory (port_data_payload_of k) p
 
 -- the payload that a value is written as
 abbrev pub info_port_data_payload : InfoPortData → List ℕ

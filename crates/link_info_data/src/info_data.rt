@@ -3,10 +3,12 @@
 ghost use Rattle.std.specs.Prelude.{◌≡◌, ◌<◌, false, true, length, IsTrue, IfOk, IfErr, OnOk};
 ghost use Rattle.netlink_packet_core.specs.Errors.{is_memory};
 ghost use Rattle.link_info_data.specs.Data.{info_data_entry, info_data_fits, info_data_payload, info_data_names_row};
-ghost use Rattle.link_info_data.specs.Data.{data_rule_of, data_may_want_memory};
+ghost use Rattle.link_info_data.specs.Data.{data_rule_of};
 
 use super::bytes::parse_bytes;
+use super::laws::names_tell_rules;
 use attribute_tables::{parse_family, parse_first};
+use link_info_checks::accepts_data;
 use link_info_devices::{
     InfoBatAdv, InfoIpVlan, InfoIpVtap, InfoIpoib, InfoRmNet, InfoVrf, InfoWwan,
 };
@@ -112,16 +114,20 @@ macro_rules! data {
     };
 }
 
+// Whether the data of a kind are accepted. It takes no memory.
+fn accepts(kind: &InfoKind, payload: &[u8]) -> bool
+    ensures { result ≡ (data_rule_of kind.now).accepted payload.now }
+{
+    names_tell_rules();
+    match kind {
+        InfoKind::Other(_) => true,
+        _ => accepts_data(kind.as_str().as_bytes(), payload),
+    }
+}
+
 impl InfoData {
-    /// Reads the data of a kind.
-    ///
-    /// The kind counts by its variant: `InfoKind::Other` of a listed name has the row of a name
-    /// that isn't listed, which keeps the bytes.
-    pub fn parse_with_param(
-        alloc: Global,
-        payload: &[u8],
-        kind: &InfoKind,
-    ) -> Result<InfoData, DecodeError>
+    // Reads the data of a kind, and may tell want of memory in front of a refusal.
+    fn read(alloc: Global, payload: &[u8], kind: &InfoKind) -> Result<InfoData, DecodeError>
         ensures ok { OnOk result (IsTrue ((data_rule_of kind.now).accepted payload.now)) }
         ensures text { IfOk result
             (λ d. info_data_payload d ≡ (data_rule_of kind.now).canonical payload.now) }
@@ -130,8 +136,6 @@ impl InfoData {
         ensures names_row { IfOk result (λ d. info_data_names_row kind.now d) }
         ensures err { IfErr result
             (λ e. is_memory e ≡ false → (data_rule_of kind.now).accepted payload.now ≡ false) }
-        ensures memory { IfErr result
-            (λ e. is_memory e ≡ true → data_may_want_memory kind.now payload.now ≡ true) }
         ensures not_empty { IfErr result (λ e. is_memory e ≡ true → 0 < length payload.now) }
     {
         match kind {
@@ -183,6 +187,37 @@ impl InfoData {
             | InfoKind::Pfcp
             | InfoKind::Other(_) => Ok(Self::Other(parse_bytes(alloc, payload)?)),
         }
+    }
+
+    /// Reads the data of a kind. It succeeds exactly where the kind's table accepts them, memory
+    /// aside, and answers want of memory of accepted data alone: where a growth was refused, the
+    /// rest is judged without memory.
+    ///
+    /// The kind counts by its variant: `InfoKind::Other` of a listed name has the row of a name
+    /// that isn't listed, which keeps the bytes.
+    pub fn parse_with_param(
+        alloc: Global,
+        payload: &[u8],
+        kind: &InfoKind,
+    ) -> Result<InfoData, DecodeError>
+        ensures ok { OnOk result (IsTrue ((data_rule_of kind.now).accepted payload.now)) }
+        ensures text { IfOk result
+            (λ d. info_data_payload d ≡ (data_rule_of kind.now).canonical payload.now) }
+        ensures fits { IfOk result
+            (λ d. info_data_fits d ≡ (data_rule_of kind.now).fits payload.now) }
+        ensures names_row { IfOk result (λ d. info_data_names_row kind.now d) }
+        ensures err { IfErr result
+            (λ e. (data_rule_of kind.now).accepted payload.now ≡ is_memory e) }
+        ensures not_empty { IfErr result (λ e. is_memory e ≡ true → 0 < length payload.now) }
+    {
+        let error = match Self::read(alloc, payload, kind) {
+            Ok(data) => return Ok(data),
+            Err(error) => error,
+        };
+        if error.is_memory() && !accepts(kind, payload) {
+            return Err(DecodeError::from("no data of their kind"));
+        }
+        Err(error)
     }
 }
 

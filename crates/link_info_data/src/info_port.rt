@@ -3,10 +3,12 @@
 ghost use Rattle.std.specs.Prelude.{◌≡◌, ◌<◌, false, true, length, IsTrue, IfOk, IfErr, OnOk};
 ghost use Rattle.netlink_packet_core.specs.Errors.{is_memory};
 ghost use Rattle.link_info_data.specs.PortData.{info_port_data_entry, info_port_data_fits, info_port_data_payload};
-ghost use Rattle.link_info_data.specs.PortData.{info_port_data_names_row, port_data_rule_of, port_data_may_want_memory};
+ghost use Rattle.link_info_data.specs.PortData.{info_port_data_names_row, port_data_rule_of};
 
 use super::bytes::parse_bytes;
+use super::laws::port_names_tell_rules;
 use attribute_tables::parse_family;
+use link_info_checks::accepts_port_data;
 use link_info_devices::InfoVrf;
 use link_info_kinds::InfoPortKind;
 use link_info_raw::{InfoBondPort, InfoBridgePort, InfoTeamPort};
@@ -33,8 +35,42 @@ pub enum InfoPortData {
     Other(Vec<u8>),
 }
 
+// Whether the data of a port kind are accepted. It takes no memory.
+fn accepts(kind: &InfoPortKind, payload: &[u8]) -> bool
+    ensures { result ≡ (port_data_rule_of kind.now).accepted payload.now }
+{
+    port_names_tell_rules();
+    match kind {
+        InfoPortKind::Other(_) => true,
+        _ => accepts_port_data(kind.as_str().as_bytes(), payload),
+    }
+}
+
 impl InfoPortData {
-    /// Reads the data of a port kind.
+    // Reads the data of a port kind, and may tell want of memory in front of a refusal.
+    fn read(alloc: Global, payload: &[u8], kind: &InfoPortKind) -> Result<InfoPortData, DecodeError>
+        ensures ok { OnOk result (IsTrue ((port_data_rule_of kind.now).accepted payload.now)) }
+        ensures text { IfOk result
+            (λ d. info_port_data_payload d ≡ (port_data_rule_of kind.now).canonical payload.now) }
+        ensures fits { IfOk result
+            (λ d. info_port_data_fits d ≡ (port_data_rule_of kind.now).fits payload.now) }
+        ensures names_row { IfOk result (λ d. info_port_data_names_row kind.now d) }
+        ensures err { IfErr result
+            (λ e. is_memory e ≡ false → (port_data_rule_of kind.now).accepted payload.now ≡ false) }
+        ensures not_empty { IfErr result (λ e. is_memory e ≡ true → 0 < length payload.now) }
+    {
+        match kind {
+            InfoPortKind::Bond => Ok(Self::BondPort(parse_family(alloc, payload)?)),
+            InfoPortKind::Bridge => Ok(Self::BridgePort(parse_family(alloc, payload)?)),
+            InfoPortKind::Vrf => Ok(Self::VrfPort(parse_family(alloc, payload)?)),
+            InfoPortKind::Team => Ok(Self::TeamPort(parse_family(alloc, payload)?)),
+            InfoPortKind::Other(_) => Ok(Self::Other(parse_bytes(alloc, payload)?)),
+        }
+    }
+
+    /// Reads the data of a port kind. It succeeds exactly where the port kind's table accepts them,
+    /// memory aside, and answers want of memory of accepted data alone: where a growth was refused,
+    /// the rest is judged without memory.
     ///
     /// The port kind counts by its variant: `InfoPortKind::Other` of a listed name has the row of a
     /// name that isn't listed, which keeps the bytes.
@@ -50,18 +86,17 @@ impl InfoPortData {
             (λ d. info_port_data_fits d ≡ (port_data_rule_of kind.now).fits payload.now) }
         ensures names_row { IfOk result (λ d. info_port_data_names_row kind.now d) }
         ensures err { IfErr result
-            (λ e. is_memory e ≡ false → (port_data_rule_of kind.now).accepted payload.now ≡ false) }
-        ensures memory { IfErr result
-            (λ e. is_memory e ≡ true → port_data_may_want_memory kind.now payload.now ≡ true) }
+            (λ e. (port_data_rule_of kind.now).accepted payload.now ≡ is_memory e) }
         ensures not_empty { IfErr result (λ e. is_memory e ≡ true → 0 < length payload.now) }
     {
-        match kind {
-            InfoPortKind::Bond => Ok(Self::BondPort(parse_family(alloc, payload)?)),
-            InfoPortKind::Bridge => Ok(Self::BridgePort(parse_family(alloc, payload)?)),
-            InfoPortKind::Vrf => Ok(Self::VrfPort(parse_family(alloc, payload)?)),
-            InfoPortKind::Team => Ok(Self::TeamPort(parse_family(alloc, payload)?)),
-            InfoPortKind::Other(_) => Ok(Self::Other(parse_bytes(alloc, payload)?)),
+        let error = match Self::read(alloc, payload, kind) {
+            Ok(data) => return Ok(data),
+            Err(error) => error,
+        };
+        if error.is_memory() && !accepts(kind, payload) {
+            return Err(DecodeError::from("no data of their port kind"));
         }
+        Err(error)
     }
 }
 

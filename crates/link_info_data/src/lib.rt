@@ -4,6 +4,7 @@
 mod bytes;
 mod info_data;
 mod info_port;
+pub mod laws;
 mod xstats;
 
 pub use info_data::InfoData;

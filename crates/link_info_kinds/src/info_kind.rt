@@ -295,8 +295,8 @@ impl InfoKind {
         }
     }
 
-    // The name of the kind.
-    fn as_str(&self) -> &str
+    /// The name of the kind.
+    pub fn as_str(&self) -> &str
         ensures { result.now ≡ info_kind_text self.now }
     {
         match self {

@@ -68,8 +68,8 @@ impl InfoPortKind {
         }
     }
 
-    // The name of the port kind.
-    fn as_str(&self) -> &str
+    /// The name of the port kind.
+    pub fn as_str(&self) -> &str
         ensures { result.now ≡ info_port_kind_text self.now }
     {
         match self {

@@ -11,7 +11,6 @@ ghost use Rattle.netlink_packet_core.specs.NlaBuffers.{storage};
 ghost use Rattle.attribute_tables_grammar.specs.Lists.{any, rewrite, without_context};
 ghost use Rattle.attribute_tables_grammar.specs.Readings.{reading_as};
 ghost use Rattle.attribute_tables.specs.Views.{is_accepted_by, fits_by, rewritten_by};
-ghost use Rattle.attribute_tables.specs.Beginnings.{begins_readable};
 ghost use Rattle.attribute_tables.specs.Written.{written_as};
 ghost use Rattle.link_message_grammar.specs.LinkMessage.{has_no_link_row};
 ghost use Rattle.link_message_grammar.specs.Body.{attribute_row, attributes_rule};
@@ -21,6 +20,7 @@ ghost use Rattle.link_message_attributes.specs.LinkAttributes.{link_attribute_fi
 ghost use Rattle.link_message_attributes.specs.LinkAttributes.{IsReadAsNumber, row_may_want_memory, link_attribute_may_want_memory};
 ghost use Rattle.link_message_attributes.specs.Payloads.{link_payload_bytes, link_payload_fits};
 
+use super::families::number_of_table;
 use super::kinds::IFLA_ADDRESS;
 use super::kinds::IFLA_AF_SPEC;
 use super::kinds::IFLA_ALLMULTI;
@@ -91,6 +91,8 @@ use attribute_tables::typed;
 use link_info::LinkInfo;
 use link_message_af_spec::AfSpecUnspec;
 use link_message_af_spec::parse_families;
+use link_message_checks::accepts_attribute;
+use link_message_checks::accepts_attributes;
 use link_message_grammar::laws::attributes_are_looked_up;
 use link_message_lists::DevlinkPort;
 use link_message_lists::DpllPin;
@@ -564,10 +566,9 @@ impl LinkAttribute {
         }
     }
 
-    /// Reads one attribute under an address family, which counts by its variant. It succeeds
-    /// exactly where its row accepts it, memory aside.
+    // Reads one attribute, and may tell want of memory in front of a refusal.
     #[tactic(auto, using(netlink_packet_core_attributes::proofs::Families::families))]
-    pub fn parse_with_param(
+    fn read(
         alloc: Global,
         buf: &NlaBuffer<&[u8]>,
         family: AddressFamily,
@@ -600,12 +601,46 @@ impl LinkAttribute {
         }
     }
 
-    /// Reads the attributes of a link under an address family, which counts by its variant. It
-    /// succeeds exactly where the list is accepted, memory aside; a list of no bytes is never
-    /// refused. It answers want of memory only where its first attribute is accepted, or where
-    /// reading that one may want memory.
+    /// Reads one attribute under an address family, which counts by its variant. It succeeds
+    /// exactly where its row accepts it, memory aside, and answers want of memory of an accepted
+    /// attribute alone: where a growth was refused, the rest is judged without memory.
+    pub fn parse_with_param(
+        alloc: Global,
+        buf: &NlaBuffer<&[u8]>,
+        family: AddressFamily,
+    ) -> Result<LinkAttribute, DecodeError>
+        requires { IsAttribute (storage buf.now).now }
+        ensures ok { OnOk result
+            (IsTrue (is_accepted_by (attribute_row (table_family family)) (storage buf.now).now)) }
+        ensures value { IfOk result
+            (λ v. link_attribute_entry v
+            ≡ rewritten_by (attribute_row (table_family family)) (storage buf.now).now) }
+        ensures inside { IfOk result
+            (λ v. link_attribute_fits v
+            ≡ fits_by (attribute_row (table_family family)) (storage buf.now).now) }
+        ensures names_row { IfOk result
+            (λ v. link_attribute_names_row (table_family family) v) }
+        ensures err { IfErr result
+            (λ e. is_accepted_by (attribute_row (table_family family)) (storage buf.now).now
+            ≡ is_memory e) }
+        ensures memory { IfErr result
+            (λ e. is_memory e ≡ true
+            → link_attribute_may_want_memory (table_family family) (storage buf.now).now ≡ true) }
+    {
+        let error = match Self::read(alloc, buf, family) {
+            Ok(value) => return Ok(value),
+            Err(error) => error,
+        };
+        let table = number_of_table(family);
+        if error.is_memory() && !accepts_attribute(table, buf.raw_kind(), buf.value()) {
+            return Err(DecodeError::from("no attribute of its kind"));
+        }
+        Err(error)
+    }
+
+    // Reads attributes, and may tell want of memory in front of a refusal.
     #[tactic(auto, using(crate::proofs::Rules::attribute_rules))]
-    pub fn parse_list(
+    fn read_list(
         alloc: Global,
         bytes: &[u8],
         family: AddressFamily,
@@ -627,13 +662,45 @@ impl LinkAttribute {
             (λ e. is_memory e ≡ false
             → (attributes_rule (table_family family)).accepted bytes.now ≡ false) }
         ensures not_empty { IfErr result (λ _. 0 < length bytes.now) }
-        ensures memory { IfErr result
-            (λ e. is_memory e ≡ true
-            → begins_readable (attribute_row (table_family family))
-            (link_attribute_may_want_memory (table_family family)) bytes.now ≡ true) }
     {
         attributes_are_looked_up();
         parse_list(alloc, &LinkAttributeReader { family }, bytes)
+    }
+
+    /// Reads the attributes of a link under an address family, which counts by its variant. It
+    /// succeeds exactly where the list is accepted, memory aside; a list of no bytes is never
+    /// refused. It answers want of memory of accepted lists alone: where a growth was refused, the
+    /// rest of the list is judged without memory.
+    pub fn parse_list(
+        alloc: Global,
+        bytes: &[u8],
+        family: AddressFamily,
+    ) -> Result<Vec<LinkAttribute>, DecodeError>
+        ensures ok { OnOk result
+            (IsTrue ((attributes_rule (table_family family)).accepted bytes.now)) }
+        ensures read { IfOk result
+            (λ v. reading_as any (without_context (attribute_row (table_family family))) bytes.now
+            ≡ Some (map (written_as link_attribute_entry link_attribute_fits) v.items)) }
+        ensures text { IfOk result
+            (λ v. text_by link_attribute_entry v.items
+            ≡ (attributes_rule (table_family family)).canonical bytes.now) }
+        ensures fits { IfOk result
+            (λ v. all_fit_by link_attribute_entry link_attribute_fits v.items
+            ≡ (attributes_rule (table_family family)).fits bytes.now) }
+        ensures names_row { IfOk result
+            (λ v. All (link_attribute_names_row (table_family family)) v.items) }
+        ensures err { IfErr result
+            (λ e. (attributes_rule (table_family family)).accepted bytes.now ≡ is_memory e) }
+        ensures not_empty { IfErr result (λ _. 0 < length bytes.now) }
+    {
+        let error = match Self::read_list(alloc, bytes, family) {
+            Ok(list) => return Ok(list),
+            Err(error) => error,
+        };
+        if error.is_memory() && !accepts_attributes(number_of_table(family), bytes) {
+            return Err(DecodeError::from("no attributes of a link"));
+        }
+        Err(error)
     }
 }
 
@@ -653,6 +720,6 @@ impl Reader for LinkAttributeReader {
     ghost may_want_memory = { λ r. link_attribute_may_want_memory (table_family r.family) };
 
     fn read(&self, alloc: Global, buf: &NlaBuffer<&[u8]>) -> Result<LinkAttribute, DecodeError> {
-        LinkAttribute::parse_with_param(alloc, buf, self.family)
+        LinkAttribute::read(alloc, buf, self.family)
     }
 }

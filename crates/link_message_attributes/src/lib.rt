@@ -2,6 +2,7 @@
 #![tactic(auto)]
 
 mod attributes;
+mod families;
 mod kinds;
 mod numbers;
 mod payload;

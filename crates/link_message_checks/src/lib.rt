@@ -1,7 +1,9 @@
 // Link messages judged on their bytes.
 #![tactic(auto)]
 
+mod attributes;
 mod message;
 mod rows;
 
+pub use attributes::{accepts_attribute, accepts_attributes};
 pub use message::{BodyMeasure, check, measure_body, same, write_body, write_canonical};

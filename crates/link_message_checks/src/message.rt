@@ -34,7 +34,7 @@ const VOID_LAYER: u16 = 0xffff;
 
 // The tables of link messages.
 #[derive(Clone, Copy)]
-struct MessageTables;
+pub(crate) struct MessageTables;
 
 impl TableSet for MessageTables {
     ghost tables = { table_of };
@@ -93,8 +93,8 @@ impl WriteSet for MessageTables {
     }
 }
 
-// The number of a family's table.
-fn table_of_family(family: u8) -> u8
+/// The number of a family's table.
+pub(crate) fn table_of_family(family: u8) -> u8
     ensures known { result < 19 }
     ensures table { table_of result ≡ link_table (family_of family) }
 {
@@ -110,8 +110,8 @@ fn table_of_family(family: u8) -> u8
     18
 }
 
-// Whether the bytes are attributes of a family, and their measure.
-fn measure_attributes(family: u8, bytes: &[u8]) -> Option<Measured>
+/// Whether the bytes are attributes of a family, and their measure.
+pub(crate) fn measure_attributes(family: u8, bytes: &[u8]) -> Option<Measured>
     ensures measure { option_map view result
         ≡ measure (attributes_rule (family_of family)) bytes.now }
     ensures own { IfSome result

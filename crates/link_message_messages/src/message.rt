@@ -1,6 +1,6 @@
 //! A link message: the header of 16 bytes and the attributes of the link.
 
-ghost use Rattle.std.specs.Prelude.{◌≡◌, ◌<◌, false, true, length, slice_index, Some, IsTrue, IfOk, IfErr, OnOk};
+ghost use Rattle.std.specs.Prelude.{◌≡◌, ◌<◌, true, length, slice_index, Some, IsTrue, IfOk, IfErr, OnOk};
 ghost use Rattle.netlink_packet_core.specs.Errors.{is_memory};
 ghost use Rattle.attribute_tables_grammar.specs.Lists.{any, without_context};
 ghost use Rattle.attribute_tables_grammar.specs.Readings.{reading_as};
@@ -12,7 +12,6 @@ ghost use Rattle.link_message_messages.specs.LinkMessages.{link_message_names_ro
 ghost use Rattle.link_message_messages.specs.LinkMessages.{link_message_empty_ports};
 
 use link_message_attributes::LinkAttribute;
-use link_message_checks::check;
 use link_message_grammar::laws::{bodies_are_headers_and_attributes, empty_ports_are_told};
 use link_message_types::laws::headers_are_sixteen_bytes;
 use link_message_types::{LINK_HEADER_LEN, LinkHeader};
@@ -31,39 +30,11 @@ pub struct LinkMessage {
 }
 
 impl LinkMessage {
-    // Reads a message, and may tell want of memory in front of a refusal.
-    #[tactic(auto, using(crate::proofs::Bodies::bodies))]
-    fn read(alloc: Global, bytes: &[u8]) -> Result<LinkMessage, DecodeError>
-        ensures ok { OnOk result (IsTrue (link_body.accepted bytes.now)) }
-        ensures header { IfOk result
-            (λ m. link_header_bytes m.header ≡ header_text bytes.now) }
-        ensures family { IfOk result
-            (λ m. m.header.interface_family ≡ address_family_of (slice_index bytes.now 0)) }
-        ensures read { IfOk result
-            (λ m. reading_as any (without_context (attribute_row (family bytes.now)))
-            (attribute_bytes bytes.now)
-            ≡ Some (link_message_written m)) }
-        ensures text { IfOk result (λ m. link_message_text m ≡ link_body.canonical bytes.now) }
-        ensures fits { IfOk result (λ m. link_message_fits m ≡ link_body.fits bytes.now) }
-        ensures empty_ports { IfOk result
-            (λ m. link_message_empty_ports m ≡ link_body.empty_ports bytes.now) }
-        ensures names_row { IfOk result (λ m. link_message_names_row m) }
-        ensures err { IfErr result
-            (λ e. is_memory e ≡ false → link_body.accepted bytes.now ≡ false) }
-        ensures not_empty { IfErr result (λ e. is_memory e ≡ true → 16 < length bytes.now) }
-    {
-        bodies_are_headers_and_attributes();
-        empty_ports_are_told();
-        let header = LinkHeader::parse(bytes)?;
-        let (_, list) = bytes.split_at(LINK_HEADER_LEN);
-        let attributes = LinkAttribute::parse_list(alloc, list, header.interface_family)?;
-        Ok(LinkMessage { header, attributes })
-    }
-
     /// Reads a message. It succeeds exactly where the body is legal, memory aside: where there are
     /// 16 bytes of header, and then a list of attributes, each accepted by its row under the
     /// family of the header. It answers want of memory of legal bodies alone: where a growth was
-    /// refused, the rest of the body is judged without memory.
+    /// refused, the rest of the attributes is judged without memory.
+    #[tactic(auto, using(crate::proofs::Bodies::bodies))]
     pub fn parse(alloc: Global, bytes: &[u8]) -> Result<LinkMessage, DecodeError>
         ensures ok { OnOk result (IsTrue (link_body.accepted bytes.now)) }
         ensures header { IfOk result
@@ -82,14 +53,12 @@ impl LinkMessage {
         ensures err { IfErr result (λ e. link_body.accepted bytes.now ≡ is_memory e) }
         ensures not_empty { IfErr result (λ e. is_memory e ≡ true → 16 < length bytes.now) }
     {
-        let error = match Self::read(alloc, bytes) {
-            Ok(message) => return Ok(message),
-            Err(error) => error,
-        };
-        if error.is_memory() {
-            check(bytes)?;
-        }
-        Err(error)
+        bodies_are_headers_and_attributes();
+        empty_ports_are_told();
+        let header = LinkHeader::parse(bytes)?;
+        let (_, list) = bytes.split_at(LINK_HEADER_LEN);
+        let attributes = LinkAttribute::parse_list(alloc, list, header.interface_family)?;
+        Ok(LinkMessage { header, attributes })
     }
 
     /// Whether an attribute is written as a list of ports (IFLA_VF_PORTS) without an entry, which no

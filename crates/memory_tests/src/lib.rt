@@ -7,4 +7,6 @@ mod captures;
 #[cfg(test)]
 mod links;
 #[cfg(test)]
+mod measures;
+#[cfg(test)]
 mod requests;

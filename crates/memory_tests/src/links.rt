@@ -8,11 +8,11 @@ use netlink_packet_core::{Emitable, emit_all, fits_all, len_all};
 use std::test::Fail;
 
 /// A link of IPsec, with its data.
-const XFRM: [u8; 32] = *b"\x09\0\x01\0xfrm\0\0\0\0\
+pub(crate) const XFRM: [u8; 32] = *b"\x09\0\x01\0xfrm\0\0\0\0\
     \x14\0\x02\0\x08\0\x01\0\x02\0\0\0\x08\0\x02\0\x0a\0\0\0";
 
 /// A VXLAN of the name `lo`: it learns, and has group policies. It is its own text.
-const VXLAN: [u8; 56] = *b"\0\0\0\0\0\0\0\0\0\0\0\0\0\0\0\0\
+pub(crate) const VXLAN: [u8; 56] = *b"\0\0\0\0\0\0\0\0\0\0\0\0\0\0\0\0\
     \x07\0\x03\0lo\0\0\
     \x20\0\x12\0\x0a\0\x01\0vxlan\0\0\0\x10\0\x02\0\x05\0\x07\0\x01\0\0\0\x04\0\x17\0";
 

@@ -6,7 +6,7 @@ use Rattle.link_message_grammar.specs.Body.{attribute_bytes, attribute_row, fami
 use Rattle.link_message_types.specs.AddressFamilies.{table_family}
 use Rattle.link_message_attributes.specs.LinkAttributes.{link_attribute_entry, link_attribute_fits}
 use Rattle.link_message_messages.proofs.Bodies.{body-family, body-empty_ports}
-use Rattle.link_message_messages.proofs.message.LinkMessage.read.Goals as goal
+use Rattle.link_message_messages.proofs.message.LinkMessage.parse.Goals as goal
 
 pub returns-clause-empty_ports : goal.returns-clause-empty_ports
 returns-clause-empty_ports c =

@@ -1,0 +1,96 @@
+// capture_speed: reads a capture on standard input, and prints its numbers or its first fault. On the error output it
+// tells how long one check of it takes, and one comparison with the capture in the file that its word names, or with
+// itself: the least of five rounds, in nanoseconds.
+#![tactic(auto)]
+
+use link_capture::{DEFAULT_LIMIT, ReadSource, check, measure, read_all, same};
+use std::alloc::Global;
+use std::env;
+use std::fs::File;
+use std::io::{self, ErrorKind, Read};
+use std::process::ExitCode;
+use std::time::{Duration, Instant};
+
+/// How often each call is timed.
+const ROUNDS: usize = 5;
+
+/// How long a call took, and how many of them answered that the capture is well.
+#[derive(Drop)]
+struct Timed {
+    least: Duration,
+    well: usize,
+}
+
+/// How long a check of a capture takes.
+fn check_time(rt: &HostRuntime, capture: &[u8]) -> io::Result<Timed> {
+    let mut least = Duration::MAX;
+    let mut well = 0usize;
+    for _ in 0..ROUNDS {
+        let start = Instant::now(rt)?;
+        let is_legal = check(capture, DEFAULT_LIMIT).is_ok();
+        least = least.min(start.elapsed(rt)?);
+        well = well.saturating_add(is_legal as usize);
+    }
+    Ok(Timed { least, well })
+}
+
+/// How long a comparison of two captures takes.
+fn same_time(rt: &HostRuntime, capture: &[u8], other: &[u8]) -> io::Result<Timed> {
+    let mut least = Duration::MAX;
+    let mut well = 0usize;
+    for _ in 0..ROUNDS {
+        let start = Instant::now(rt)?;
+        let is_same = same(capture, other, DEFAULT_LIMIT) == Ok(true);
+        least = least.min(start.elapsed(rt)?);
+        well = well.saturating_add(is_same as usize);
+    }
+    Ok(Timed { least, well })
+}
+
+/// Prints the numbers of a capture, or its first fault.
+fn print_numbers(rt: &HostRuntime, capture: &[u8]) -> io::Result<()> {
+    match measure(capture, DEFAULT_LIMIT) {
+        Ok(found) => println!(rt;
+            "{} frames, {} attributes, {} bytes of normal text",
+            found.frames, found.attributes, found.text_len
+        ),
+        Err(fault) => println!(rt; "{fault}"),
+    }
+}
+
+/// Tells how long a call took.
+fn tell(rt: &HostRuntime, call: &str, timed: Timed) -> io::Result<()> {
+    let nanos = timed.least.as_nanos();
+    eprintln!(rt; "{call} {nanos} ns, well in {} of {ROUNDS}", timed.well)
+}
+
+/// All that a reader gives.
+fn read<R: Read + Drop>(alloc: Global, reader: R) -> io::Result<Vec<u8>> {
+    match read_all(alloc, &mut ReadSource::new(reader)) {
+        Ok(bytes) => Ok(bytes),
+        Err(_) => Err(io::Error::from(ErrorKind::Other)),
+    }
+}
+
+/// Reads, prints and times.
+fn run(rt: &HostRuntime) -> io::Result<()> {
+    let capture = read(rt.alloc(), rt.reader())?;
+    print_numbers(rt, capture.as_slice())?;
+    tell(rt, "check", check_time(rt, capture.as_slice())?)?;
+    let words: Vec<String> = env::args(rt)?.collect(rt.alloc())?;
+    let timed = match words.get(1) {
+        Some(name) => {
+            let other = read(rt.alloc(), File::open(rt, name.as_str())?)?;
+            same_time(rt, capture.as_slice(), other.as_slice())?
+        }
+        None => same_time(rt, capture.as_slice(), capture.as_slice())?,
+    };
+    tell(rt, "same", timed)
+}
+
+fn main(rt: HostRuntime) -> ExitCode {
+    match run(&rt) {
+        Ok(()) => ExitCode::SUCCESS,
+        Err(_) => ExitCode::FAILURE,
+    }
+}

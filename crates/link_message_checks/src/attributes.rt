@@ -1,0 +1,32 @@
+//! Checks of attributes under an address family, without memory and without a typed value; for the
+//! crates that read them.
+
+ghost use Rattle.std.specs.Prelude.{◌≡◌};
+ghost use Rattle.netlink_packet_core_grammar.specs.Attributes.{proper_kind};
+ghost use Rattle.link_message_grammar.specs.LinkMessage.{family_of};
+ghost use Rattle.link_message_grammar.specs.Body.{attribute_row, attributes_rule};
+
+use crate::message::{MessageTables, measure_attributes, table_of_family};
+use attribute_checks::{find, measure_held};
+use attribute_tables_grammar::laws::measures_tell_rules;
+use link_message_grammar::laws::kinds_are_looked_up;
+
+/// Whether an attribute's payload is accepted as what the row of its kind holds under an address
+/// family. The kind may have its flag bits.
+pub fn accepts_attribute(family: u8, kind: u16, payload: &[u8]) -> bool
+    ensures { result
+        ≡ (attribute_row (family_of family) (proper_kind kind)).rule.accepted payload.now }
+{
+    measures_tell_rules();
+    kinds_are_looked_up();
+    let found = find(&MessageTables, table_of_family(family), kind);
+    measure_held(&MessageTables, found.held, payload).is_some()
+}
+
+/// Whether the bytes are attributes of an address family.
+pub fn accepts_attributes(family: u8, bytes: &[u8]) -> bool
+    ensures { result ≡ (attributes_rule (family_of family)).accepted bytes.now }
+{
+    measures_tell_rules();
+    measure_attributes(family, bytes).is_some()
+}

@@ -1,0 +1,167 @@
+//! Measures and comparisons: none asks for memory, so with each request refused they answer as ever.
+
+use super::links::{VXLAN, XFRM};
+use super::requests::last_request;
+use link_capture::{CaptureFault, FaultKind, Measure, check, measure, normal_len, same};
+use link_info::{BytesPeer, ListMeasure, check_list, check_list_with, same_list, same_list_with};
+use link_message::BodyMeasure;
+use std::test::Fail;
+
+/// Captures that are legal under a limit of 1000, each with the numbers of its frames, its attributes and the bytes of
+/// its normal text.
+const LEGAL: [(&[u8], [u64; 3]); 10] = [
+    // No bytes.
+    (b"", [0, 0, 0]),
+    // A request for the link `lo`.
+    (
+        b"0\0\0\0\x12\0\x01\x034\x0e\xf9Z\0\0\0\0\0\0\0\0\0\0\0\0\0\0\0\0\0\0\0\0\x08\0\
+        \x1d\0\x09\0\0\0\x07\0\x03\0lo\0\0",
+        [1, 2, 48],
+    ),
+    // A list of virtual functions with another attribute inside, which is dropped.
+    (
+        b",\0\0\0\x10\0\0\0\0\0\0\0\0\0\0\0\0\0\0\0\0\0\0\0\0\0\0\0\0\0\0\0\x0c\0\x16\0\
+        \x04\0\x05\0\x04\0\x01\0",
+        [1, 3, 40],
+    ),
+    // A NOOP with a body, which its text leaves out.
+    (
+        b"\x14\0\0\0\x01\0\0\0\x01\0\0\0\0\0\0\0\xaa\xbb\xcc\xdd",
+        [1, 0, 16],
+    ),
+    // A message of another type.
+    (b"\x11\0\0\0\x14\0\0\0\0\0\0\0\0\0\0\0a", [1, 0, 20]),
+    // Bits that no header keeps, and link info without padding.
+    (
+        b"8\0\0\0\x10\0\0\0\0\0\0\0\0\0\0\0\0\0\xfe\xff\x10\0\0\0\x90\x10\0\0\0\0\0\0\x0a\
+        \0\x03\0pfcp0\0\0\0\x0c\0\x12\0\x08\0\x01\0pfcp",
+        [1, 3, 60],
+    ),
+    // Settings of IPv6 that are absent are written whole.
+    (
+        b",\0\0\0\x10\0\0\0\0\0\0\0\0\0\0\0\0\0\0\0\0\0\0\0\0\0\0\0\0\0\0\0\x0c\0\x1a\0\
+        \x08\0\x0a\0\x04\0\x03\0",
+        [1, 3, 348],
+    ),
+    // A VXLAN whose name has no NUL.
+    (
+        b"D\0\0\0\x10\0\0\0\0\0\0\0\0\0\0\0\0\0\0\0\0\0\0\0\0\0\0\0\0\0\0\0$\0\x12\0\x0a\0\
+        \x01\0vxlan\0\0\0\x14\0\x02\0\x05\0\x07\0\x05\0\0\0\x05\0\x17\0\xaa\0\0\0",
+        [1, 5, 64],
+    ),
+    // A veth whose data go on behind the first attribute.
+    (
+        b"@\0\0\0\x10\0\0\0\0\0\0\0\0\0\0\0\0\0\0\0\0\0\0\0\0\0\0\0\0\0\0\0 \0\x12\0\x09\0\
+        \x01\0veth\0\0\0\0\x0d\0\x02\0\x05\0\x02\0a\0\0\0\xff\0\0\0",
+        [1, 4, 60],
+    ),
+    // Two requests.
+    (
+        b"0\0\0\0\x12\0\x01\x034\x0e\xf9Z\0\0\0\0\0\0\0\0\0\0\0\0\0\0\0\0\0\0\0\0\x08\0\
+        \x1d\0\x09\0\0\0\x07\0\x03\0lo\0\00\0\0\0\x12\0\x01\x034\x0e\xf9Z\0\0\0\0\0\0\0\
+        \0\0\0\0\0\0\0\0\0\0\0\0\0\x08\0\x1d\0\x09\0\0\0\x07\0\x03\0lo\0\0",
+        [2, 4, 96],
+    ),
+];
+
+/// A DONE without a code, and behind it a frame that tells 8 bytes.
+const SHORT: &[u8] =
+    b"\x10\0\0\0\x03\0\x02\0\x01\0\0\0\0\0\0\0\x08\0\0\0\x03\0\0\0\0\0\0\0\0\0\0\0";
+
+/// What the settings stand behind: a message of 888 bytes, its link header, IFLA_AF_SPEC, and the family 10 in it.
+const FRONT: [u8; 40] =
+    *b"x\x03\0\0\x10\0\0\0\0\0\0\0\0\0\0\0\0\0\0\0\0\0\0\0\0\0\0\0\0\0\0\0X\x03\x1a\0T\x03\x0a\0";
+
+/// The same of 880 bytes.
+const SHORTER_FRONT: [u8; 40] =
+    *b"p\x03\0\0\x10\0\0\0\0\0\0\0\0\0\0\0\0\0\0\0\0\0\0\0\0\0\0\0\0\0\0\0P\x03\x1a\0L\x03\x0a\0";
+
+/// Settings of IPv6 that are absent, 212 of them behind these bytes.
+fn absent_settings(front: &[u8; 40]) -> [u8; 888] {
+    let mut bytes = [0u8; 888];
+    bytes[..40].copy_from_slice(front);
+    let mut place = 0u8;
+    for byte in bytes[40..].iter_mut() {
+        *byte = match place {
+            0 => 4,
+            2 => 3,
+            _ => 0,
+        };
+        place = place.wrapping_add(1) % 4;
+    }
+    bytes
+}
+
+/// Whether a capture is measured and checked so under a limit, and means what it means itself.
+fn is_measured(capture: &[u8], limit: u32, [frames, attributes, size]: [u64; 3]) -> bool {
+    let wanted = Measure {
+        frames,
+        attributes,
+        text_len: size as u128,
+    };
+    measure(capture, limit) == Ok(wanted)
+        && check(capture, limit) == Ok(())
+        && normal_len(capture, limit) == Ok(wanted.text_len)
+        && same(capture, capture, limit) == Ok(true)
+}
+
+/// Captures are counted, or refused at their first fault.
+#[test]
+fn captures_are_measured(rt: HostRuntime) -> Result<(), Fail> {
+    for (capture, numbers) in LEGAL {
+        assert!(rt; is_measured(capture, 1000, numbers));
+    }
+    assert!(rt; is_measured(&absent_settings(&FRONT), 1_000_000, [1, 214, 65336]));
+    assert!(rt;
+        is_measured(
+            &absent_settings(&SHORTER_FRONT)[..880],
+            65559,
+            [1, 212, 64720]
+        )
+    );
+    let fault = CaptureFault {
+        kind: FaultKind::ShortLength,
+        offset: 16,
+    };
+    assert!(rt; measure(SHORT, 1000) == Err(fault));
+    println!(rt; "measure: as ever")?;
+    println!(rt; "last request: {}", last_request(rt.alloc()))?;
+    Ok(())
+}
+
+/// The body of a link message is counted.
+#[test]
+fn a_body_is_measured(rt: HostRuntime) -> Result<(), Fail> {
+    let wanted = BodyMeasure {
+        text_len: 56,
+        attributes: 6,
+        fits: true,
+        empty_ports: false,
+    };
+    assert!(rt; link_message::check(&VXLAN)? == wanted && link_message::same(&VXLAN, &VXLAN));
+    println!(rt; "link_message::check: as ever")?;
+    println!(rt; "last request: {}", last_request(rt.alloc()))?;
+    Ok(())
+}
+
+/// Lists of link info are counted, the longest name too, whose text is longer than a length can tell.
+#[test]
+fn lists_are_measured(rt: HostRuntime) -> Result<(), Fail> {
+    let mut name = [0x61u8; 65535];
+    name[..4].copy_from_slice(b"\xff\xff\x01\0");
+    for (list, text_len, attributes, fits) in [
+        (XFRM.as_slice(), 32, 4, true),
+        (name.as_slice(), 65536, 1, false),
+    ] {
+        let wanted = ListMeasure {
+            text_len,
+            attributes,
+            fits,
+        };
+        assert!(rt; check_list(list)? == wanted && check_list_with(list, &BytesPeer)? == wanted);
+        assert!(rt; same_list(list, list) && same_list_with(list, list, &BytesPeer));
+    }
+    println!(rt; "check_list: as ever")?;
+    println!(rt; "last request: {}", last_request(rt.alloc()))?;
+    Ok(())
+}

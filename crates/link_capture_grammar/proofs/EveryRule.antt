@@ -17,6 +17,7 @@ use Rattle.link_capture_grammar.proofs.Meanings.{texts_tell_meanings, bodies_tel
 use Rattle.link_capture_grammar.proofs.Keeping.{texts_keep_frames}
 use Rattle.link_capture_grammar.proofs.Judging.{frames_are_judged}
 use Rattle.link_capture_grammar.proofs.Numbers.{captures_are_counted}
+use Rattle.link_capture_grammar.proofs.Padding.{padding_is_passed}
 use Rattle.link_capture_grammar.proofs.SameFrames.{sameness_goes_by_frames}
 
 pub every_rule : CapturesStandUnderEveryRule
@@ -40,6 +41,7 @@ every_rule r lawful = record {
   captures_go_by_frames = captures_go_by_frames r;
   frames_are_judged = frames_are_judged r;
   captures_are_counted = captures_are_counted r lawful;
+  padding_is_passed = padding_is_passed r;
   sameness_goes_by_frames = sameness_goes_by_frames r lawful;
 }
 

@@ -41,7 +41,7 @@ frame_text-more : (c d body : List ℕ) → 16 ≤ length c → frame_text (c ++
 unfolding frame_text
 frame_text-more c d body h = rw (frame_header-more c d h)
 
-frame_type-more : (c d : List ℕ) → 16 ≤ length c → frame_type (c ++ d) ≡ frame_type c
+pub frame_type-more : (c d : List ℕ) → 16 ≤ length c → frame_type (c ++ d) ≡ frame_type c
 frame_type-more c d h =
     let e : drop 4 (c ++ d) ≡ drop 4 c ++ d = drop-append-le 4 c d (omega arith) in
     u16_at-drop_4 (c ++ d) ∙ ap (u16_at 0) e ∙ u16_at-append (drop 4 c) d (omega (arith, length-drop 4 c)) ∙ sym (u16_at-drop_4 c)

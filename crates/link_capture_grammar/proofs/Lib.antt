@@ -6,6 +6,7 @@ pub mod Same
 pub mod Meanings
 pub mod Numbers
 pub mod Judging
+pub mod Padding
 pub mod SameFrames
 pub mod Keeping
 pub mod Unlisted

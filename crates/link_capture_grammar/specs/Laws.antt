@@ -191,6 +191,19 @@ pub record CapturesAreCounted (r : Rule) : Type 0 where
   pub frame_counted : (limit : ℕ) (c : List ℕ) (frame : ℕ × List ℕ) → first_frame_under r limit c ≡ Ok frame → 4 * frame_attributes_under r c ≤ frame.0
   pub counted : (limit : ℕ) (c : List ℕ) → 4 * attributes_under r limit c ≤ length c
 
+-- two captures have the same n bytes in front, and the same behind the padding of these: they may differ in that padding, of which some may be missing at the end
+pub record DifferInPadding (n : ℕ) (c d : List ℕ) : Type 0 where
+  pub front : take n c ≡ take n d
+  pub behind : drop (nla_align n) c ≡ drop (nla_align n) d
+
+-- the padding behind an accepted frame changes no answer
+pub record PaddingIsPassed (r : Rule) : Type 0 where
+  pub frame : (limit : ℕ) (c d : List ℕ) (frame : ℕ × List ℕ) → first_frame_under r limit c ≡ Ok frame → DifferInPadding frame.0 c d → first_frame_under r limit d ≡ Ok frame
+  pub fault : (limit : ℕ) (c d : List ℕ) (frame : ℕ × List ℕ) → first_frame_under r limit c ≡ Ok frame → DifferInPadding frame.0 c d → first_fault_under r limit d ≡ first_fault_under r limit c
+  pub texts : (limit : ℕ) (c d : List ℕ) (frame : ℕ × List ℕ) → first_frame_under r limit c ≡ Ok frame → DifferInPadding frame.0 c d → texts_under r limit d ≡ texts_under r limit c
+  pub frames : (limit : ℕ) (c d : List ℕ) (frame : ℕ × List ℕ) → first_frame_under r limit c ≡ Ok frame → DifferInPadding frame.0 c d → frames_under r limit d ≡ frames_under r limit c
+  pub attributes : (limit : ℕ) (c d : List ℕ) (frame : ℕ × List ℕ) → first_frame_under r limit c ≡ Ok frame → DifferInPadding frame.0 c d → attributes_under r limit d ≡ attributes_under r limit c
+
 -- these laws under one rule of link bodies, but for that of unlisted attributes, which speaks of tables
 pub record CaptureLaws (r : Rule) : Type 0 where
   pub texts_are_legal : TextsAreLegal r
@@ -212,6 +225,7 @@ pub record CaptureLaws (r : Rule) : Type 0 where
   pub captures_go_by_frames : CapturesGoByFrames r
   pub frames_are_judged : FramesAreJudged r
   pub captures_are_counted : CapturesAreCounted r
+  pub padding_is_passed : PaddingIsPassed r
   -- where an accepted body has a header
   pub sameness_goes_by_frames : WantsHeaders r → SamenessGoesByFrames r
 

@@ -6,7 +6,7 @@ ghost use Rattle.link_capture_grammar.specs.Laws.{TextsAreLegal, TextsAreNormal,
 ghost use Rattle.link_capture_grammar.specs.Laws.{JoinedTexts, PrefixFaults, PrefixTexts, TextsAreSmall, FaultsStand};
 ghost use Rattle.link_capture_grammar.specs.Laws.{BodiesAreNormal, TextsMeanTheSame, SameAreLegal};
 ghost use Rattle.link_capture_grammar.specs.Laws.{FramesStandAlone, CapturesGoByFrames};
-ghost use Rattle.link_capture_grammar.specs.Laws.{FramesAreJudged, CapturesAreCounted, TextsKeepFrames};
+ghost use Rattle.link_capture_grammar.specs.Laws.{FramesAreJudged, CapturesAreCounted, TextsKeepFrames, PaddingIsPassed};
 ghost use Rattle.link_capture_grammar.specs.Laws.{UnlistedAttributesAreKept};
 ghost use Rattle.link_capture_grammar.specs.Laws.{BodiesTellMeanings, TextsTellMeanings, SamenessGoesByFrames};
 
@@ -116,6 +116,12 @@ pub fn frames_are_judged()
 /// most its length.
 pub fn captures_are_counted()
     ensures { CapturesAreCounted link_body }
+{}
+
+/// The padding behind an accepted frame changes no answer: whatever bytes it has, and where some of it is missing at
+/// the end, the frame is the same, and so are the first fault, the texts, the frames and the attributes.
+pub fn padding_is_passed()
+    ensures { PaddingIsPassed link_body }
 {}
 
 /// Whether captures mean the same is found frame by frame: they do as far as the frames in front are legal and do, and

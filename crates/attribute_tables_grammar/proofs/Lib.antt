@@ -3,6 +3,7 @@ pub mod Attributes
 pub mod Sizes
 pub mod Lists
 pub mod Tables
+pub mod ShortTexts
 pub mod LookUps
 pub mod Renewed
 pub mod Together

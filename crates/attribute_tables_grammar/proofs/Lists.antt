@@ -6,7 +6,7 @@ use Rattle.netlink_packet_core_grammar.specs.Attributes.{Attribute, list_text, l
 use Rattle.netlink_packet_core_grammar.specs.Bytes.{AreBytes}
 use Rattle.netlink_packet_core_grammar.proofs.Attributes.{attributes_of_text, attributes_cut, got_is, sized, first_attribute_text, if_some-got, option_map-got}
 use Rattle.netlink_packet_core_grammar.proofs.Bytes.{AreBytes-first_attribute}
-use Rattle.netlink_packet_core_grammar.proofs.Sizes.{length-list_text, text_fours}
+use Rattle.netlink_packet_core_grammar.proofs.Sizes.{length-list_text}
 use Rattle.attribute_tables_grammar.specs.Rules.{Lawful}
 use Rattle.attribute_tables_grammar.specs.Lists.{Context, nothing, Grammar, row_of, all_accepted, some_empty_ports, rewrite, rewritten, all_fit, attributes_inside, all_same, ListForm, any, non_empty, of_kind_one, ports, first_alone, not_empty, read_as, is_of_kind_one, kept, is_empty_ports, if_read, list_rule, LawfulGrammar}
 use Rattle.attribute_tables_grammar.proofs.Attributes.{proper_kind-written, rewritten_again, accepted_again, fit_again, same_rewritten, rewritten_same, one_list}
@@ -189,6 +189,14 @@ module _ (form : ListForm) (g : Grammar) (lawful : LawfulGrammar g) where
       let s = read_again g form nothing p k.es k.reads is in
       ap (if_read true (λ es. all_fit g nothing (kept form es))) s.0 ∙ ap (all_fit g nothing) s.1 ∙ fit_again g lawful nothing (kept form k.es) k.accepted f
 
+  -- a list's text is at most 77 times as long
+  pub list_small : (p : List ℕ) → (list_rule form g).accepted p ≡ true → length ((list_rule form g).canonical p) ≤ 77 * length p
+  list_small p a =
+      let k = accepted_list form g p a in
+      let ks = kept form k.es in
+      let l : length ((list_rule form g).canonical p) ≡ list_size (rewritten g nothing ks) = ap length k.canonical ∙ length-list_text (rewritten g nothing ks) in
+      rw l (omega (arith, rewritten_small g lawful nothing ks k.accepted, kept_weight form k.es, read_weight form p k.es k.reads))
+
   pub list_lawful : Lawful (list_rule form g)
   list_lawful = record {
     again = list_again;
@@ -209,11 +217,7 @@ module _ (form : ListForm) (g : Grammar) (lawful : LawfulGrammar g) where
         let lists = one_list (rewritten g nothing (kept form k.es)) (rewritten g nothing (kept form l.es)) (sym k.canonical ∙ e ∙ l.canonical) in
         ap (if_read false (λ es. if_read false (λ fs. all_same g nothing nothing (kept form es) (kept form fs)) (read_as form q))) k.reads ∙ ap (if_read false (λ fs. all_same g nothing nothing (kept form k.es) (kept form fs))) l.reads
         ∙ rewritten_same g lawful nothing (kept form k.es) (kept form l.es) k.accepted l.accepted lists;
-    bounded = λ p a.
-        let k = accepted_list form g p a in
-        let ks = kept form k.es in
-        let l : length ((list_rule form g).canonical p) ≡ list_size (rewritten g nothing ks) = ap length k.canonical ∙ length-list_text (rewritten g nothing ks) in
-        rw l (omega (arith, text_fours (rewritten g nothing ks), rewritten_small g lawful nothing ks k.accepted, kept_weight form k.es, read_weight form p k.es k.reads));
+    bounded = λ p a. omega (arith, list_small p a);
     counted = λ p a.
         let k = accepted_list form g p a in
         let n : (list_rule form g).attributes p ≡ length k.es + attributes_inside g nothing (kept form k.es) = ap (if_read 0 (λ es. length es + attributes_inside g nothing (kept form es))) k.reads in

@@ -1,10 +1,11 @@
 -- The laws of readings, over the first attribute as a view of the bytes sees it.
+use Rattle.netlink_packet_core_grammar.specs.Attributes.{attributes_of}
 use Rattle.netlink_packet_core_grammar.specs.AttributeViews.{viewed_attribute, after_first}
 use Rattle.netlink_packet_core_grammar.proofs.FirstAttribute.{first_attribute_is, first_attribute_none}
 use Rattle.attribute_tables_grammar.specs.Lists.{without_context}
 use Rattle.attribute_tables_grammar.specs.LookUps.{rows_rule}
 use Rattle.attribute_tables_grammar.specs.Laws.{ReadingsGoBySteps, ReadingsTellRules, FirstAloneIsRead, PortsAreEntries}
-use Rattle.attribute_tables_grammar.proofs.Readings.{start, more, past, refused, stopped, done, as_any, as_of_kind_one, tells, denies, tells_rows, denies_rows, first_read, first_refused, first_missing, ports_alike, ports_refuses}
+use Rattle.attribute_tables_grammar.proofs.Readings.{start, more, past, refused, stopped, done, as_any, as_of_kind_one, tells, denies, tells_rows, denies_rows, first_read, first_refused, first_missing, ports_alike, ports_refuses, ports_told}
 
 pub readings_go_by_steps : ReadingsGoBySteps
 readings_go_by_steps = record {
@@ -35,4 +36,5 @@ ports_are_entries = record {
   attributes = λ f bytes l. (ports_alike (without_context f) bytes l).attributes;
   read = λ f bytes l. (ports_alike (without_context f) bytes l).read;
   empty = λ f bytes l. ports_refuses (without_context f) bytes l;
+  empty_ports = λ f bytes a. ports_told (without_context f) (attributes_of bytes) a;
 }

@@ -1,10 +1,12 @@
 -- A reading tells what the rule of a list tells, and goes on by steps.
 use Rattle.std.proofs.Common.{◌≡◌, ℕ, ◌+◌, ◌<◌, Bool, true, false, cond, List, [], ◌∷◌, ◌++◌, length, map, Option, Some, None, refl, sym, ap, ◌∙◌, arith, append_assoc, append-nil}
-use Rattle.std.specs.Prelude.{◌&&◌, option_map}
+use Rattle.std.specs.Prelude.{◌==◌, ◌&&◌, ◌||◌, option_map}
+use Rattle.std.proofs.lemmas.Bool.{ne_eqb}
 use Rattle.netlink_packet_core_grammar.specs.Attributes.{Attribute, list_text, first_attribute, if_some, attributes_within, attributes_of}
 use Rattle.netlink_packet_core_grammar.specs.Fits.{attribute_fits}
 use Rattle.netlink_packet_core_grammar.proofs.FirstAttribute.{attributes_step, attributes_stop}
-use Rattle.attribute_tables_grammar.specs.Lists.{Context, nothing, Row, Grammar, without_context, row_of, rewritten, all_accepted, all_fit, attributes_inside, ListForm, any, non_empty, of_kind_one, ports, first_alone, not_empty, read_as, is_kept, kept, if_read, list_rule}
+use Rattle.netlink_packet_core_grammar.proofs.Sizes.{length-list_text}
+use Rattle.attribute_tables_grammar.specs.Lists.{Context, nothing, Row, Grammar, without_context, row_of, rewritten, all_accepted, some_empty_ports, all_fit, attributes_inside, ListForm, any, non_empty, of_kind_one, ports, first_alone, not_empty, read_as, is_kept, kept, is_empty_ports, if_read, list_rule}
 use Rattle.attribute_tables_grammar.specs.LookUps.{rows_rule}
 use Rattle.attribute_tables_grammar.specs.Readings.{Written, written_by, written_list, reading, reading_as, all_written_fit, followed_by, SoFar, Tells}
 use Rattle.attribute_tables_grammar.proofs.Kept.{kept_more, kept_past, kept_none}
@@ -145,6 +147,20 @@ pub ports_refuses : (g : Grammar) (bytes : List ℕ) → length bytes ≡ 0 → 
 unfolding attributes_within
 ports_refuses g [] l = refl
 ports_refuses g (b ∷ bytes) l = absurd (omega arith)
+
+-- nothing is kept exactly where no text is left
+no_text : (g : Grammar) (c : Context) (ks : List Attribute) → is_empty_ports ports ks ≡ (length (list_text (rewritten g c ks)) == 0)
+unfolding list_text rewritten
+no_text g c [] = refl
+no_text g c (e ∷ es) = sym (ne_eqb (length (list_text (rewritten g c (e ∷ es)))) 0 (λ z. absurd (omega (arith, z, length-list_text (rewritten g c (e ∷ es))))))
+
+-- legal ports are empty exactly where they leave no text, or where ports inside are
+pub ports_told : (g : Grammar) (o : Option (List Attribute)) → if_read false (λ es. all_accepted g nothing (kept ports es)) (if_some o not_empty) ≡ true →
+    if_read false (λ es. is_empty_ports ports (kept ports es) || some_empty_ports g nothing (kept ports es)) (if_some o not_empty)
+    ≡ ((length (if_read [] (λ es. list_text (rewritten g nothing (kept of_kind_one es))) o) == 0) || if_read false (λ es. is_empty_ports of_kind_one (kept of_kind_one es) || some_empty_ports g nothing (kept of_kind_one es)) o)
+ports_told g None h = absurd cc
+ports_told g (Some []) h = absurd cc
+ports_told g (Some (e ∷ es)) h = let ks = kept ports (e ∷ es) in ap (λ b. b || some_empty_ports g nothing ks) (no_text g nothing ks)
 
 -- ---- one attribute, and any bytes
 

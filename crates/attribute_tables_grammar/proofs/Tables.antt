@@ -6,7 +6,7 @@ use Rattle.std.proofs.lemmas.Slice.Eq.{bytes_eq-Decides}
 use Rattle.netlink_packet_core_grammar.specs.Attributes.{proper_kind}
 use Rattle.netlink_packet_core_grammar.specs.Texts.{without_nul}
 use Rattle.netlink_packet_core_grammar.proofs.Texts.{without_nul-end}
-use Rattle.attribute_tables_grammar.specs.Shapes.{text, raw, never}
+use Rattle.attribute_tables_grammar.specs.Shapes.{Shape, text, raw, never, shape_bounded}
 use Rattle.attribute_tables_grammar.specs.Rules.{Rule, Lawful, shape_rule}
 use Rattle.attribute_tables_grammar.specs.Lists.{Context, Row, LawfulGrammar}
 use Rattle.attribute_tables_grammar.specs.Peers.{Peer, LawfulPeer, bytes_peer, peer_rule}
@@ -37,20 +37,32 @@ bytes_peer_lawful = record {
   bytes = λ b a h. h;
 }
 
+-- ---- what holds of each rule that a row may have holds of the row
+
+module _ (P : Rule → Type 0) where
+  pub pick_row : (b : Bool) (r s : Row) → P r.rule → P s.rule → P (elim b as (λ x. Row) [ true ↦ r | false ↦ s ]).rule
+  pick_row true r s p q = p
+  pick_row false r s p q = q
+
+  pub pick_rule : (b : Bool) (r s : Rule) → P r → P s → P (elim b as (λ x. Rule) [ true ↦ r | false ↦ s ])
+  pick_rule true r s p q = p
+  pick_rule false r s p q = q
+
+  module _ (shapes : (s : Shape) → shape_bounded s ≡ true → P (shape_rule s)) where
+    in_force : (o : Option (List ℕ)) (f : List ℕ → Rule) → ((n : List ℕ) → P (f n)) → P (row_in_force o f).rule
+    in_force None f h = shapes never refl
+    in_force (Some n) f h = h n
+
+    pub info_rows : (data' ports : List ℕ → Rule) → ((n : List ℕ) → P (data' n)) → ((n : List ℕ) → P (ports n)) → (c : Context) (k : ℕ) → P (info_row data' ports c k).rule
+    info_rows data' ports d p c zero = shapes raw refl
+    info_rows data' ports d p c (suc zero) = shapes text refl
+    info_rows data' ports d p c (suc (suc zero)) = in_force c.kind data' d
+    info_rows data' ports d p c (suc (suc (suc zero))) = in_force c.kind (λ n. shape_rule raw) (λ n. shapes raw refl)
+    info_rows data' ports d p c (suc (suc (suc (suc zero)))) = shapes text refl
+    info_rows data' ports d p c (suc (suc (suc (suc (suc zero))))) = in_force c.port_kind ports p
+    info_rows data' ports d p c (suc (suc (suc (suc (suc (suc k)))))) = shapes raw refl
+
 -- ---- link info
-
-row_in_force_lawful : (o : Option (List ℕ)) (f : List ℕ → Rule) → ((n : List ℕ) → Lawful (f n)) → Lawful (row_in_force o f).rule
-row_in_force_lawful None f h = shape_lawful never refl
-row_in_force_lawful (Some n) f h = h n
-
-info_rows : (data' ports : List ℕ → Rule) → ((n : List ℕ) → Lawful (data' n)) → ((n : List ℕ) → Lawful (ports n)) → (c : Context) (k : ℕ) → Lawful (info_row data' ports c k).rule
-info_rows data' ports d p c zero = shape_lawful raw refl
-info_rows data' ports d p c (suc zero) = shape_lawful text refl
-info_rows data' ports d p c (suc (suc zero)) = row_in_force_lawful c.kind data' d
-info_rows data' ports d p c (suc (suc (suc zero))) = row_in_force_lawful c.kind (λ n. shape_rule raw) (λ n. shape_lawful raw refl)
-info_rows data' ports d p c (suc (suc (suc (suc zero)))) = shape_lawful text refl
-info_rows data' ports d p c (suc (suc (suc (suc (suc zero))))) = row_in_force_lawful c.port_kind ports p
-info_rows data' ports d p c (suc (suc (suc (suc (suc (suc k)))))) = shape_lawful raw refl
 
 same_words : (p q : List ℕ) → without_nul p ++ 0 ∷ [] ≡ without_nul q ++ 0 ∷ [] → without_nul p ≡ without_nul q
 same_words p q h = sym (without_nul-end (without_nul p)) ∙ ap without_nul h ∙ without_nul-end (without_nul q)
@@ -68,17 +80,9 @@ info_steps data' ports c (suc (suc (suc (suc (suc (suc k)))))) p q h = refl
 
 pub names_lawful_by : (data' ports : List ℕ → Rule) → ((n : List ℕ) → Lawful (data' n)) → ((n : List ℕ) → Lawful (ports n)) → LawfulGrammar (names_grammar data' ports)
 names_lawful_by data' ports d p = record {
-  rows = info_rows data' ports d p;
+  rows = info_rows Lawful shape_lawful data' ports d p;
   steps = λ c e f k h. info_steps data' ports c (proper_kind e.kind) e.payload f.payload h ∙ ap (λ x. info_next c x f.payload) k;
 }
-
-pick_lawful : (b : Bool) (r s : Row) → Lawful r.rule → Lawful s.rule → Lawful (elim b as (λ x. Row) [ true ↦ r | false ↦ s ]).rule
-pick_lawful true r s p q = p
-pick_lawful false r s p q = q
-
-pick_rule : (b : Bool) (r s : Rule) → Lawful r → Lawful s → Lawful (elim b as (λ x. Rule) [ true ↦ r | false ↦ s ])
-pick_rule true r s p q = p
-pick_rule false r s p q = q
 
 module _ (p : Peer) (lawful_peer : LawfulPeer p) where
   mutual
@@ -94,13 +98,13 @@ module _ (p : Peer) (lawful_peer : LawfulPeer p) where
     rows_lawful end m k = shape_lawful raw refl
     rows_lawful (row l n s t) m k =
         let b = and_parts (payload_bounded s) (rows_bounded t) m in
-        pick_lawful (k == l) (record { is_typed = true; is_nested = n; rule = rule p s }) (row_in p t k) (lawful s b.0) (rows_lawful t b.1 k)
+        pick_row Lawful (k == l) (record { is_typed = true; is_nested = n; rule = rule p s }) (row_in p t k) (lawful s b.0) (rows_lawful t b.1 k)
 
     pub names_lawful : (ns : Names) → names_bounded ns ≡ true → (n : List ℕ) → Lawful (named p ns n)
     names_lawful others m n = shape_lawful raw refl
     names_lawful (name l s ns) m n =
         let b = and_parts (payload_bounded s) (names_bounded ns) m in
-        pick_rule (bytes_eq n l) (rule p s) (named p ns n) (lawful s b.0) (names_lawful ns b.1 n)
+        pick_rule Lawful (bytes_eq n l) (rule p s) (named p ns n) (lawful s b.0) (names_lawful ns b.1 n)
 
   pub table_lawful : (t : Table) → rows_bounded t ≡ true → LawfulGrammar (grammar p t)
   table_lawful t m = record { rows = λ c k. rows_lawful t m k; steps = λ c e f k h. refl }

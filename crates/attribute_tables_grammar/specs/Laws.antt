@@ -1,5 +1,5 @@
 -- The laws of the definitions, as the functions of `laws` state them.
-use Rattle.std.specs.Prelude.{◌≡◌, ℕ, ◌+◌, ◌-◌, ◌<◌, ◌&&◌, ◌↔◌, Bool, true, false, List, [], ◌∷◌, ◌++◌, length, take, drop, get_or, Option, Some, None, option_map}
+use Rattle.std.specs.Prelude.{◌≡◌, ℕ, ◌+◌, ◌-◌, ◌==◌, ◌<◌, ◌≤◌, ◌&&◌, ◌||◌, ◌↔◌, Bool, true, false, List, [], ◌∷◌, ◌++◌, length, take, drop, get_or, Option, Some, None, option_map}
 use Rattle.netlink_packet_core_grammar.specs.Attributes.{nla_align, zeros, Attribute, attribute_length, attribute_text, first_attribute, attributes_of}
 use Rattle.netlink_packet_core_grammar.specs.AttributeViews.{IsAttribute, viewed_attribute, after_first}
 use Rattle.attribute_tables_grammar.specs.Rules.{Rule, Lawful, Renews}
@@ -38,6 +38,14 @@ KeepsMeaning r = (b : List ℕ) → r.accepted b ≡ true → r.empty_ports b �
 
 abbrev pub TextsKeepMeanings : Type 0
 TextsKeepMeanings = (p : Peer) → LawfulPeer p → (s : Payload) → payload_bounded s ≡ true → KeepsMeaning (rule p s)
+
+-- a short canonical payload fits: no attribute inside is longer than the whole
+abbrev pub ShortFit : Rule → Type 0
+ShortFit r = (b : List ℕ) → r.accepted b ≡ true → length (r.canonical b) ≤ 65535 → r.fits b ≡ true
+
+-- that of every payload of every table does, under every rule of peers
+abbrev pub ShortTextsFit : Type 0
+ShortTextsFit = (p : Peer) (s : Payload) → ShortFit (rule p s)
 
 -- under a rule of peers an old text becomes what the first bytes become
 abbrev pub OldTextsAreRenewed : Type 0
@@ -106,6 +114,9 @@ pub record PortsAreEntries : Type 0 where
   pub attributes : (f : ℕ → Row) (bytes : List ℕ) → 0 < length bytes → (rows_rule ports f).attributes bytes ≡ (rows_rule of_kind_one f).attributes bytes
   pub read : (f : ℕ → Row) (bytes : List ℕ) → 0 < length bytes → reading_as ports (without_context f) bytes ≡ reading_as of_kind_one (without_context f) bytes
   pub empty : (f : ℕ → Row) (bytes : List ℕ) → length bytes ≡ 0 → (rows_rule ports f).accepted bytes ≡ false
+  -- legal ports are empty exactly where no entry is kept, so that no text is left, or where ports inside an entry are
+  pub empty_ports : (f : ℕ → Row) (bytes : List ℕ) → (rows_rule ports f).accepted bytes ≡ true →
+      (rows_rule ports f).empty_ports bytes ≡ ((length ((rows_rule of_kind_one f).canonical bytes) == 0) || (rows_rule of_kind_one f).empty_ports bytes)
 
 -- a list that is accepted and fits, and in which no ports are left empty, is read from its canonical text as from its own bytes
 abbrev pub ListsAreReadAgain : Type 0

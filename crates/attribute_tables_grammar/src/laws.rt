@@ -1,7 +1,7 @@
 //! Facts of the definitions. No function here makes a call.
 
 ghost use Rattle.attribute_tables_grammar.specs.Laws.{CanonicalIsCut, TablesAreLawful, BytesAreLawful, TextsTellMeanings};
-ghost use Rattle.attribute_tables_grammar.specs.Laws.{TextsKeepMeanings, OldTextsAreRenewed, OneContext};
+ghost use Rattle.attribute_tables_grammar.specs.Laws.{TextsKeepMeanings, ShortTextsFit, OldTextsAreRenewed, OneContext};
 ghost use Rattle.attribute_tables_grammar.specs.Laws.{TableGrammarsAreLawful, RowsAreLookedUp, NamesAreLookedUp};
 ghost use Rattle.attribute_tables_grammar.specs.Laws.{ReadingsGoBySteps, ReadingsTellRules, FirstAloneIsRead, PortsAreEntries};
 ghost use Rattle.attribute_tables_grammar.specs.Laws.{ContextsGoBySteps, ListsAreReadAgain, RowsWithoutListsFit};
@@ -31,6 +31,12 @@ pub fn texts_tell_meanings()
 /// A canonical payload means what the bytes mean.
 pub fn texts_keep_meanings()
     ensures { TextsKeepMeanings }
+{}
+
+/// The canonical text of a legal payload fits where it is at most 65535 bytes long: no length inside
+/// is greater than that of the whole.
+pub fn short_texts_fit()
+    ensures { ShortTextsFit }
 {}
 
 /// Under a rule of peers an old text becomes what the first bytes become.
@@ -84,7 +90,8 @@ pub fn first_attributes_are_read_alone()
 {}
 
 /// A list of ports that holds bytes is one of which the attributes of kind 1 are kept. No bytes
-/// are no list of ports.
+/// are no list of ports. Legal ports are empty exactly where no entry is kept, or where ports inside
+/// an entry are.
 pub fn ports_are_entries()
     ensures { PortsAreEntries }
 {}

@@ -1,6 +1,7 @@
 pub mod Tables
 pub mod Lines
 pub mod Body
+pub mod Sizes
 pub mod Parts
 pub mod EmptyPorts
 pub mod Together

@@ -1,5 +1,5 @@
 -- The laws of the definitions, as the functions of `laws` state them.
-use Rattle.std.specs.Prelude.{◌≡◌, ℕ, ◌*◌, ◌≤◌, ◌<◌, ◌&&◌, ◌++◌, nat_le, true, false, List, length, take, bytes_eq, Option, Some, None, option_map}
+use Rattle.std.specs.Prelude.{◌≡◌, ℕ, ◌+◌, ◌*◌, ◌≤◌, ◌<◌, ◌&&◌, ◌++◌, nat_le, true, false, List, length, take, bytes_eq, Option, Some, None, option_map}
 use Rattle.attribute_tables_grammar.specs.Rules.{Lawful, Renews}
 use Rattle.std.specs.List.{list_any}
 use Rattle.attribute_tables_grammar.specs.Lists.{any, without_context}
@@ -26,6 +26,14 @@ BodiesAreLawful = (p : Peer) → LawfulPeer p → Lawful (body_rule p)
 -- the canonical text of a body is at most 77 times as long
 abbrev pub BodiesAreSmall : Type 0
 BodiesAreSmall = (p : Peer) → LawfulPeer p → (b : List ℕ) → (body_rule p).accepted b ≡ true → length ((body_rule p).canonical b) ≤ 77 * length b
+
+-- it grows by its attributes alone: the header of 16 bytes stays as long as it is
+abbrev pub BodiesGrowByAttributes : Type 0
+BodiesGrowByAttributes = (p : Peer) → LawfulPeer p → (b : List ℕ) → (body_rule p).accepted b ≡ true → length ((body_rule p).canonical b) ≤ 16 + 77 * length (attribute_bytes b)
+
+-- and fits where it is short: behind the header of 16 bytes there are at most 65535, so no attribute inside is longer
+abbrev pub ShortBodiesFit : Type 0
+ShortBodiesFit = (p : Peer) (b : List ℕ) → (body_rule p).accepted b ≡ true → length ((body_rule p).canonical b) ≤ 65551 → (body_rule p).fits b ≡ true
 
 -- a peer that is itself a link body is a lawful one, under every lawful rule of its own peers
 abbrev pub LinkPeersAreLawful : Type 0

@@ -5,7 +5,7 @@ ghost use Rattle.link_message_grammar.specs.Laws.{LinkPeersAreLawful, BodiesTell
 ghost use Rattle.link_message_grammar.specs.Laws.{BodiesAreHeadersAndAttributes, KindsAreLookedUp};
 ghost use Rattle.link_message_grammar.specs.Laws.{AttributesAreLookedUp, InfoIsAListInside};
 ghost use Rattle.link_message_grammar.specs.Laws.{EmptyPortsAreTold, CanonicalTextsAreReadAgain, BodiesAreMeasured};
-ghost use Rattle.link_message_grammar.specs.Laws.{BodyLawsHoldForAnyPeers};
+ghost use Rattle.link_message_grammar.specs.Laws.{BodiesGrowByAttributes, ShortBodiesFit, BodyLawsHoldForAnyPeers};
 ghost use Rattle.attribute_tables_grammar.specs.Peers.{bytes_peer};
 
 use attribute_tables_grammar::laws::{
@@ -30,6 +30,18 @@ pub fn bodies_are_lawful()
 /// The canonical text of a link body is at most 77 times as long.
 pub fn bodies_are_small()
     ensures { BodiesAreSmall }
+{}
+
+/// The canonical text of a link body is at most 77 times as long behind its header, which stays 16
+/// bytes long.
+pub fn bodies_grow_by_attributes()
+    ensures { BodiesGrowByAttributes }
+{}
+
+/// The canonical text of a link body fits where it is at most 65551 bytes long: a header of 16, and
+/// at most 65535 behind it.
+pub fn short_bodies_fit()
+    ensures { ShortBodiesFit }
 {}
 
 /// Peers that are link bodies are lawful.

@@ -10,4 +10,5 @@ pub mod Padding
 pub mod SameFrames
 pub mod Keeping
 pub mod Unlisted
+pub mod SmallFrames
 pub mod EveryRule

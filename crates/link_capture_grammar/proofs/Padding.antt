@@ -1,5 +1,5 @@
 -- Captures that differ in the padding behind an accepted frame have the same answers.
-use Rattle.std.proofs.Common.{◌≡◌, ℕ, ◌+◌, ◌-◌, ◌≤◌, min, List, ◌++◌, length, take, drop, Ok, refl, sym, ap, subst, ◌∙◌, arith}
+use Rattle.std.proofs.Common.{◌≡◌, ℕ, ◌+◌, ◌≤◌, min, List, ◌++◌, length, take, drop, Ok, refl, sym, ap, ◌∙◌, arith}
 use Rattle.std.proofs.lemmas.List.{length-take, take-append-drop}
 use Rattle.netlink_packet_core_grammar.specs.Attributes.{nla_align}
 use Rattle.netlink_packet_core_grammar.specs.Frames.{frame_length, frame_type, frame_body}
@@ -8,7 +8,7 @@ use Rattle.netlink_packet_core_grammar.proofs.Numbers.{u32_at-append}
 use Rattle.attribute_tables_grammar.specs.Rules.{Rule}
 use Rattle.link_capture_grammar.specs.Captures.{first_frame_under, first_fault_under, texts_under, raised}
 use Rattle.link_capture_grammar.specs.Laws.{DifferInPadding, PaddingIsPassed}
-use Rattle.link_capture_grammar.specs.Numbers.{body_attributes_under, frame_attributes_under, frames_under, attributes_under, sum_after_under}
+use Rattle.link_capture_grammar.specs.Numbers.{body_attributes_under, frame_attributes_under, sum_after_under}
 use Rattle.link_capture_grammar.proofs.Frames.{accepted, frame_type-more, frame_body-more, first_frame-more, first_frame-take, fault_step, not_cut, texts_step}
 use Rattle.link_capture_grammar.proofs.Numbers.{sum_step}
 

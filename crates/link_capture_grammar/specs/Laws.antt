@@ -8,7 +8,7 @@ use Rattle.attribute_tables_grammar.specs.Peers.{Peer, LawfulPeer}
 use Rattle.link_message_grammar.specs.Body.{attribute_row, attribute_row_under, body_rule, link_body}
 use Rattle.link_capture_grammar.specs.declared.fault.FaultKind.{FaultKind}
 use Rattle.link_capture_grammar.specs.declared.fault.CaptureFault.{CaptureFault}
-use Rattle.link_capture_grammar.specs.declared.fault.FaultKind.TheVariants.{Cut, TextOverLimit}
+use Rattle.link_capture_grammar.specs.declared.fault.FaultKind.TheVariants.{Cut, Unfit, TextOverLimit}
 use Rattle.link_capture_grammar.specs.Bodies.{body_text_under, is_link_type}
 use Rattle.link_capture_grammar.specs.Captures.{Judged, Accepted, CutInBody, faulty, tested, first_frame, first_frame_under, first_fault_under, texts_under, raised, reach_under, IsLegalUnder, IsOfFrames}
 use Rattle.link_capture_grammar.specs.Numbers.{frame_attributes_under, frames_under, attributes_under}
@@ -126,6 +126,11 @@ pub record TextsKeepFrames (r : Rule) : Type 0 where
   -- and of a link's, which the rule accepts, what the rule writes for its body
   pub link : (limit : ℕ) (c : List ℕ) (frame : ℕ × List ℕ) → IsLimit limit → is_link_type (frame_type c) ≡ true → first_frame_under r limit c ≡ Ok frame → (r.accepted (frame_body c) ≡ true) × (frame_body frame.1 ≡ r.canonical (frame_body c))
 
+-- No frame of at most 883 bytes, whatever its type, is refused for the lengths that it would be written with: those inside its text fit, and the text is within a limit of at least 65559.
+-- 883 is two headers of 16 bytes, the frame's and a link body's, and 851 bytes of attributes; 65559 is the same headers and 65527 bytes, 77 times as many, which a length of 2 bytes still tells.
+abbrev pub SmallFramesFit : Type 0
+SmallFramesFit = (p : Peer) → LawfulPeer p → (limit : ℕ) (c : List ℕ) → 65559 ≤ limit → frame_length c ≤ 883 → (first_frame_under (body_rule p) limit c ≢ Err Unfit) × (first_frame_under (body_rule p) limit c ≢ Err TextOverLimit)
+
 -- what no table lists is kept as it is, with its kind, flag bits and payload
 pub record UnlistedAttributesAreKept : Type 0 where
   -- in the text of an accepted list
@@ -204,7 +209,7 @@ pub record PaddingIsPassed (r : Rule) : Type 0 where
   pub frames : (limit : ℕ) (c d : List ℕ) (frame : ℕ × List ℕ) → first_frame_under r limit c ≡ Ok frame → DifferInPadding frame.0 c d → frames_under r limit d ≡ frames_under r limit c
   pub attributes : (limit : ℕ) (c d : List ℕ) (frame : ℕ × List ℕ) → first_frame_under r limit c ≡ Ok frame → DifferInPadding frame.0 c d → attributes_under r limit d ≡ attributes_under r limit c
 
--- these laws under one rule of link bodies, but for that of unlisted attributes, which speaks of tables
+-- these laws under one rule of link bodies, but for those of unlisted attributes and of small frames, which speak of tables
 pub record CaptureLaws (r : Rule) : Type 0 where
   pub texts_are_legal : TextsAreLegal r
   pub texts_are_normal : TextsAreNormal r

@@ -7,7 +7,7 @@ ghost use Rattle.link_capture_grammar.specs.Laws.{JoinedTexts, PrefixFaults, Pre
 ghost use Rattle.link_capture_grammar.specs.Laws.{BodiesAreNormal, TextsMeanTheSame, SameAreLegal};
 ghost use Rattle.link_capture_grammar.specs.Laws.{FramesStandAlone, CapturesGoByFrames};
 ghost use Rattle.link_capture_grammar.specs.Laws.{FramesAreJudged, CapturesAreCounted, TextsKeepFrames, PaddingIsPassed};
-ghost use Rattle.link_capture_grammar.specs.Laws.{UnlistedAttributesAreKept};
+ghost use Rattle.link_capture_grammar.specs.Laws.{SmallFramesFit, UnlistedAttributesAreKept};
 ghost use Rattle.link_capture_grammar.specs.Laws.{BodiesTellMeanings, TextsTellMeanings, SamenessGoesByFrames};
 
 /// The texts of any bytes are legal under the same limit.
@@ -87,6 +87,12 @@ pub fn texts_keep_frames()
     ensures { TextsKeepFrames link_body }
 {}
 
+/// No frame of at most 883 bytes is refused for the lengths that it would be written with, under every lawful rule of
+/// peers, where the limit is at least 65559: each length inside its text fits, and the text is within the limit.
+pub fn small_frames_fit()
+    ensures { SmallFramesFit }
+{}
+
 /// An attribute that no table lists is kept with its kind, flag bits and payload, at any depth: one that a list keeps,
 /// or a list inside that is kept, stands in the text of the list, and of a link's frame, as it does in its bytes, under
 /// every lawful rule of peers.
@@ -131,7 +137,8 @@ pub fn sameness_goes_by_frames()
 {}
 
 /// These laws hold under every lawful rule of link bodies, that of `sameness_goes_by_frames` where the rule accepts
-/// nothing without a header. That of unlisted attributes speaks of tables, and holds under every lawful rule of peers.
+/// nothing without a header. Those of unlisted attributes and of small frames speak of tables, and hold under every
+/// lawful rule of peers.
 pub fn captures_stand_under_every_rule()
     ensures { CapturesStandUnderEveryRule }
 {}

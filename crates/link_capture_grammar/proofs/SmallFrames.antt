@@ -1,0 +1,104 @@
+-- A small frame has a text that fits and is within the limit.
+use Rattle.std.proofs.Common.{◌≡◌, ℕ, ◌+◌, ◌-◌, ◌≤◌, Bool, true, false, cond, eqb, ltb, Result, Ok, Err, List, [], ◌∷◌, length, drop, refl, subst, arith, length-drop}
+use Rattle.std.proofs.lemmas.Bool.{le-ltb}
+use Rattle.std.proofs.lemmas.List.{length-take}
+use Rattle.netlink_packet_core_grammar.specs.Frames.{frame_length, frame_type, frame_body, frame_text}
+use Rattle.attribute_tables_grammar.specs.Rules.{Rule}
+use Rattle.attribute_tables_grammar.specs.Peers.{Peer, LawfulPeer}
+use Rattle.link_message_grammar.specs.Body.{body_rule}
+use Rattle.link_message_grammar.proofs.Sizes.{bodies_grow_by_attributes, short_bodies_fit}
+use Rattle.link_capture_grammar.specs.declared.fault.FaultKind.TheVariants.{Cut, ShortLength, OverLimit, Unfit, TextOverLimit}
+use Rattle.link_capture_grammar.specs.Bodies.{Refusal, refused, empty_ports, unfit, error_text, done_text, is_link_type, ruled_text, body_text_under}
+use Rattle.link_capture_grammar.specs.Captures.{Judged, judged_text, tested, first_frame_under}
+use Rattle.link_capture_grammar.specs.Laws.{SmallFramesFit}
+
+-- what holds of each of two, where it is picked, holds of the one that is picked
+pick : {A : Type 0} (P : A → Type 0) (b : Bool) (x y : A) → (b ≡ true → P x) → (b ≡ false → P y) → P (cond b x y)
+pick P true x y p q = p refl
+pick P false x y p q = q refl
+
+-- ---- bodies of at most 867 bytes, which stand in frames of at most 883
+
+-- such a body fits, and its text has at most 16 + 77 * 851 bytes
+IsShort : Result (List ℕ) Refusal → Type 0
+IsShort (Ok text) = length text ≤ 65543
+IsShort (Err refused) = Unit {0}
+IsShort (Err empty_ports) = Unit {0}
+IsShort (Err unfit) = ⊥
+
+error_short : (b : List ℕ) → length b ≤ 867 → IsShort (error_text b)
+unfolding IsShort
+error_short b l = pick IsShort (ltb (length b) 4) (Err refused) (Ok b) (λ _. tt) (λ _. omega (arith, l))
+
+done_short : (b : List ℕ) → length b ≤ 867 → IsShort (done_text b)
+unfolding IsShort
+done_short b l = pick IsShort (eqb (length b) 0) (Ok (0 ∷ 0 ∷ 0 ∷ 0 ∷ [])) (error_text b) (λ _. omega arith) (λ _. error_short b l)
+
+-- a rule under which such bodies fit and are short
+record IsShortRule (r : Rule) : Type 0 where
+  fits : (b : List ℕ) → length b ≤ 867 → r.accepted b ≡ true → r.fits b ≡ true
+  size : (b : List ℕ) → length b ≤ 867 → r.accepted b ≡ true → length (r.canonical b) ≤ 65543
+
+module _ (r : Rule) (short : IsShortRule r) where
+  ruled_short : (b : List ℕ) → length b ≤ 867 → IsShort (ruled_text r b)
+  unfolding IsShort
+  ruled_short b l =
+      pick IsShort (r.accepted b) _ _
+      (λ a. pick IsShort (r.empty_ports b) _ _ (λ _. tt) (λ _. pick IsShort (r.fits b) (Ok (r.canonical b)) (Err unfit) (λ _. short.size b l a) (λ f. let t = short.fits b l a in cc)))
+      (λ _. tt)
+
+  body_short : (t : ℕ) (b : List ℕ) → length b ≤ 867 → IsShort (body_text_under r t b)
+  unfolding body_text_under IsShort
+  body_short t b l =
+      pick IsShort (eqb t 1) (Ok []) _ (λ _. omega arith) (λ _.
+      pick IsShort (eqb t 2) (error_text b) _ (λ _. error_short b l) (λ _.
+      pick IsShort (eqb t 3) (done_text b) _ (λ _. done_short b l) (λ _.
+      pick IsShort (is_link_type t) (ruled_text r b) (Ok b) (λ _. ruled_short b l) (λ _. omega (arith, l)))))
+
+-- ---- frames
+
+-- a frame isn't refused for a length inside its text, nor for that of its text
+IsNotTooLong : Judged → Type 0
+IsNotTooLong (Ok frame) = Unit {0}
+IsNotTooLong (Err Unfit) = ⊥
+IsNotTooLong (Err TextOverLimit) = ⊥
+IsNotTooLong (Err kind) = Unit {0}
+
+judged_short : (limit : ℕ) (c : List ℕ) → 65559 ≤ limit → (o : Result (List ℕ) Refusal) → IsShort o → IsNotTooLong (judged_text limit c o)
+unfolding IsShort IsNotTooLong
+judged_short limit c m (Ok text) s =
+    pick IsNotTooLong (ltb limit (16 + length text)) (Err TextOverLimit) (Ok (frame_length c, frame_text c text))
+    (λ over. let within = le-ltb limit (16 + length text) (omega (arith, m, s)) in cc)
+    (λ _. tt)
+judged_short limit c m (Err refused) s = tt
+judged_short limit c m (Err empty_ports) s = tt
+judged_short limit c m (Err unfit) s = s
+
+tested_short : (limit size claimed : ℕ) (j : Judged) → IsNotTooLong j → IsNotTooLong (tested limit size claimed j)
+unfolding IsNotTooLong
+tested_short limit size claimed j h =
+    pick IsNotTooLong (ltb size 16) (Err Cut) _ (λ _. tt) (λ _.
+    pick IsNotTooLong (ltb claimed 16) (Err ShortLength) _ (λ _. tt) (λ _.
+    pick IsNotTooLong (ltb limit claimed) (Err OverLimit) _ (λ _. tt) (λ _.
+    pick IsNotTooLong (ltb size claimed) (Err Cut) j (λ _. tt) (λ _. h))))
+
+frame_short : (r : Rule) → IsShortRule r → (limit : ℕ) (c : List ℕ) → 65559 ≤ limit → frame_length c ≤ 883 → IsNotTooLong (first_frame_under r limit c)
+unfolding first_frame_under
+frame_short r short limit c m l =
+    let size = length-take (frame_length c - 16) (drop 16 c) in
+    tested_short limit (length c) (frame_length c) (judged_text limit c (body_text_under r (frame_type c) (frame_body c)))
+    (judged_short limit c m (body_text_under r (frame_type c) (frame_body c)) (body_short r short (frame_type c) (frame_body c) (omega (arith, size, l))))
+
+-- ---- link bodies
+
+bodies_are_short : (p : Peer) → LawfulPeer p → IsShortRule (body_rule p)
+bodies_are_short p lawful = record { fits = λ b l a. short_bodies_fit p b a (let s = size b l a in omega (arith, s)); size = size }
+  where
+    size : (b : List ℕ) → length b ≤ 867 → (body_rule p).accepted b ≡ true → length ((body_rule p).canonical b) ≤ 65543
+    size b l a = let s = bodies_grow_by_attributes p lawful b a in let d = length-drop 16 b in omega (arith, s, d, l)
+
+pub small_frames_fit : SmallFramesFit
+unfolding IsNotTooLong
+small_frames_fit p lawful limit c m l =
+    let h = frame_short (body_rule p) (bodies_are_short p lawful) limit c m l in
+    (λ e. subst IsNotTooLong e h, λ e. subst IsNotTooLong e h)

@@ -4,7 +4,8 @@ ghost use Rattle.link_info.specs.Laws.{LinkInfoIsLawful, KindsAreTheNames};
 
 pub use attribute_tables_grammar::laws::{
     canonical_texts_are_cut_again, old_texts_are_renewed, peers_that_are_bytes_are_lawful,
-    same_lists_leave_one_context, tables_are_lawful, texts_keep_meanings, texts_tell_meanings,
+    same_lists_leave_one_context, short_texts_fit, tables_are_lawful, texts_keep_meanings,
+    texts_tell_meanings,
 };
 pub use link_info_data::laws::{names_tell_rules, port_names_tell_rules};
 use link_info_grammar::laws::info_is_lawful;

@@ -1,40 +1,86 @@
 -- A capture that is there whole.
-use Rattle.std.proofs.Common.{◌≡◌, ◌≢◌, ℕ, ◌%◌, ◌<◌, Some, None, List, [], ◌∷◌, ◌++◌, length, take, Result, Ok, Err, OnOk, IfErr, refl, sym, ap, ◌∙◌, arith}
-use Rattle.std.proofs.lemmas.List.{append-nil}
+use Rattle.std.proofs.Common.{◌≡◌, ◌≢◌, ℕ, ◌^◌, ◌<◌, ◌≤◌, inl, inr, Some, None, List, [], ◌∷◌, ◌++◌, length, take, drop, Result, Ok, Err, OnOk, IfErr, refl, sym, ap, ◌∙◌, arith}
+use Rattle.std.specs.Prelude.{Vec}
+use Rattle.std.proofs.lemmas.Bool.{cases_lt}
+use Rattle.std.proofs.lemmas.List.{append-nil, length-append, take-append-drop}
+use Rattle.link_capture_grammar.specs.Body.{link_body}
 use Rattle.link_capture_grammar.specs.declared.fault.CaptureFault.{CaptureFault}
 use Rattle.link_capture_grammar.specs.declared.fault.FaultKind.TheVariants.{Memory}
-use Rattle.link_capture_grammar.specs.Captures.{first_fault, texts, fault_after_under, IsLegal, StopsAt}
+use Rattle.link_capture_grammar.specs.Captures.{Judged, first_fault, first_frame, texts, fault_after_under, IsLegal, StopsAt}
+use Rattle.link_capture_grammar.specs.Laws.{CapturesGoByFrames, PrefixTexts}
+use Rattle.link_capture_reader.specs.Readers.{WantsMemory}
 use Rattle.link_lines_texts.specs.Captures.{text_lines, lines}
-use Rattle.link_lines_texts.specs.Laws.{LinesAreJoined}
+use Rattle.link_lines_texts.specs.Laws.{AcceptedFramesHaveLines, LinesAreJoined}
+use Rattle.link_lines.specs.Outcomes.{WantsMemoryAt}
 use Rattle.link_lines.proofs.Joined.{texts_nil, lines_nil}
 
--- the texts were gathered behind nothing, and their lines are written
-pub record Written (old new start items : List ℕ) : Type 0 where
+-- what `normalize_bytes` answers of bytes, and the texts that it gathers behind nothing
+pub record Gathers (r : Result (Unit {0}) CaptureFault) (limit : ℕ) (c start items : List ℕ) : Type 0 where
   pub nothing : start ≡ []
-  pub lines : new ≡ old ++ text_lines items
+  pub legal : OnOk r ((first_fault limit c ≡ None) × (items ≡ start ++ texts limit c))
+  pub fault : IfErr r (λ fault. fault.kind ≢ Memory → (first_fault limit c ≡ Some fault) × (items ≡ start ++ texts limit c))
+  pub memory : IfErr r (λ fault. fault.kind ≡ Memory → StopsAt limit c fault.offset × (items ≡ start ++ texts limit (take fault.offset c)))
 
-written_of : (old new start items t : List ℕ) → Written old new start items → items ≡ start ++ t → new ≡ old ++ text_lines t
-written_of old new start items t w e = w.lines ∙ ap (λ x. old ++ text_lines x) (e ∙ ap (λ x. x ++ t) w.nothing)
+-- ---- lines of the texts that were gathered
 
-pub legal_shown : (r : Result (Unit {0}) CaptureFault) (limit : ℕ) (c old new start items : List ℕ) → Written old new start items → OnOk r ((first_fault limit c ≡ None) × (items ≡ start ++ texts limit c)) → OnOk r ((first_fault limit c ≡ None) × (new ≡ old ++ lines limit c))
-legal_shown (Ok x) limit c old new start items w h = (h.0, written_of old new start items (texts limit c) w h.1)
-legal_shown (Err x) limit c old new start items w h = tt
+written_of : (old new start items t : List ℕ) → start ≡ [] → new ≡ old ++ text_lines items → items ≡ start ++ t → new ≡ old ++ text_lines t
+written_of old new start items t s w e = w ∙ ap (λ x. old ++ text_lines x) (e ∙ ap (λ x. x ++ t) s)
 
-pub fault_shown : (r : Result (Unit {0}) CaptureFault) (limit : ℕ) (c old new start items : List ℕ) → Written old new start items → IfErr r (λ fault. fault.kind ≢ Memory → (first_fault limit c ≡ Some fault) × (items ≡ start ++ texts limit c)) → IfErr r (λ fault. fault.kind ≢ Memory → (first_fault limit c ≡ Some fault) × (new ≡ old ++ lines limit c))
-fault_shown (Ok x) limit c old new start items w h = tt
-fault_shown (Err fault) limit c old new start items w h = λ m. let k = h m in (k.0, written_of old new start items (texts limit c) w k.1)
+module _ (limit : ℕ) (c old new start items : List ℕ) where
+  pub legal_shown : (r : Result (Unit {0}) CaptureFault) → Gathers r limit c start items → new ≡ old ++ text_lines items → OnOk r ((first_fault limit c ≡ None) × (new ≡ old ++ lines limit c))
+  legal_shown (Ok x) g w = (g.legal.0, written_of old new start items (texts limit c) g.nothing w g.legal.1)
+  legal_shown (Err x) g w = tt
 
-pub memory_shown : (r : Result (Unit {0}) CaptureFault) (limit : ℕ) (c old new start items : List ℕ) → Written old new start items → IfErr r (λ fault. fault.kind ≡ Memory → StopsAt limit c fault.offset × (items ≡ start ++ texts limit (take fault.offset c))) → IfErr r (λ fault. fault.kind ≡ Memory → StopsAt limit c fault.offset × (new ≡ old ++ lines limit (take fault.offset c)))
-memory_shown (Ok x) limit c old new start items w h = tt
-memory_shown (Err fault) limit c old new start items w h = λ m. let k = h m in (k.0, written_of old new start items (texts limit (take fault.offset c)) w k.1)
+  pub fault_shown : (r : Result (Unit {0}) CaptureFault) → Gathers r limit c start items → new ≡ old ++ text_lines items → IfErr r (λ fault. fault.kind ≢ Memory → (first_fault limit c ≡ Some fault) × (new ≡ old ++ lines limit c))
+  fault_shown (Ok x) g w = tt
+  fault_shown (Err fault) g w = λ m. let k = g.fault m in (k.0, written_of old new start items (texts limit c) g.nothing w k.1)
 
--- bytes that have texts are some
-pub some_bytes : (r : Result (Unit {0}) CaptureFault) (limit : ℕ) (c slice start items : List ℕ) → OnOk r ((first_fault limit c ≡ None) × (items ≡ start ++ texts limit c)) → IfErr r (λ fault. (fault.offset < length c) × (fault.offset % 4 ≡ 0)) → start ≡ [] → slice ≡ items → 0 < length slice → 0 < length c
-some_bytes (Ok x) limit [] slice start items h p e s l =
-    let n : slice ≡ [] = s ∙ h.1 ∙ ap (λ x. x ++ texts limit []) e ∙ texts_nil limit in
-    absurd (omega (arith, ap length n, l))
-some_bytes (Ok x) limit (b ∷ c) slice start items h p e s l = omega arith
-some_bytes (Err fault) limit c slice start items h p e s l = omega (arith, p.0)
+  pub memory_shown : (r : Result (Unit {0}) CaptureFault) → Gathers r limit c start items → new ≡ old ++ text_lines items → IfErr r (λ fault. fault.kind ≡ Memory → StopsAt limit c fault.offset × (new ≡ old ++ lines limit (take fault.offset c)))
+  memory_shown (Ok x) g w = tt
+  memory_shown (Err fault) g w = λ m. let k = g.memory m in (k.0, written_of old new start items (texts limit (take fault.offset c)) g.nothing w k.1)
+
+-- ---- where there is something to be written
+
+-- bytes in front have no more texts
+front_texts : PrefixTexts link_body → (limit at : ℕ) (c : List ℕ) → length (texts limit (take at c)) ≤ length (texts limit c)
+front_texts stay limit at c =
+    let more = stay limit (take at c) (drop at c) in
+    let all : texts limit c ≡ texts limit (take at c) ++ more.0 = ap (texts limit) (sym (take-append-drop at c)) ∙ more.1 in
+    omega (arith, ap length all, length-append (texts limit (take at c)) more.0)
+
+gathered_length : (start items t : List ℕ) → start ≡ [] → items ≡ start ++ t → length items ≡ length t
+gathered_length start items t s e = ap length (e ∙ ap (λ x. x ++ t) s)
+
+-- bytes of which texts were gathered have texts
+pub some_texts : PrefixTexts link_body → (r : Result (Unit {0}) CaptureFault) (limit : ℕ) (c start items : List ℕ) → Gathers r limit c start items → 0 < length items → 0 < length (texts limit c)
+some_texts stay (Ok x) limit c start items g l = omega (arith, l, gathered_length start items (texts limit c) g.nothing g.legal.1)
+some_texts stay (Err x) limit c start items g l =
+    elim (cases_lt 0 (length (texts limit c))) [
+      | inl some ↦ some
+      | inr none ↦
+          let front = front_texts stay limit x.offset c in
+          let other : x.kind ≢ Memory = λ m. let k = gathered_length start items (texts limit (take x.offset c)) g.nothing (g.memory m).1 in omega (arith, l, none, k, front) in
+          omega (arith, l, none, gathered_length start items (texts limit c) g.nothing (g.fault other).1)
+    ]
+
+-- they are some
+pub some_bytes : (limit : ℕ) (c : List ℕ) → 0 < length (texts limit c) → 0 < length c
+some_bytes limit [] l = absurd (omega (arith, ap length (texts_nil limit), l))
+some_bytes limit (b ∷ c) l = omega arith
+
+-- their first frame is accepted
+front_accepted : CapturesGoByFrames link_body → (limit : ℕ) (c : List ℕ) (j : Judged) → first_frame limit c ≡ j → 0 < length (texts limit c) → (frame : ℕ × List ℕ) × (first_frame limit c ≡ Ok frame)
+front_accepted go limit c (Ok frame) e l = (frame, e)
+front_accepted go limit c (Err kind) e l = absurd (omega (arith, ap length (go.front_texts limit c kind e), l))
+
+-- and they have lines
+pub lines_wanted : CapturesGoByFrames link_body → AcceptedFramesHaveLines → (limit : ℕ) (c : List ℕ) → limit < 2 ^ 32 → 0 < length (texts limit c) → WantsMemoryAt limit c 0
+lines_wanted go have limit c b l = inl ((have limit c b).1 (front_accepted go limit c (first_frame limit c) refl l))
+
+-- an accepted frame for whose text there was less room has lines
+pub memory_wanted : {Z : Type 0} → AcceptedFramesHaveLines → (limit : ℕ) (c : List ℕ) (at : ℕ) (old : Vec ℕ Z) → limit < 2 ^ 32 → WantsMemory limit c at old → WantsMemoryAt limit c at
+memory_wanted have limit c at old b (inl lacks) = inl ((have limit (drop at c) b).1 ((lacks.0, lacks.1), lacks.2))
+memory_wanted have limit c at old b (inr cut) = inr cut
 
 legal_nil : (limit : ℕ) → IsLegal limit []
 unfolding fault_after_under

@@ -1,12 +1,17 @@
 -- What an answer says of the bytes that were read and of the lines that were written.
-use Rattle.std.specs.Prelude.{◌≡◌, ℕ, ◌+◌, ◌-◌, ◌^◌, ◌≤◌, min, List, length, take, Option, Some, Result, Ok, Err}
+use Rattle.std.specs.Prelude.{◌≡◌, ℕ, ◌+◌, ◌-◌, ◌^◌, ◌<◌, ◌≤◌, ◌⊎◌, min, List, length, take, drop, Option, Some, Result, Ok, Err}
 use Rattle.std.specs.Io.KnownBytes.{Consumes, Appends}
 use Rattle.link_capture_grammar.specs.declared.fault.FaultKind.{FaultKind}
 use Rattle.link_capture_grammar.specs.declared.fault.FaultKind.TheVariants.{Cut, Memory, Read, Write, TooLong, Failed}
 use Rattle.link_capture_grammar.specs.declared.fault.CaptureFault.{CaptureFault}
-use Rattle.link_capture_grammar.specs.Captures.{first_fault, IsLegal}
+use Rattle.link_capture_grammar.specs.Captures.{first_fault, first_frame, IsLegal}
 use Rattle.link_capture_engine.specs.Outcomes.{IsOpen, IsPrefix}
 use Rattle.link_lines_texts.specs.Captures.{lines}
+
+-- Why memory was wanting at this place: what stands there has lines to be written, or the frame there is cut, and its
+-- bytes had to be kept.
+abbrev pub WantsMemoryAt : ℕ → List ℕ → ℕ → Type 0
+WantsMemoryAt limit c at = (0 < length (lines limit (drop at c))) ⊎ (first_frame limit (drop at c) ≡ Err Cut)
 
 -- The first bytes of s, so many of them as `at` says, have no fault or a cut frame, and w are their lines.
 pub record ShowsFront (limit : ℕ) (s w : List ℕ) (at : ℕ) : Type 0 where

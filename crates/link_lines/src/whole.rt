@@ -3,14 +3,16 @@
 ghost use Rattle.std.specs.Prelude.{◌≡◌, ◌≢◌, ◌≤◌, ◌<◌, ◌%◌, ◌++◌, ℕ, List, length, take, None, Some, IfErr, OnOk, OnErr};
 ghost use Rattle.link_capture_grammar.specs.Captures.{first_fault, texts, IsLegal, StopsAt};
 ghost use Rattle.link_capture_grammar.specs.Same.{SameCapture};
+ghost use Rattle.link_lines.specs.Outcomes.{WantsMemoryAt};
 ghost use Rattle.link_lines_texts.specs.Captures.{lines, text_lines};
 
 use link_capture_grammar::fault::{CaptureFault, FaultKind};
 use link_capture_grammar::laws::{
-    joined_captures_have_joined_texts, texts_are_normal, texts_tell_meanings,
+    captures_go_by_frames, joined_captures_have_joined_texts, texts_are_normal,
+    texts_of_a_prefix_stay, texts_tell_meanings,
 };
 use link_capture_reader::normalize_bytes;
-use link_lines_texts::laws::lines_are_joined;
+use link_lines_texts::laws::{accepted_frames_have_lines, lines_are_joined};
 use link_lines_texts::push_lines;
 use std::alloc::{AllocError, Global};
 
@@ -35,6 +37,9 @@ fn push_all(alloc: Global, texts: &[u8], out: &mut Vec<u8>) -> Result<(), AllocE
 /// gains the lines of its normal text. Otherwise the answer is the first fault with its place, and `out` gains the
 /// lines of the messages before it. For want of memory the place is that of some message: what stands before it is
 /// legal, and its lines are written. Want of memory for the lines themselves is told at 0.
+///
+/// Memory is wanting only where what stands at the place has lines to be written, or the message there is cut: so never
+/// of no bytes, nor where the first message has another fault than being cut.
 pub fn show_bytes(
     alloc: Global,
     bytes: &[u8],
@@ -56,6 +61,9 @@ pub fn show_bytes(
     ensures memory { IfErr result
         (λ fault. fault.kind ≡ FaultKind.Memory → StopsAt limit bytes.now fault.offset
         × (out.new.items ≡ out.old.items ++ lines limit (take fault.offset bytes.now))) }
+    // Memory is wanting only where what stands at the place has lines to be written, or the frame there is cut.
+    ensures cause { IfErr result
+        (λ fault. fault.kind ≡ FaultKind.Memory → WantsMemoryAt limit bytes.now fault.offset) }
     // A capture and its texts have the same lines.
     ensures normal { lines limit (texts limit bytes.now) ≡ lines limit bytes.now }
     // Captures that mean the same have the same lines.
@@ -69,7 +77,10 @@ pub fn show_bytes(
     texts_are_normal();
     texts_tell_meanings();
     joined_captures_have_joined_texts();
+    captures_go_by_frames();
+    texts_of_a_prefix_stay();
     lines_are_joined();
+    accepted_frames_have_lines();
     let mut texts = Vec::new(alloc);
     let shown = normalize_bytes(alloc, bytes, limit, &mut texts);
     if push_all(alloc, texts.as_slice(), out).is_err() {

@@ -141,7 +141,7 @@ header_some [] [] (x ∷ c) d more s e = absurd cc
 header_some [] (x ∷ b) c d more s e = absurd cc
 header_some (x ∷ a) b c d more s e = absurd cc
 
-frame_has_lines : (f s : List ℕ) → frame_lines f ++ s ≡ [] → ⊥
+pub frame_has_lines : (f s : List ℕ) → frame_lines f ++ s ≡ [] → ⊥
 unfolding frame_lines header_line
 frame_has_lines f s e =
     let t = u16_at 4 f in
@@ -150,7 +150,7 @@ frame_has_lines f s e =
     let port = labelled (codes " port ") (decimal (u32_at 12 f)) in
     header_some (type_text t) flags seq port (body_lines t (drop 16 f)) s e
 
-no_text_lines : text_lines [] ≡ []
+pub no_text_lines : text_lines [] ≡ []
 unfolding text_lines lines_after
 no_text_lines = refl
 
@@ -167,7 +167,7 @@ record Front (limit : ℕ) (s : List ℕ) : Type 0 where
   pub shorter : length after < length s
   pub bytes : AreBytes after
 
-stopped_texts : (limit : ℕ) (s : List ℕ) (kind : FaultKind) → first_frame limit s ≡ Err kind → texts limit s ≡ []
+pub stopped_texts : (limit : ℕ) (s : List ℕ) (kind : FaultKind) → first_frame limit s ≡ Err kind → texts limit s ≡ []
 unfolding texts_after_under
 stopped_texts limit [] kind e = refl
 stopped_texts limit (b ∷ s) kind e = ap (λ j. next_texts j (λ skip. texts_after limit skip s)) e

@@ -13,6 +13,7 @@ pub mod ListsTold
 pub mod RowFacts
 pub mod RowRanges
 pub mod ShapesTold
+pub mod SomeLines
 pub mod TablesTold
 pub mod TitlesTold
 pub mod Told

@@ -1,11 +1,11 @@
 -- The laws of lines, as the functions of `laws` state them.
-use Rattle.std.specs.Prelude.{◌≡◌, ℕ, ◌+◌, ◌^◌, ◌<◌, ◌↔◌, true, false, List, [], ◌++◌, take, drop, Some, None}
+use Rattle.std.specs.Prelude.{◌≡◌, ℕ, ◌+◌, ◌^◌, ◌<◌, ◌↔◌, true, false, List, [], ◌++◌, length, take, drop, Some, None, Ok}
 use Rattle.netlink_packet_core_grammar.specs.Attributes.{Attribute, nla_align, first_attribute}
 use Rattle.netlink_packet_core_grammar.specs.Bytes.{AreBytes}
 use Rattle.netlink_packet_core_grammar.specs.Frames.{frame_length}
 use Rattle.attribute_tables_grammar.specs.Lists.{Context, any, nothing}
 use Rattle.attribute_tables_grammar.specs.Tables.{Payload}
-use Rattle.link_capture_grammar.specs.Captures.{IsLegal, texts}
+use Rattle.link_capture_grammar.specs.Captures.{first_frame, IsLegal, texts}
 use Rattle.link_capture_grammar.specs.Same.{SameCapture}
 use Rattle.link_message_grammar.specs.LinkMessage.{unspec, bridge, inet_6, other, link_table}
 use Rattle.link_lines_texts.specs.declared.titles.TheConstants.{TITLES}
@@ -30,6 +30,10 @@ pub record LinesGoByFrames : Type 0 where
 -- what follows the texts of some frames has lines of its own
 abbrev pub LinesAreJoined : Type 0
 LinesAreJoined = (limit : ℕ) (s t : List ℕ) → limit < 2 ^ 32 → text_lines (texts limit s ++ t) ≡ text_lines (texts limit s) ++ text_lines t
+
+-- a capture has lines exactly where its first frame is accepted
+abbrev pub AcceptedFramesHaveLines : Type 0
+AcceptedFramesHaveLines = (limit : ℕ) (c : List ℕ) → limit < 2 ^ 32 → (0 < length (lines limit c)) ↔ ((frame : ℕ × List ℕ) × (first_frame limit c ≡ Ok frame))
 
 -- Each row of the tables of link messages, and of every table inside, has a name, behind which stands what tells the row's payload; each name is that of a row;
 -- and no two names that are looked up together are equal.

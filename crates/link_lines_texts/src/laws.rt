@@ -1,6 +1,7 @@
 //! Laws of the definitions: each function does nothing, and what it states holds of all values.
 
-ghost use Rattle.link_lines_texts.specs.Laws.{LinesAreJoined, LinesGoByFrames, LinesTellMeanings, LinesTellTexts};
+ghost use Rattle.link_lines_texts.specs.Laws.{AcceptedFramesHaveLines, LinesAreJoined, LinesGoByFrames};
+ghost use Rattle.link_lines_texts.specs.Laws.{LinesTellMeanings, LinesTellTexts};
 ghost use Rattle.link_lines_texts.specs.Laws.{ListsGoBySteps, RowsAreTold};
 ghost use Rattle.link_lines_texts.specs.Telling.{FramesAreTold, ListsAreTold, ShapesAreTold};
 
@@ -35,6 +36,14 @@ pub fn lines_go_by_frames()
 pub fn lines_are_joined()
     ensures { LinesAreJoined }
 {
+    frames_are_judged();
+}
+
+/// A capture has lines exactly where its first frame is accepted.
+pub fn accepted_frames_have_lines()
+    ensures { AcceptedFramesHaveLines }
+{
+    captures_are_counted();
     frames_are_judged();
 }
 

@@ -7,7 +7,7 @@ pub mod laws;
 
 pub use link_message_af_spec::{AfSpecInet, AfSpecInet6, AfSpecUnspec};
 pub use link_message_attributes::LinkAttribute;
-pub use link_message_checks::{BodyMeasure, check, same, write_canonical};
+pub use link_message_checks::{BodyMeasure, LinkPeer, check, same, write_canonical};
 pub use link_message_lists::{
     AfSpecMctp, DevlinkPort, DpllPin, LinkProtoInfoInet6, LinkProtocolDownReason, LinkXdp, Prop,
 };

@@ -1,6 +1,9 @@
--- A header that is written as it stands.
-use Rattle.std.proofs.Common.{◌≡◌, ℕ, ◌+◌, ◌*◌, ◌/◌, ◌%◌, ◌<◌, ◌≤◌, true, false, cond, List, [], ◌∷◌, ◌++◌, length, take, sym, ap, ◌∙◌, arith}
-use Rattle.std.specs.Prelude.{slice_index}
+-- A header that is written as it stands, and two that are compared.
+use Rattle.std.proofs.Common.{◌≡◌, ℕ, ◌+◌, ◌-◌, ◌*◌, ◌/◌, ◌%◌, ◌<◌, ◌≤◌, min, Bool, true, false, cond, List, [], ◌∷◌, ◌++◌, length, take, drop, refl, sym, ap, ◌∙◌, arith}
+use Rattle.std.specs.Prelude.{◌&&◌, bytes_eq, slice_index}
+use Rattle.std.proofs.lemmas.Bool.{eq-eqb}
+use Rattle.std.proofs.lemmas.List.{take_min}
+use Rattle.std.proofs.lemmas.Slice.Eq.{bytes_eq-Decides}
 use Rattle.link_message_grammar.specs.Body.{header_text, is_listed, layer_type_text}
 
 pub own_header : (b : List ℕ) → 16 ≤ length b → slice_index b 1 ≡ 0 → is_listed (slice_index b 2 + 256 * slice_index b 3) ≡ true → header_text b ≡ take 16 b
@@ -20,3 +23,55 @@ named_layer a b l h =
 
 pub void_layer : (a b : ℕ) → is_listed (a + 256 * b) ≡ false → 255 ∷ 255 ∷ [] ≡ layer_type_text a b
 void_layer a b h = ap (λ v. cond v (a ∷ b ∷ []) (255 ∷ 255 ∷ [])) (sym h)
+
+-- ---- two headers, of which each may be cut short behind its layer type
+
+abbrev fields : ℕ → ℕ → List ℕ → List ℕ
+fields family layer rest = family ∷ 0 ∷ layer % 256 ∷ layer / 256 ∷ rest
+
+-- a header's text by what the code compares: its family, the number of its layer type, and its bytes from there up to an end
+pub by_fields : (b : List ℕ) (end layer : ℕ) → 4 ≤ length b → end ≡ min (length b) 16 → layer % 256 ∷ layer / 256 ∷ [] ≡ layer_type_text (slice_index b 2) (slice_index b 3) →
+    header_text b ≡ fields (slice_index b 0) layer (take (end - 4) (drop 4 b))
+by_fields (f ∷ x ∷ k ∷ l ∷ tail) end layer long e t =
+    let n : min 12 (length tail) ≡ end - 4 = omega (arith, e) in
+    ap (λ (z : List ℕ). f ∷ 0 ∷ (z ++ take 12 tail)) (sym t) ∙ ap (fields f layer) (sym (take_min 12 tail) ∙ ap (λ n. take n tail) n)
+by_fields [] end layer long e t = absurd (omega (arith, long))
+by_fields (f ∷ []) end layer long e t = absurd (omega (arith, long))
+by_fields (f ∷ x ∷ []) end layer long e t = absurd (omega (arith, long))
+by_fields (f ∷ x ∷ k ∷ []) end layer long e t = absurd (omega (arith, long))
+
+one_front : (front x y : List ℕ) → bytes_eq x y ≡ bytes_eq (front ++ x) (front ++ y)
+one_front [] x y = refl
+one_front (b ∷ front) x y = one_front front x y ∙ ap (λ v. v && bytes_eq (front ++ x) (front ++ y)) (sym (eq-eqb b b refl))
+
+no_by : (v : Bool) → (v ≡ true → ⊥) → false ≡ v
+no_by true f = absurd (f refl)
+no_by false f = refl
+
+first_byte : (b : List ℕ) → 4 ≤ length b → slice_index (header_text b) 0 ≡ slice_index b 0
+first_byte (f ∷ x ∷ k ∷ l ∷ tail) long = refl
+first_byte [] long = absurd (omega (arith, long))
+first_byte (f ∷ []) long = absurd (omega (arith, long))
+first_byte (f ∷ x ∷ []) long = absurd (omega (arith, long))
+first_byte (f ∷ x ∷ k ∷ []) long = absurd (omega (arith, long))
+
+module _ (a b : List ℕ) where
+  equal : bytes_eq (header_text a) (header_text b) ≡ true → header_text a ≡ header_text b
+  equal = (bytes_eq-Decides (header_text a) (header_text b)).0
+
+  pub families_differ : 4 ≤ length a → 4 ≤ length b → (slice_index a 0 ≡ slice_index b 0 → ⊥) → false ≡ bytes_eq (header_text a) (header_text b)
+  families_differ l m other = no_by _ (λ h. other (sym (first_byte a l) ∙ ap (λ z. slice_index z 0) (equal h) ∙ first_byte b m))
+
+  module _ (f g k l : ℕ) (x y : List ℕ) (left : header_text a ≡ fields f k x) (right : header_text b ≡ fields g l y) where
+    pub layers_differ : (k ≡ l → ⊥) → false ≡ bytes_eq (header_text a) (header_text b)
+    layers_differ other = no_by _ (λ h.
+        let e : fields f k x ≡ fields g l y = sym left ∙ equal h ∙ right in
+        let low : k % 256 ≡ l % 256 = ap (λ z. slice_index z 2) e in
+        let high : k / 256 ≡ l / 256 = ap (λ z. slice_index z 3) e in
+        other (omega (arith, low, high)))
+
+    pub rest_tells : f ≡ g → k ≡ l → bytes_eq x y ≡ bytes_eq (header_text a) (header_text b)
+    rest_tells e h =
+        one_front (fields f k []) x y
+        ∙ (λ i. bytes_eq (fields f k x) (fields (e i) (h i) y))
+        ∙ (λ i. bytes_eq (sym left i) (sym right i))

@@ -1,3 +1,4 @@
 pub mod Built
 pub mod Families
 pub mod Headers
+pub mod ShortBodies

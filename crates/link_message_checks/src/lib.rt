@@ -3,7 +3,9 @@
 
 mod attributes;
 mod message;
+mod peer;
 mod rows;
 
 pub use attributes::{accepts_attribute, accepts_attributes};
 pub use message::{BodyMeasure, check, measure_body, same, write_body, write_canonical};
+pub use peer::LinkPeer;

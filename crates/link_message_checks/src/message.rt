@@ -27,7 +27,10 @@ use netlink_packet_core_numbers::DecodeError;
 use std::alloc::AllocError;
 
 /// The bytes of a body's header (if_link.h, struct ifinfomsg).
-const HEADER_LEN: usize = 16;
+pub(crate) const HEADER_LEN: usize = 16;
+
+/// The bytes of a header up to the end of its layer type.
+const FRONT_LEN: usize = 4;
 
 /// The layer type without a name (if_arp.h, ARPHRD_VOID).
 const VOID_LAYER: u16 = 0xffff;
@@ -192,7 +195,7 @@ pub fn check(bytes: &[u8]) -> Result<BodyMeasure, DecodeError>
 
 // The layer type of a header (if_arp.h, ARPHRD_*); void where it has no name.
 fn layer_type(bytes: &[u8]) -> u16
-    requires { 16 ≤ length bytes.now }
+    requires { 4 ≤ length bytes.now }
     ensures { result % 256 ∷ result / 256 ∷ []
         ≡ layer_type_text (slice_index bytes.now 2) (slice_index bytes.now 3) }
 {
@@ -205,15 +208,17 @@ fn layer_type(bytes: &[u8]) -> u16
 }
 
 // Whether two headers mean the same: their second byte is no matter, and layer types without a name
-// are one.
-fn same_header(left: &[u8], right: &[u8]) -> bool
-    requires left { 16 ≤ length left.now }
-    requires right { 16 ≤ length right.now }
+// are one. Of a header that is cut short counts what is there, and of one under four bytes nothing.
+pub(crate) fn same_header(left: &[u8], right: &[u8]) -> bool
     ensures { result ≡ bytes_eq (header_text left.now) (header_text right.now) }
 {
+    if left.len() < FRONT_LEN || right.len() < FRONT_LEN {
+        return left.len() < FRONT_LEN && right.len() < FRONT_LEN;
+    }
     left[0] == right[0]
         && layer_type(left) == layer_type(right)
-        && &left[4..HEADER_LEN] == &right[4..HEADER_LEN]
+        && &left[FRONT_LEN..left.len().min(HEADER_LEN)]
+            == &right[FRONT_LEN..right.len().min(HEADER_LEN)]
 }
 
 // Whether two lists of attributes of a family mean the same.
@@ -245,7 +250,7 @@ fn write_header(bytes: &[u8], out: &mut Vec<u8>)
 {
     let [low, high] = layer_type(bytes).to_le_bytes();
     append(&[bytes[0], 0, low, high], out);
-    append(&bytes[4..HEADER_LEN], out);
+    append(&bytes[FRONT_LEN..HEADER_LEN], out);
 }
 
 // Appends the canonical text of attributes of a family.

@@ -1,0 +1,70 @@
+-- Bodies under the 16 bytes of a header, which have the front of one and no attributes.
+use Rattle.std.proofs.Common.{◌≡◌, ℕ, ◌+◌, ◌*◌, ◌<◌, ◌≤◌, min, Bool, true, false, cond, List, [], ◌∷◌, length, take, ◌⊎◌, inl, inr, refl, sym, ap, ◌∙◌, arith, length-append}
+use Rattle.std.specs.Prelude.{◌&&◌, bytes_eq}
+use Rattle.std.proofs.Math.ListN.{drop_of_length-le}
+use Rattle.std.proofs.lemmas.Bool.Decides.{leb_tells}
+use Rattle.std.proofs.lemmas.List.{length-take}
+use Rattle.std.proofs.lemmas.Slice.Eq.{bytes_eq-Decides}
+use Rattle.netlink_packet_core_grammar.specs.Attributes.{attributes_within}
+use Rattle.attribute_tables_grammar.specs.Lists.{all_same}
+use Rattle.link_message_grammar.specs.LinkMessage.{Family}
+use Rattle.link_message_grammar.specs.Body.{attribute_bytes, attributes_rule, family, header_text, is_listed, layer_type_text, list_rule_of}
+
+two_bytes : (v : Bool) (a b : ℕ) → length (cond v (a ∷ b ∷ []) (255 ∷ 255 ∷ [])) ≡ 2
+two_bytes true a b = refl
+two_bytes false a b = refl
+
+header_size : (b : List ℕ) → 4 ≤ length b → length (header_text b) ≡ min (length b) 16
+header_size (f ∷ x ∷ k ∷ l ∷ tail) long =
+    let layer = two_bytes (is_listed (k + 256 * l)) k l in
+    let all = length-append (layer_type_text k l) (take 12 tail) in
+    omega (arith, layer, all, length-take 12 tail)
+header_size [] long = absurd (omega (arith, long))
+header_size (f ∷ []) long = absurd (omega (arith, long))
+header_size (f ∷ x ∷ []) long = absurd (omega (arith, long))
+header_size (f ∷ x ∷ k ∷ []) long = absurd (omega (arith, long))
+
+short_header : (b : List ℕ) → length b < 16 → length (header_text b) < 16
+short_header (f ∷ x ∷ k ∷ l ∷ tail) short = omega (arith, header_size (f ∷ x ∷ k ∷ l ∷ tail) (omega arith), short)
+short_header [] short = omega arith
+short_header (f ∷ []) short = omega arith
+short_header (f ∷ x ∷ []) short = omega arith
+short_header (f ∷ x ∷ k ∷ []) short = omega arith
+
+both_short : (a b : List ℕ) → header_text a ≡ header_text b → length a < 16 → length b < 16
+both_short a b e short = elim (leb_tells 16 (length b)) [
+  | inl m ↦ let l : 16 ≤ length b = m.1 in absurd (omega (arith, ap length e, short_header a short, header_size b (omega (arith, l)), l))
+  | inr m ↦ m.1
+]
+
+cut_off : (b : List ℕ) → length b < 16 → attribute_bytes b ≡ []
+cut_off b short = let l : length b ≤ 16 = omega (arith, short) in drop_of_length-le b l
+
+no_attributes : (f : Family) → (attributes_rule f).same [] [] ≡ true
+unfolding list_rule_of attributes_within all_same
+no_attributes f = refl
+
+module _ (a b : List ℕ) where
+  abbrev headers_same : Bool
+  headers_same = bytes_eq (header_text a) (header_text b)
+
+  abbrev attributes_same : Bool
+  attributes_same = (attributes_rule (family a)).same (attribute_bytes a) (attribute_bytes b)
+
+  abbrev one_short : Type 0
+  one_short = (length a < 16) ⊎ ((16 ≤ length a) × (length b < 16))
+
+  none_behind : length a < 16 → length b < 16 → attributes_same ≡ true
+  none_behind l m = (λ i. (attributes_rule (family a)).same (cut_off a l i) (cut_off b m i)) ∙ no_attributes (family a)
+
+  both : one_short → header_text a ≡ header_text b → (length a < 16) × (length b < 16)
+  both (inl l) e = (l, both_short a b e l)
+  both (inr m) e = (both_short b a (sym e) m.1, m.1)
+
+  by : one_short → (v : Bool) → headers_same ≡ v → v ≡ (v && attributes_same)
+  by s false e = refl
+  by s true e = let t = both s ((bytes_eq-Decides (header_text a) (header_text b)).0 e) in sym (none_behind t.0 t.1)
+
+  -- where one of two bodies is cut short, their headers tell whether they mean the same
+  pub headers_tell : one_short → headers_same ≡ (headers_same && attributes_same)
+  headers_tell s = by s headers_same refl

@@ -7,7 +7,7 @@ use Rattle.std.proofs.KnownBytes.{Appends-nil, Appends-trans, Consumes-nil, Cons
 use Rattle.link_capture_grammar.specs.Body.{link_body}
 use Rattle.link_capture_grammar.specs.declared.fault.CaptureFault.{CaptureFault}
 use Rattle.link_capture_grammar.specs.declared.fault.FaultKind.{FaultKind}
-use Rattle.link_capture_grammar.specs.declared.fault.FaultKind.TheVariants.{Cut, ShortLength, OverLimit, Refused, EmptyPorts, Unfit, TextOverLimit, Memory, Read, Write, TooLong, Failed}
+use Rattle.link_capture_grammar.specs.declared.fault.FaultKind.TheVariants.{Cut, Memory, Read, Write, TooLong, Failed}
 use Rattle.link_capture_grammar.specs.Captures.{first_fault, texts, StopsAt}
 use Rattle.link_capture_grammar.specs.Laws.{PrefixTexts}
 use Rattle.link_capture_reader.specs.Readers.{ReaderState, StandsFor, Gains, FeedFault}
@@ -78,12 +78,6 @@ reaches_all limit s p out g = record {
 
 reaches : PrefixTexts link_body → (limit : ℕ) (s p out : List ℕ) (kind : FaultKind) (at : ℕ) → FeedFault limit s p [] out kind at → Reaches limit s p out
 reaches stay limit s p out Cut at h = absurd h
-reaches stay limit s p out ShortLength at h = reaches_all limit s p out h.2
-reaches stay limit s p out OverLimit at h = reaches_all limit s p out h.2
-reaches stay limit s p out Refused at h = reaches_all limit s p out h.2
-reaches stay limit s p out EmptyPorts at h = reaches_all limit s p out h.2
-reaches stay limit s p out Unfit at h = reaches_all limit s p out h.2
-reaches stay limit s p out TextOverLimit at h = reaches_all limit s p out h.2
 reaches stay limit s p out Memory at h = record {
   front = take at (s ++ p);
   is = all_is limit s (take at (s ++ p)) out h.2;
@@ -97,6 +91,7 @@ reaches stay limit s p out TooLong at h = record {
   begins = stay limit s p;
 }
 reaches stay limit s p out Failed at h = absurd h
+reaches stay limit s p out kind at h = reaches_all limit s p out h.2
 
 -- the lines of what it adds, behind those that were written, begin the lines of what was read
 lines_reach : LinesAreJoined → (limit : ℕ) (s p out : List ℕ) → limit < 2 ^ 32 → Reaches limit s p out → IsPrefix (lines limit s ++ text_lines out) (lines limit (s ++ p))
@@ -143,12 +138,6 @@ legal_front limit c w at h e = record {
 -- a fault of `feed` is answered, once the lines of what it added are written
 fed_fault : LinesAreJoined → (E R W : Type 0) (limit : ℕ) (s p out : List ℕ) (kind : FaultKind) (at : ℕ) → limit < 2 ^ 32 → length p ≤ 65536 → IsOpen (first_fault limit s) → FeedFault limit s p [] out kind at → ShownAt E R W limit (s ++ p) (lines limit s ++ text_lines out) kind at
 fed_fault joined E R W limit s p out Cut at b z o h = absurd h
-fed_fault joined E R W limit s p out ShortLength at b z o h = (h.1, sym (lines_gained joined limit s (s ++ p) out b h.2))
-fed_fault joined E R W limit s p out OverLimit at b z o h = (h.1, sym (lines_gained joined limit s (s ++ p) out b h.2))
-fed_fault joined E R W limit s p out Refused at b z o h = (h.1, sym (lines_gained joined limit s (s ++ p) out b h.2))
-fed_fault joined E R W limit s p out EmptyPorts at b z o h = (h.1, sym (lines_gained joined limit s (s ++ p) out b h.2))
-fed_fault joined E R W limit s p out Unfit at b z o h = (h.1, sym (lines_gained joined limit s (s ++ p) out b h.2))
-fed_fault joined E R W limit s p out TextOverLimit at b z o h = (h.1, sym (lines_gained joined limit s (s ++ p) out b h.2))
 fed_fault joined E R W limit s p out Memory at b z o h = legal_front limit (s ++ p) _ at h.1 (sym (lines_gained joined limit s (take at (s ++ p)) out b h.2))
 fed_fault joined E R W limit s p out Read at b z o h = absurd h
 fed_fault joined E R W limit s p out Write at b z o h = absurd h
@@ -160,6 +149,7 @@ fed_fault joined E R W limit s p out TooLong at b z o h =
       front = subst (λ x. ShowsFront limit (s ++ p) x at) (sym none) (before_piece limit s p at h.1 o);
     }
 fed_fault joined E R W limit s p out Failed at b z o h = absurd h
+fed_fault joined E R W limit s p out kind at b z o h = (h.1, sym (lines_gained joined limit s (s ++ p) out b h.2))
 
 pub fed_outcome : LinesAreJoined → (E R W : Type 0) (limit : ℕ) (reader : ReaderState) (s p old out : List ℕ) (fault : CaptureFault) → limit < 2 ^ 32 → reader.limit ≡ limit → old ≡ [] → length p ≤ 65536 → StandsFor reader s → FeedErr reader p old out fault → ShownAt E R W limit (s ++ p) (lines limit s ++ text_lines out) fault.kind fault.offset
 fed_outcome joined E R W limit reader s p old out fault b l e z h bad =

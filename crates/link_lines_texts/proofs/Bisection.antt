@@ -1,7 +1,7 @@
 -- What bisection over rows in rising order finds.
-use Rattle.std.proofs.Common.{◌≡◌, ℕ, zero, suc, ◌+◌, ◌<◌, ◌≤◌, Bool, true, false, cond, List, [], ◌∷◌, length, get_or, Some, None, refl, sym, ap, ◌∙◌, inl, inr, arith}
-use Rattle.std.specs.Prelude.{◌&&◌, ◌==◌}
-use Rattle.std.proofs.lemmas.Bool.{cases_lt, ltb-true, eq-eqb, ne_eqb}
+use Rattle.std.proofs.Common.{◌≡◌, ℕ, zero, suc, ◌+◌, ◌<◌, ◌≤◌, true, false, cond, List, [], ◌∷◌, length, get_or, Some, None, refl, sym, ap, ◌∙◌, inl, inr, arith}
+use Rattle.std.specs.Prelude.{◌==◌}
+use Rattle.std.proofs.lemmas.Bool.{and_parts, cases_lt, ltb-true, eq-eqb, ne_eqb}
 use Rattle.std.proofs.lemmas.Bool.Decides.{eqb_tells}
 use Rattle.link_lines_texts.specs.declared.rows.Title.{Title}
 use Rattle.link_lines_texts.specs.declared.rows.Inside.TheVariants.{Value}
@@ -13,24 +13,20 @@ use Rattle.link_lines_texts.specs.Titles.{find_title, key_of, key_above, keys_ri
 abbrev pub no_title : Title
 no_title = (0, 0, 0, [], Value (Number Plain))
 
-pub both_true : (a b : Bool) → (a && b) ≡ true → (a ≡ true) × (b ≡ true)
-both_true true b h = (refl, h)
-both_true false b h = absurd cc
-
 -- the first row lies below all that follow
 head_below : (r : Title) (rs : List Title) (j : ℕ) (d : Title) → key_above (key_of r) rs ≡ true → keys_rise rs ≡ true → j < length rs → key_of r < key_of (get_or rs j d)
 head_below r [] j d a h l = absurd (omega arith)
 head_below r (s ∷ rs) zero d a h l = ltb-true (key_of r) (key_of s) a
 head_below r (s ∷ rs) (suc j) d a h l =
-    let p = both_true (key_above (key_of s) rs) (keys_rise rs) h in
+    let p = and_parts (key_above (key_of s) rs) (keys_rise rs) h in
     let m = head_below s rs j d p.0 p.1 (omega arith) in
     omega (arith, m, ltb-true (key_of r) (key_of s) a)
 
 pub rows_rise : (rs : List Title) (i j : ℕ) (d : Title) → keys_rise rs ≡ true → i < j → j < length rs → key_of (get_or rs i d) < key_of (get_or rs j d)
 rows_rise [] i j d h l m = absurd (omega arith)
 rows_rise (r ∷ rs) i zero d h l m = absurd (omega arith)
-rows_rise (r ∷ rs) zero (suc j) d h l m = let p = both_true (key_above (key_of r) rs) (keys_rise rs) h in head_below r rs j d p.0 p.1 (omega arith)
-rows_rise (r ∷ rs) (suc i) (suc j) d h l m = let p = both_true (key_above (key_of r) rs) (keys_rise rs) h in rows_rise rs i j d p.1 (omega arith) (omega arith)
+rows_rise (r ∷ rs) zero (suc j) d h l m = let p = and_parts (key_above (key_of r) rs) (keys_rise rs) h in head_below r rs j d p.0 p.1 (omega arith)
+rows_rise (r ∷ rs) (suc i) (suc j) d h l m = let p = and_parts (key_above (key_of r) rs) (keys_rise rs) h in rows_rise rs i j d p.1 (omega arith) (omega arith)
 
 pub find_none : (rs : List Title) (w : ℕ) (d : Title) → ((i : ℕ) → i < length rs → key_of (get_or rs i d) ≡ w → ⊥) → None ≡ find_title w rs
 find_none [] w d n = refl

@@ -2,6 +2,7 @@
 use Rattle.std.proofs.Common.{◌≡◌, ℕ, suc, ◌-◌, ◌%◌, ◌/◌, ◌<◌, ◌≤◌, Bool, true, false, cond, List, [], ◌∷◌, ◌++◌, length, drop, Option, Some, None, refl, sym, ap, subst, ◌∙◌, arith}
 use Rattle.std.specs.Prelude.{filter, option_map, ⊤}
 use Rattle.std.proofs.lemmas.Bool.{and_parts}
+use Rattle.std.proofs.lemmas.Option.{same_Some}
 use Rattle.netlink_packet_core_grammar.specs.Attributes.{Attribute, attribute_header, attribute_length, attribute_text, first_attribute, if_some, list_text, nla_align, zeros}
 use Rattle.netlink_packet_core_grammar.specs.Bytes.{AreBytes}
 use Rattle.netlink_packet_core_grammar.specs.Laws.{TextIsCut, WrittenIsFirst}
@@ -94,20 +95,13 @@ all_kept : (f : Attribute → Bool) (es : List Attribute) → length (filter f e
 all_kept f [] l = refl
 all_kept f (e ∷ es) l = kept_by f e es (f e) (filtered_length f es) (all_kept f es) l
 
-abbrev or_this : {A : Type 0} → A → Option A → A
-or_this x None = x
-or_this x (Some y) = y
-
-pub some_told : {A : Type 0} (x y : A) → Some x ≡ Some y → x ≡ y
-some_told x y h = ap (or_this x) h
-
 filled : (gs es : List Attribute) → not_empty gs ≡ Some es → gs ≡ es
 filled [] es h = absurd cc
-filled (g ∷ gs) es h = some_told (g ∷ gs) es h
+filled (g ∷ gs) es h = same_Some (g ∷ gs) es h
 
 none_or_one : (o : Option (Attribute × List ℕ)) (es : List Attribute) → option_map (λ x. x.0 ∷ []) o ≡ Some es → (e : Attribute) × (es ≡ e ∷ [])
 none_or_one None es h = absurd cc
-none_or_one (Some x) es h = (x.0, sym (some_told (x.0 ∷ []) es h))
+none_or_one (Some x) es h = (x.0, sym (same_Some (x.0 ∷ []) es h))
 
 one_text : (e : Attribute) → list_text (e ∷ []) ≡ attribute_text e ++ []
 unfolding list_text
@@ -123,11 +117,11 @@ alone first g es gs w h =
     let f = rewrite (row_of g nothing one.0) one.0 in
     let is : gs ≡ f ∷ [] = w ∙ ap (λ z. rewritten g nothing z) one.1 ∙ one_rewritten g one.0 in
     let read : first_attribute (list_text gs) ≡ Some (f, []) = ap (λ z. first_attribute (list_text z)) is ∙ ap (λ z. first_attribute z) (one_text f) ∙ first f [] in
-    is ∙ some_told (f ∷ []) es (ap (λ o. option_map (λ x. x.0 ∷ []) o) (sym read) ∙ h)
+    is ∙ same_Some (f ∷ []) es (ap (λ o. option_map (λ x. x.0 ∷ []) o) (sym read) ∙ h)
 
 read_back : TextIsCut → WrittenIsFirst → (form : ListForm) (g : Grammar) (es gs : List Attribute) → gs ≡ rewritten g nothing (kept form es) → read_as form (list_text gs) ≡ Some es → gs ≡ es
-read_back cut first any g es gs w h = some_told gs es (sym (cut gs).0 ∙ h)
-read_back cut first of_kind_one g es gs w h = some_told gs es (sym (cut gs).0 ∙ h)
+read_back cut first any g es gs w h = same_Some gs es (sym (cut gs).0 ∙ h)
+read_back cut first of_kind_one g es gs w h = same_Some gs es (sym (cut gs).0 ∙ h)
 read_back cut first non_empty g es gs w h = filled gs es (ap (λ o. if_some o not_empty) (sym (cut gs).0) ∙ h)
 read_back cut first ports g es gs w h = filled gs es (ap (λ o. if_some o not_empty) (sym (cut gs).0) ∙ h)
 read_back cut first first_alone g es gs w h = alone first g es gs w h

@@ -111,13 +111,8 @@ own_body c body h =
 
 own_type : (c body : List ℕ) → 16 ≤ length c → u16_at 4 (own_frame c body) ≡ frame_type c
 unfolding u16_at le4
-own_type [] body h = absurd (omega (arith, h))
-own_type (a ∷ []) body h = absurd (omega (arith, h))
-own_type (a ∷ b ∷ []) body h = absurd (omega (arith, h))
-own_type (a ∷ b ∷ c ∷ []) body h = absurd (omega (arith, h))
-own_type (a ∷ b ∷ c ∷ d ∷ []) body h = absurd (omega (arith, h))
-own_type (a ∷ b ∷ c ∷ d ∷ e ∷ []) body h = absurd (omega (arith, h))
 own_type (a ∷ b ∷ c ∷ d ∷ e ∷ f ∷ more) body h = refl
+own_type c body h = absurd (omega (arith, h))
 
 -- a frame's text is told by its header's last twelve bytes and its body
 text_told : (c d body more : List ℕ) → 16 ≤ length c → 16 ≤ length d →

@@ -1,8 +1,8 @@
 -- The lines of texts go by their frames.
 use Rattle.std.proofs.Common.{◌≡◌, ℕ, zero, suc, ◌+◌, ◌-◌, ◌^◌, ◌<◌, ◌≤◌, Bool, true, false, cond, List, [], ◌∷◌, ◌++◌, length, take, drop, Result, Ok, Err, refl, sym, ap, ◌∙◌, append_assoc, arith}
 use Rattle.std.specs.Prelude.{◌&&◌, nat_le, nat_lt}
-use Rattle.std.proofs.lemmas.Bool.{leb-true, le-leb, ltb-false}
-use Rattle.std.proofs.lemmas.List.{length-append, take-append-le}
+use Rattle.std.proofs.lemmas.Bool.{and_from, and_parts, leb-true, le-leb, ltb-false}
+use Rattle.std.proofs.lemmas.List.{drop_at, length-append, take-append-le}
 use Rattle.std.proofs.lemmas.Nat.{from_le_bytes-to_le_bytes_4}
 use Rattle.netlink_packet_core_grammar.specs.Attributes.{nla_align, zeros}
 use Rattle.netlink_packet_core_grammar.specs.Frames.{frame_length, frame_type, frame_body, frame_text}
@@ -15,7 +15,6 @@ use Rattle.link_capture_grammar.specs.Laws.{FramesAreJudged}
 use Rattle.link_lines_texts.specs.Frames.{frame_lines}
 use Rattle.link_lines_texts.specs.Captures.{is_frame, lines_after, text_lines}
 use Rattle.link_lines_texts.specs.Laws.{LinesGoByFrames, LinesAreJoined}
-use Rattle.link_lines_texts.proofs.Bisection.{both_true}
 
 passed : (k : ℕ) (c : List ℕ) → lines_after k c ≡ text_lines (drop k c)
 unfolding lines_after text_lines
@@ -26,8 +25,8 @@ passed (suc k) (b ∷ c) = passed k c
 -- a whole frame has a length of at least 16, which its bytes reach
 length_of : (c : List ℕ) → is_frame c ≡ true → (16 ≤ frame_length c) × (frame_length c ≤ length c)
 length_of c h =
-    let p = both_true (nat_le 16 (length c)) (nat_le 16 (frame_length c) && nat_le (frame_length c) (length c)) h in
-    let q = both_true (nat_le 16 (frame_length c)) (nat_le (frame_length c) (length c)) p.1 in
+    let p = and_parts (nat_le 16 (length c)) (nat_le 16 (frame_length c) && nat_le (frame_length c) (length c)) h in
+    let q = and_parts (nat_le 16 (frame_length c)) (nat_le (frame_length c) (length c)) p.1 in
     (leb-true 16 (frame_length c) q.0, leb-true (frame_length c) (length c) q.1)
 
 pub whole : (c : List ℕ) → is_frame c ≡ true → text_lines c ≡ frame_lines (take (frame_length c) c) ++ text_lines (drop (nla_align (frame_length c)) c)
@@ -53,10 +52,6 @@ by_frames = record { frame = whole; none = stopped }
 
 -- ---- the text of a frame in front of other bytes
 
-drop_front : (xs ys : List ℕ) → drop (length xs) (xs ++ ys) ≡ ys
-drop_front [] ys = refl
-drop_front (x ∷ xs) ys = drop_front xs ys
-
 length_kept : (n : ℕ) (more : List ℕ) → n < 2 ^ 32 → frame_length (le4 n ++ more) ≡ n
 unfolding u32_at le4
 length_kept n more h = from_le_bytes-to_le_bytes_4 n h
@@ -68,9 +63,6 @@ told_length c body r h =
     let more = take 12 (drop 4 c) ++ (body ++ zeros (nla_align n - n)) in
     ap (λ z. frame_length z) (append_assoc (le4 n) more r) ∙ length_kept n (more ++ r) h
 
-true_and : (a b : Bool) → a ≡ true → b ≡ true → (a && b) ≡ true
-true_and a b h k = ap (λ z. z && b) h ∙ k
-
 pub in_front : FramesAreJudged link_body → (c body r : List ℕ) → 16 ≤ length c → 16 + length body < 2 ^ 32 → text_lines (frame_text c body ++ r) ≡ frame_lines (take (16 + length body) (frame_text c body)) ++ text_lines r
 in_front j c body r h b =
     let n = 16 + length body in
@@ -81,13 +73,12 @@ in_front j c body r h b =
     let high : n ≤ nla_align n = omega arith in
     let all : length (t ++ r) ≡ length t + length r = length-append t r in
     let is : is_frame (t ++ r) ≡ true =
-    true_and (nat_le 16 (length (t ++ r))) (nat_le 16 (frame_length (t ++ r)) && nat_le (frame_length (t ++ r)) (length (t ++ r))) (le-leb 16 (length (t ++ r)) (omega (arith, all, size, low)))
-    (true_and (nat_le 16 (frame_length (t ++ r))) (nat_le (frame_length (t ++ r)) (length (t ++ r))) (le-leb 16 (frame_length (t ++ r)) (omega (arith, told))) (le-leb (frame_length (t ++ r)) (length (t ++ r)) (omega (arith, told, all, size, high)))) in
+    and_from (nat_le 16 (length (t ++ r))) (nat_le 16 (frame_length (t ++ r)) && nat_le (frame_length (t ++ r)) (length (t ++ r))) (le-leb 16 (length (t ++ r)) (omega (arith, all, size, low)))
+    (and_from (nat_le 16 (frame_length (t ++ r))) (nat_le (frame_length (t ++ r)) (length (t ++ r))) (le-leb 16 (frame_length (t ++ r)) (omega (arith, told))) (le-leb (frame_length (t ++ r)) (length (t ++ r)) (omega (arith, told, all, size, high)))) in
     whole (t ++ r) is
     ∙ ap (λ m. frame_lines (take m (t ++ r)) ++ text_lines (drop (nla_align m) (t ++ r))) told
     ∙ ap (λ z. frame_lines z ++ text_lines (drop (nla_align n) (t ++ r))) (take-append-le n t r (omega (arith, size, high)))
-    ∙ ap (λ m. frame_lines (take n t) ++ text_lines (drop m (t ++ r))) (sym size)
-    ∙ ap (λ z. frame_lines (take n t) ++ text_lines z) (drop_front t r)
+    ∙ ap (λ z. frame_lines (take n t) ++ text_lines z) (drop_at t r (nla_align n) size)
 
 -- ---- a frame that is accepted has such a text
 
@@ -107,11 +98,8 @@ judged_is limit c frame (Err why) b h e = absurd cc
 judged_is limit c frame (Ok body) b h e = small_is limit c frame body (nat_lt limit (16 + length body)) b refl h e
 
 tested_is : (a b d e : Bool) (j : Judged) (frame : ℕ × List ℕ) → cond a (Err Cut) (cond b (Err ShortLength) (cond d (Err OverLimit) (cond e (Err Cut) j))) ≡ Ok frame → (a ≡ false) × (j ≡ Ok frame)
-tested_is true b d e j frame h = absurd cc
-tested_is false true d e j frame h = absurd cc
-tested_is false false true e j frame h = absurd cc
-tested_is false false false true j frame h = absurd cc
 tested_is false false false false j frame h = (refl, h)
+tested_is a b d e j frame h = absurd cc
 
 pub accepted_is : (limit : ℕ) (c : List ℕ) (frame : ℕ × List ℕ) → first_frame limit c ≡ Ok frame → IsText limit c frame.1
 unfolding first_frame_under

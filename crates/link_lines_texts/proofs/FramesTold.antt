@@ -3,7 +3,7 @@ use Rattle.std.proofs.Common.{◌≡◌, ℕ, ◌+◌, ◌*◌, ◌≤◌, Bool,
 use Rattle.std.specs.Prelude.{◌==◌, ◌||◌, nat_le, codes, slice_index}
 use Rattle.std.proofs.lemmas.Bool.{and_parts, eqb-true, leb-true, ltb-false, le-leb, ne_eqb}
 use Rattle.std.proofs.lemmas.Bool.Decides.{eqb_tells}
-use Rattle.std.proofs.lemmas.List.{append_cancel_left, length-append, length-take, take-append-drop}
+use Rattle.std.proofs.lemmas.List.{append_cancel_left, drop_at, length-append, length-take, take-append-drop}
 use Rattle.netlink_packet_core_grammar.specs.Bytes.{AreBytes}
 use Rattle.netlink_packet_core_grammar.specs.Numbers.{u16_at}
 use Rattle.attribute_tables_grammar.specs.Peers.{bytes_peer}
@@ -89,21 +89,11 @@ two_long false x y u v = refl
 header_size : (b : List ℕ) → 16 ≤ length b → length (header_text b) ≡ 16
 header_size (x ∷ y ∷ u ∷ v ∷ b) l =
     omega (arith, length-append (layer_type_text u v) (take 12 b), two_long (is_listed (u + 256 * v)) u v 255 255, length-take 12 b)
-header_size [] l = absurd (omega arith)
-header_size (x ∷ []) l = absurd (omega arith)
-header_size (x ∷ y ∷ []) l = absurd (omega arith)
-header_size (x ∷ y ∷ u ∷ []) l = absurd (omega arith)
+header_size b l = absurd (omega arith)
 
 second_is : (b p : List ℕ) → 16 ≤ length b → header_text b ++ p ≡ b → slice_index b 1 ≡ 0
 second_is (x ∷ y ∷ u ∷ v ∷ b) p l e = sym (ap (λ l. get_or l 1 0) e)
-second_is [] p l e = absurd (omega arith)
-second_is (x ∷ []) p l e = absurd (omega arith)
-second_is (x ∷ y ∷ []) p l e = absurd (omega arith)
-second_is (x ∷ y ∷ u ∷ []) p l e = absurd (omega arith)
-
-drop_front : (p q : List ℕ) → drop (length p) (p ++ q) ≡ q
-drop_front [] q = refl
-drop_front (x ∷ p) q = drop_front p q
+second_is b p l e = absurd (omega arith)
 
 -- a link's body that is its own text has a header that is, and attributes that are
 own_link : BodiesAreHeadersAndAttributes bytes_peer → (b : List ℕ) → AreBytes b → ruled_text link_body b ≡ Ok b → IsOwnLink b
@@ -115,7 +105,7 @@ own_link h b a e =
     let size = leb-true 16 (length b) accepted.0 in
     let text : header_text b ++ rule.canonical (drop 16 b) ≡ b = sym parts.canonical ∙ r.1 in
     let list = rule.canonical (drop 16 b) in
-    let kept = sym (drop_front (header_text b) list) ∙ ap (λ n. drop n (header_text b ++ list)) (header_size b size) ∙ ap (drop 16) text in
+    let kept = sym (drop_at (header_text b) list 16 (header_size b size)) ∙ ap (drop 16) text in
     record { size = size; second = second_is b _ size text; attributes = record { bytes = later_bytes 16 b a; accepted = accepted.1; canonical = kept } }
 
 abbrev list_part : List ℕ → List ℕ

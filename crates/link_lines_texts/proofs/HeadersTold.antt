@@ -1,8 +1,8 @@
 -- The lines of headers tell them.
 use Rattle.std.proofs.Common.{◌≡◌, ℕ, zero, suc, ◌+◌, ◌*◌, ◌^◌, ◌<◌, ◌≤◌, Bool, true, false, cond, List, [], ◌∷◌, ◌++◌, length, take, drop, get_or, refl, sym, ap, subst, ◌∙◌, arith}
-use Rattle.std.specs.Prelude.{◌==◌, ◌&&◌, nat_le, nat_lt, ⊤, bytes_eq, codes, decimal, slice_index}
+use Rattle.std.specs.Prelude.{◌==◌, ◌&&◌, nat_lt, ⊤, bytes_eq, codes, decimal, slice_index}
 use Rattle.std.specs.Int.{w16, w32, from_le_bytes}
-use Rattle.std.proofs.lemmas.Bool.{and_parts, eqb-true, leb-true, ltb-true}
+use Rattle.std.proofs.lemmas.Bool.{and_parts, eqb-true, ltb-true}
 use Rattle.std.proofs.lemmas.List.{append_cancel_left, length-drop, get_or-drop, drop-drop}
 use Rattle.netlink_packet_core_grammar.specs.Bytes.{AreBytes}
 use Rattle.netlink_packet_core_grammar.specs.Numbers.{u16_at, u32_at}
@@ -15,10 +15,11 @@ use Rattle.link_lines_values.specs.Digits.{hex_number}
 use Rattle.link_lines_values.specs.Flags.{listed, named_flags, nameless, names_of, names_set}
 use Rattle.link_lines_values.specs.Names.{bracketed, named_number, name_or_nothing, text_in, texts_of}
 use Rattle.link_lines_values.specs.Laws.{DigitsAreTold, Ends}
+use Rattle.link_lines_texts.specs.Coverage.{is_word}
 use Rattle.link_lines_texts.specs.Frames.{flag_set, header_line, labelled, link_flags, link_header_line, link_numbers, or_number, type_text}
 use Rattle.link_lines_texts.specs.Telling.{StartsFrame}
 use Rattle.link_lines_texts.proofs.ByteParts.{later_bytes}
-use Rattle.link_lines_texts.proofs.LineCuts.{IsWord, behind, cut_word}
+use Rattle.link_lines_texts.proofs.LineCuts.{IsWord, behind, cut_word, word_of}
 
 -- ---- numbers with their names
 
@@ -53,10 +54,6 @@ abbrev named : List NumberText → List ℕ → ℕ
 named [] name = 0
 named (r ∷ rs) name = cond (bytes_eq (take r.1 r.2) name) r.0 (named rs name)
 
-abbrev is_word : List ℕ → Bool
-is_word [] = true
-is_word (c ∷ a) = nat_le 48 c && is_word a
-
 -- no name, or a word that doesn't begin as `type` does and tells its number among all
 abbrev is_name : List NumberText → ℕ → List ℕ → Bool
 is_name all n [] = true
@@ -75,16 +72,12 @@ abbrev IsName : List NumberText → ℕ → List ℕ → Type 0
 IsName all n [] = ⊤
 IsName all n (c ∷ name) = TellsNumber all n c name
 
-are_word : (a : List ℕ) → is_word a ≡ true → IsWord a
-are_word [] h = record {}
-are_word (c ∷ a) h = let p = and_parts (nat_le 48 c) (is_word a) h in (leb-true 48 c p.0, are_word a p.1)
-
 is_a_name : (all : List NumberText) (n : ℕ) (name : List ℕ) → is_name all n name ≡ true → IsName all n name
 is_a_name all n [] h = record {}
 is_a_name all n (c ∷ name) h =
     let p = and_parts (nat_lt c 97) (is_word (c ∷ name) && (named all (c ∷ name) == n)) h in
     let q = and_parts (is_word (c ∷ name)) (named all (c ∷ name) == n) p.1 in
-    record { no_type = ltb-true c 97 p.0; word = are_word (c ∷ name) q.0; number = eqb-true _ n q.1 }
+    record { no_type = ltb-true c 97 p.0; word = word_of (c ∷ name) q.0; number = eqb-true _ n q.1 }
 
 -- of a row with that number, or of the rows behind it
 picked : (all : List NumberText) (n : ℕ) (b : Bool) (a name : List ℕ) → (b ≡ true → IsName all n a) → IsName all n name → IsName all n (cond b a name)
@@ -158,17 +151,11 @@ two_told : (p q : List ℕ) → AreBytes p → AreBytes q → 2 ≤ length p →
 two_told (a ∷ b ∷ p) (c ∷ d ∷ q) h k l m e r =
     let x = low_byte a b c d h.0 k.0 (sym (two_bytes a b p) ∙ e ∙ two_bytes c d q) in
     λ i. x.0 i ∷ x.1 i ∷ r i
-two_told [] q h k l m e r = absurd (omega arith)
-two_told (a ∷ []) q h k l m e r = absurd (omega arith)
-two_told (a ∷ b ∷ p) [] h k l m e r = absurd (omega arith)
-two_told (a ∷ b ∷ p) (c ∷ []) h k l m e r = absurd (omega arith)
+two_told p q h k l m e r = absurd (omega arith)
 
 four_are : (p : List ℕ) → 4 ≤ length p → p ≡ slice_index p 0 ∷ slice_index p 1 ∷ slice_index p 2 ∷ slice_index p 3 ∷ drop 4 p
-four_are [] l = absurd (omega arith)
-four_are (a ∷ []) l = absurd (omega arith)
-four_are (a ∷ b ∷ []) l = absurd (omega arith)
-four_are (a ∷ b ∷ c ∷ []) l = absurd (omega arith)
 four_are (a ∷ b ∷ c ∷ d ∷ p) l = refl
+four_are p l = absurd (omega arith)
 
 four_number : (p : List ℕ) → u32_at 0 p ≡ slice_index p 0 + 256 * (slice_index p 1 + 256 * (slice_index p 2 + 256 * slice_index p 3))
 unfolding u32_at
@@ -338,9 +325,8 @@ pub record SameLink (p q s t : List ℕ) : Type 0 where
   pub rest : s ≡ t
 
 two_are : (p : List ℕ) → 2 ≤ length p → p ≡ slice_index p 0 ∷ slice_index p 1 ∷ drop 2 p
-two_are [] l = absurd (omega arith)
-two_are (a ∷ []) l = absurd (omega arith)
 two_are (a ∷ b ∷ p) l = refl
+two_are p l = absurd (omega arith)
 
 pub link_header_told : DigitsAreTold → (p q s t : List ℕ) → AreBytes p → AreBytes q → 16 ≤ length p → 16 ≤ length q → link_header_line p ++ s ≡ link_header_line q ++ t → SameLink p q s t
 link_header_told d p q s t a b l m e =

@@ -1,9 +1,11 @@
 -- Where lines end, names end, and deeper lines end.
-use Rattle.std.proofs.Common.{◌≡◌, ℕ, ◌+◌, ◌<◌, ◌≤◌, List, [], ◌∷◌, ◌++◌, drop, refl, sym, ap, ◌∙◌, append_assoc, arith}
-use Rattle.std.specs.Prelude.{get_or}
+use Rattle.std.proofs.Common.{◌≡◌, ℕ, ◌+◌, ◌<◌, ◌≤◌, true, List, [], ◌∷◌, ◌++◌, drop, refl, sym, ap, ◌∙◌, append_assoc, arith}
+use Rattle.std.specs.Prelude.{get_or, nat_le}
 use Rattle.std.specs.List.{AllByRecursion}
+use Rattle.std.proofs.lemmas.Bool.{and_parts, leb-true}
 use Rattle.std.proofs.lemmas.List.{append_cancel_left}
 use Rattle.link_lines_values.specs.Laws.{Ends, IsLine}
+use Rattle.link_lines_texts.specs.Coverage.{is_word}
 use Rattle.link_lines_texts.specs.Lists.{indent}
 use Rattle.link_lines_texts.specs.Telling.{IsShallow}
 use Rattle.link_lines_texts.proofs.Indents.{one_deeper}
@@ -28,6 +30,10 @@ cut_line (x ∷ a) (y ∷ b) s t h k e =
 -- bytes of names and numbers, none under the digits
 abbrev pub IsWord : List ℕ → Type 0
 IsWord a = AllByRecursion (λ c. 48 ≤ c) a
+
+pub word_of : (a : List ℕ) → is_word a ≡ true → IsWord a
+word_of [] h = record {}
+word_of (c ∷ a) h = let p = and_parts (nat_le 48 c) (is_word a) h in (leb-true 48 c p.0, word_of a p.1)
 
 word_apart : (c d : ℕ) → c < 48 → 48 ≤ d → c ≡ d → ⊥
 word_apart c d l h e = omega arith

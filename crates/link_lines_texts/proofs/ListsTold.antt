@@ -2,6 +2,7 @@
 use Rattle.std.proofs.Common.{◌≡◌, ℕ, ◌+◌, ◌/◌, ◌%◌, ◌<◌, ◌≤◌, Bool, true, false, cond, List, [], ◌∷◌, ◌++◌, drop, Option, Some, None, refl, sym, ap, subst, ◌∙◌, append_assoc, arith}
 use Rattle.std.specs.Prelude.{codes, get_or}
 use Rattle.std.proofs.lemmas.List.{append_cancel_left}
+use Rattle.std.proofs.lemmas.Option.{same_Some}
 use Rattle.netlink_packet_core_grammar.specs.Attributes.{Attribute, first_attribute, list_text, proper_kind}
 use Rattle.netlink_packet_core_grammar.specs.Bytes.{AreBytes}
 use Rattle.netlink_packet_core_grammar.specs.Laws.{TextIsCut, WrittenIsFirst}
@@ -19,7 +20,7 @@ use Rattle.link_lines_texts.specs.Laws.{ListsGoBySteps}
 use Rattle.link_lines_texts.specs.Lists.{indent, inside_table, inside_text, known_inside, list_lines, nested_lines, next_in, own_line, rest_lines, table_inside, titled_table, titled_text}
 use Rattle.link_lines_texts.specs.Telling.{IsOwn, IsShallow}
 use Rattle.link_lines_texts.specs.Titles.{title_of, title_name}
-use Rattle.link_lines_texts.proofs.CanonicalLists.{AllOwn, OwnAttribute, own_list, some_told}
+use Rattle.link_lines_texts.proofs.CanonicalLists.{AllOwn, OwnAttribute, own_list}
 use Rattle.link_lines_texts.proofs.LineCuts.{IsWord, Starts, cut_line, cut_word, line_shallow, lines_joined, shallower, starts_joined, word_line}
 
 -- what stands in an attribute's line, and below it, tells its payload
@@ -172,7 +173,7 @@ module _ (values : ValuesStandOnALine) (bytes : BytesAreTold) (g : Grammar) (m :
       let cut = cut_word (title_name t) (title_name u) (inside_text (known_inside c t.4) e.payload) (inside_text (known_inside c u.4) f.payload) (names.word k t (small_kind e.kind) h) (names.word l u (small_kind f.kind) i)
       (inside_ends values (known_inside c t.4) e.payload) (inside_ends values (known_inside c u.4) f.payload) same in
       let kinds : k ≡ l = names.apart k l t u (small_kind e.kind) (small_kind f.kind) h i cut.0 in
-      let one : t ≡ u = some_told t u (sym h ∙ ap (title_of m) kinds ∙ i) in
+      let one : t ≡ u = same_Some t u (sym h ∙ ap (title_of m) kinds ∙ i) in
       let told = rows.titled c k t (small_kind e.kind) h in
       let own_f : IsOwn (g.row c k).rule f.payload = subst (λ n. IsOwn (g.row c n).rule f.payload) (sym kinds) v.payload in
       let text : inside_text (known_inside c t.4) e.payload ≡ inside_text (known_inside c t.4) f.payload = cut.1 ∙ ap (λ w. inside_text (known_inside c w.4) f.payload) (sym one) in

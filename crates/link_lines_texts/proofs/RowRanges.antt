@@ -1,26 +1,29 @@
 -- Which rows can have a key: those of one family each stand first, then those of all links, then those of what attributes hold.
 use Rattle.std.proofs.Common.{◌≡◌, ℕ, ◌+◌, ◌-◌, ◌*◌, ◌<◌, ◌≤◌, Bool, true, false, cond, List, [], ◌∷◌, ◌++◌, take, drop, Option, Some, None, refl, sym, ap, ◌∙◌, arith, is_some, is_none, ◌%◌, inl, inr}
-use Rattle.std.specs.Prelude.{◌==◌, ◌&&◌, not, nat_le, nat_lt, IfSome}
+use Rattle.std.specs.Prelude.{◌==◌, not, nat_le, nat_lt, IfSome}
 use Rattle.std.proofs.lemmas.Bool.{and_parts, cases_lt, leb-true, lt-ltb, ltb-true, ne_eqb}
 use Rattle.std.proofs.lemmas.List.{take-append-drop}
 use Rattle.link_lines_texts.specs.declared.rows.TheConstants.{FAMILY_ROWS, LINK_ROWS}
 use Rattle.link_lines_texts.specs.declared.rows.Title.{Title}
 use Rattle.link_lines_texts.specs.declared.titles.TheConstants.{TITLES}
+use Rattle.link_lines_texts.specs.Coverage.{all_titles}
 use Rattle.link_lines_texts.proofs.RowFacts.{found, found_fits}
 use Rattle.link_lines_texts.specs.Titles.{find_title, key_of, or_else, title_of}
 
 -- ---- rows that can't have a key
 
 abbrev keys_under : ℕ → List Title → Bool
-keys_under m [] = true
-keys_under m (t ∷ ts) = nat_lt (key_of t) m && keys_under m ts
+keys_under m ts = all_titles (λ t. nat_lt (key_of t) m) ts
 
 abbrev keys_over : ℕ → List Title → Bool
-keys_over m [] = true
-keys_over m (t ∷ ts) = nat_le m (key_of t) && keys_over m ts
+keys_over m ts = all_titles (λ t. nat_le m (key_of t)) ts
 
 passed : (w : ℕ) (t : Title) (ts : List Title) → (key_of t ≡ w → ⊥) → find_title w ts ≡ None → find_title w (t ∷ ts) ≡ None
 passed w t ts n e = ap (λ b. cond b (Some t) (find_title w ts)) (ne_eqb (key_of t) w n) ∙ e
+
+none_where : (f : Title → Bool) (w : ℕ) (ts : List Title) → ((t : Title) → f t ≡ true → key_of t ≡ w → ⊥) → all_titles f ts ≡ true → find_title w ts ≡ None
+none_where f w [] apart h = refl
+none_where f w (t ∷ ts) apart h = let parts = and_parts (f t) (all_titles f ts) h in passed w t ts (apart t parts.0) (none_where f w ts apart parts.1)
 
 under_apart : (k m w : ℕ) → k < m → m ≤ w → k ≡ w → ⊥
 under_apart k m w h l e = omega arith
@@ -29,16 +32,10 @@ over_apart : (k m w : ℕ) → m ≤ k → w < m → k ≡ w → ⊥
 over_apart k m w h l e = omega arith
 
 none_under : (m w : ℕ) (ts : List Title) → keys_under m ts ≡ true → m ≤ w → find_title w ts ≡ None
-none_under m w [] h l = refl
-none_under m w (t ∷ ts) h l =
-    let parts = and_parts (nat_lt (key_of t) m) (keys_under m ts) h in
-    passed w t ts (under_apart (key_of t) m w (ltb-true (key_of t) m parts.0) l) (none_under m w ts parts.1 l)
+none_under m w ts h l = none_where (λ t. nat_lt (key_of t) m) w ts (λ t k. under_apart (key_of t) m w (ltb-true (key_of t) m k) l) h
 
 none_over : (m w : ℕ) (ts : List Title) → keys_over m ts ≡ true → w < m → find_title w ts ≡ None
-none_over m w [] h l = refl
-none_over m w (t ∷ ts) h l =
-    let parts = and_parts (nat_le m (key_of t)) (keys_over m ts) h in
-    passed w t ts (over_apart (key_of t) m w (leb-true m (key_of t) parts.0) l) (none_over m w ts parts.1 l)
+none_over m w ts h l = none_where (λ t. nat_le m (key_of t)) w ts (λ t k. over_apart (key_of t) m w (leb-true m (key_of t) k) l) h
 
 -- ---- rows one after another
 

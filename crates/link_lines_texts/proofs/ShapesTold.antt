@@ -2,12 +2,12 @@
 use Rattle.std.proofs.Common.{◌≡◌, ℕ, zero, suc, ◌-◌, ◌≤◌, Bool, true, false, cond, List, [], ◌∷◌, ◌++◌, length, take, drop, Some, None, refl, sym, ap, subst, ◌∙◌, arith}
 use Rattle.std.specs.Prelude.{◌==◌, ◌&&◌, ◌||◌, nat_le, get_or, map}
 use Rattle.std.proofs.lemmas.Bool.{and_parts, eqb-true, leb-true}
-use Rattle.std.proofs.lemmas.List.{length-append, length-take, length-drop, length-replicate}
+use Rattle.std.proofs.lemmas.List.{drop_all, drop_at, length-append, length-take, length-drop, length-replicate, take_all}
 use Rattle.netlink_packet_core_grammar.specs.Attributes.{zeros}
 use Rattle.netlink_packet_core_grammar.specs.Texts.{without_nul}
 use Rattle.netlink_packet_core_grammar.specs.Truths.{truth_of, one_of}
 use Rattle.attribute_tables_grammar.specs.Rules.{shape_rule}
-use Rattle.attribute_tables_grammar.specs.Shapes.{Shape, exact, either, at_most, nonzero_byte, one_byte, truth_of_four, presence, text, raw, never, fixed_record, id_and_truth, resized, number, number_truth}
+use Rattle.attribute_tables_grammar.specs.Shapes.{Shape, exact, either, at_most, nonzero_byte, one_byte, truth_of_four, presence, text, fixed_record, id_and_truth, resized, number, number_truth}
 use Rattle.link_lines_values.specs.declared.fields.Field.{Field}
 use Rattle.link_lines_values.specs.declared.fields.FieldShown.{FieldShown}
 use Rattle.link_lines_values.specs.declared.fields.FieldShown.TheVariants as F
@@ -69,18 +69,14 @@ record_sized m n f false l h = absurd cc
 
 sized : (s : Shape) (f : ℕ → Bool) → is_sized (own_size s) f ≡ true → HasSize s f
 sized (exact n) f h = record { n = n; known = h; size = λ p o. eqb-true (length p) n o.accepted }
-sized (either m n) f h = absurd cc
-sized (at_most n) f h = absurd cc
 sized nonzero_byte f h = record { n = 1; known = h; size = λ p o. eqb-true (length p) 1 o.accepted }
 sized one_byte f h = record { n = 1; known = h; size = λ p o. eqb-true (length p) 1 o.accepted }
 sized truth_of_four f h = record { n = 4; known = h; size = λ p o. eqb-true (length p) 4 o.accepted }
 sized presence f h = record { n = 0; known = h; size = λ p o. ap length (sym o.canonical) }
-sized text f h = absurd cc
-sized raw f h = absurd cc
-sized never f h = absurd cc
 sized (fixed_record m n) f h = record_sized m n f (nat_le m n) refl h
 sized id_and_truth f h = record { n = 8; known = h; size = λ p o. setting_length p (leb-true 8 (length p) o.accepted) o.canonical }
 sized (resized n) f h = record { n = n; known = h; size = λ p o. resized_length n p o.canonical }
+sized s f h = absurd cc
 
 same_length : (s : Shape) (f : ℕ → Bool) (p q : List ℕ) → HasSize s f → Own s p → Own s q → length p ≡ length q
 same_length s f p q h o u = h.size p o ∙ sym (h.size q u)
@@ -114,31 +110,13 @@ at_most_one : (s : Shape) (p : List ℕ) → is_truth s ≡ true → Own s p →
 at_most_one nonzero_byte p h o = mapped p truth_of (eqb-true (length p) 1 o.accepted) truth_small o.canonical
 at_most_one one_byte p h o = mapped p one_of (eqb-true (length p) 1 o.accepted) one_small o.canonical
 at_most_one truth_of_four p h o = subst (λ q. number q ≤ 1) o.canonical (truth_number (number p))
-at_most_one (exact n) p h o = absurd cc
-at_most_one (either m n) p h o = absurd cc
-at_most_one (at_most n) p h o = absurd cc
-at_most_one presence p h o = absurd cc
-at_most_one text p h o = absurd cc
-at_most_one raw p h o = absurd cc
-at_most_one never p h o = absurd cc
-at_most_one (fixed_record m n) p h o = absurd cc
-at_most_one id_and_truth p h o = absurd cc
-at_most_one (resized n) p h o = absurd cc
+at_most_one s p h o = absurd cc
 
 truth_sized : (s : Shape) → is_truth s ≡ true → HasSize s (λ n. true)
 truth_sized nonzero_byte h = sized nonzero_byte (λ n. true) refl
 truth_sized one_byte h = sized one_byte (λ n. true) refl
 truth_sized truth_of_four h = sized truth_of_four (λ n. true) refl
-truth_sized (exact n) h = absurd cc
-truth_sized (either m n) h = absurd cc
-truth_sized (at_most n) h = absurd cc
-truth_sized presence h = absurd cc
-truth_sized text h = absurd cc
-truth_sized raw h = absurd cc
-truth_sized never h = absurd cc
-truth_sized (fixed_record m n) h = absurd cc
-truth_sized id_and_truth h = absurd cc
-truth_sized (resized n) h = absurd cc
+truth_sized s h = absurd cc
 
 -- ---- records
 
@@ -159,30 +137,12 @@ zeros_are : (n : ℕ) → is_zero (zeros n) ≡ true
 zeros_are zero = refl
 zeros_are (suc n) = zeros_are n
 
-take_whole : (p : List ℕ) (n : ℕ) → length p ≡ n → take n p ≡ p
-take_whole [] zero h = refl
-take_whole [] (suc n) h = refl
-take_whole (x ∷ p) zero h = absurd (omega arith)
-take_whole (x ∷ p) (suc n) h = ap (λ q. x ∷ q) (take_whole p n (omega arith))
-
-drop_whole : (p : List ℕ) (n : ℕ) → length p ≡ n → drop n p ≡ []
-drop_whole [] zero h = refl
-drop_whole [] (suc n) h = refl
-drop_whole (x ∷ p) zero h = absurd (omega arith)
-drop_whole (x ∷ p) (suc n) h = drop_whole p n (omega arith)
-
-drop_front : (xs ys : List ℕ) (n : ℕ) → length xs ≡ n → drop n (xs ++ ys) ≡ ys
-drop_front [] ys zero h = refl
-drop_front [] ys (suc n) h = absurd (omega arith)
-drop_front (x ∷ xs) ys zero h = absurd (omega arith)
-drop_front (x ∷ xs) ys (suc n) h = drop_front xs ys n (omega arith)
-
 -- a payload of just the fields' size
 whole_record : (s : Shape) (held : Record) (p : List ℕ) → Own s p → length p ≡ total_size (fields_of held) → lacks_truths (fields_of held) ≡ true → HoldsFields held p
 whole_record s held p o l h = record {
   bytes = o.bytes;
   whole = omega (arith, l);
-  zeros = ap is_zero (drop_whole p (total_size (fields_of held)) l);
+  zeros = ap is_zero (drop_all (total_size (fields_of held)) p (omega (arith, l)));
   known = no_truths (fields_of held) (take (total_size (fields_of held)) p) h;
 }
 
@@ -191,7 +151,7 @@ filled_record : (m n : ℕ) (held : Record) (p : List ℕ) → Own (fixed_record
 filled_record m n held p o l h =
     let long = leb-true m (length p) o.accepted in
     let front : length (take m p) ≡ m = omega (arith, length-take m p, long) in
-    let rest : drop m p ≡ zeros (n - m) = ap (drop m) (sym o.canonical) ∙ drop_front (take m p) (zeros (n - m)) m front in
+    let rest : drop m p ≡ zeros (n - m) = ap (drop m) (sym o.canonical) ∙ drop_at (take m p) (zeros (n - m)) m front in
     record {
       bytes = o.bytes;
       whole = omega (arith, l, long);
@@ -223,7 +183,7 @@ setting_known (f ∷ g ∷ []) p h n l =
     let a = eqb-true f.2 4 first.0 in
     let b = eqb-true g.2 4 second.1 in
     let back : length (drop 4 p) ≡ 4 = omega (arith, length-drop 4 p, l) in
-    let same : take g.2 (drop f.2 p) ≡ drop 4 p = (λ i. take (b i) (drop (a i) p)) ∙ take_whole (drop 4 p) 4 back in
+    let same : take g.2 (drop f.2 p) ≡ drop 4 p = (λ i. take (b i) (drop (a i) p)) ∙ take_all 4 (drop 4 p) (omega (arith, back)) in
     let small : number (take g.2 (drop f.2 p)) ≤ 1 = subst (λ q. number q ≤ 1) (sym same) n in
     (omega (arith, a, b), (never_truth f.3 (take f.2 p) second.0, (known_setting g.3 (take g.2 (drop f.2 p)) small, record {})))
 
@@ -232,15 +192,15 @@ setting_record held p o h =
     let long = leb-true 8 (length p) o.accepted in
     let l = setting_length p long o.canonical in
     let front : length (take 4 p) ≡ 4 = omega (arith, length-take 4 p, long) in
-    let behind : drop 4 p ≡ number_truth (take 4 (drop 4 p)) = ap (drop 4) (sym o.canonical) ∙ drop_front (take 4 p) (number_truth (take 4 (drop 4 p))) 4 front in
+    let behind : drop 4 p ≡ number_truth (take 4 (drop 4 p)) = ap (drop 4) (sym o.canonical) ∙ drop_at (take 4 p) (number_truth (take 4 (drop 4 p))) 4 front in
     let small : number (drop 4 p) ≤ 1 = subst (λ q. number q ≤ 1) (sym behind) (truth_number (number (take 4 (drop 4 p)))) in
     let known = setting_known (fields_of held) p h small l in
     let all : length p ≡ total_size (fields_of held) = l ∙ sym known.0 in
     record {
       bytes = o.bytes;
       whole = omega (arith, all);
-      zeros = ap is_zero (drop_whole p (total_size (fields_of held)) all);
-      known = subst (AllKnown (fields_of held)) (sym (take_whole p (total_size (fields_of held)) all)) known.1;
+      zeros = ap is_zero (drop_all (total_size (fields_of held)) p (omega (arith, all)));
+      known = subst (AllKnown (fields_of held)) (sym (take_all (total_size (fields_of held)) p (omega (arith, all)))) known.1;
     }
 
 holds : (s : Shape) (held : Record) (p : List ℕ) → has_fields s (fields_of held) ≡ true → Own s p → HoldsFields held p
@@ -256,15 +216,7 @@ holds (fixed_record m n) held p h o =
     let more = and_parts ((total == n) || (total == m)) (lacks_truths (fields_of held)) both.1 in
     either_record m n held p (total == n) refl o (leb-true m n both.0) more.0 more.1
 holds id_and_truth held p h o = setting_record held p o h
-holds (either m n) held p h o = absurd cc
-holds (at_most n) held p h o = absurd cc
-holds nonzero_byte held p h o = absurd cc
-holds one_byte held p h o = absurd cc
-holds truth_of_four held p h o = absurd cc
-holds presence held p h o = absurd cc
-holds text held p h o = absurd cc
-holds raw held p h o = absurd cc
-holds never held p h o = absurd cc
+holds s held p h o = absurd cc
 
 -- all payloads of a record have one size
 record_lengths : (s : Shape) (fs : List Field) → has_fields s fs ≡ true → HasSize s (λ n. true)
@@ -274,15 +226,7 @@ record_lengths (fixed_record m n) fs h =
     let l = leb-true m n (and_parts (nat_le m n) (((total_size fs == n) || (total_size fs == m)) && lacks_truths fs) h).0 in
     record { n = n; known = refl; size = λ p o. record_length m n p l (leb-true m (length p) o.accepted) o.canonical }
 record_lengths id_and_truth fs h = sized id_and_truth (λ n. true) refl
-record_lengths (either m n) fs h = absurd cc
-record_lengths (at_most n) fs h = absurd cc
-record_lengths nonzero_byte fs h = absurd cc
-record_lengths one_byte fs h = absurd cc
-record_lengths truth_of_four fs h = absurd cc
-record_lengths presence fs h = absurd cc
-record_lengths text fs h = absurd cc
-record_lengths raw fs h = absurd cc
-record_lengths never fs h = absurd cc
+record_lengths s fs h = absurd cc
 
 -- ---- addresses
 
@@ -291,17 +235,7 @@ address_size (exact n) p h o = ap (λ k. (k == 4) || (k == 16)) (eqb-true (lengt
 address_size (either m n) p h o =
     let both = and_parts (m == 4) (n == 16) h in
     (λ i. (length p == sym (eqb-true m 4 both.0) i) || (length p == sym (eqb-true n 16 both.1) i)) ∙ o.accepted
-address_size (at_most n) p h o = absurd cc
-address_size nonzero_byte p h o = absurd cc
-address_size one_byte p h o = absurd cc
-address_size truth_of_four p h o = absurd cc
-address_size presence p h o = absurd cc
-address_size text p h o = absurd cc
-address_size raw p h o = absurd cc
-address_size never p h o = absurd cc
-address_size (fixed_record m n) p h o = absurd cc
-address_size id_and_truth p h o = absurd cc
-address_size (resized n) p h o = absurd cc
+address_size s p h o = absurd cc
 
 module _ (laws : ValueLaws) (s : Shape) where
   by_sizes : (p q : List ℕ) (t u : Bool) → (length p == 4) ≡ t → (length q == 4) ≡ u → (t || (length p == 16)) ≡ true → (u || (length q == 16)) ≡ true → Own s p → Own s q → address_text p ≡ address_text q → p ≡ q
@@ -318,48 +252,15 @@ module _ (laws : ValueLaws) (s : Shape) where
 
 strings : (s : Shape) (p q : List ℕ) → is_string s ≡ true → Own s p → Own s q → without_nul p ≡ without_nul q → p ≡ q
 strings text p q h o u e = sym o.canonical ∙ ap (λ v. v ++ 0 ∷ []) e ∙ u.canonical
-strings (exact n) p q h o u e = absurd cc
-strings (either m n) p q h o u e = absurd cc
-strings (at_most n) p q h o u e = absurd cc
-strings nonzero_byte p q h o u e = absurd cc
-strings one_byte p q h o u e = absurd cc
-strings truth_of_four p q h o u e = absurd cc
-strings presence p q h o u e = absurd cc
-strings raw p q h o u e = absurd cc
-strings never p q h o u e = absurd cc
-strings (fixed_record m n) p q h o u e = absurd cc
-strings id_and_truth p q h o u e = absurd cc
-strings (resized n) p q h o u e = absurd cc
+strings s p q h o u e = absurd cc
 
 presences : (s : Shape) (p q : List ℕ) → is_presence s ≡ true → Own s p → Own s q → p ≡ q
 presences presence p q h o u = sym o.canonical ∙ u.canonical
-presences (exact n) p q h o u = absurd cc
-presences (either m n) p q h o u = absurd cc
-presences (at_most n) p q h o u = absurd cc
-presences nonzero_byte p q h o u = absurd cc
-presences one_byte p q h o u = absurd cc
-presences truth_of_four p q h o u = absurd cc
-presences text p q h o u = absurd cc
-presences raw p q h o u = absurd cc
-presences never p q h o u = absurd cc
-presences (fixed_record m n) p q h o u = absurd cc
-presences id_and_truth p q h o u = absurd cc
-presences (resized n) p q h o u = absurd cc
+presences s p q h o u = absurd cc
 
 optional_size : (s : Shape) (p : List ℕ) → is_optional s ≡ true → Own s p → length p ≤ 1
 optional_size (at_most n) p h o = let a = leb-true (length p) n o.accepted in let b = eqb-true n 1 h in omega (arith, a, b)
-optional_size (exact n) p h o = absurd cc
-optional_size (either m n) p h o = absurd cc
-optional_size nonzero_byte p h o = absurd cc
-optional_size one_byte p h o = absurd cc
-optional_size truth_of_four p h o = absurd cc
-optional_size presence p h o = absurd cc
-optional_size text p h o = absurd cc
-optional_size raw p h o = absurd cc
-optional_size never p h o = absurd cc
-optional_size (fixed_record m n) p h o = absurd cc
-optional_size id_and_truth p h o = absurd cc
-optional_size (resized n) p h o = absurd cc
+optional_size s p h o = absurd cc
 
 -- ---- a form that tells the shape
 

@@ -1,7 +1,7 @@
 -- Lines tell the lists of all tables in which each row has a name.
 use Rattle.std.proofs.Common.{◌≡◌, ℕ, zero, suc, ◌<◌, ◌≤◌, Bool, true, false, cond, List, [], ◌∷◌, Option, Some, None, refl, sym, ap, subst, ◌∙◌, arith}
 use Rattle.std.specs.Prelude.{◌==◌, ◌&&◌, ◌||◌, not, nat_le, take, bytes_eq, ⊤}
-use Rattle.std.proofs.lemmas.Bool.{and_parts, eqb-true, leb-true}
+use Rattle.std.proofs.lemmas.Bool.{and_parts, eqb-true, leb-true, not-true, true≢false}
 use Rattle.std.proofs.lemmas.Bool.Decides.{nat_tests}
 use Rattle.std.proofs.lemmas.Slice.Eq.{bytes_eq-Decides}
 use Rattle.netlink_packet_core_grammar.specs.Attributes.{proper_kind}
@@ -14,7 +14,7 @@ use Rattle.link_lines_values.specs.declared.values.Shown.{Shown}
 use Rattle.link_lines_values.specs.declared.values.Shown.TheVariants as V
 use Rattle.link_lines_texts.specs.declared.kinds.TheConstants.{KINDS, PORT_KINDS}
 use Rattle.link_lines_texts.specs.declared.rows.Inside.{Inside}
-use Rattle.link_lines_texts.specs.declared.rows.Inside.TheVariants.{Value, List as Nested, Data, PortData}
+use Rattle.link_lines_texts.specs.declared.rows.Inside.TheVariants.{Value, List as Nested}
 use Rattle.link_lines_texts.specs.declared.rows.KindTable.{KindTable}
 use Rattle.link_lines_texts.specs.declared.rows.Title.{Title}
 use Rattle.link_lines_texts.specs.declared.titles.TheConstants.{TITLES}
@@ -53,10 +53,6 @@ nested_told r n told level p q x y o u sx sy same below = told level p q x y o u
 
 -- ---- rows
 
-not_true : (b : Bool) → (not b || false) ≡ true → b ≡ true → ⊥
-not_true true h k = absurd cc
-not_true false h k = absurd cc
-
 or_else_true : (b c : Bool) → (not b || c) ≡ true → b ≡ true → c ≡ true
 or_else_true true c h k = h
 or_else_true false c h k = absurd cc
@@ -71,14 +67,10 @@ row_is_there m k table t a l e =
 known_alone : (s : Payload) (c : Context) (i : Inside) → holds_shown s (Some i) ≡ true → known_inside c i ≡ i
 known_alone s c (Value v) h = refl
 known_alone s c (Nested n) h = refl
-known_alone (Payload.plain s) c Data h = absurd cc
-known_alone Payload.peer c Data h = absurd cc
-known_alone (Payload.list form t) c Data h = absurd cc
-known_alone (Payload.link_info form d ports) c Data h = absurd cc
-known_alone (Payload.plain s) c PortData h = absurd cc
-known_alone Payload.peer c PortData h = absurd cc
-known_alone (Payload.list form t) c PortData h = absurd cc
-known_alone (Payload.link_info form d ports) c PortData h = absurd cc
+known_alone (Payload.plain s) c i h = absurd cc
+known_alone Payload.peer c i h = absurd cc
+known_alone (Payload.list form t) c i h = absurd cc
+known_alone (Payload.link_info form d ports) c i h = absurd cc
 
 -- a row that is looked up, told under a name
 abbrev RowTold : Table → ℕ → Title → Type 0
@@ -119,13 +111,9 @@ other_name : (ns : Names) (n : List ℕ) → lacks_name n ns ≡ true → named 
 other_name Names.others n l = refl
 other_name (Names.name m s ns) n l = other_by n m s ns (bytes_eq n m) (other_name ns n) l
 
-not_both : (b : Bool) → not b ≡ true → b ≡ true → ⊥
-not_both true h k = absurd cc
-not_both false h k = absurd cc
-
 unlisted_by : (n : List ℕ) (r : KindTable) (kinds : List KindTable) (ns : Names) (b : Bool) → bytes_eq n (take r.0 r.1) ≡ b → not (lacks_name (take r.0 r.1) ns) ≡ true → lacks_name n ns ≡ true → table_named n kinds ≡ None →
     cond b (Some r.2) (table_named n kinds) ≡ None
-unlisted_by n r kinds ns true h k l more = absurd (not_both (lacks_name (take r.0 r.1) ns) k (ap (λ z. lacks_name z ns) (sym ((bytes_eq-Decides n (take r.0 r.1)).0 h)) ∙ l))
+unlisted_by n r kinds ns true h k l more = absurd (true≢false (sym l ∙ ap (λ z. lacks_name z ns) ((bytes_eq-Decides n (take r.0 r.1)).0 h) ∙ not-true (lacks_name (take r.0 r.1) ns) k))
 unlisted_by n r kinds ns false h k l more = more
 
 -- and no table
@@ -207,10 +195,6 @@ table_rows m table five a rows = record {
   next = λ c e. sym (ap (λ b. cond b (info_next c (proper_kind e.kind) e.payload) c) five);
 }
 
-is_false : (b : Bool) → not b ≡ true → b ≡ false
-is_false true h = absurd cc
-is_false false h = refl
-
 pub record TableLaws : Type 0 where
   pub lists : ListLaws
   pub shapes : ShapesAreTold
@@ -221,7 +205,7 @@ module _ (laws : TableLaws) where
   list_told form table n h rows =
       let parts = and_parts (not (n == 5)) (all_titles (is_in n table) TITLES && rows_shown n table) h in
       let more = and_parts (all_titles (is_in n table) TITLES) (rows_shown n table) parts.1 in
-      nested_told (rule bytes_peer (Payload.list form table)) n (lists_told laws.lists form (without_context (row_in bytes_peer table)) n (names_told n) (table_rows n table (is_false (n == 5) parts.0) more.0 (rows more.1)))
+      nested_told (rule bytes_peer (Payload.list form table)) n (lists_told laws.lists form (without_context (row_in bytes_peer table)) n (names_told n) (table_rows n table (not-true (n == 5) parts.0) more.0 (rows more.1)))
 
   info_list_told : (form : ListForm) (data' ports : Names) (n : ℕ) → ((n == 5) && ((names_shown data' KINDS && kinds_listed KINDS data') && (names_shown ports PORT_KINDS && kinds_listed PORT_KINDS ports))) ≡ true →
       (names_shown data' KINDS ≡ true → (m : List ℕ) → lacks_name m data' ≡ false → NameTold data' KINDS m) → (names_shown ports PORT_KINDS ≡ true → (m : List ℕ) → lacks_name m ports ≡ false → NameTold ports PORT_KINDS m) →
@@ -242,18 +226,7 @@ module _ (laws : TableLaws) where
     payload_told Payload.peer (Value v) h = peer_told laws.shapes v h
     payload_told (Payload.list form table) (Nested n) h = list_told form table n h (rows_told n table)
     payload_told (Payload.link_info form data' ports) (Nested n) h = info_list_told form data' ports n h (data_names_told data' KINDS) (data_names_told ports PORT_KINDS)
-    payload_told (Payload.plain s) (Nested n) h = absurd cc
-    payload_told (Payload.plain s) Data h = absurd cc
-    payload_told (Payload.plain s) PortData h = absurd cc
-    payload_told Payload.peer (Nested n) h = absurd cc
-    payload_told Payload.peer Data h = absurd cc
-    payload_told Payload.peer PortData h = absurd cc
-    payload_told (Payload.list form table) (Value v) h = absurd cc
-    payload_told (Payload.list form table) Data h = absurd cc
-    payload_told (Payload.list form table) PortData h = absurd cc
-    payload_told (Payload.link_info form data' ports) (Value v) h = absurd cc
-    payload_told (Payload.link_info form data' ports) Data h = absurd cc
-    payload_told (Payload.link_info form data' ports) PortData h = absurd cc
+    payload_told s i h = absurd cc
 
     rows_told : (m : ℕ) (table : Table) → rows_shown m table ≡ true → (k : ℕ) (t : Title) → title_of m k ≡ Some t → has_row table k ≡ true → RowTold table k t
     rows_told m Table.end h k t e r = absurd cc

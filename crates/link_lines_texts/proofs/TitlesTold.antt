@@ -2,51 +2,35 @@
 use Rattle.std.proofs.Common.{◌≡◌, ℕ, ◌+◌, ◌*◌, ◌/◌, ◌%◌, ◌<◌, ◌≤◌, ◌⊎◌, inl, inr, Bool, true, false, cond, List, [], ◌∷◌, Option, Some, None, refl, sym, ap, ◌∙◌, arith, eq-eqb, lt-ltb}
 use Rattle.std.specs.Prelude.{◌==◌, ◌&&◌, ◌||◌, not, nat_lt, nat_le, get_or, bytes_eq}
 use Rattle.std.specs.List.{list_any}
-use Rattle.std.proofs.lemmas.Bool.{and_parts, eqb-true, leb-true, ltb-true}
+use Rattle.std.proofs.lemmas.Bool.{and_from, and_parts, eqb-true, leb-true, ltb-true, not-true, or_left, or_right, true≢false}
+use Rattle.std.proofs.lemmas.Option.{same_Some}
 use Rattle.std.proofs.lemmas.Slice.Eq.{bytes_eq-Decides}
 use Rattle.link_lines_texts.specs.declared.rows.Title.{Title}
 use Rattle.link_lines_texts.specs.declared.titles.TheConstants.{TITLES}
 use Rattle.link_lines_texts.specs.Coverage.{all_titles, has_name, is_beside, is_name, is_word, kind_of, names_apart, table_of, takes_name}
 use Rattle.link_lines_texts.specs.Titles.{find_title, key_of, or_else, title_of, title_name}
-use Rattle.link_lines_texts.proofs.LineCuts.{IsWord, Starts}
+use Rattle.link_lines_texts.proofs.LineCuts.{IsWord, Starts, word_of}
 use Rattle.link_lines_texts.proofs.ListsTold.{NamesTold}
-use Rattle.link_lines_texts.proofs.RowFacts.{found, one_title}
+use Rattle.link_lines_texts.proofs.RowFacts.{found}
 use Rattle.link_lines_texts.proofs.Told.{all_are_apart, all_are_named}
 
 -- ---- rows of one name
 
-or_true : (a b : Bool) → b ≡ true → (a || b) ≡ true
-or_true true b h = refl
-or_true false b h = h
-
-true_or : (a b : Bool) → a ≡ true → (a || b) ≡ true
-true_or true b h = refl
-true_or false b h = absurd cc
-
-both : (a b : Bool) → a ≡ true → b ≡ true → (a && b) ≡ true
-both true true h k = refl
-both true false h k = k
-both false b h k = h
-
 any_by : (f : Title → Bool) (w : ℕ) (x t : Title) (ts : List Title) (b : Bool) → (find_title w ts ≡ Some t → list_any f ts ≡ true) → f t ≡ true → cond b (Some x) (find_title w ts) ≡ Some t → (f x || list_any f ts) ≡ true
-any_by f w x t ts true more k e = true_or (f x) (list_any f ts) (ap f (one_title x t e) ∙ k)
-any_by f w x t ts false more k e = or_true (f x) (list_any f ts) (more e)
+any_by f w x t ts true more k e = or_left (f x) (list_any f ts) (ap f (same_Some x t e) ∙ k)
+any_by f w x t ts false more k e = or_right (f x) (list_any f ts) (more e)
 
 any_found : (f : Title → Bool) (w : ℕ) (ts : List Title) (t : Title) → f t ≡ true → find_title w ts ≡ Some t → list_any f ts ≡ true
 any_found f w [] t k e = absurd cc
 any_found f w (x ∷ ts) t k e = any_by f w x t ts (key_of x == w) (any_found f w ts t k) k e
-
-not_any : (b : Bool) → not b ≡ true → b ≡ true → ⊥
-not_any true h k = absurd cc
-not_any false h k = absurd cc
 
 -- ---- two rows of one name
 
 apart_by : (w v : ℕ) (x t u : Title) (ts : List Title) (a b : Bool) → (key_of x == w) ≡ a → (key_of x == v) ≡ b → not (list_any (takes_name x) ts) ≡ true → (find_title w ts ≡ Some t → find_title v ts ≡ Some u → w ≡ v) →
     takes_name t u ≡ true → takes_name u t ≡ true → cond a (Some x) (find_title w ts) ≡ Some t → cond b (Some x) (find_title v ts) ≡ Some u → w ≡ v
 apart_by w v x t u ts true true h k n more c d e f = sym (eqb-true (key_of x) w h) ∙ eqb-true (key_of x) v k
-apart_by w v x t u ts true false h k n more c d e f = absurd (not_any (list_any (takes_name x) ts) n (any_found (takes_name x) v ts u (ap (λ z. takes_name z u) (one_title x t e) ∙ c) f))
-apart_by w v x t u ts false true h k n more c d e f = absurd (not_any (list_any (takes_name x) ts) n (any_found (takes_name x) w ts t (ap (λ z. takes_name z t) (one_title x u f) ∙ d) e))
+apart_by w v x t u ts true false h k n more c d e f = absurd (true≢false (sym (any_found (takes_name x) v ts u (ap (λ z. takes_name z u) (same_Some x t e) ∙ c) f) ∙ not-true (list_any (takes_name x) ts) n))
+apart_by w v x t u ts false true h k n more c d e f = absurd (true≢false (sym (any_found (takes_name x) w ts t (ap (λ z. takes_name z t) (same_Some x u f) ∙ d) e) ∙ not-true (list_any (takes_name x) ts) n))
 apart_by w v x t u ts false false h k n more c d e f = more e f
 
 apart_in : (w v : ℕ) (t u : Title) (ts : List Title) → names_apart ts ≡ true → takes_name t u ≡ true → takes_name u t ≡ true → find_title w ts ≡ Some t → find_title v ts ≡ Some u → w ≡ v
@@ -80,10 +64,10 @@ kind_by n k w l e = omega arith
 -- ---- tables that are looked up together
 
 beside_by : (m n k : ℕ) → ((n ≡ m) ⊎ ((n ≡ 4) × (m < 4))) → ((k ≡ m) ⊎ ((k ≡ 4) × (m < 4))) → is_beside n k ≡ true
-beside_by m n k (inl a) (inl b) = true_or (n == k) _ (eq-eqb n k (a ∙ sym b))
-beside_by m n k (inl a) (inr b) = or_true (n == k) _ (true_or (nat_lt n 4 && (k == 4)) _ (both (nat_lt n 4) (k == 4) (ap (λ z. nat_lt z 4) a ∙ lt-ltb m 4 b.1) (eq-eqb k 4 b.0)))
-beside_by m n k (inr a) (inl b) = or_true (n == k) _ (or_true (nat_lt n 4 && (k == 4)) _ (both (nat_lt k 4) (n == 4) (ap (λ z. nat_lt z 4) b ∙ lt-ltb m 4 a.1) (eq-eqb n 4 a.0)))
-beside_by m n k (inr a) (inr b) = true_or (n == k) _ (eq-eqb n k (a.0 ∙ sym b.0))
+beside_by m n k (inl a) (inl b) = or_left (n == k) _ (eq-eqb n k (a ∙ sym b))
+beside_by m n k (inl a) (inr b) = or_right (n == k) _ (or_left (nat_lt n 4 && (k == 4)) _ (and_from (nat_lt n 4) (k == 4) (ap (λ z. nat_lt z 4) a ∙ lt-ltb m 4 b.1) (eq-eqb k 4 b.0)))
+beside_by m n k (inr a) (inl b) = or_right (n == k) _ (or_right (nat_lt n 4 && (k == 4)) _ (and_from (nat_lt k 4) (n == 4) (ap (λ z. nat_lt z 4) b ∙ lt-ltb m 4 a.1) (eq-eqb n 4 a.0)))
+beside_by m n k (inr a) (inr b) = or_left (n == k) _ (eq-eqb n k (a.0 ∙ sym b.0))
 
 -- a row that is found, with its table and its kind
 pub record IsRow (m k : ℕ) (t : Title) : Type 0 where
@@ -100,10 +84,6 @@ is_row f m k t a l e =
         kind = kind_by i.table k (key_of t) l at.1;
       },
     )
-
-word_of : (s : List ℕ) → is_word s ≡ true → IsWord s
-word_of [] h = record {}
-word_of (c ∷ s) h = let parts = and_parts (nat_le 48 c) (is_word s) h in (leb-true 48 c parts.0, word_of s parts.1)
 
 over_digits : (c : ℕ) → 65 ≤ c → 48 ≤ c
 over_digits c h = omega arith
@@ -126,7 +106,7 @@ takes : (m k l : ℕ) (t u : Title) → k < 65536 → l < 65536 → (i : IsTitle
 takes m k l t u h z i j e =
     let a = table_by i.table k (key_of t) h (found has_name (i.table * 65536 + k) TITLES t all_are_named i.is).1 in
     let b = table_by j.table l (key_of u) z (found has_name (j.table * 65536 + l) TITLES u all_are_named j.is).1 in
-    both (is_beside (table_of t) (table_of u)) (bytes_eq (title_name t) (title_name u))
+    and_from (is_beside (table_of t) (table_of u)) (bytes_eq (title_name t) (title_name u))
     ((λ n. is_beside (a n) (b n)) ∙ beside_by m i.table j.table i.near j.near) ((bytes_eq-Decides (title_name t) (title_name u)).1 e)
 
 one_name : (m k l : ℕ) (t u : Title) → k < 65536 → l < 65536 → title_of m k ≡ Some t → title_of m l ≡ Some u → title_name t ≡ title_name u → k ≡ l

@@ -1,4 +1,4 @@
-use Rattle.std.proofs.Common.{◌≡◌, ◌+◌, ◌++◌, length, Some, None, ap, sym, ◌∙◌, append-nil, arith, rules}
+use Rattle.std.proofs.Common.{◌≡◌, ◌+◌, ◌++◌, Some, None, ap, sym, ◌∙◌, append-nil, arith, rules}
 use Rattle.netlink_packet_core_grammar.specs.Attributes.{Attribute}
 use Rattle.link_lines_texts.specs.Lists.{own_line, nested_lines, table_inside, list_lines, rest_lines}
 use Rattle.link_lines_texts.specs.Views.{in_force}

@@ -1,63 +1,67 @@
--- A payload that begins with one attribute of a family, and holds any bytes after it.
+-- A payload that begins with one attribute, and holds any bytes after it.
 use Rattle.std.proofs.Common.{◌≡◌, ℕ, Bool, true, false, List, [], ◌∷◌, refl, sym, ap, ◌∙◌, append-nil}
-use Rattle.std.specs.Prelude.{◌&&◌}
-use Rattle.netlink_packet_core_grammar.specs.Attributes.{Attribute, attribute_text, list_text, proper_kind}
+use Rattle.std.proofs.Math.Bool.{and-true}
+use Rattle.std.specs.Prelude.{◌&&◌, Result, Ok, Err, IfErr}
+use Rattle.netlink_packet_core_grammar.specs.Attributes.{Attribute, attribute_text, list_text}
 use Rattle.netlink_packet_core_grammar.specs.AttributeViews.{IsAttribute, viewed_attribute}
 use Rattle.netlink_packet_core_grammar.specs.Fits.{attribute_fits}
-use Rattle.netlink_packet_core.specs.Families.{Gives, accepts}
-use Rattle.attribute_tables_grammar.specs.Lists.{first_alone, without_context, rewrite, row_at}
-use Rattle.attribute_tables_grammar.specs.LookUps.{list_of, table_row, holds_no_lists}
+use Rattle.netlink_packet_core_grammar.specs.Laws.{FirstIsViewed}
+use Rattle.netlink_packet_core.specs.Errors.{is_memory}
+use Rattle.netlink_packet_core.specs.Families.{family_row, may_want_memory}
+use Rattle.netlink_packet_core.specs.declared.DecodeError.{DecodeError}
+use Rattle.attribute_tables_grammar.specs.Lists.{Row, first_alone, without_context}
+use Rattle.attribute_tables_grammar.specs.LookUps.{list_of, rows_rule}
 use Rattle.attribute_tables_grammar.specs.Peers.{bytes_peer}
-use Rattle.attribute_tables_grammar.specs.Readings.{Written, all_written_fit}
+use Rattle.attribute_tables_grammar.specs.Readings.{Written, written_by, all_written_fit}
 use Rattle.attribute_tables_grammar.specs.Tables.{Table}
-use Rattle.attribute_tables_grammar.specs.Laws.{ReadingsTellRules, FirstAloneIsRead, RowsAreLookedUp, RowsWithoutListsFit}
+use Rattle.attribute_tables_grammar.specs.Laws.{ReadingsTellRules, FirstAloneIsRead, RowsAreLookedUp}
+use Rattle.attribute_tables.specs.Beginnings.{begins_accepted}
+use Rattle.attribute_tables.specs.Views.{viewed_row, is_accepted_by}
+use Rattle.attribute_tables.proofs.Beginnings.{both, accepted-begins}
 
-pub record First (t : Table) (b : List ℕ) (e : Attribute) : Type 0 where
-  pub accepted : (list_of bytes_peer first_alone t).accepted b ≡ true
-  pub canonical : attribute_text e ≡ (list_of bytes_peer first_alone t).canonical b
-  pub fits : attribute_fits e ≡ (list_of bytes_peer first_alone t).fits b
+pub record First (rows : ℕ → Row) (b : List ℕ) (w : Written) : Type 0 where
+  pub accepted : (rows_rule first_alone rows).accepted b ≡ true
+  pub canonical : attribute_text w.entry ≡ (rows_rule first_alone rows).canonical b
+  pub fits : (attribute_fits w.entry && w.inside_fits) ≡ (rows_rule first_alone rows).fits b
 
-one_fits : (e : Attribute) → all_written_fit (record { entry = e; inside_fits = true } ∷ []) ≡ attribute_fits e
+one_fits : (w : Written) → all_written_fit (w ∷ []) ≡ (attribute_fits w.entry && w.inside_fits)
 unfolding all_written_fit
-one_fits e = and_all (attribute_fits e)
-  where
-    and_all : (b : Bool) → ((b && true) && true) ≡ b
-    and_all true = refl
-    and_all false = refl
+one_fits w = and-true (attribute_fits w.entry && w.inside_fits)
 
 one_text : (e : Attribute) → list_text (e ∷ []) ≡ attribute_text e
 unfolding list_text
 one_text e = append-nil (attribute_text e)
 
-module _ (alone : FirstAloneIsRead) (tell : ReadingsTellRules) (rows : RowsAreLookedUp) (fitting : RowsWithoutListsFit) where
-  pub first_of : (t : Table) (b : List ℕ) (e : Attribute) → holds_no_lists t ≡ true → IsAttribute b → accepts t b ≡ true → Gives t b e → First t b e
-  first_of t b e plain h a is =
-      let f = table_row bytes_peer t in
-      let w : Written = record { entry = e; inside_fits = true } in
-      let wrote : w ≡ record { entry = e; inside_fits = (f (proper_kind (viewed_attribute b).kind)).rule.fits (viewed_attribute b).payload } = λ i. record { entry = e; inside_fits = sym (fitting bytes_peer t plain (proper_kind (viewed_attribute b).kind) (viewed_attribute b).payload) i } in
-      let r = alone.read (without_context f) b w h a (wrote ∙ ap (λ x. record { entry = x; inside_fits = (f (proper_kind (viewed_attribute b).kind)).rule.fits (viewed_attribute b).payload }) is) in
-      let t' = tell.tells_rows first_alone f b (w ∷ []) r in
-      let rule_is = rows.named bytes_peer first_alone t in
+module _ (alone : FirstAloneIsRead) (tell : ReadingsTellRules) (rows : ℕ → Row) (b : List ℕ) where
+  pub first_of : (w : Written) → IsAttribute b → is_accepted_by rows b ≡ true → w ≡ written_by (viewed_row rows b) (viewed_attribute b) → First rows b w
+  first_of w h a is =
+      let t = tell.tells_rows first_alone rows b (w ∷ []) (alone.read (without_context rows) b w h a is) in
       record {
-        accepted = ap (λ r. r.accepted b) rule_is ∙ t'.accepted;
-        canonical = sym (ap (λ r. r.canonical b) rule_is ∙ t'.canonical ∙ one_text e);
-        fits = sym (ap (λ r. r.fits b) rule_is ∙ t'.fits ∙ one_fits e);
+        accepted = t.accepted;
+        canonical = sym (t.canonical ∙ one_text w.entry);
+        fits = sym (t.fits ∙ one_fits w);
       }
 
-  pub first_not : (t : Table) (b : List ℕ) → IsAttribute b → accepts t b ≡ false → (list_of bytes_peer first_alone t).accepted b ≡ false
-  first_not t b h a =
-      let f = table_row bytes_peer t in
-      ap (λ r. r.accepted b) (rows.named bytes_peer first_alone t) ∙ tell.denies_rows first_alone f b (alone.refused (without_context f) b h a)
+  pub first_not : IsAttribute b → is_accepted_by rows b ≡ false → (rows_rule first_alone rows).accepted b ≡ false
+  first_not h a = tell.denies_rows first_alone rows b (alone.refused (without_context rows) b h a)
 
-  pub first_none : (t : Table) (b : List ℕ) → (IsAttribute b → ⊥) → (list_of bytes_peer first_alone t).accepted b ≡ false
-  first_none t b h =
-      let f = table_row bytes_peer t in
-      ap (λ r. r.accepted b) (rows.named bytes_peer first_alone t) ∙ tell.denies_rows first_alone f b (alone.missing (without_context f) b h)
+  pub first_none : (IsAttribute b → ⊥) → (rows_rule first_alone rows).accepted b ≡ false
+  first_none h = tell.denies_rows first_alone rows b (alone.missing (without_context rows) b h)
 
-  by_cases : (t : Table) (b : List ℕ) (a : Bool) → holds_no_lists t ≡ true → IsAttribute b → accepts t b ≡ a → (list_of bytes_peer first_alone t).accepted b ≡ a
-  by_cases t b true plain h is = (first_of t b (rewrite (row_at (table_row bytes_peer t) (viewed_attribute b)) (viewed_attribute b)) plain h is refl).accepted
-  by_cases t b false plain h is = first_not t b h is
+-- ---- the same of a family
 
-  -- what is accepted is the first attribute
-  pub accepted_first : (t : Table) (b : List ℕ) → holds_no_lists t ≡ true → IsAttribute b → (list_of bytes_peer first_alone t).accepted b ≡ accepts t b
-  accepted_first t b plain h = by_cases t b (accepts t b) plain h refl
+module _ (alone : FirstAloneIsRead) (tell : ReadingsTellRules) (looked_up : RowsAreLookedUp) (t : Table) (b : List ℕ) where
+  -- an attribute that may want memory is accepted
+  if_wanting : (m : Bool) → (m ≡ false → (rows_rule first_alone (family_row t)).accepted b ≡ false) → (m ≡ true → IsAttribute b) → (m ≡ true → may_want_memory t b ≡ true) → (rows_rule first_alone (family_row t)).accepted b ≡ m
+  if_wanting true denied whole wants = (first_of alone tell (family_row t) b (written_by (viewed_row (family_row t) b) (viewed_attribute b)) (whole refl) (both _ _ (wants refl)).1 refl).accepted
+  if_wanting false denied whole wants = denied refl
+
+  pub family-first-err : {V : Type 0} (r : Result V DecodeError) → IfErr r (λ e. is_memory e ≡ false → (rows_rule first_alone (family_row t)).accepted b ≡ false) → IfErr r (λ e. is_memory e ≡ true → IsAttribute b) →
+      IfErr r (λ e. is_memory e ≡ true → may_want_memory t b ≡ true) → IfErr r (λ e. (list_of bytes_peer first_alone t).accepted b ≡ is_memory e)
+  family-first-err (Ok v) denied whole wants = tt
+  family-first-err (Err e) denied whole wants = ap (λ r. r.accepted b) (looked_up.named bytes_peer first_alone t) ∙ if_wanting (is_memory e) denied whole wants
+
+pub family-first-memory : FirstIsViewed → (t : Table) (b : List ℕ) {V : Type 0} (r : Result V DecodeError) → IfErr r (λ e. is_memory e ≡ true → IsAttribute b) → IfErr r (λ e. is_memory e ≡ true → may_want_memory t b ≡ true) →
+    IfErr r (λ e. is_memory e ≡ true → begins_accepted (family_row t) b ≡ true)
+family-first-memory first t b (Ok v) whole wants = tt
+family-first-memory first t b (Err e) whole wants = λ m. accepted-begins first (family_row t) b (whole m) (both _ _ (wants m)).1

@@ -14,7 +14,7 @@ ghost use Rattle.attribute_tables_grammar.specs.Readings.{reading_as};
 ghost use Rattle.attribute_tables.specs.Beginnings.{begins_accepted};
 ghost use Rattle.attribute_tables.specs.Written.{written_as};
 
-use super::reader::{Reader, parse_list};
+use super::reader::{Reader, parse_first_by, parse_list};
 use attribute_tables_grammar::laws::{
     first_attributes_are_read_alone, readings_tell_rules, rows_are_looked_up,
     rows_without_lists_fit,
@@ -100,9 +100,6 @@ pub fn parse_first<F: Family + Drop>(alloc: Global, bytes: &[u8]) -> Result<F, D
     first_attributes_are_read_alone();
     readings_tell_rules();
     rows_are_looked_up();
-    rows_without_lists_fit();
     first_attributes_are_viewed();
-    let buf = NlaBuffer::new_checked(bytes)?;
-    let value = read_attribute(alloc, &buf)?;
-    Ok(value)
+    parse_first_by(alloc, &FamilyReader::<F>::new(), bytes)
 }

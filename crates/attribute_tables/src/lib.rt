@@ -7,7 +7,7 @@ mod reader;
 
 pub use entries::{EntryReader, parse_entries, parse_ports};
 pub use family::{FamilyReader, parse_family, parse_first};
-pub use reader::{Reader, parse_list};
+pub use reader::{Reader, parse_first_by, parse_list};
 
 /// The variant of a payload that was read, or the refusal. A number type or a flag set is made of
 /// the number. Kinds that are read alike may share an arm: `of_u32(kind)` names the function that

@@ -1,19 +1,23 @@
 //! Readers of the attributes of one table, and lists of them.
 
-ghost use Rattle.std.specs.Prelude.{◌≡◌, ◌<◌, ℕ, List, Bool, true, false, length, map, Some, IsTrue, IfOk, IfErr, OnOk};
+ghost use Rattle.std.specs.Prelude.{◌≡◌, ◌<◌, ◌&&◌, ℕ, List, Bool, true, false, length, map, Some, IsTrue, IfOk, IfErr, OnOk};
 ghost use Rattle.std.specs.List.{All};
+ghost use Rattle.netlink_packet_core_grammar.specs.Attributes.{attribute_text};
 ghost use Rattle.netlink_packet_core_grammar.specs.AttributeViews.{IsAttribute};
+ghost use Rattle.netlink_packet_core_grammar.specs.Fits.{attribute_fits};
 ghost use Rattle.netlink_packet_core.specs.Errors.{is_memory};
 ghost use Rattle.netlink_packet_core.specs.NlaBuffers.{storage};
 ghost use Rattle.netlink_packet_core.specs.Lists.{text_by, all_fit_by};
-ghost use Rattle.attribute_tables_grammar.specs.Lists.{Row, any, without_context};
+ghost use Rattle.attribute_tables_grammar.specs.Lists.{Row, any, first_alone, without_context};
 ghost use Rattle.attribute_tables_grammar.specs.LookUps.{rows_rule};
 ghost use Rattle.attribute_tables_grammar.specs.Readings.{reading_as};
 ghost use Rattle.attribute_tables.specs.Views.{fits_by, is_accepted_by, rewritten_by};
 ghost use Rattle.attribute_tables.specs.Beginnings.{begins_readable};
 ghost use Rattle.attribute_tables.specs.Written.{written_as};
 
-use attribute_tables_grammar::laws::{readings_go_by_steps, readings_tell_rules};
+use attribute_tables_grammar::laws::{
+    first_attributes_are_read_alone, readings_go_by_steps, readings_tell_rules,
+};
 use netlink_packet_core::{DecodeError, Nla, NlaBuffer, skip_first};
 use netlink_packet_core_grammar::laws::first_attributes_are_viewed;
 use std::alloc::Global;
@@ -85,4 +89,35 @@ pub fn parse_list<R: Reader>(
         rest = skip_first(rest);
     }
     Ok(list)
+}
+
+/// Reads the attribute of one table that a payload begins with; any bytes may follow it, and are
+/// dropped. It succeeds exactly where that attribute is accepted, memory aside. It answers want of
+/// memory only of a whole attribute of which reading may want memory.
+pub fn parse_first_by<R: Reader>(
+    alloc: Global,
+    reader: &R,
+    bytes: &[u8],
+) -> Result<R::Value, DecodeError>
+    ensures ok { OnOk result
+        (IsTrue ((rows_rule first_alone (R.row_of reader.now)).accepted bytes.now)) }
+    ensures text { IfOk result
+        (λ v. attribute_text (R.Value.entry v)
+        ≡ (rows_rule first_alone (R.row_of reader.now)).canonical bytes.now) }
+    ensures fits { IfOk result
+        (λ v. (attribute_fits (R.Value.entry v) && R.Value.inside_fits v)
+        ≡ (rows_rule first_alone (R.row_of reader.now)).fits bytes.now) }
+    ensures names_row { IfOk result (λ v. R.names_row reader.now v) }
+    ensures err { IfErr result
+        (λ e. is_memory e ≡ false
+        → (rows_rule first_alone (R.row_of reader.now)).accepted bytes.now ≡ false) }
+    ensures whole { IfErr result (λ e. is_memory e ≡ true → IsAttribute bytes.now) }
+    ensures wants { IfErr result
+        (λ e. is_memory e ≡ true → R.may_want_memory reader.now bytes.now ≡ true) }
+{
+    first_attributes_are_read_alone();
+    readings_tell_rules();
+    let buf = NlaBuffer::new_checked(bytes)?;
+    let value = reader.read(alloc, &buf)?;
+    Ok(value)
 }

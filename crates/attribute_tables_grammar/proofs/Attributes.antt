@@ -4,6 +4,7 @@ use Rattle.std.specs.Prelude.{◌&&◌, nat_le, ◌==◌}
 use Rattle.std.proofs.lemmas.Bool.{and_parts, and_from, or_parts, or_from, eqb-true, eq-eqb}
 use Rattle.netlink_packet_core_grammar.specs.Attributes.{Attribute, proper_kind, list_text, attributes_of}
 use Rattle.netlink_packet_core_grammar.proofs.Attributes.{attributes_of_text, got_is}
+use Rattle.attribute_tables_grammar.specs.Rules.{Rule, Lawful, Renews}
 use Rattle.attribute_tables_grammar.specs.Lists.{Context, Row, Grammar, row_of, written_kind, same_kind, same_attribute, all_accepted, some_empty_ports, rewrite, rewritten, all_fit, all_same, context_after, LawfulGrammar}
 
 -- ---- kinds
@@ -41,71 +42,100 @@ written-same_kind_by : (t n : Bool) (k l : ℕ) → cond t (proper_kind k + cond
 written-same_kind_by true n k l h = eq-eqb (proper_kind k) (proper_kind l) (omega arith)
 written-same_kind_by false n k l h = eq-eqb k l h
 
--- ---- one attribute
+-- ---- rows that renew others
 
-module _ (g : Grammar) (lawful : LawfulGrammar g) where
+-- a row that writes kinds as another does, and makes of its canonical payloads what it makes of the payloads
+pub record RenewsRow (r s : Row) : Type 0 where
+  pub kinds : (k : ℕ) → written_kind r k ≡ written_kind s k
+  pub payloads : Renews r.rule s.rule
+
+-- lawful rules and their rows renew themselves
+pub renews_itself : (r : Rule) → Lawful r → Renews r r
+renews_itself r l = record {
+  accepted = λ p a b m. (l.again p a m).0;
+  empty_ports = λ p a b m. (l.again p a m).1;
+  fits = λ p a b f. l.fits_again p a f;
+  canonical = λ p a b. l.itself p a;
+}
+
+pub row_renews_itself : (r : Row) → Lawful r.rule → RenewsRow r r
+row_renews_itself r l = record { kinds = λ k. refl; payloads = renews_itself r.rule l }
+
+-- ---- attributes under other rows than those that wrote them
+
+pub next_again : (g : Grammar) → LawfulGrammar g → (c : Context) (e : Attribute) → (row_of g c e).rule.accepted e.payload ≡ true → g.next c (rewrite (row_of g c e) e) ≡ g.next c e
+next_again g lawful c e a =
+    let r = row_of g c e in
+    sym (lawful.steps c e (rewrite r e) (sym (proper_kind-written r e.kind)) (sym ((lawful.rows c (proper_kind e.kind)).itself e.payload a)))
+
+module _ (g : Grammar) (lawful : LawfulGrammar g) (rows : Context → ℕ → Row) (renews : (c : Context) (k : ℕ) → RenewsRow (g.row c k) (rows c k)) where
+  -- g with the other rows
+  abbrev h : Grammar
+  h = record { row = rows; next = g.next }
+
   -- an attribute and its canonical form have one row
-  row_again : (c : Context) (e : Attribute) → row_of g c (rewrite (row_of g c e) e) ≡ row_of g c e
-  row_again c e = ap (g.row c) (proper_kind-written (row_of g c e) e.kind)
+  row_again : (c : Context) (e : Attribute) → row_of h c (rewrite (row_of g c e) e) ≡ row_of h c e
+  row_again c e = ap (rows c) (proper_kind-written (row_of g c e) e.kind)
 
-  pub next_again : (c : Context) (e : Attribute) → (row_of g c e).rule.accepted e.payload ≡ true → g.next c (rewrite (row_of g c e) e) ≡ g.next c e
-  next_again c e a =
+  pub rewrite_again : (c : Context) (e : Attribute) → (row_of g c e).rule.accepted e.payload ≡ true → (row_of h c e).rule.accepted e.payload ≡ true →
+      rewrite (row_of h c (rewrite (row_of g c e) e)) (rewrite (row_of g c e) e) ≡ rewrite (row_of h c e) e
+  rewrite_again c e a b =
       let r = row_of g c e in
-      sym (lawful.steps c e (rewrite r e) (sym (proper_kind-written r e.kind)) (sym ((lawful.rows c (proper_kind e.kind)).itself e.payload a)))
+      let s = row_of h c e in
+      let both = renews c (proper_kind e.kind) in
+      ap (λ x. rewrite x (rewrite r e)) (row_again c e)
+      ∙ ap (λ k. record { kind = k; payload = s.rule.canonical (r.rule.canonical e.payload) }) (ap (written_kind s) (both.kinds e.kind) ∙ written_kind_again s e.kind)
+      ∙ ap (λ p. record { kind = written_kind s e.kind; payload = p }) (both.payloads.canonical e.payload a b)
 
-  pub rewrite_again : (c : Context) (e : Attribute) → (row_of g c e).rule.accepted e.payload ≡ true → rewrite (row_of g c (rewrite (row_of g c e) e)) (rewrite (row_of g c e) e) ≡ rewrite (row_of g c e) e
-  rewrite_again c e a =
-      let r = row_of g c e in
-      let l = (lawful.rows c (proper_kind e.kind)).itself e.payload a in
-      ap (λ s. rewrite s (rewrite r e)) (row_again c e)
-      ∙ ap (λ k. record { kind = k; payload = r.rule.canonical (r.rule.canonical e.payload) }) (written_kind_again r e.kind)
-      ∙ ap (λ p. record { kind = written_kind r e.kind; payload = p }) l
-
-  pub rewritten_again : (c : Context) (es : List Attribute) → all_accepted g c es ≡ true → rewritten g c (rewritten g c es) ≡ rewritten g c es
+  pub rewritten_again : (c : Context) (es : List Attribute) → all_accepted g c es ≡ true → all_accepted h c es ≡ true → rewritten h c (rewritten g c es) ≡ rewritten h c es
   unfolding all_accepted rewritten
-  rewritten_again c [] a = refl
-  rewritten_again c (e ∷ es) a =
-      let b = and_parts _ _ a in
+  rewritten_again c [] a b = refl
+  rewritten_again c (e ∷ es) a b =
+      let x = and_parts _ _ a in
+      let y = and_parts _ _ b in
+      let f = rewrite (row_of h c e) e in
+      let rest = rewritten g (g.next c e) es in
+      ap (λ z. z ∷ rewritten h (g.next c (rewrite (row_of g c e) e)) rest) (rewrite_again c e x.0 y.0)
+      ∙ ap (λ d. f ∷ rewritten h d rest) (next_again g lawful c e x.0)
+      ∙ ap (λ z. f ∷ z) (rewritten_again (g.next c e) es x.1 y.1)
+
+  pub accepted_again : (c : Context) (es : List Attribute) → all_accepted g c es ≡ true → all_accepted h c es ≡ true → some_empty_ports g c es ≡ false →
+      (all_accepted h c (rewritten g c es) ≡ true) × (some_empty_ports h c (rewritten g c es) ≡ false)
+  unfolding all_accepted some_empty_ports rewritten
+  accepted_again c [] a b m = (refl, refl)
+  accepted_again c (e ∷ es) a b m =
+      let x = and_parts _ _ a in
+      let y = and_parts _ _ b in
+      let n = or_parts _ _ m in
       let e' = rewrite (row_of g c e) e in
       let rest = rewritten g (g.next c e) es in
-      ap (λ x. x ∷ rewritten g (g.next c e') rest) (rewrite_again c e b.0)
-      ∙ ap (λ d. e' ∷ rewritten g d rest) (next_again c e b.0)
-      ∙ ap (λ x. e' ∷ x) (rewritten_again (g.next c e) es b.1)
-
-  pub accepted_again : (c : Context) (es : List Attribute) → all_accepted g c es ≡ true → some_empty_ports g c es ≡ false → (all_accepted g c (rewritten g c es) ≡ true) × (some_empty_ports g c (rewritten g c es) ≡ false)
-  unfolding all_accepted some_empty_ports rewritten
-  accepted_again c [] a m = (refl, refl)
-  accepted_again c (e ∷ es) a m =
-      let b = and_parts _ _ a in
-      let n = or_parts _ _ m in
-      let r = row_of g c e in
-      let e' = rewrite r e in
-      let rest = rewritten g (g.next c e) es in
-      let one = (lawful.rows c (proper_kind e.kind)).again e.payload b.0 n.0 in
-      let more = accepted_again (g.next c e) es b.1 n.1 in
-      let first_accepted : (row_of g c e').rule.accepted e'.payload ≡ true = ap (λ s. s.rule.accepted e'.payload) (row_again c e) ∙ one.0 in
-      let first_full : (row_of g c e').rule.empty_ports e'.payload ≡ false = ap (λ s. s.rule.empty_ports e'.payload) (row_again c e) ∙ one.1 in
-      let n_is = next_again c e b.0 in (
-        and_from _ _ first_accepted (ap (λ d. all_accepted g d rest) n_is ∙ more.0),
-        or_from _ _ first_full (ap (λ d. some_empty_ports g d rest) n_is ∙ more.1),
+      let both = (renews c (proper_kind e.kind)).payloads in
+      let more = accepted_again (g.next c e) es x.1 y.1 n.1 in
+      let first_accepted : (row_of h c e').rule.accepted e'.payload ≡ true = ap (λ s. s.rule.accepted e'.payload) (row_again c e) ∙ both.accepted e.payload x.0 y.0 n.0 in
+      let first_full : (row_of h c e').rule.empty_ports e'.payload ≡ false = ap (λ s. s.rule.empty_ports e'.payload) (row_again c e) ∙ both.empty_ports e.payload x.0 y.0 n.0 in
+      let n_is = next_again g lawful c e x.0 in (
+        and_from _ _ first_accepted (ap (λ d. all_accepted h d rest) n_is ∙ more.0),
+        or_from _ _ first_full (ap (λ d. some_empty_ports h d rest) n_is ∙ more.1),
       )
 
-  pub fit_again : (c : Context) (es : List Attribute) → all_accepted g c es ≡ true → all_fit g c es ≡ true → all_fit g c (rewritten g c es) ≡ true
+  pub fit_again : (c : Context) (es : List Attribute) → all_accepted g c es ≡ true → all_accepted h c es ≡ true → all_fit h c es ≡ true → all_fit h c (rewritten g c es) ≡ true
   unfolding all_accepted all_fit rewritten
-  fit_again c [] a f = refl
-  fit_again c (e ∷ es) a f =
-      let b = and_parts _ _ a in
-      let r = row_of g c e in
-      let e' = rewrite r e in
+  fit_again c [] a b f = refl
+  fit_again c (e ∷ es) a b f =
+      let x = and_parts _ _ a in
+      let y = and_parts _ _ b in
+      let s = row_of h c e in
+      let e' = rewrite (row_of g c e) e in
       let rest = rewritten g (g.next c e) es in
-      let f1 = and_parts (nat_le (4 + length (r.rule.canonical e.payload)) 65535 && r.rule.fits e.payload) (all_fit g (g.next c e) es) f in
-      let f2 = and_parts (nat_le (4 + length (r.rule.canonical e.payload)) 65535) (r.rule.fits e.payload) f1.0 in
-      let law = lawful.rows c (proper_kind e.kind) in
-      let size_is : nat_le (4 + length ((row_of g c e').rule.canonical e'.payload)) 65535 ≡ true =
-      ap (λ s. nat_le (4 + length (s.rule.canonical e'.payload)) 65535) (row_again c e) ∙ ap (λ x. nat_le (4 + length x) 65535) (law.itself e.payload b.0) ∙ f2.0 in
-      let inside : (row_of g c e').rule.fits e'.payload ≡ true = ap (λ s. s.rule.fits e'.payload) (row_again c e) ∙ law.fits_again e.payload b.0 f2.1 in
-      and_from _ _ (and_from _ _ size_is inside) (ap (λ d. all_fit g d rest) (next_again c e b.0) ∙ fit_again (g.next c e) es b.1 f1.1)
+      let f1 = and_parts (nat_le (4 + length (s.rule.canonical e.payload)) 65535 && s.rule.fits e.payload) (all_fit h (g.next c e) es) f in
+      let f2 = and_parts (nat_le (4 + length (s.rule.canonical e.payload)) 65535) (s.rule.fits e.payload) f1.0 in
+      let both = (renews c (proper_kind e.kind)).payloads in
+      let size_is : nat_le (4 + length ((row_of h c e').rule.canonical e'.payload)) 65535 ≡ true =
+      ap (λ t. nat_le (4 + length (t.rule.canonical e'.payload)) 65535) (row_again c e) ∙ ap (λ z. nat_le (4 + length z) 65535) (both.canonical e.payload x.0 y.0) ∙ f2.0 in
+      let inside : (row_of h c e').rule.fits e'.payload ≡ true = ap (λ t. t.rule.fits e'.payload) (row_again c e) ∙ both.fits e.payload x.0 y.0 f2.1 in
+      and_from _ _ (and_from _ _ size_is inside) (ap (λ d. all_fit h d rest) (next_again g lawful c e x.0) ∙ fit_again (g.next c e) es x.1 y.1 f1.1)
 
+module _ (g : Grammar) (lawful : LawfulGrammar g) where
   -- ---- the same lists, and equal canonical forms
 
   -- what two lists that are the same begin with: one row, whose payloads have one canonical form; and what follows is the same again

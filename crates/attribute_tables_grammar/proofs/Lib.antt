@@ -5,6 +5,7 @@ pub mod Lists
 pub mod Tables
 pub mod ShortTexts
 pub mod LookUps
+pub mod Peerless
 pub mod Renewed
 pub mod Together
 pub mod ReadAgain

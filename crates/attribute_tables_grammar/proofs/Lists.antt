@@ -7,9 +7,9 @@ use Rattle.netlink_packet_core_grammar.specs.Bytes.{AreBytes}
 use Rattle.netlink_packet_core_grammar.proofs.Attributes.{attributes_of_text, attributes_cut, got_is, sized, first_attribute_text, if_some-got, option_map-got}
 use Rattle.netlink_packet_core_grammar.proofs.Bytes.{AreBytes-first_attribute}
 use Rattle.netlink_packet_core_grammar.proofs.Sizes.{length-list_text}
-use Rattle.attribute_tables_grammar.specs.Rules.{Lawful}
-use Rattle.attribute_tables_grammar.specs.Lists.{Context, nothing, Grammar, row_of, all_accepted, some_empty_ports, rewrite, rewritten, all_fit, attributes_inside, all_same, ListForm, any, non_empty, of_kind_one, ports, first_alone, not_empty, read_as, is_of_kind_one, kept, is_empty_ports, if_read, list_rule, LawfulGrammar}
-use Rattle.attribute_tables_grammar.proofs.Attributes.{proper_kind-written, rewritten_again, accepted_again, fit_again, same_rewritten, rewritten_same, one_list}
+use Rattle.attribute_tables_grammar.specs.Rules.{Lawful, Renews}
+use Rattle.attribute_tables_grammar.specs.Lists.{Context, nothing, Row, Grammar, row_of, all_accepted, some_empty_ports, rewrite, rewritten, all_fit, attributes_inside, all_same, ListForm, any, non_empty, of_kind_one, ports, first_alone, not_empty, read_as, is_of_kind_one, kept, is_empty_ports, if_read, list_rule, LawfulGrammar}
+use Rattle.attribute_tables_grammar.proofs.Attributes.{proper_kind-written, RenewsRow, row_renews_itself, rewritten_again, accepted_again, fit_again, same_rewritten, rewritten_same, one_list}
 use Rattle.attribute_tables_grammar.proofs.Sizes.{weight, weight_within, weight-filter, weight-filter_le, AreAttributes, AreAttributes-cut, AreAttributes-filter, rewritten_small, counts, text_bytes}
 
 pub at_true : {A : Type 0} (f : List A → Bool) (o : Option (List A)) → elim o [ None ↦ false | Some x ↦ f x ] ≡ true → (x : List A) × (o ≡ Some x) × (f x ≡ true)
@@ -154,40 +154,69 @@ accepted_list form g bytes a =
     let s = read_true (λ es. all_accepted g nothing (kept form es)) (read_as form bytes) a in
     record { es = s.0; reads = s.1; accepted = s.2; canonical = ap (if_read [] (λ es. list_text (rewritten g nothing (kept form es)))) s.1 }
 
-module _ (form : ListForm) (g : Grammar) (lawful : LawfulGrammar g) where
-  canonical_of : List Attribute → List ℕ
-  canonical_of es = list_text (rewritten g nothing (kept form es))
+-- ---- a list under other rows than those that wrote it
 
-  itself_by : (p : List ℕ) (k : AcceptedList form g p) (t : Bool) → is_empty_ports form (kept form k.es) ≡ t → (list_rule form g).canonical (list_text (rewritten g nothing (kept form k.es))) ≡ list_text (rewritten g nothing (kept form k.es))
-  itself_by p k true t =
-      let n = none_again g [] (λ es. list_text (rewritten g nothing (kept form es))) form nothing (kept form k.es) t in
-      ap (λ b. (list_rule form g).canonical b) n.0 ∙ n.1 ∙ sym n.0
-  itself_by p k false t =
+module _ (form : ListForm) (g : Grammar) (lawful : LawfulGrammar g) (rows : Context → ℕ → Row) (renews : (c : Context) (k : ℕ) → RenewsRow (g.row c k) (rows c k)) where
+  -- g with the other rows
+  abbrev h : Grammar
+  h = record { row = rows; next = g.next }
+
+  -- what both accept
+  accepted_too : (p : List ℕ) (k : AcceptedList form g p) → (list_rule form h).accepted p ≡ true → all_accepted h nothing (kept form k.es) ≡ true
+  accepted_too p k b = sym (ap (if_read false (λ es. all_accepted h nothing (kept form es))) k.reads) ∙ b
+
+  canonical_by : (p : List ℕ) (k : AcceptedList form g p) → all_accepted h nothing (kept form k.es) ≡ true → (t : Bool) → is_empty_ports form (kept form k.es) ≡ t →
+      (list_rule form h).canonical (list_text (rewritten g nothing (kept form k.es))) ≡ list_text (rewritten h nothing (kept form k.es))
+  canonical_by p k b true t =
+      let m = none_again g [] (λ es. list_text (rewritten h nothing (kept form es))) form nothing (kept form k.es) t in
+      let n = none_again h [] (λ es. list_text (rewritten h nothing (kept form es))) form nothing (kept form k.es) t in
+      ap (λ z. (list_rule form h).canonical z) m.0 ∙ n.1 ∙ sym n.0
+  canonical_by p k b false t =
       let s = read_again g form nothing p k.es k.reads t in
-      ap (if_read [] (λ es. list_text (rewritten g nothing (kept form es)))) s.0
-      ∙ ap (λ x. list_text (rewritten g nothing x)) s.1
-      ∙ ap list_text (rewritten_again g lawful nothing (kept form k.es) k.accepted)
+      ap (if_read [] (λ es. list_text (rewritten h nothing (kept form es)))) s.0
+      ∙ ap (λ x. list_text (rewritten h nothing x)) s.1
+      ∙ ap list_text (rewritten_again g lawful rows renews nothing (kept form k.es) k.accepted b)
 
-  list_again : (p : List ℕ) → (list_rule form g).accepted p ≡ true → (list_rule form g).empty_ports p ≡ false → ((list_rule form g).accepted ((list_rule form g).canonical p) ≡ true) × ((list_rule form g).empty_ports ((list_rule form g).canonical p) ≡ false)
-  list_again p a m =
+  fits_by : (p : List ℕ) (k : AcceptedList form g p) → all_accepted h nothing (kept form k.es) ≡ true → (t : Bool) → all_fit h nothing (kept form k.es) ≡ true → is_empty_ports form (kept form k.es) ≡ t →
+      (list_rule form h).fits (list_text (rewritten g nothing (kept form k.es))) ≡ true
+  fits_by p k b true f is =
+      let n = none_again g true (λ es. all_fit h nothing (kept form es)) form nothing (kept form k.es) is in
+      ap (λ b. (list_rule form h).fits b) n.0 ∙ n.1
+  fits_by p k b false f is =
+      let s = read_again g form nothing p k.es k.reads is in
+      ap (if_read true (λ es. all_fit h nothing (kept form es))) s.0 ∙ ap (all_fit h nothing) s.1 ∙ fit_again g lawful rows renews nothing (kept form k.es) k.accepted b f
+
+  list_again : (p : List ℕ) → (list_rule form g).accepted p ≡ true → (list_rule form h).accepted p ≡ true → (list_rule form g).empty_ports p ≡ false →
+      ((list_rule form h).accepted ((list_rule form g).canonical p) ≡ true) × ((list_rule form h).empty_ports ((list_rule form g).canonical p) ≡ false)
+  list_again p a b m =
       let k = accepted_list form g p a in
-      let E = λ (es : List Attribute). is_empty_ports form (kept form es) || some_empty_ports g nothing (kept form es) in
-      let full : E k.es ≡ false = sym (ap (if_read false E) k.reads) ∙ m in
+      let full : is_empty_ports form (kept form k.es) || some_empty_ports g nothing (kept form k.es) ≡ false =
+      sym (ap (if_read false (λ es. is_empty_ports form (kept form es) || some_empty_ports g nothing (kept form es))) k.reads) ∙ m in
       let n = or_parts _ _ full in
-      let rs = rewritten g nothing (kept form k.es) in
       let s = read_again g form nothing p k.es k.reads n.0 in
-      let o = accepted_again g lawful nothing (kept form k.es) k.accepted n.1 in (
-        ap (λ b. (list_rule form g).accepted b) k.canonical ∙ ap (if_read false (λ es. all_accepted g nothing (kept form es))) s.0 ∙ ap (all_accepted g nothing) s.1 ∙ o.0,
-        ap (λ b. (list_rule form g).empty_ports b) k.canonical ∙ ap (if_read false E) s.0 ∙ ap (λ x. is_empty_ports form x || some_empty_ports g nothing x) s.1 ∙ or_from _ _ (keeps_again g form nothing (kept form k.es) ∙ n.0) o.1,
+      let o = accepted_again g lawful rows renews nothing (kept form k.es) k.accepted (accepted_too p k b) n.1 in (
+        ap (λ z. (list_rule form h).accepted z) k.canonical ∙ ap (if_read false (λ es. all_accepted h nothing (kept form es))) s.0 ∙ ap (all_accepted h nothing) s.1 ∙ o.0,
+        ap (λ z. (list_rule form h).empty_ports z) k.canonical ∙ ap (if_read false (λ es. is_empty_ports form (kept form es) || some_empty_ports h nothing (kept form es))) s.0
+            ∙ ap (λ x. is_empty_ports form x || some_empty_ports h nothing x) s.1 ∙ or_from _ _ (keeps_again g form nothing (kept form k.es) ∙ n.0) o.1,
       )
 
-  fits_by : (p : List ℕ) (k : AcceptedList form g p) (t : Bool) → all_fit g nothing (kept form k.es) ≡ true → is_empty_ports form (kept form k.es) ≡ t → (list_rule form g).fits (list_text (rewritten g nothing (kept form k.es))) ≡ true
-  fits_by p k true f is =
-      let n = none_again g true (λ es. all_fit g nothing (kept form es)) form nothing (kept form k.es) is in
-      ap (λ b. (list_rule form g).fits b) n.0 ∙ n.1
-  fits_by p k false f is =
-      let s = read_again g form nothing p k.es k.reads is in
-      ap (if_read true (λ es. all_fit g nothing (kept form es))) s.0 ∙ ap (all_fit g nothing) s.1 ∙ fit_again g lawful nothing (kept form k.es) k.accepted f
+  pub list_renews : Renews (list_rule form g) (list_rule form h)
+  list_renews = record {
+    accepted = λ p a b m. (list_again p a b m).0;
+    empty_ports = λ p a b m. (list_again p a b m).1;
+    fits = λ p a b f.
+        let k = accepted_list form g p a in
+        let fit : all_fit h nothing (kept form k.es) ≡ true = sym (ap (if_read true (λ es. all_fit h nothing (kept form es))) k.reads) ∙ f in
+        ap (λ z. (list_rule form h).fits z) k.canonical ∙ fits_by p k (accepted_too p k b) (is_empty_ports form (kept form k.es)) fit refl;
+    canonical = λ p a b.
+        let k = accepted_list form g p a in
+        ap (λ z. (list_rule form h).canonical z) k.canonical ∙ canonical_by p k (accepted_too p k b) (is_empty_ports form (kept form k.es)) refl
+        ∙ sym (ap (if_read [] (λ es. list_text (rewritten h nothing (kept form es)))) k.reads);
+  }
+
+module _ (form : ListForm) (g : Grammar) (lawful : LawfulGrammar g) where
+  itself : Renews (list_rule form g) (list_rule form g)
+  itself = list_renews form g lawful g.row (λ c k. row_renews_itself (g.row c k) (lawful.rows c k))
 
   -- a list's text is at most 77 times as long
   pub list_small : (p : List ℕ) → (list_rule form g).accepted p ≡ true → length ((list_rule form g).canonical p) ≤ 77 * length p
@@ -199,12 +228,9 @@ module _ (form : ListForm) (g : Grammar) (lawful : LawfulGrammar g) where
 
   pub list_lawful : Lawful (list_rule form g)
   list_lawful = record {
-    again = list_again;
-    fits_again = λ p a f.
-        let k = accepted_list form g p a in
-        let fit : all_fit g nothing (kept form k.es) ≡ true = sym (ap (if_read true (λ es. all_fit g nothing (kept form es))) k.reads) ∙ f in
-        ap (λ b. (list_rule form g).fits b) k.canonical ∙ fits_by p k (is_empty_ports form (kept form k.es)) fit refl;
-    itself = λ p a. let k = accepted_list form g p a in ap (λ b. (list_rule form g).canonical b) k.canonical ∙ itself_by p k (is_empty_ports form (kept form k.es)) refl ∙ sym k.canonical;
+    again = λ p a m. (itself.accepted p a a m, itself.empty_ports p a a m);
+    fits_again = λ p a f. itself.fits p a a f;
+    itself = λ p a. itself.canonical p a a;
     one_text = λ p q a b same.
         let k = accepted_list form g p a in
         let l = accepted_list form g q b in

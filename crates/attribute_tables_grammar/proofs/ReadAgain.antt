@@ -7,7 +7,7 @@ use Rattle.attribute_tables_grammar.specs.Rules.{Lawful}
 use Rattle.attribute_tables_grammar.specs.Laws.{ListsAreReadAgain}
 use Rattle.attribute_tables_grammar.specs.Lists.{Context, nothing, Grammar, LawfulGrammar, any, if_read, list_rule, row_of, rewrite, rewritten, all_accepted, all_fit, some_empty_ports}
 use Rattle.attribute_tables_grammar.specs.Readings.{written_by, written_list, reading_as}
-use Rattle.attribute_tables_grammar.proofs.Attributes.{proper_kind-written, next_again, rewrite_again}
+use Rattle.attribute_tables_grammar.proofs.Attributes.{proper_kind-written, row_renews_itself, next_again, rewrite_again}
 use Rattle.attribute_tables_grammar.proofs.Together.{canonical_is_cut}
 
 -- ---- attributes, one after another
@@ -23,7 +23,7 @@ module _ (g : Grammar) (lawful : LawfulGrammar g) where
       let row : row_of g c e' ≡ r = ap (g.row c) (proper_kind-written r e.kind) in
       let accepted : (row_of g c e').rule.accepted e'.payload ≡ true = ap (λ s. s.rule.accepted e'.payload) row ∙ (law.again e.payload a m).0 in
       let fits : (row_of g c e').rule.fits e'.payload ≡ r.rule.fits e.payload = ap (λ s. s.rule.fits e'.payload) row ∙ law.fits_again e.payload a f ∙ sym f in
-      let entry = rewrite_again g lawful c e a in
+      let entry = rewrite_again g lawful g.row (λ c k. row_renews_itself (g.row c k) (lawful.rows c k)) c e a a in
       (accepted, λ i. record { entry = entry i; inside_fits = fits i })
 
   list_again : (c : Context) (es : List Attribute) → all_accepted g c es ≡ true → some_empty_ports g c es ≡ false → all_fit g c es ≡ true → written_list g c (rewritten g c es) ≡ written_list g c es

@@ -5,8 +5,8 @@ use Rattle.netlink_packet_core_grammar.specs.AttributeViews.{IsAttribute, viewed
 use Rattle.attribute_tables_grammar.specs.Rules.{Rule, Lawful, Renews}
 use Rattle.attribute_tables_grammar.specs.Lists.{Grammar, Context, Row, nothing, rewrite, rewritten, written_kind, row_of, row_at, same_attribute, without_context, ListForm, any, non_empty, of_kind_one, ports, first_alone, read_as, is_kept, kept, list_rule, all_accepted, all_same, context_after, LawfulGrammar}
 use Rattle.attribute_tables_grammar.specs.Peers.{Peer, LawfulPeer, bytes_peer}
-use Rattle.attribute_tables_grammar.specs.Tables.{Payload, Payload.list, Table, Table.end, Table.row, Names, rule, named, names_grammar, grammar, payload_bounded, rows_bounded}
-use Rattle.attribute_tables_grammar.specs.LookUps.{list_of, row_of_line, rows_rule, table_row, only_one, holds_no_lists, payload_at, rule_or_raw}
+use Rattle.attribute_tables_grammar.specs.Tables.{Payload, Payload.list, Table, Table.end, Table.row, Names, rule, named, names_grammar, grammar, payload_bounded, rows_bounded, holds_no_peers, holds_no_peers_but}
+use Rattle.attribute_tables_grammar.specs.LookUps.{list_of, payload_rule, row_of_line, rows_rule, table_row, only_one, holds_no_lists, payload_at, rule_or_raw}
 use Rattle.attribute_tables_grammar.specs.Readings.{Written, written_by, reading, reading_as, SoFar, Tells}
 use Rattle.attribute_tables_grammar.specs.Walks.{Measure, measure, plus, none_yet, dropped, with_header, walk_as, MeasuredSoFar, closed, IsWalked, WantsAttribute, IsSmall, IsMeasure}
 use Rattle.attribute_tables_grammar.specs.OwnTexts.{OwnSoFar}
@@ -47,7 +47,12 @@ ShortFit r = (b : List ℕ) → r.accepted b ≡ true → length (r.canonical b)
 abbrev pub ShortTextsFit : Type 0
 ShortTextsFit = (p : Peer) (s : Payload) → ShortFit (rule p s)
 
--- under a rule of peers an old text becomes what the first bytes become
+-- a payload without peers has one rule, whatever the rule of peers is, and so has a row
+pub record RulesWithoutPeersAreOne : Type 0 where
+  pub payloads : (p q : Peer) (s : Payload) → holds_no_peers s ≡ true → payload_rule p s ≡ payload_rule q s
+  pub rows : (p q : Peer) (c : ℕ) (t : Table) → holds_no_peers_but c t ≡ true → (k : ℕ) → (k == c) ≡ false → table_row p t k ≡ table_row q t k
+
+-- under a rule of peers an old text is accepted, and becomes what the first bytes become
 abbrev pub OldTextsAreRenewed : Type 0
 OldTextsAreRenewed = (p : Peer) → (s : Payload) → payload_bounded s ≡ true → Renews (rule bytes_peer s) (rule p s)
 

@@ -26,9 +26,12 @@ pub record Lawful (r : Rule) : Type 0 where
   pub counted : (p : List ℕ) → r.accepted p ≡ true → 4 * r.attributes p ≤ length p
   pub bytes : (p : List ℕ) → r.accepted p ≡ true → r.fits p ≡ true → AreBytes p → AreBytes (r.canonical p)
 
--- s makes of r's canonical payload what it makes of the payload
-abbrev pub Renews : Rule → Rule → Type 0
-Renews r s = (b : List ℕ) → r.accepted b ≡ true → s.accepted b ≡ true → s.canonical (r.canonical b) ≡ s.canonical b
+-- r's canonical payloads under s, of payloads that both accept: s accepts them too, and makes of them what it makes of the payloads
+pub record Renews (r s : Rule) : Type 0 where
+  pub accepted : (p : List ℕ) → r.accepted p ≡ true → s.accepted p ≡ true → r.empty_ports p ≡ false → s.accepted (r.canonical p) ≡ true
+  pub empty_ports : (p : List ℕ) → r.accepted p ≡ true → s.accepted p ≡ true → r.empty_ports p ≡ false → s.empty_ports (r.canonical p) ≡ false
+  pub fits : (p : List ℕ) → r.accepted p ≡ true → s.accepted p ≡ true → s.fits p ≡ true → s.fits (r.canonical p) ≡ true
+  pub canonical : (p : List ℕ) → r.accepted p ≡ true → s.accepted p ≡ true → s.canonical (r.canonical p) ≡ s.canonical p
 
 -- the rule of a shape
 abbrev pub shape_rule : Shape → Rule

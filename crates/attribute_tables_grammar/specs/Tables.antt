@@ -1,5 +1,5 @@
 -- Tables of rows, and the rules that they make.
-use Rattle.std.specs.Prelude.{ℕ, zero, suc, ◌==◌, ◌&&◌, not, nat_lt, Bool, true, false, List, Option, Some, None, bytes_eq}
+use Rattle.std.specs.Prelude.{ℕ, zero, suc, ◌==◌, ◌&&◌, ◌||◌, not, nat_lt, Bool, true, false, List, Option, Some, None, bytes_eq}
 use Rattle.netlink_packet_core_grammar.specs.Attributes.{proper_kind}
 use Rattle.netlink_packet_core_grammar.specs.Texts.{without_nul}
 use Rattle.attribute_tables_grammar.specs.Shapes.{Shape, text, raw, never, shape_bounded}
@@ -117,3 +117,25 @@ abbrev mutual
   pub rising_names : Names → Bool
   rising_names others = true
   rising_names (name n s ns) = lacks_name n ns && rising s && rising_names ns
+
+-- ---- a test of whole tables: no payload inside is a peer's
+
+abbrev mutual
+  pub holds_no_peers : Payload → Bool
+  holds_no_peers (plain s) = true
+  holds_no_peers peer = false
+  holds_no_peers (list form t) = rows_hold_no_peers t
+  holds_no_peers (link_info form data' ports) = names_hold_no_peers data' && names_hold_no_peers ports
+
+  pub rows_hold_no_peers : Table → Bool
+  rows_hold_no_peers end = true
+  rows_hold_no_peers (row k n s t) = holds_no_peers s && rows_hold_no_peers t
+
+  pub names_hold_no_peers : Names → Bool
+  names_hold_no_peers others = true
+  names_hold_no_peers (name m s ns) = holds_no_peers s && names_hold_no_peers ns
+
+-- nor one of this table, but for what the row of one kind holds
+abbrev pub holds_no_peers_but : ℕ → Table → Bool
+holds_no_peers_but k end = true
+holds_no_peers_but k (row l n s t) = (l == k || holds_no_peers s) && holds_no_peers_but k t

@@ -1,7 +1,7 @@
 //! Facts of the definitions. No function here makes a call.
 
 ghost use Rattle.attribute_tables_grammar.specs.Laws.{CanonicalIsCut, TablesAreLawful, BytesAreLawful, TextsTellMeanings};
-ghost use Rattle.attribute_tables_grammar.specs.Laws.{TextsKeepMeanings, ShortTextsFit, OldTextsAreRenewed, OneContext};
+ghost use Rattle.attribute_tables_grammar.specs.Laws.{TextsKeepMeanings, ShortTextsFit, OldTextsAreRenewed, OneContext, RulesWithoutPeersAreOne};
 ghost use Rattle.attribute_tables_grammar.specs.Laws.{TableGrammarsAreLawful, RowsAreLookedUp, NamesAreLookedUp};
 ghost use Rattle.attribute_tables_grammar.specs.Laws.{ReadingsGoBySteps, ReadingsTellRules, FirstAloneIsRead, PortsAreEntries};
 ghost use Rattle.attribute_tables_grammar.specs.Laws.{ContextsGoBySteps, ListsAreReadAgain, RowsWithoutListsFit};
@@ -39,7 +39,13 @@ pub fn short_texts_fit()
     ensures { ShortTextsFit }
 {}
 
-/// Under a rule of peers an old text becomes what the first bytes become.
+/// A payload without peers has one rule, whatever the rule of peers is, and so has a row.
+pub fn rules_without_peers_are_one()
+    ensures { RulesWithoutPeersAreOne }
+{}
+
+/// A text that was canonical while peers were bytes is accepted under any rule of peers that accepts the first bytes, and
+/// becomes what these become; it fits where they do, and has no empty ports.
 pub fn old_texts_are_renewed()
     ensures { OldTextsAreRenewed }
 {}

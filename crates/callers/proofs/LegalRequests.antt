@@ -12,9 +12,8 @@ use Rattle.netlink_packet_core.specs.Numbers.{be2, le4}
 use Rattle.netlink_packet_core.specs.Texts.{without_nul}
 use Rattle.link_info.specs.Families.{kinds, port_kinds, vxlan}
 use Rattle.link_info.specs.Lists.{nothing, Grammar, all_accepted, all_fit, some_empty_ports, rewritten, any, non_empty, not_empty, if_read, list_rule, without_context}
-use Rattle.link_info.specs.Peers.{bytes_peer}
 use Rattle.link_info.specs.Tables.{named, names_grammar, row_in, rule}
-use Rattle.link_message.specs.Body.{body_rule, is_listed, link_body, list_rule_of}
+use Rattle.link_message.specs.Body.{body_rule, is_listed, link_body, link_peer, list_rule_of}
 use Rattle.link_message.specs.LinkTables.{info, link_table, unspec}
 use Rattle.link_message.specs.LinkMessages.{link_message_text}
 use Rattle.link_message_messages.specs.declared.message.LinkMessage.{LinkMessage}
@@ -47,12 +46,12 @@ own_some cut g e es o = record {
 
 -- ---- the data
 
-settings : (vni : ℕ) → OwnAttributes (without_context (row_in bytes_peer vxlan)) (vxlan_settings vni)
+settings : (vni : ℕ) → OwnAttributes (without_context (row_in link_peer vxlan)) (vxlan_settings vni)
 unfolding all_accepted all_fit some_empty_ports rewritten le4 be2
 settings vni = record { accepted = refl; fits = refl; empty_ports = refl; written = refl }
 
-own_data : TextIsCut → (vni : ℕ) → IsOwnText (named bytes_peer kinds (codes "vxlan")) (list_text (vxlan_settings vni))
-own_data cut vni = own_list cut (without_context (row_in bytes_peer vxlan)) (vxlan_settings vni) (settings vni)
+own_data : TextIsCut → (vni : ℕ) → IsOwnText (named link_peer kinds (codes "vxlan")) (list_text (vxlan_settings vni))
+own_data cut vni = own_list cut (without_context (row_in link_peer vxlan)) (vxlan_settings vni) (settings vni)
 
 data_size : (vni : ℕ) → nat_le (4 + length (list_text (vxlan_settings vni))) 65535 ≡ true
 unfolding list_text attribute_text le4 be2
@@ -60,10 +59,10 @@ data_size vni = refl
 
 -- ---- the link info
 
-infos : TextIsCut → (vni : ℕ) → OwnAttributes (names_grammar (named bytes_peer kinds) (named bytes_peer port_kinds)) (vxlan_info vni)
+infos : TextIsCut → (vni : ℕ) → OwnAttributes (names_grammar (named link_peer kinds) (named link_peer port_kinds)) (vxlan_info vni)
 unfolding all_accepted all_fit some_empty_ports rewritten is_utf8 chars encode
 infos cut vni =
-    let r = named bytes_peer kinds (codes "vxlan") in
+    let r = named link_peer kinds (codes "vxlan") in
     let d = list_text (vxlan_settings vni) in
     let own = own_data cut vni in
     record {
@@ -73,8 +72,8 @@ infos cut vni =
       written = ap (λ p. attribute 1 (codes "vxlan" ++ 0 ∷ []) ∷ attribute 2 p ∷ []) own.canonical;
     }
 
-own_info : TextIsCut → (vni : ℕ) → IsOwnText (rule bytes_peer info) (vxlan_info_text vni)
-own_info cut vni = own_some cut (names_grammar (named bytes_peer kinds) (named bytes_peer port_kinds)) (attribute 1 (codes "vxlan" ++ 0 ∷ [])) (attribute 2 (list_text (vxlan_settings vni)) ∷ []) (infos cut vni)
+own_info : TextIsCut → (vni : ℕ) → IsOwnText (rule link_peer info) (vxlan_info_text vni)
+own_info cut vni = own_some cut (names_grammar (named link_peer kinds) (named link_peer port_kinds)) (attribute 1 (codes "vxlan" ++ 0 ∷ [])) (attribute 2 (list_text (vxlan_settings vni)) ∷ []) (infos cut vni)
 
 info_size : (vni : ℕ) → nat_le (4 + length (vxlan_info_text vni)) 65535 ≡ true
 unfolding list_text attribute_text le4 be2
@@ -87,10 +86,10 @@ without_last [] = refl
 without_last (b ∷ []) = refl
 without_last (b ∷ c ∷ name) = ap (λ x. b ∷ x) (without_last (c ∷ name))
 
-attributes : TextIsCut → (name : List ℕ) (vni mtu : ℕ) → is_utf8 name ≡ true → length name ≤ 65530 → OwnAttributes (without_context (row_in bytes_peer (link_table unspec))) (vxlan_attributes name vni mtu)
+attributes : TextIsCut → (name : List ℕ) (vni mtu : ℕ) → is_utf8 name ≡ true → length name ≤ 65530 → OwnAttributes (without_context (row_in link_peer (link_table unspec))) (vxlan_attributes name vni mtu)
 unfolding all_accepted all_fit some_empty_ports rewritten le4
 attributes cut name vni mtu utf8 short =
-    let r = rule bytes_peer info in
+    let r = rule link_peer info in
     let t = vxlan_info_text vni in
     let own = own_info cut vni in
     let same = without_last name in
@@ -115,10 +114,10 @@ pub own_body : TextIsCut → (name : List ℕ) (vni mtu : ℕ) → is_utf8 name 
 unfolding list_rule_of body_rule is_listed
 own_body cut name vni mtu utf8 short =
     let t = list_text (vxlan_attributes name vni mtu) in
-    let own = own_list cut (without_context (row_in bytes_peer (link_table unspec))) (vxlan_attributes name vni mtu) (attributes cut name vni mtu utf8 short) in
+    let own = own_list cut (without_context (row_in link_peer (link_table unspec))) (vxlan_attributes name vni mtu) (attributes cut name vni mtu utf8 short) in
     let long : nat_le 16 (length (zeros 16 ++ t)) ≡ true = le-leb 16 (length (zeros 16 ++ t)) (omega (arith, length-append (zeros 16) t, length-replicate {A = ℕ} 16 0)) in
     record {
-      accepted = ap (λ a. a && (list_rule any (without_context (row_in bytes_peer (link_table unspec)))).accepted t) long ∙ own.accepted;
+      accepted = ap (λ a. a && (list_rule any (without_context (row_in link_peer (link_table unspec)))).accepted t) long ∙ own.accepted;
       fits = own.fits;
       empty_ports = own.empty_ports;
       canonical = ap (λ x. zeros 16 ++ x) own.canonical;

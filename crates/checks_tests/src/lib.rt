@@ -4,6 +4,8 @@
 #[cfg(test)]
 mod bodies;
 #[cfg(test)]
+mod body_peers;
+#[cfg(test)]
 mod link_peers;
 #[cfg(test)]
 mod lists;

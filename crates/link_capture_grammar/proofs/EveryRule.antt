@@ -4,14 +4,12 @@ use Rattle.std.specs.Prelude.{nat_le}
 use Rattle.std.proofs.lemmas.Bool.{leb-true, and_parts}
 use Rattle.attribute_tables_grammar.specs.Peers.{bytes_peer}
 use Rattle.attribute_tables_grammar.specs.Rules.{Lawful}
-use Rattle.attribute_tables_grammar.proofs.Tables.{bytes_peer_lawful}
-use Rattle.link_message_grammar.specs.Body.{link_body}
-use Rattle.link_message_grammar.proofs.Body.{body_lawful}
+use Rattle.link_message_grammar.specs.Body.{body_rule, link_body, link_peer}
+use Rattle.link_message_grammar.proofs.Body.{body_lawful, link_peer_lawful, old_bodies_are_renewed}
 use Rattle.link_message_grammar.proofs.Parts.{bodies_are_headers_and_attributes}
-use Rattle.link_capture_grammar.specs.Laws.{CaptureLaws, CapturesStandUnderEveryRule, SamenessGoesByFrames, WantsHeaders}
+use Rattle.link_capture_grammar.specs.Laws.{CaptureLaws, CapturesStandUnderEveryRule, OldCapturesAreRenewed, SamenessGoesByFrames, WantsHeaders}
 use Rattle.link_capture_grammar.proofs.Frames.{joined_fault, joined_texts, fault_more}
-use Rattle.link_capture_grammar.proofs.Normal.{body_again}
-use Rattle.link_capture_grammar.proofs.Together.{texts_are_legal, texts_are_normal, joined_legal, prefix_texts, texts_are_small, faults_stand, frames_stand_alone, captures_go_by_frames}
+use Rattle.link_capture_grammar.proofs.Together.{texts_are_legal, texts_are_normal, texts_are_renewed, bodies_are_normal, joined_legal, prefix_texts, texts_are_small, faults_stand, frames_stand_alone, captures_go_by_frames}
 use Rattle.link_capture_grammar.proofs.Same.{texts_mean_the_same, same_are_legal}
 use Rattle.link_capture_grammar.proofs.Meanings.{texts_tell_meanings, bodies_tell_meanings}
 use Rattle.link_capture_grammar.proofs.Keeping.{texts_keep_frames}
@@ -31,7 +29,7 @@ every_rule r lawful = record {
   texts_of_a_prefix_stay = prefix_texts r;
   texts_are_small = texts_are_small r lawful;
   faults_stand_at_frames = faults_stand r;
-  bodies_are_normal = body_again r lawful;
+  bodies_are_normal = bodies_are_normal r lawful;
   texts_mean_the_same = texts_mean_the_same r lawful;
   same_captures_are_legal = same_are_legal r;
   texts_tell_meanings = texts_tell_meanings r lawful;
@@ -48,13 +46,20 @@ every_rule r lawful = record {
 -- ---- the rule in force
 
 link_body_lawful : Lawful link_body
-link_body_lawful = body_lawful bytes_peer bytes_peer_lawful
+link_body_lawful = body_lawful link_peer link_peer_lawful
 
 link_bodies_want_headers : WantsHeaders link_body
-link_bodies_want_headers b a = leb-true 16 (length b) (and_parts (nat_le 16 (length b)) _ (sym (bodies_are_headers_and_attributes bytes_peer b).accepted ∙ a)).0
+link_bodies_want_headers b a = leb-true 16 (length b) (and_parts (nat_le 16 (length b)) _ (sym (bodies_are_headers_and_attributes link_peer b).accepted ∙ a)).0
 
 pub in_force : CaptureLaws link_body
 in_force = every_rule link_body link_body_lawful
 
 pub sameness_in_force : SamenessGoesByFrames link_body
 sameness_in_force = in_force.sameness_goes_by_frames link_bodies_want_headers
+
+-- what was written while peers were bytes
+pub old_captures_are_renewed : OldCapturesAreRenewed
+old_captures_are_renewed = record {
+  in_force = texts_are_renewed (body_rule bytes_peer) link_body (old_bodies_are_renewed link_peer);
+  under_every_rule = texts_are_renewed;
+}

@@ -246,7 +246,7 @@ module _ (r : Rule) where
   texts_stop limit (b ∷ c) kind h = stop_texts limit b c kind h
 
   -- How far the whole frames reach, with the padding that the last one is owed: where the first fault stands, or would stand if more came.
-  pub place_after : ℕ → ℕ → List ℕ → ℕ
+  unfoldable pub place_after : ℕ → ℕ → List ℕ → ℕ
   place_after limit skip [] = skip
   place_after limit (suc skip) (b ∷ c) = suc (place_after limit skip c)
   place_after limit zero (b ∷ c) = next_place (first_frame_under r limit (b ∷ c)) (λ skip. place_after limit skip c)
@@ -254,11 +254,11 @@ module _ (r : Rule) where
   abbrev pub place : ℕ → List ℕ → ℕ
   place limit c = place_after limit 0 c
 
-  step_place : (limit : ℕ) (b : ℕ) (c : List ℕ) (frame : ℕ × List ℕ) → first_frame_under r limit (b ∷ c) ≡ Ok frame → place limit (b ∷ c) ≡ suc (place_after limit (nla_align frame.0 - 1) c)
+  pub step_place : (limit : ℕ) (b : ℕ) (c : List ℕ) (frame : ℕ × List ℕ) → first_frame_under r limit (b ∷ c) ≡ Ok frame → place limit (b ∷ c) ≡ suc (place_after limit (nla_align frame.0 - 1) c)
   unfolding place_after
   step_place limit b c frame h = ap (λ j. next_place j (λ skip. place_after limit skip c)) h
 
-  stop_place : (limit : ℕ) (b : ℕ) (c : List ℕ) (kind : FaultKind) → first_frame_under r limit (b ∷ c) ≡ Err kind → place limit (b ∷ c) ≡ 0
+  pub stop_place : (limit : ℕ) (b : ℕ) (c : List ℕ) (kind : FaultKind) → first_frame_under r limit (b ∷ c) ≡ Err kind → place limit (b ∷ c) ≡ 0
   unfolding place_after
   stop_place limit b c kind h = ap (λ j. next_place j (λ skip. place_after limit skip c)) h
 

@@ -1,5 +1,5 @@
--- The normal text is legal, and its own normal text.
-use Rattle.std.proofs.Common.{◌≡◌, ℕ, zero, suc, ◌+◌, ◌-◌, ◌^◌, ◌<◌, ◌≤◌, ltb, eqb, true, false, cond, Result, List, [], ◌∷◌, ◌++◌, length, take, drop, Ok, Err, refl, sym, ap, subst, ◌∙◌, inl, inr, arith, length-append, length-drop, append_assoc}
+-- The normal text is legal, and its own normal text, and what an older rule wrote becomes what the rule writes.
+use Rattle.std.proofs.Common.{◌≡◌, ℕ, zero, suc, Bool, ◌+◌, ◌-◌, ◌^◌, ◌<◌, ◌≤◌, ltb, eqb, true, false, cond, Result, List, [], ◌∷◌, ◌++◌, length, take, drop, Ok, Err, refl, sym, ap, subst, ◌∙◌, inl, inr, arith, length-append, length-drop, append_assoc}
 use Rattle.std.proofs.lemmas.List.{take_at, drop_at, length-take, length-replicate, drop-drop, take-append-drop}
 use Rattle.std.proofs.lemmas.Bool.{le-ltb, ltb-false}
 use Rattle.netlink_packet_core_grammar.specs.Attributes.{nla_align, zeros}
@@ -7,11 +7,11 @@ use Rattle.netlink_packet_core_grammar.specs.Numbers.{u16_at, u32_at, le4}
 use Rattle.netlink_packet_core_grammar.specs.Frames.{frame_length, frame_type, frame_body, frame_text}
 use Rattle.netlink_packet_core_grammar.proofs.Numbers.{u16_at-append, u16_at-drop_4, u32_at-le4}
 use Rattle.netlink_packet_core_grammar.proofs.Sizes.{length-le4}
-use Rattle.attribute_tables_grammar.specs.Rules.{Rule, Lawful}
+use Rattle.attribute_tables_grammar.specs.Rules.{Rule, Renews}
 use Rattle.link_capture_grammar.specs.declared.fault.FaultKind.TheVariants.{TextOverLimit}
 use Rattle.link_capture_grammar.specs.Bodies.{Refusal, error_text, done_text, ruled_text, is_link_type, body_text_under}
 use Rattle.link_capture_grammar.specs.Captures.{Judged, first_frame_under, judged_text, tested, raised, texts_after_under, first_fault_under, texts_under, IsLegalUnder}
-use Rattle.link_capture_grammar.proofs.Frames.{accepted, first_frame_is, judgement, seen, step_texts, stop_texts, fault_step, texts_step, fault_nil, texts_nil, guard}
+use Rattle.link_capture_grammar.proofs.Frames.{accepted, first_frame_is, judgement, seen, step_texts, stop_texts, fault_step, texts_step, fault_nil, texts_nil, place_after, step_place, stop_place, guard}
 
 -- ---- a body's text is its own
 
@@ -55,12 +55,14 @@ ruled r b text h =
       | inr a ↦ (let f = a.1 in absurd (cc))
     ]
 
-ruled_again : (r : Rule) → Lawful r → (b text : List ℕ) → ruled_text r b ≡ Ok text → ruled_text r text ≡ Ok text
-ruled_again r l b text h =
-    let k = ruled r b text h in
-    let o = l.again b k.accepted k.empty_ports in
-    let again : ruled_text r (r.canonical b) ≡ Ok (r.canonical b) = rw (o.0, o.1, l.fits_again b k.accepted k.fits, l.itself b k.accepted) refl in
-    subst (λ x. ruled_text r x ≡ Ok x) k.is again
+ruled_again : (r s : Rule) → Renews r s → (b old new : List ℕ) → ruled_text r b ≡ Ok old → ruled_text s b ≡ Ok new → ruled_text s old ≡ Ok new
+ruled_again r s renews b old new h k =
+    let x = ruled r b old h in
+    let y = ruled s b new k in
+    let accepted = renews.accepted b x.accepted y.accepted x.empty_ports in
+    let full = renews.empty_ports b x.accepted y.accepted x.empty_ports in
+    let again : ruled_text s (r.canonical b) ≡ Ok new = rw (accepted, full, renews.fits b x.accepted y.accepted y.fits, renews.canonical b x.accepted y.accepted) (ap Ok y.is) in
+    subst (λ z. ruled_text s z ≡ Ok new) x.is again
 
 judged_texted : (limit : ℕ) (c : List ℕ) (r : Result (List ℕ) Refusal) (frame : ℕ × List ℕ) → judged_text limit c r ≡ Ok frame → (body : List ℕ) × (r ≡ Ok body) × (frame.1 ≡ frame_text c body) × (16 + length body ≤ limit)
 judged_texted limit c (Err why) frame h = absurd (cc)
@@ -112,10 +114,10 @@ text_body c body r h l =
     ∙ ap (take (16 + length body - 16)) (append_assoc body pad r)
     ∙ take_at body _ (16 + length body - 16) (omega arith)
 
-text_again : (c body r : List ℕ) → 16 ≤ length c → frame_text (frame_text c body ++ r) body ≡ frame_text c body
+text_again : (c old new r : List ℕ) → 16 ≤ length c → frame_text (frame_text c old ++ r) new ≡ frame_text c new
 unfolding frame_text
-text_again c body r h =
-    ap (λ x. le4 (16 + length body) ++ (x ++ (body ++ zeros (nla_align (16 + length body) - (16 + length body))))) (text_header c body r h)
+text_again c old new r h =
+    ap (λ x. le4 (16 + length new) ++ (x ++ (new ++ zeros (nla_align (16 + length new) - (16 + length new))))) (text_header c old r h)
 
 module _ (r : Rule) where
   -- the text of an accepted frame
@@ -133,82 +135,98 @@ module _ (r : Rule) where
       let q = judged_texted limit c (body_text_under r (frame_type c) (frame_body c)) frame t in
       record { body = q.0; body_is = q.1; text_is = q.2; fits = q.3 }
 
-module _ (r : Rule) (lawful : Lawful r) where
-  pub body_again : (t : ℕ) (bytes text : List ℕ) → body_text_under r t bytes ≡ Ok text → body_text_under r t text ≡ Ok text
-  unfolding body_text_under
-  body_again t bytes text h =
-      elim (guard (eqb t 1) _ _ _ h) [
-        | inl a ↦ rw a.0 a.1
-        | inr a ↦ rw a.0 (elim (guard (eqb t 2) _ _ _ a.1) [
-          | inl b ↦ rw b.0 (error_again bytes text b.1)
-          | inr b ↦ rw b.0 (elim (guard (eqb t 3) _ _ _ b.1) [
-            | inl c ↦ rw c.0 (done_again bytes text c.1)
-            | inr c ↦ rw c.0 (elim (guard (is_link_type t) _ _ _ c.1) [
-              | inl d ↦ rw d.0 (ruled_again r lawful bytes text d.1)
-              | inr d ↦ rw d.0 refl
-            ])
-          ])
-        ])
-      ]
+-- ---- what was written under r, under a rule s that renews it
 
-  -- A frame's text in front is accepted, and is its own text.
-  pub first_frame_again : (limit : ℕ) (c : List ℕ) (frame : ℕ × List ℕ) (more : List ℕ) → limit < 2 ^ 32 → first_frame_under r limit c ≡ Ok frame → (n : ℕ) × (first_frame_under r limit (frame.1 ++ more) ≡ Ok (n, frame.1)) × (drop (nla_align n) (frame.1 ++ more) ≡ more)
+module _ (r s : Rule) (renews : Renews r s) where
+  -- by what is known of the type
+  body_by : (noop error done link : Bool) (b old new : List ℕ)
+      → cond noop (Ok []) (cond error (error_text b) (cond done (done_text b) (cond link (ruled_text r b) (Ok b)))) ≡ Ok old
+      → cond noop (Ok []) (cond error (error_text b) (cond done (done_text b) (cond link (ruled_text s b) (Ok b)))) ≡ Ok new
+      → cond noop (Ok []) (cond error (error_text old) (cond done (done_text old) (cond link (ruled_text s old) (Ok old)))) ≡ Ok new
+  body_by true error done link b old new h k = k
+  body_by false true done link b old new h k = error_again b old h ∙ sym h ∙ k
+  body_by false false true link b old new h k = done_again b old h ∙ sym h ∙ k
+  body_by false false false true b old new h k = ruled_again r s renews b old new h k
+  body_by false false false false b old new h k = sym h ∙ k
+
+  -- a body's old text has its new one
+  pub body_again : (t : ℕ) (b old new : List ℕ) → body_text_under r t b ≡ Ok old → body_text_under s t b ≡ Ok new → body_text_under s t old ≡ Ok new
+  unfolding body_text_under
+  body_again t b old new h k = body_by (eqb t 1) (eqb t 2) (eqb t 3) (is_link_type t) b old new h k
+
+  -- a frame's old text in front is accepted, and has the new one
+  pub first_frame_again : (limit : ℕ) (c : List ℕ) (old new : ℕ × List ℕ) (more : List ℕ) → limit < 2 ^ 32 → first_frame_under r limit c ≡ Ok old → first_frame_under s limit c ≡ Ok new →
+      (n : ℕ) × (first_frame_under s limit (old.1 ++ more) ≡ Ok (n, new.1)) × (drop (nla_align n) (old.1 ++ more) ≡ more)
   unfolding judgement
-  first_frame_again limit c frame more l h =
-      let a = accepted r limit c frame h in
-      let t = texted r limit c frame h in
+  first_frame_again limit c old new more l h k =
+      let a = accepted r limit c old h in
+      let t = texted r limit c old h in
+      let u = texted s limit c new k in
       let x = frame_text c t.body ++ more in
       let n : ℕ = 16 + length t.body in
       let size = frame_text_size c t.body a.header in
       let total = length-append (frame_text c t.body) more in
       let claimed = text_length c t.body more (omega (arith, t.fits)) in
-      let again : body_text_under r (frame_type x) (frame_body x) ≡ Ok t.body =
-      ap (λ k. body_text_under r k (frame_body x)) (text_type c t.body more a.header) ∙ ap (body_text_under r (frame_type c)) (text_body c t.body more a.header (omega (arith, t.fits)))
-      ∙ body_again (frame_type c) (frame_body c) t.body t.body_is in
-      let judged : judgement r limit x ≡ Ok (n, frame_text c t.body) =
+      let again : body_text_under s (frame_type x) (frame_body x) ≡ Ok u.body =
+      ap (λ k. body_text_under s k (frame_body x)) (text_type c t.body more a.header) ∙ ap (body_text_under s (frame_type c)) (text_body c t.body more a.header (omega (arith, t.fits)))
+      ∙ body_again (frame_type c) (frame_body c) t.body u.body t.body_is u.body_is in
+      let judged : judgement s limit x ≡ Ok (n, frame_text c u.body) =
       ap (judged_text limit x) again
-      ∙ ap (λ b. cond b (Err TextOverLimit) (Ok (frame_length x, frame_text x t.body))) (le-ltb limit n t.fits)
-      ∙ ap (λ m. Ok (m, frame_text x t.body)) claimed
-      ∙ ap (λ y. Ok (n, y)) (text_again c t.body more a.header) in
-      let whole : first_frame_under r limit x ≡ Ok (n, frame_text c t.body) =
-      first_frame_is r limit x
-      ∙ tested_ok limit (length x) (frame_length x) (judgement r limit x) (omega (arith, size, total)) (omega (arith, size, total, claimed)) (omega (arith, claimed)) (omega (arith, claimed, t.fits))
+      ∙ ap (λ b. cond b (Err TextOverLimit) (Ok (frame_length x, frame_text x u.body))) (le-ltb limit (16 + length u.body) u.fits)
+      ∙ ap (λ m. Ok (m, frame_text x u.body)) claimed
+      ∙ ap (λ y. Ok (n, y)) (text_again c t.body u.body more a.header) in
+      let whole : first_frame_under s limit x ≡ Ok (n, frame_text c u.body) =
+      first_frame_is s limit x
+      ∙ tested_ok limit (length x) (frame_length x) (judgement s limit x) (omega (arith, size, total)) (omega (arith, size, total, claimed)) (omega (arith, claimed)) (omega (arith, claimed, t.fits))
       ∙ judged in
-      let e = t.text_is in
-      (n, subst (λ (y : List ℕ). first_frame_under r limit (y ++ more) ≡ Ok (n, y)) (sym e) whole, subst (λ (y : List ℕ). drop (nla_align n) (y ++ more) ≡ more) (sym e) (drop_at (frame_text c t.body) more (nla_align n) size))
+      let e = t.text_is in (
+        n,
+        subst (λ (y : List ℕ). first_frame_under s limit (y ++ more) ≡ Ok (n, new.1)) (sym e) (whole ∙ ap (λ y. Ok (n, y)) (sym u.text_is)),
+        subst (λ (y : List ℕ). drop (nla_align n) (y ++ more) ≡ more) (sym e) (drop_at (frame_text c t.body) more (nla_align n) size),
+      )
 
-  -- The normal text is legal, whatever it is the text of, and is its own normal text.
-  pub texts_legal : (limit skip : ℕ) (c : List ℕ) → limit < 2 ^ 32 → IsLegalUnder r limit (texts_after_under r limit skip c)
-  unfolding texts_after_under
-  texts_legal limit skip [] l = fault_nil r limit 0
-  texts_legal limit (suc skip) (b ∷ c) l = texts_legal limit skip c l
-  texts_legal limit zero (b ∷ c) l =
+  -- the old texts are legal, and have the new ones
+  abbrev Again : ℕ → ℕ → List ℕ → Type 0
+  Again limit skip c = IsLegalUnder s limit (texts_after_under r limit skip c) × (texts_under s limit (texts_after_under r limit skip c) ≡ texts_after_under s limit skip c)
+
+  step_again : (limit b : ℕ) (c : List ℕ) (old new : ℕ × List ℕ) → limit < 2 ^ 32 → first_frame_under r limit (b ∷ c) ≡ Ok old → first_frame_under s limit (b ∷ c) ≡ Ok new → Again limit (nla_align new.0 - 1) c →
+      old.0 ≡ new.0 → Again limit 0 (b ∷ c)
+  step_again limit b c old new l h k i e =
+      let rest : List ℕ = texts_after_under r limit (nla_align new.0 - 1) c in
+      let f = first_frame_again limit (b ∷ c) old new rest l h k in
+      let text : texts_under r limit (b ∷ c) ≡ old.1 ++ rest = step_texts r limit b c old h ∙ ap (λ n. old.1 ++ texts_after_under r limit (nla_align n - 1) c) e in (
+        ap (first_fault_under s limit) text
+            ∙ fault_step s limit (old.1 ++ rest) (f.0, new.1) f.1
+            ∙ ap (λ x. raised (nla_align f.0) (first_fault_under s limit x)) f.2
+            ∙ ap (raised (nla_align f.0)) i.0,
+        ap (texts_under s limit) text
+            ∙ texts_step s limit (old.1 ++ rest) (f.0, new.1) f.1
+            ∙ ap (λ x. new.1 ++ texts_under s limit x) f.2
+            ∙ ap (λ x. new.1 ++ x) i.1
+            ∙ sym (step_texts s limit b c new k),
+      )
+
+  -- they are so where whole frames reach equally far under both
+  pub texts_again : (limit skip : ℕ) (c : List ℕ) → limit < 2 ^ 32 → place_after r limit skip c ≡ place_after s limit skip c → Again limit skip c
+  unfolding place_after texts_after_under
+  texts_again limit skip [] l e = (fault_nil s limit 0, texts_nil s limit 0)
+  texts_again limit (suc skip) (b ∷ c) l e = texts_again limit skip c l (omega (arith, e))
+  texts_again limit zero (b ∷ c) l e =
       elim (seen (first_frame_under r limit (b ∷ c))) [
         | inl w ↦
-            let frame = w.0 in
-            let rest : List ℕ = texts_after_under r limit (nla_align frame.0 - 1) c in
-            let f = first_frame_again limit (b ∷ c) frame rest l w.1 in
-            ap (first_fault_under r limit) (step_texts r limit b c frame w.1)
-            ∙ fault_step r limit (frame.1 ++ rest) (f.0, frame.1) f.1
-            ∙ ap (λ x. raised (nla_align f.0) (first_fault_under r limit x)) f.2
-            ∙ ap (raised (nla_align f.0)) (texts_legal limit (nla_align frame.0 - 1) c l)
-        | inr w ↦ ap (first_fault_under r limit) (stop_texts r limit b c w.0 w.1) ∙ fault_nil r limit 0
-      ]
-
-  pub texts_again : (limit skip : ℕ) (c : List ℕ) → limit < 2 ^ 32 → texts_under r limit (texts_after_under r limit skip c) ≡ texts_after_under r limit skip c
-  unfolding texts_after_under
-  texts_again limit skip [] l = texts_nil r limit 0
-  texts_again limit (suc skip) (b ∷ c) l = texts_again limit skip c l
-  texts_again limit zero (b ∷ c) l =
-      elim (seen (first_frame_under r limit (b ∷ c))) [
-        | inl w ↦
-            let frame = w.0 in
-            let rest : List ℕ = texts_after_under r limit (nla_align frame.0 - 1) c in
-            let f = first_frame_again limit (b ∷ c) frame rest l w.1 in
-            ap (texts_under r limit) (step_texts r limit b c frame w.1)
-            ∙ texts_step r limit (frame.1 ++ rest) (f.0, frame.1) f.1
-            ∙ ap (λ x. frame.1 ++ texts_under r limit x) f.2
-            ∙ ap (λ x. frame.1 ++ x) (texts_again limit (nla_align frame.0 - 1) c l)
-            ∙ sym (step_texts r limit b c frame w.1)
-        | inr w ↦ ap (texts_under r limit) (stop_texts r limit b c w.0 w.1) ∙ texts_nil r limit 0 ∙ sym (stop_texts r limit b c w.0 w.1)
+            elim (seen (first_frame_under s limit (b ∷ c))) [
+              | inl v ↦
+                  let n : w.0.0 ≡ v.0.0 = sym (accepted r limit (b ∷ c) w.0 w.1).is ∙ (accepted s limit (b ∷ c) v.0 v.1).is in
+                  let there = ap (λ m. place_after r limit (nla_align m - 1) c) n in
+                  let far : place_after r limit (nla_align v.0.0 - 1) c ≡ place_after s limit (nla_align v.0.0 - 1) c = omega (arith, e, there, step_place r limit b c w.0 w.1, step_place s limit b c v.0 v.1) in
+                  step_again limit b c w.0 v.0 l w.1 v.1 (texts_again limit (nla_align v.0.0 - 1) c l far) n
+              | inr v ↦ absurd (omega (arith, e, step_place r limit b c w.0 w.1, stop_place s limit b c v.0 v.1))
+            ]
+        | inr w ↦
+            elim (seen (first_frame_under s limit (b ∷ c))) [
+              | inl v ↦ absurd (omega (arith, e, stop_place r limit b c w.0 w.1, step_place s limit b c v.0 v.1))
+              | inr v ↦
+                  let none = stop_texts r limit b c w.0 w.1 in
+                  (ap (first_fault_under s limit) none ∙ fault_nil s limit 0, ap (texts_under s limit) none ∙ texts_nil s limit 0 ∙ sym (stop_texts s limit b c v.0 v.1))
+            ]
       ]

@@ -6,6 +6,7 @@ use Rattle.std.proofs.lemmas.Slice.Eq.{bytes_eq-Decides}
 use Rattle.netlink_packet_core_grammar.specs.Attributes.{nla_align}
 use Rattle.netlink_packet_core_grammar.specs.Frames.{frame_type, frame_body, frame_text}
 use Rattle.attribute_tables_grammar.specs.Rules.{Rule, Lawful}
+use Rattle.attribute_tables_grammar.proofs.Attributes.{renews_itself}
 use Rattle.attribute_tables_grammar.proofs.Together.{keeps_meaning}
 use Rattle.link_capture_grammar.specs.declared.fault.CaptureFault.{CaptureFault}
 use Rattle.link_capture_grammar.specs.Bodies.{error_text, done_text, ruled_text, is_link_type, body_text_under}
@@ -118,7 +119,7 @@ module _ (r : Rule) (lawful : Lawful r) where
             let frame = w.0 in
             let a = accepted r limit (b ∷ c) frame w.1 in
             let rest : List ℕ = texts_after_under r limit (nla_align frame.0 - 1) c in
-            let f = first_frame_again r lawful limit (b ∷ c) frame rest l w.1 in
+            let f = first_frame_again r r (renews_itself r lawful) limit (b ∷ c) frame frame rest l w.1 w.1 in
             let k : nla_align frame.0 ≡ suc (nla_align frame.0 - 1) = omega (arith, a.low) in
             let none : first_fault_under r limit (drop (nla_align frame.0) (b ∷ c)) ≡ None = not_raised (nla_align frame.0) _ (sym (fault_step r limit (b ∷ c) frame w.1) ∙ h) in
             let none' : fault_after_under r limit (nla_align frame.0 - 1) c ≡ None =

@@ -1,11 +1,12 @@
 -- The laws that want more than one lemma.
 use Rattle.std.proofs.Common.{◌≡◌, ℕ, ◌%◌, Option, Some, None, Err, List, ◌++◌, take, drop, refl, sym, ap, subst, ◌∙◌, length, inl, inr, arith}
-use Rattle.attribute_tables_grammar.specs.Rules.{Rule, Lawful}
+use Rattle.attribute_tables_grammar.specs.Rules.{Rule, Lawful, Renews}
+use Rattle.attribute_tables_grammar.proofs.Attributes.{renews_itself}
 use Rattle.link_capture_grammar.specs.declared.fault.CaptureFault.{CaptureFault}
 use Rattle.link_capture_grammar.specs.Captures.{raised, first_frame_under, first_fault_under, texts_under, IsLegalUnder}
-use Rattle.link_capture_grammar.specs.Laws.{TextsAreLegal, TextsAreNormal, JoinedLegal, PrefixTexts, TextsAreSmall, FaultsStand, FramesStandAlone, CapturesGoByFrames}
-use Rattle.link_capture_grammar.proofs.Frames.{accepted, cut_cases, first_frame-more, one_fault, one_text, fault_stop, texts_stop, stops, place_start, base_fault, base_texts, reach_place, joined_fault, fault-append, texts-append, fault_inside, fault_kinds}
-use Rattle.link_capture_grammar.proofs.Normal.{texts_legal, texts_again}
+use Rattle.link_capture_grammar.specs.Laws.{TextsAreLegal, TextsAreNormal, TextsAreRenewed, JoinedLegal, PrefixTexts, TextsAreSmall, FaultsStand, BodiesAreNormal, FramesStandAlone, CapturesGoByFrames}
+use Rattle.link_capture_grammar.proofs.Frames.{accepted, cut_cases, first_frame-more, one_fault, one_text, fault_stop, texts_stop, stops, place_start, base_fault, base_texts, place_legal, reach_place, joined_fault, fault-append, texts-append, fault_inside, fault_kinds}
+use Rattle.link_capture_grammar.proofs.Normal.{body_again, texts_again}
 use Rattle.link_capture_grammar.proofs.Small.{texts_small}
 
 none_raised : (n : ℕ) (o : Option CaptureFault) → raised n o ≡ None → o ≡ None
@@ -53,12 +54,19 @@ module _ (r : Rule) where
     rest_texts = λ limit c more. subst (λ n. texts_under r limit (c ++ more) ≡ texts_under r limit c ++ texts_under r limit (drop n (c ++ more))) (reach_place r limit c) (texts-append r limit 0 c more);
   }
 
+-- what was written under r, under a rule s that renews it
+pub texts_are_renewed : (r s : Rule) → Renews r s → TextsAreRenewed r s
+texts_are_renewed r s renews limit c l h k = texts_again r s renews limit 0 c l (place_legal r limit c h ∙ sym (place_legal s limit c k))
+
 module _ (r : Rule) (lawful : Lawful r) where
   pub texts_are_legal : TextsAreLegal r
-  texts_are_legal limit c l = texts_legal r lawful limit 0 c l
+  texts_are_legal limit c l = (texts_again r r (renews_itself r lawful) limit 0 c l refl).0
 
   pub texts_are_normal : TextsAreNormal r
-  texts_are_normal limit c l = texts_again r lawful limit 0 c l
+  texts_are_normal limit c l = (texts_again r r (renews_itself r lawful) limit 0 c l refl).1
+
+  pub bodies_are_normal : BodiesAreNormal r
+  bodies_are_normal t b text h = body_again r r (renews_itself r lawful) t b text text h h
 
   pub texts_are_small : TextsAreSmall r
   texts_are_small limit c = texts_small r lawful limit 0 c

@@ -5,16 +5,16 @@ use Rattle.std.proofs.lemmas.Bool.{and_parts}
 use Rattle.netlink_packet_core_grammar.specs.Attributes.{Attribute, proper_kind, list_text}
 use Rattle.netlink_packet_core_grammar.specs.Frames.{frame_type, frame_body}
 use Rattle.attribute_tables_grammar.specs.Lists.{Context, nothing, Row, raw_row, Grammar, LawfulGrammar, row_of, context_after, all_accepted, rewrite, rewritten, written_kind, without_context, ListForm, any, non_empty, of_kind_one, ports, first_alone, read_as, kept, is_empty_ports, if_read, list_rule}
-use Rattle.attribute_tables_grammar.specs.Peers.{Peer, LawfulPeer, bytes_peer}
+use Rattle.attribute_tables_grammar.specs.Peers.{Peer, LawfulPeer}
 use Rattle.attribute_tables_grammar.specs.Rules.{Rule}
 use Rattle.attribute_tables_grammar.specs.Tables.{grammar}
 use Rattle.attribute_tables_grammar.proofs.Attributes.{proper_kind-written}
 use Rattle.attribute_tables_grammar.proofs.Lists.{read_again}
 use Rattle.attribute_tables_grammar.proofs.Named.{next_rewritten}
-use Rattle.attribute_tables_grammar.proofs.Tables.{bytes_peer_lawful, table_lawful}
-use Rattle.link_message_grammar.specs.Body.{attribute_bytes, attribute_row, attribute_row_under, body_rule, family, list_rule_of}
+use Rattle.attribute_tables_grammar.proofs.Tables.{table_lawful}
+use Rattle.link_message_grammar.specs.Body.{attribute_bytes, attribute_row, attribute_row_under, body_rule, family, link_peer, list_rule_of}
 use Rattle.link_message_grammar.specs.LinkMessage.{Family, link_table}
-use Rattle.link_message_grammar.proofs.Body.{written_header}
+use Rattle.link_message_grammar.proofs.Body.{link_peer_lawful, written_header}
 use Rattle.link_message_grammar.proofs.Lines.{attributes-grammar}
 use Rattle.link_message_grammar.proofs.Tables.{table_bounded}
 use Rattle.link_capture_grammar.specs.Bodies.{is_link_type}
@@ -113,7 +113,7 @@ module _ (p : Peer) (lawful : LawfulPeer p) where
 
 -- the rule in force
 of_frames : (limit : ℕ) (c : List ℕ) (frame : ℕ × List ℕ) → IsLimit limit → is_link_type (frame_type c) ≡ true → first_frame limit c ≡ Ok frame → KeepsUnlisted attribute_row (frame_body c) (frame_body frame.1)
-of_frames = of_frames_under bytes_peer bytes_peer_lawful
+of_frames = of_frames_under link_peer link_peer_lawful
 
 pub unlisted_attributes_are_kept : UnlistedAttributesAreKept
 unlisted_attributes_are_kept = record { of_lists = unlisted_again; of_frames = of_frames; of_frames_under = of_frames_under }

@@ -2,9 +2,9 @@
 use Rattle.std.specs.Prelude.{◌≡◌, ◌≢◌, ℕ, ◌+◌, ◌*◌, ◌%◌, ◌^◌, ◌<◌, ◌≤◌, ◌↔◌, ◌⊎◌, true, false, List, [], ◌++◌, length, take, drop, None, Some, Ok, Err}
 use Rattle.netlink_packet_core_grammar.specs.Attributes.{Attribute, nla_align}
 use Rattle.netlink_packet_core_grammar.specs.Frames.{IsFrame, frame_length, frame_type, frame_body, frame_text}
-use Rattle.attribute_tables_grammar.specs.Rules.{Rule, Lawful}
+use Rattle.attribute_tables_grammar.specs.Rules.{Rule, Lawful, Renews}
 use Rattle.attribute_tables_grammar.specs.Lists.{Grammar, LawfulGrammar, ListForm, list_rule}
-use Rattle.attribute_tables_grammar.specs.Peers.{Peer, LawfulPeer}
+use Rattle.attribute_tables_grammar.specs.Peers.{Peer, LawfulPeer, bytes_peer}
 use Rattle.link_message_grammar.specs.Body.{attribute_row, attribute_row_under, body_rule, link_body}
 use Rattle.link_capture_grammar.specs.declared.fault.FaultKind.{FaultKind}
 use Rattle.link_capture_grammar.specs.declared.fault.CaptureFault.{CaptureFault}
@@ -26,6 +26,11 @@ TextsAreLegal r = (limit : ℕ) (c : List ℕ) → IsLimit limit → IsLegalUnde
 -- and are their own normal text
 abbrev pub TextsAreNormal : Rule → Type 0
 TextsAreNormal r = (limit : ℕ) (c : List ℕ) → IsLimit limit → texts_under r limit (texts_under r limit c) ≡ texts_under r limit c
+
+-- where a capture is legal under an old rule and a new one, its old normal text is legal under the new one, and has the capture's new normal text
+abbrev pub TextsAreRenewed : Rule → Rule → Type 0
+TextsAreRenewed old new = (limit : ℕ) (c : List ℕ) → IsLimit limit → IsLegalUnder old limit c → IsLegalUnder new limit c →
+    IsLegalUnder new limit (texts_under old limit c) × (texts_under new limit (texts_under old limit c) ≡ texts_under new limit c)
 
 -- what follows a legal capture whose size is a multiple of 4 is judged by itself
 abbrev pub JoinedFaults : Rule → Type 0
@@ -131,6 +136,13 @@ pub record TextsKeepFrames (r : Rule) : Type 0 where
 abbrev pub SmallFramesFit : Type 0
 SmallFramesFit = (p : Peer) → LawfulPeer p → (limit : ℕ) (c : List ℕ) → 65559 ≤ limit → frame_length c ≤ 883 → (first_frame_under (body_rule p) limit c ≢ Err Unfit) × (first_frame_under (body_rule p) limit c ≢ Err TextOverLimit)
 
+-- normal texts are renewed
+pub record OldCapturesAreRenewed : Type 0 where
+  -- those that were written while peers were bytes, under the rule in force
+  pub in_force : TextsAreRenewed (body_rule bytes_peer) link_body
+  -- and those of every rule, under one that renews it
+  pub under_every_rule : (old new : Rule) → Renews old new → TextsAreRenewed old new
+
 -- what no table lists is kept as it is, with its kind, flag bits and payload
 pub record UnlistedAttributesAreKept : Type 0 where
   -- in the text of an accepted list
@@ -209,7 +221,7 @@ pub record PaddingIsPassed (r : Rule) : Type 0 where
   pub frames : (limit : ℕ) (c d : List ℕ) (frame : ℕ × List ℕ) → first_frame_under r limit c ≡ Ok frame → DifferInPadding frame.0 c d → frames_under r limit d ≡ frames_under r limit c
   pub attributes : (limit : ℕ) (c d : List ℕ) (frame : ℕ × List ℕ) → first_frame_under r limit c ≡ Ok frame → DifferInPadding frame.0 c d → attributes_under r limit d ≡ attributes_under r limit c
 
--- these laws under one rule of link bodies, but for those of unlisted attributes and of small frames, which speak of tables
+-- these laws under one rule of link bodies, but for that of old captures, which speaks of two, and those of unlisted attributes and of small frames, which speak of tables
 pub record CaptureLaws (r : Rule) : Type 0 where
   pub texts_are_legal : TextsAreLegal r
   pub texts_are_normal : TextsAreNormal r

@@ -7,7 +7,7 @@ ghost use Rattle.link_capture_grammar.specs.Laws.{JoinedTexts, PrefixFaults, Pre
 ghost use Rattle.link_capture_grammar.specs.Laws.{BodiesAreNormal, TextsMeanTheSame, SameAreLegal};
 ghost use Rattle.link_capture_grammar.specs.Laws.{FramesStandAlone, CapturesGoByFrames};
 ghost use Rattle.link_capture_grammar.specs.Laws.{FramesAreJudged, CapturesAreCounted, TextsKeepFrames, PaddingIsPassed};
-ghost use Rattle.link_capture_grammar.specs.Laws.{SmallFramesFit, UnlistedAttributesAreKept};
+ghost use Rattle.link_capture_grammar.specs.Laws.{SmallFramesFit, UnlistedAttributesAreKept, OldCapturesAreRenewed};
 ghost use Rattle.link_capture_grammar.specs.Laws.{BodiesTellMeanings, TextsTellMeanings, SamenessGoesByFrames};
 
 /// The texts of any bytes are legal under the same limit.
@@ -58,6 +58,13 @@ pub fn faults_stand_at_frames()
 /// The text of a body is its own text.
 pub fn bodies_are_normal()
     ensures { BodiesAreNormal link_body }
+{}
+
+/// Where a capture is legal by the rule that kept peers as bytes and by the one in force, the normal text that it had by
+/// the old rule is legal by the one in force, and has the normal text that the capture has now. The same holds of any two
+/// rules of link bodies of which one renews the other.
+pub fn old_captures_are_renewed()
+    ensures { OldCapturesAreRenewed }
 {}
 
 /// A legal capture and its normal text mean the same.
@@ -138,7 +145,7 @@ pub fn sameness_goes_by_frames()
 
 /// These laws hold under every lawful rule of link bodies, that of `sameness_goes_by_frames` where the rule accepts
 /// nothing without a header. Those of unlisted attributes and of small frames speak of tables, and hold under every
-/// lawful rule of peers.
+/// lawful rule of peers; that of old captures speaks of two rules.
 pub fn captures_stand_under_every_rule()
     ensures { CapturesStandUnderEveryRule }
 {}

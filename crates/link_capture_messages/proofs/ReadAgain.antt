@@ -4,9 +4,8 @@ use Rattle.std.specs.Prelude.{◌&&◌, bytes_eq, slice_index, length}
 use Rattle.std.proofs.lemmas.Bool.{and_parts, and_from, leb-true}
 use Rattle.std.proofs.lemmas.Slice.Eq.{bytes_eq-Decides}
 use Rattle.std.proofs.lemmas.Grind.{merely}
-use Rattle.link_message_grammar.specs.Body.{header_text, link_body}
+use Rattle.link_message_grammar.specs.Body.{header_text, link_body, link_peer}
 use Rattle.link_message_grammar.specs.Laws.{BodiesAreHeadersAndAttributes}
-use Rattle.link_message_grammar.specs.Peers.{bytes_peer}
 use Rattle.link_message_types.specs.AddressFamilies.{address_family_of}
 use Rattle.link_message_messages.specs.declared.message.LinkMessage.{LinkMessage}
 use Rattle.link_message_messages.specs.LinkMessages.{link_message_text, link_message_fits, link_message_names_row}
@@ -61,7 +60,7 @@ normal_text : BodiesAreNormal link_body → (b t : List ℕ) → ruled_text link
 unfolding body_text_under
 normal_text law b t h = law 16 b t h
 
-pub readable_from : BodiesAreNormal link_body → BodiesAreHeadersAndAttributes bytes_peer → (b : List ℕ) (m : LinkMessage) → IsReadFrom b m → link_body.empty_ports b ≡ false → link_message_fits m ≡ link_body.fits b → link_message_fits m ≡ true → IsReadable m
+pub readable_from : BodiesAreNormal link_body → BodiesAreHeadersAndAttributes link_peer → (b : List ℕ) (m : LinkMessage) → IsReadFrom b m → link_body.empty_ports b ≡ false → link_message_fits m ≡ link_body.fits b → link_message_fits m ≡ true → IsReadable m
 readable_from law parts b m r ports s f =
     let t = link_message_text m in
     let text : ruled_text link_body t ≡ Ok t = normal_text law b t (ruled_ok b r.accepted ports (sym s ∙ f) ∙ ap Ok (sym r.text)) in

@@ -1,95 +1,97 @@
 -- The steps of a list of link info, as the loop takes them.
-use Rattle.std.proofs.Common.{◌≡◌, ℕ, ◌<◌, Bool, true, false, List, [], ◌∷◌, ◌++◌, length, map, Some, refl, sym, ap, subst, ◌∙◌}
+use Rattle.std.proofs.Common.{◌≡◌, ℕ, ◌<◌, true, false, List, [], ◌∷◌, ◌++◌, length, map, Some, refl, sym, ap, subst, ◌∙◌}
 use Rattle.std.proofs.lemmas.List.{map-append}
 use Rattle.netlink_packet_core_grammar.specs.Attributes.{Attribute, proper_kind, list_text}
 use Rattle.netlink_packet_core_grammar.specs.AttributeViews.{IsAttribute, viewed_attribute, viewed_kind, viewed_payload, after_first}
 use Rattle.netlink_packet_core.specs.Lists.{text_by, all_fit_by}
 use Rattle.attribute_tables_grammar.specs.Lists.{Context, nothing, any, LawfulGrammar, row_of, rewrite, context_after}
+use Rattle.attribute_tables_grammar.specs.Peers.{Peer}
 use Rattle.attribute_tables_grammar.specs.Tables.{info_next}
 use Rattle.attribute_tables_grammar.specs.Readings.{Written, reading_as, written_by, SoFar, all_named}
 use Rattle.attribute_tables_grammar.specs.Laws.{ReadingsGoBySteps, ReadingsTellRules, ContextsGoBySteps}
 use Rattle.attribute_tables.specs.Written.{written_as}
 use Rattle.attribute_tables.proofs.Lists.{all_written, entries_written}
-use Rattle.link_info_grammar.specs.LinkInfo.{data_rule_under, port_data_rule_under, info_grammar_under, info_grammar, info_rule_under, info_rule, link_info_row}
+use Rattle.link_info_grammar.specs.LinkInfo.{data_rule_under, port_data_rule_under, info_grammar_under, info_rule_under, link_info_row_under}
 use Rattle.link_info.specs.LinkInfo.{link_info_entry, link_info_fits, link_info_names_row}
 use Rattle.link_info.specs.declared.infos.LinkInfo.{LinkInfo}
 
 abbrev pub written : List LinkInfo → List Written
 written vs = map (written_as link_info_entry link_info_fits) vs
 
--- ---- the names of values, and the context that they leave
+module _ (p : Peer) where
+  -- ---- the names of values, and the context that they leave
 
--- each value is the one that its row names, and this is in force after them
-pub record Named (vs : List LinkInfo) (c : Context) : Type 0 where
-  pub named : all_named info_grammar link_info_entry link_info_names_row nothing vs
-  pub leaves : context_after info_grammar nothing (map link_info_entry vs) ≡ c
+  -- each value is the one that its row names, and this is in force after them
+  pub record Named (vs : List LinkInfo) (c : Context) : Type 0 where
+    pub named : all_named (info_grammar_under p) link_info_entry link_info_names_row nothing vs
+    pub leaves : context_after (info_grammar_under p) nothing (map link_info_entry vs) ≡ c
 
-named_more : (c : Context) (vs : List LinkInfo) (v : LinkInfo) → all_named info_grammar link_info_entry link_info_names_row c vs → link_info_names_row (context_after info_grammar c (map link_info_entry vs)) v →
-    all_named info_grammar link_info_entry link_info_names_row c (vs ++ v ∷ [])
-unfolding context_after
-named_more c [] v h n = (n, record {})
-named_more c (w ∷ vs) v h n = (h.0, named_more (info_grammar.next c (link_info_entry w)) vs v h.1 n)
-
-named_next : ContextsGoBySteps → LawfulGrammar info_grammar → (vs : List LinkInfo) (c : Context) (e : Attribute) (v : LinkInfo) → (row_of info_grammar c e).rule.accepted e.payload ≡ true → link_info_entry v ≡ rewrite (row_of info_grammar c e) e →
-    link_info_names_row c v → Named vs c → Named (vs ++ v ∷ []) (info_grammar.next c e)
-named_next contexts lawful vs c e v a is n s = record {
-  named = named_more nothing vs v s.named (subst (λ d. link_info_names_row d v) (sym s.leaves) n);
-  leaves = ap (context_after info_grammar nothing) (map-append link_info_entry vs (v ∷ [])) ∙ contexts.more info_grammar nothing (map link_info_entry vs) (link_info_entry v)
-      ∙ ap (λ d. info_grammar.next d (link_info_entry v)) s.leaves ∙ ap (info_grammar.next c) is ∙ contexts.canonical info_grammar lawful c e a;
-}
-
--- ---- the loop
-
--- what holds between two turns of the loop
-pub record State (bytes : List ℕ) (vs : List LinkInfo) (c : Context) (rest : List ℕ) : Type 0 where
-  pub so_far : SoFar any info_grammar bytes (written vs) c rest
-  pub named : Named vs c
-
--- what was read, once nothing is left
-pub record Done (bytes : List ℕ) (vs : List LinkInfo) : Type 0 where
-  pub read : reading_as any info_grammar bytes ≡ Some (written vs)
-  pub accepted : info_rule.accepted bytes ≡ true
-  pub canonical : text_by link_info_entry vs ≡ info_rule.canonical bytes
-  pub fits : all_fit_by link_info_entry link_info_fits vs ≡ info_rule.fits bytes
-
-module _ (steps : ReadingsGoBySteps) where
-  pub state_start : (bytes : List ℕ) → State bytes [] nothing bytes
+  named_more : (c : Context) (vs : List LinkInfo) (v : LinkInfo) → all_named (info_grammar_under p) link_info_entry link_info_names_row c vs → link_info_names_row (context_after (info_grammar_under p) c (map link_info_entry vs)) v →
+      all_named (info_grammar_under p) link_info_entry link_info_names_row c (vs ++ v ∷ [])
   unfolding context_after
-  state_start bytes = record { so_far = steps.start any info_grammar bytes; named = record { named = record {}; leaves = refl } }
+  named_more c [] v h n = (n, record {})
+  named_more c (w ∷ vs) v h n = (h.0, named_more ((info_grammar_under p).next c (link_info_entry w)) vs v h.1 n)
 
-  pub state_more : ContextsGoBySteps → LawfulGrammar info_grammar → (bytes : List ℕ) (vs : List LinkInfo) (c : Context) (rest : List ℕ) (v : LinkInfo) → IsAttribute rest →
-      (link_info_row c (proper_kind (viewed_kind rest))).rule.accepted (viewed_payload rest) ≡ true →
-      link_info_entry v ≡ rewrite (link_info_row c (proper_kind (viewed_kind rest))) (viewed_attribute rest) →
-      link_info_fits v ≡ (link_info_row c (proper_kind (viewed_kind rest))).rule.fits (viewed_payload rest) →
-      link_info_names_row c v → State bytes vs c rest → State bytes (vs ++ v ∷ []) (info_next c (proper_kind (viewed_kind rest)) (viewed_payload rest)) (after_first rest)
-  unfolding info_grammar_under data_rule_under port_data_rule_under
-  state_more contexts lawful bytes vs c rest v h a entry inside n s =
-      let e = viewed_attribute rest in
-      let w = written_as link_info_entry link_info_fits in
-      let is : w v ≡ written_by (row_of info_grammar c e) e = λ i. record { entry = entry i; inside_fits = inside i } in
-      record {
-        so_far = subst (λ ws. SoFar any info_grammar bytes ws (info_next c (proper_kind (viewed_kind rest)) (viewed_payload rest)) (after_first rest)) (sym (map-append w vs (v ∷ [])))
-            (steps.more any info_grammar bytes (written vs) c rest (w v) h refl a is s.so_far);
-        named = named_next contexts lawful vs c e v a entry n s.named;
-      }
+  named_next : ContextsGoBySteps → LawfulGrammar (info_grammar_under p) → (vs : List LinkInfo) (c : Context) (e : Attribute) (v : LinkInfo) → (row_of (info_grammar_under p) c e).rule.accepted e.payload ≡ true → link_info_entry v ≡ rewrite (row_of (info_grammar_under p) c e) e →
+      link_info_names_row c v → Named vs c → Named (vs ++ v ∷ []) ((info_grammar_under p).next c e)
+  named_next contexts lawful vs c e v a is n s = record {
+    named = named_more nothing vs v s.named (subst (λ d. link_info_names_row d v) (sym s.leaves) n);
+    leaves = ap (context_after (info_grammar_under p) nothing) (map-append link_info_entry vs (v ∷ [])) ∙ contexts.more (info_grammar_under p) nothing (map link_info_entry vs) (link_info_entry v)
+        ∙ ap (λ d. (info_grammar_under p).next d (link_info_entry v)) s.leaves ∙ ap ((info_grammar_under p).next c) is ∙ contexts.canonical (info_grammar_under p) lawful c e a;
+  }
 
-  pub state_refused : ReadingsTellRules → (bytes : List ℕ) (vs : List LinkInfo) (c : Context) (rest : List ℕ) → IsAttribute rest →
-      (link_info_row c (proper_kind (viewed_kind rest))).rule.accepted (viewed_payload rest) ≡ false → State bytes vs c rest → info_rule.accepted bytes ≡ false
-  unfolding info_grammar_under data_rule_under port_data_rule_under info_rule_under
-  state_refused tell bytes vs c rest h a s = tell.denies any info_grammar bytes (tell.of_any _ _ ∙ steps.refused any info_grammar bytes (written vs) c rest h refl a s.so_far)
+  -- ---- the loop
 
-  pub state_stopped : ReadingsTellRules → (bytes : List ℕ) (vs : List LinkInfo) (c : Context) (rest : List ℕ) → (IsAttribute rest → ⊥) → 0 < length rest → State bytes vs c rest → info_rule.accepted bytes ≡ false
-  unfolding info_grammar_under info_rule_under
-  state_stopped tell bytes vs c rest h l s = tell.denies any info_grammar bytes (tell.of_any _ _ ∙ steps.stopped any info_grammar bytes (written vs) c rest h l s.so_far)
+  -- what holds between two turns of the loop
+  pub record State (bytes : List ℕ) (vs : List LinkInfo) (c : Context) (rest : List ℕ) : Type 0 where
+    pub so_far : SoFar any (info_grammar_under p) bytes (written vs) c rest
+    pub named : Named vs c
 
-  pub state_done : ReadingsTellRules → (bytes : List ℕ) (vs : List LinkInfo) (c : Context) (rest : List ℕ) → length rest ≡ 0 → State bytes vs c rest → Done bytes vs
-  unfolding info_grammar_under info_rule_under
-  state_done tell bytes vs c rest l s =
-      let d = tell.of_any _ _ ∙ steps.done any info_grammar bytes (written vs) c rest l s.so_far in
-      let t = tell.tells any info_grammar bytes (written vs) d in
-      record {
-        read = d;
-        accepted = t.accepted;
-        canonical = sym (t.canonical ∙ ap list_text (entries_written link_info_entry link_info_fits vs));
-        fits = sym (all_written link_info_entry link_info_fits vs) ∙ sym t.fits;
-      }
+  -- what was read, once nothing is left
+  pub record Done (bytes : List ℕ) (vs : List LinkInfo) : Type 0 where
+    pub read : reading_as any (info_grammar_under p) bytes ≡ Some (written vs)
+    pub accepted : (info_rule_under p).accepted bytes ≡ true
+    pub canonical : text_by link_info_entry vs ≡ (info_rule_under p).canonical bytes
+    pub fits : all_fit_by link_info_entry link_info_fits vs ≡ (info_rule_under p).fits bytes
+
+  module _ (steps : ReadingsGoBySteps) where
+    pub state_start : (bytes : List ℕ) → State bytes [] nothing bytes
+    unfolding context_after
+    state_start bytes = record { so_far = steps.start any (info_grammar_under p) bytes; named = record { named = record {}; leaves = refl } }
+
+    pub state_more : ContextsGoBySteps → LawfulGrammar (info_grammar_under p) → (bytes : List ℕ) (vs : List LinkInfo) (c : Context) (rest : List ℕ) (v : LinkInfo) → IsAttribute rest →
+        (link_info_row_under p c (proper_kind (viewed_kind rest))).rule.accepted (viewed_payload rest) ≡ true →
+        link_info_entry v ≡ rewrite (link_info_row_under p c (proper_kind (viewed_kind rest))) (viewed_attribute rest) →
+        link_info_fits v ≡ (link_info_row_under p c (proper_kind (viewed_kind rest))).rule.fits (viewed_payload rest) →
+        link_info_names_row c v → State bytes vs c rest → State bytes (vs ++ v ∷ []) (info_next c (proper_kind (viewed_kind rest)) (viewed_payload rest)) (after_first rest)
+    unfolding info_grammar_under data_rule_under port_data_rule_under
+    state_more contexts lawful bytes vs c rest v h a entry inside n s =
+        let e = viewed_attribute rest in
+        let w = written_as link_info_entry link_info_fits in
+        let is : w v ≡ written_by (row_of (info_grammar_under p) c e) e = λ i. record { entry = entry i; inside_fits = inside i } in
+        record {
+          so_far = subst (λ ws. SoFar any (info_grammar_under p) bytes ws (info_next c (proper_kind (viewed_kind rest)) (viewed_payload rest)) (after_first rest)) (sym (map-append w vs (v ∷ [])))
+              (steps.more any (info_grammar_under p) bytes (written vs) c rest (w v) h refl a is s.so_far);
+          named = named_next contexts lawful vs c e v a entry n s.named;
+        }
+
+    pub state_refused : ReadingsTellRules → (bytes : List ℕ) (vs : List LinkInfo) (c : Context) (rest : List ℕ) → IsAttribute rest →
+        (link_info_row_under p c (proper_kind (viewed_kind rest))).rule.accepted (viewed_payload rest) ≡ false → State bytes vs c rest → (info_rule_under p).accepted bytes ≡ false
+    unfolding info_grammar_under data_rule_under port_data_rule_under info_rule_under
+    state_refused tell bytes vs c rest h a s = tell.denies any (info_grammar_under p) bytes (tell.of_any _ _ ∙ steps.refused any (info_grammar_under p) bytes (written vs) c rest h refl a s.so_far)
+
+    pub state_stopped : ReadingsTellRules → (bytes : List ℕ) (vs : List LinkInfo) (c : Context) (rest : List ℕ) → (IsAttribute rest → ⊥) → 0 < length rest → State bytes vs c rest → (info_rule_under p).accepted bytes ≡ false
+    unfolding info_grammar_under info_rule_under
+    state_stopped tell bytes vs c rest h l s = tell.denies any (info_grammar_under p) bytes (tell.of_any _ _ ∙ steps.stopped any (info_grammar_under p) bytes (written vs) c rest h l s.so_far)
+
+    pub state_done : ReadingsTellRules → (bytes : List ℕ) (vs : List LinkInfo) (c : Context) (rest : List ℕ) → length rest ≡ 0 → State bytes vs c rest → Done bytes vs
+    unfolding info_grammar_under info_rule_under
+    state_done tell bytes vs c rest l s =
+        let d = tell.of_any _ _ ∙ steps.done any (info_grammar_under p) bytes (written vs) c rest l s.so_far in
+        let t = tell.tells any (info_grammar_under p) bytes (written vs) d in
+        record {
+          read = d;
+          accepted = t.accepted;
+          canonical = sym (t.canonical ∙ ap list_text (entries_written link_info_entry link_info_fits vs));
+          fits = sym (all_written link_info_entry link_info_fits vs) ∙ sym t.fits;
+        }

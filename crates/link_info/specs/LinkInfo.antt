@@ -3,9 +3,10 @@ use Rattle.std.specs.Prelude.{◌≡◌, ℕ, Bool, true, false, ⊤, List, Opti
 use Rattle.std.specs.Borrow.{Bor}
 use Rattle.netlink_packet_core.specs.Attributes.{Attribute, proper_kind}
 use Rattle.netlink_packet_core.specs.AttributeViews.{viewed_attribute, viewed_kind, viewed_payload}
-use Rattle.attribute_tables_grammar.specs.Lists.{Context, nothing, Row, rewrite}
+use Rattle.attribute_tables_grammar.specs.Lists.{Context, Row, rewrite}
+use Rattle.attribute_tables_grammar.specs.Peers.{Peer}
 use Rattle.attribute_tables_grammar.specs.Tables.{info_next}
-use Rattle.link_info_grammar.specs.LinkInfo.{link_info_row}
+use Rattle.link_info_grammar.specs.LinkInfo.{link_info_row, link_info_row_under}
 use Rattle.link_info_kinds.specs.Kinds.{info_kind_entry, info_kind_is_named, IsNamedBy}
 use Rattle.link_info_kinds.specs.PortKinds.{info_port_kind_entry, info_port_kind_is_named, IsPortNamedBy}
 use Rattle.link_info_kinds.specs.declared.info_kind.InfoKind.{InfoKind}
@@ -44,20 +45,20 @@ context_of kind port_kind = record { kind = option_map (λ b. b.now) kind; port_
 abbrev pub in_force : InForce → Context
 in_force f = context_of f.kind f.port_kind
 
--- ---- the attribute that the bytes begin with, where these kinds are in force
+-- ---- the attribute that the bytes begin with, under a rule of peers and where these kinds are in force
 
-abbrev pub row_in : Context → List ℕ → Row
-row_in c b = link_info_row c (proper_kind (viewed_kind b))
+abbrev pub row_in : Peer → Context → List ℕ → Row
+row_in p c b = link_info_row_under p c (proper_kind (viewed_kind b))
 
-abbrev pub is_accepted_in : Context → List ℕ → Bool
-is_accepted_in c b = (row_in c b).rule.accepted (viewed_payload b)
+abbrev pub is_accepted_in : Peer → Context → List ℕ → Bool
+is_accepted_in p c b = (row_in p c b).rule.accepted (viewed_payload b)
 
-abbrev pub fits_in : Context → List ℕ → Bool
-fits_in c b = (row_in c b).rule.fits (viewed_payload b)
+abbrev pub fits_in : Peer → Context → List ℕ → Bool
+fits_in p c b = (row_in p c b).rule.fits (viewed_payload b)
 
 -- what it is written as
-abbrev pub written_in : Context → List ℕ → Attribute
-written_in c b = rewrite (row_in c b) (viewed_attribute b)
+abbrev pub written_in : Peer → Context → List ℕ → Attribute
+written_in p c b = rewrite (row_in p c b) (viewed_attribute b)
 
 -- what is in force after it
 abbrev pub context_after_first : Context → List ℕ → Context

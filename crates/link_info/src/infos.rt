@@ -8,21 +8,23 @@ ghost use Rattle.netlink_packet_core.specs.Errors.{is_memory};
 ghost use Rattle.netlink_packet_core.specs.Lists.{text_by, all_fit_by};
 ghost use Rattle.netlink_packet_core.specs.NlaBuffers.{storage};
 ghost use Rattle.attribute_tables_grammar.specs.Lists.{any, nothing};
+ghost use Rattle.attribute_tables_grammar.specs.Peers.{Peer};
 ghost use Rattle.attribute_tables_grammar.specs.Readings.{reading_as, all_named};
 ghost use Rattle.attribute_tables.specs.Written.{written_as};
-ghost use Rattle.link_info_grammar.specs.LinkInfo.{data_rule, port_data_rule, info_grammar, info_rule};
+ghost use Rattle.link_info_grammar.specs.LinkInfo.{data_rule_under, port_data_rule, info_grammar, info_rule};
+ghost use Rattle.link_info_grammar.specs.LinkInfo.{info_grammar_under, info_rule_under};
 ghost use Rattle.link_info_data.specs.Data.{info_data_fits, info_data_payload};
 ghost use Rattle.link_info_data.specs.PortData.{info_port_data_fits, info_port_data_payload};
 ghost use Rattle.link_info.specs.LinkInfo.{data_names_row, port_data_names_row};
 ghost use Rattle.link_info.specs.LinkInfo.{context_after_first, in_force, is_accepted_in, fits_in, written_in};
 ghost use Rattle.link_info.specs.LinkInfo.{link_info_entry, link_info_fits, link_info_names_row};
 
-use super::laws::{names_tell_rules, port_names_tell_rules};
+use super::laws::{names_tell_rules, port_data_have_one_rule, port_names_tell_rules};
+use attribute_checks::{BytesPeer, PeerRule};
 use attribute_tables_grammar::laws::{
-    contexts_go_by_steps, peers_that_are_bytes_are_lawful, readings_go_by_steps,
-    readings_tell_rules,
+    contexts_go_by_steps, readings_go_by_steps, readings_tell_rules,
 };
-use link_info_checks::check_list;
+use link_info_checks::check_list_with;
 use link_info_data::{InfoData, InfoPortData, LinkXstats};
 use link_info_grammar::laws::info_grammar_is_lawful;
 use link_info_kinds::{InfoKind, InfoPortKind};
@@ -112,7 +114,7 @@ struct InForce<'a> {
     port_kind: Option<&'a str>,
 }
 
-// What is in force after an attribute that was read.
+// What is in force after an attribute that was read. An attribute is refused whatever a peer means.
 fn next_in_force<'a>(
     force: InForce<'a>,
     buf: &NlaBuffer<&'a [u8]>,
@@ -121,7 +123,8 @@ fn next_in_force<'a>(
     ensures next { IfOk result
         (λ f. in_force f ≡ context_after_first (in_force force.entry) (storage buf.now).now) }
     ensures err { IfErr result
-        (λ e. is_accepted_in (in_force force.entry) (storage buf.now).now ≡ false) }
+        (λ _. (p : Peer)
+        → is_accepted_in p (in_force force.entry) (storage buf.now).now ≡ false) }
 {
     match buf.kind() {
         IFLA_INFO_KIND => Ok(InForce {
@@ -140,19 +143,26 @@ fn next_in_force<'a>(
     }
 }
 
-// Reads the data of the kind that a name names.
-fn parse_data(alloc: Global, name: &str, payload: &[u8]) -> Result<InfoData, DecodeError>
-    ensures ok { OnOk result (IsTrue ((data_rule name.now).accepted payload.now)) }
+// Reads the data of the kind that a name names, a peer by a rule.
+fn parse_data<R: PeerRule>(
+    alloc: Global,
+    name: &str,
+    payload: &[u8],
+    rule: &R,
+) -> Result<InfoData, DecodeError>
+    ensures ok { OnOk result (IsTrue ((data_rule_under R.peer name.now).accepted payload.now)) }
     ensures text { IfOk result
-        (λ d. info_data_payload d ≡ (data_rule name.now).canonical payload.now) }
-    ensures fits { IfOk result (λ d. info_data_fits d ≡ (data_rule name.now).fits payload.now) }
+        (λ d. info_data_payload d ≡ (data_rule_under R.peer name.now).canonical payload.now) }
+    ensures fits { IfOk result
+        (λ d. info_data_fits d ≡ (data_rule_under R.peer name.now).fits payload.now) }
     ensures names_row { IfOk result (λ d. data_names_row (Some name.now) d) }
     ensures err { IfErr result
-        (λ e. is_memory e ≡ false → (data_rule name.now).accepted payload.now ≡ false) }
+        (λ e. is_memory e ≡ false
+        → (data_rule_under R.peer name.now).accepted payload.now ≡ false) }
 {
     names_tell_rules();
     let kind = InfoKind::from_name(alloc, name)?;
-    InfoData::parse_with_param(alloc, payload, &kind)
+    InfoData::parse_with_peers(alloc, payload, &kind, rule)
 }
 
 // Reads the data of the port kind that a name names.
@@ -172,30 +182,32 @@ fn parse_port_data(alloc: Global, name: &str, payload: &[u8]) -> Result<InfoPort
 }
 
 impl LinkInfo {
-    // Reads one attribute where these kinds are in force.
-    fn read(
+    // Reads one attribute where these kinds are in force, a peer by a rule.
+    fn read<R: PeerRule>(
         alloc: Global,
         force: InForce<'_>,
         buf: &NlaBuffer<&[u8]>,
+        rule: &R,
     ) -> Result<LinkInfo, DecodeError>
         requires { IsAttribute (storage buf.now).now }
         ensures ok { OnOk result
-            (IsTrue (is_accepted_in (in_force force.entry) (storage buf.now).now)) }
+            (IsTrue (is_accepted_in R.peer (in_force force.entry) (storage buf.now).now)) }
         ensures value { IfOk result
-            (λ v. link_info_entry v ≡ written_in (in_force force.entry) (storage buf.now).now) }
+            (λ v. link_info_entry v ≡ written_in R.peer (in_force force.entry) (storage buf.now).now) }
         ensures inside { IfOk result
-            (λ v. link_info_fits v ≡ fits_in (in_force force.entry) (storage buf.now).now) }
+            (λ v. link_info_fits v ≡ fits_in R.peer (in_force force.entry) (storage buf.now).now) }
         ensures names_row { IfOk result
             (λ v. link_info_names_row (in_force force.entry) v) }
         ensures err { IfErr result
             (λ e. is_memory e ≡ false
-            → is_accepted_in (in_force force.entry) (storage buf.now).now ≡ false) }
+            → is_accepted_in R.peer (in_force force.entry) (storage buf.now).now ≡ false) }
     {
+        port_data_have_one_rule();
         let payload = buf.value();
         match buf.kind() {
             IFLA_INFO_KIND => Ok(LinkInfo::Kind(InfoKind::parse(alloc, buf)?)),
             IFLA_INFO_DATA => match force.kind {
-                Some(name) => Ok(LinkInfo::Data(parse_data(alloc, name, payload)?)),
+                Some(name) => Ok(LinkInfo::Data(parse_data(alloc, name, payload, rule)?)),
                 None => Err(DecodeError::from("IFLA_INFO_DATA before any IFLA_INFO_KIND")),
             },
             IFLA_INFO_XSTATS => match force.kind {
@@ -215,27 +227,31 @@ impl LinkInfo {
         }
     }
 
-    // Reads link info, and may tell want of memory in front of a refusal.
-    fn read_list(alloc: Global, bytes: &[u8]) -> Result<Vec<LinkInfo>, DecodeError>
-        ensures ok { OnOk result (IsTrue (info_rule.accepted bytes.now)) }
+    // Reads link info, peers by a rule, and may tell want of memory in front of a refusal.
+    fn read_list<R: PeerRule>(
+        alloc: Global,
+        bytes: &[u8],
+        rule: &R,
+    ) -> Result<Vec<LinkInfo>, DecodeError>
+        ensures ok { OnOk result (IsTrue ((info_rule_under R.peer).accepted bytes.now)) }
         ensures read { IfOk result
-            (λ v. reading_as any info_grammar bytes.now
+            (λ v. reading_as any (info_grammar_under R.peer) bytes.now
             ≡ Some (map (written_as link_info_entry link_info_fits) v.items)) }
         ensures text { IfOk result
-            (λ v. text_by link_info_entry v.items ≡ info_rule.canonical bytes.now) }
+            (λ v. text_by link_info_entry v.items ≡ (info_rule_under R.peer).canonical bytes.now) }
         ensures fits { IfOk result
-            (λ v. all_fit_by link_info_entry link_info_fits v.items ≡ info_rule.fits bytes.now) }
+            (λ v. all_fit_by link_info_entry link_info_fits v.items ≡ (info_rule_under R.peer).fits bytes.now) }
         ensures names_row { IfOk result
-            (λ v. all_named info_grammar link_info_entry link_info_names_row nothing v.items) }
+            (λ v. all_named (info_grammar_under R.peer) link_info_entry link_info_names_row nothing v.items) }
         ensures err { IfErr result
-            (λ e. is_memory e ≡ false → info_rule.accepted bytes.now ≡ false) }
+            (λ e. is_memory e ≡ false → (info_rule_under R.peer).accepted bytes.now ≡ false) }
         ensures not_empty { IfErr result (λ _. 0 < length bytes.now) }
     {
         readings_go_by_steps();
         readings_tell_rules();
         contexts_go_by_steps();
         info_grammar_is_lawful();
-        peers_that_are_bytes_are_lawful();
+        rule.rule_is_lawful();
         let mut list = Vec::new(alloc);
         let mut force = InForce {
             kind: None,
@@ -244,12 +260,13 @@ impl LinkInfo {
         let mut rest = bytes;
         while !rest.is_empty() {
             let buf = NlaBuffer::new_checked(rest)?;
-            list.push(Self::read(alloc, force, &buf)?)?;
+            list.push(Self::read(alloc, force, &buf, rule)?)?;
             force = next_in_force(force, &buf)?;
             rest = skip_first(rest);
         }
         Ok(list)
     }
+
     /// Reads link info. It succeeds exactly where the list is legal, memory aside; a list of no
     /// bytes is never refused. It answers want of memory of legal lists alone: where a growth was
     /// refused, the rest of the list is judged without memory.
@@ -267,12 +284,38 @@ impl LinkInfo {
         ensures err { IfErr result (λ e. info_rule.accepted bytes.now ≡ is_memory e) }
         ensures not_empty { IfErr result (λ _. 0 < length bytes.now) }
     {
-        let error = match Self::read_list(alloc, bytes) {
+        Self::parse_list_with(alloc, bytes, &BytesPeer)
+    }
+
+    /// Reads link info, the peers that data of `netkit`, `veth` and `vxcan` hold by a rule, which
+    /// also says what a peer is kept as. It succeeds exactly where the list is legal under the rule,
+    /// memory aside; a list of no bytes is never refused. It answers want of memory of legal lists
+    /// alone: where a growth was refused, the rest of the list is judged without memory.
+    /// `parse_list` is this under `BytesPeer`.
+    pub fn parse_list_with<R: PeerRule>(
+        alloc: Global,
+        bytes: &[u8],
+        rule: &R,
+    ) -> Result<Vec<LinkInfo>, DecodeError>
+        ensures ok { OnOk result (IsTrue ((info_rule_under R.peer).accepted bytes.now)) }
+        ensures read { IfOk result
+            (λ v. reading_as any (info_grammar_under R.peer) bytes.now
+            ≡ Some (map (written_as link_info_entry link_info_fits) v.items)) }
+        ensures text { IfOk result
+            (λ v. text_by link_info_entry v.items ≡ (info_rule_under R.peer).canonical bytes.now) }
+        ensures fits { IfOk result
+            (λ v. all_fit_by link_info_entry link_info_fits v.items ≡ (info_rule_under R.peer).fits bytes.now) }
+        ensures names_row { IfOk result
+            (λ v. all_named (info_grammar_under R.peer) link_info_entry link_info_names_row nothing v.items) }
+        ensures err { IfErr result (λ e. (info_rule_under R.peer).accepted bytes.now ≡ is_memory e) }
+        ensures not_empty { IfErr result (λ _. 0 < length bytes.now) }
+    {
+        let error = match Self::read_list(alloc, bytes, rule) {
             Ok(list) => return Ok(list),
             Err(error) => error,
         };
         if error.is_memory() {
-            check_list(bytes)?;
+            check_list_with(bytes, rule)?;
         }
         Err(error)
     }

@@ -4,10 +4,13 @@ ghost use Rattle.link_info.specs.Laws.{LinkInfoIsLawful, KindsAreTheNames};
 
 pub use attribute_tables_grammar::laws::{
     canonical_texts_are_cut_again, old_texts_are_renewed, peers_that_are_bytes_are_lawful,
-    same_lists_leave_one_context, short_texts_fit, tables_are_lawful, texts_keep_meanings,
-    texts_tell_meanings,
+    rules_without_peers_are_one, same_lists_leave_one_context, short_texts_fit, tables_are_lawful,
+    texts_keep_meanings, texts_tell_meanings,
 };
-pub use link_info_data::laws::{names_tell_rules, port_names_tell_rules};
+pub use link_info_data::laws::{
+    data_without_peers_have_one_rule, names_tell_rules, port_data_have_one_rule,
+    port_names_tell_rules,
+};
 use link_info_grammar::laws::info_is_lawful;
 pub use link_info_grammar::laws::{
     info_grammar_is_lawful, info_is_a_payload, tables_are_listed, tables_pass,

@@ -95,8 +95,9 @@ pub struct ListMeasure {
     pub fits: bool,
 }
 
-// Whether the bytes are a list of link info over these peers, and what is found in one walk of them.
-fn measure_over<P: PeerSet>(peers: &P, bytes: &[u8]) -> Option<Measured>
+/// Whether the bytes are a list of link info over these peers, and what is found in one walk of them;
+/// for the crates that check messages.
+pub fn measure_list<P: PeerSet>(peers: &P, bytes: &[u8]) -> Option<Measured>
     ensures measure { option_map view result ≡ measure (info_rule_under P.peer) bytes.now }
     ensures own { IfSome result
         (λ m. m.is_own ≡ true → (info_rule_under P.peer).canonical bytes.now ≡ bytes.now) }
@@ -111,7 +112,7 @@ fn check_over<P: PeerSet>(peers: &P, bytes: &[u8]) -> Result<ListMeasure, Decode
     ensures err { IfErr result (λ e. is_memory e ≡ false) }
 {
     measures_tell_rules();
-    let Some(found) = measure_over(peers, bytes) else {
+    let Some(found) = measure_list(peers, bytes) else {
         return Err(DecodeError::from("not a list of link info"));
     };
     Ok(ListMeasure {
@@ -121,18 +122,18 @@ fn check_over<P: PeerSet>(peers: &P, bytes: &[u8]) -> Result<ListMeasure, Decode
     })
 }
 
-// Whether two lists of link info over these peers mean the same.
+/// Whether two lists of link info over these peers mean the same; for the crates that check messages.
 #[tactic(auto, unfolding(link_info_grammar::specs::LinkInfo::info_rule_under, link_info_grammar::specs::LinkInfo::info_grammar_under))]
-fn same_over<P: PeerSet>(peers: &P, left: &[u8], right: &[u8]) -> bool
+pub fn same_list_over<P: PeerSet>(peers: &P, left: &[u8], right: &[u8]) -> bool
     ensures { result ≡ (info_rule_under P.peer).same left.now right.now }
 {
     same_info(&InfoTables(peers), left, right)
 }
 
-// Appends the canonical text of an accepted list of link info over these peers that fits, for which
-// there has to be room.
+/// Appends the canonical text of an accepted list of link info over these peers that fits, for which
+/// there has to be room; for the crates that write messages.
 #[tactic(auto, unfolding(link_info_grammar::specs::LinkInfo::info_rule_under, link_info_grammar::specs::LinkInfo::info_grammar_under))]
-fn write_over<P: WritePeer>(peers: &P, bytes: &[u8], out: &mut Vec<u8>)
+pub fn write_list<P: WritePeer>(peers: &P, bytes: &[u8], out: &mut Vec<u8>)
     requires accepted { (info_rule_under P.peer).accepted bytes.now ≡ true }
     requires fits { (info_rule_under P.peer).fits bytes.now ≡ true }
     requires room { length out.old.items + length ((info_rule_under P.peer).canonical bytes.now)
@@ -141,16 +142,6 @@ fn write_over<P: WritePeer>(peers: &P, bytes: &[u8], out: &mut Vec<u8>)
     ensures room { vec_capacity out.old ≤ vec_capacity out.new }
 {
     write_info(&InfoTables(peers), bytes, out);
-}
-
-/// Whether the bytes are a list of link info, and what is found in one walk of them; for the crates
-/// that check messages.
-pub fn measure_list(bytes: &[u8]) -> Option<Measured>
-    ensures measure { option_map view result ≡ measure info_rule bytes.now }
-    ensures own { IfSome result
-        (λ m. m.is_own ≡ true → info_rule.canonical bytes.now ≡ bytes.now) }
-{
-    measure_over(&BytesPeer, bytes)
 }
 
 /// Whether the bytes of IFLA_LINKINFO are a list of link info, and what it is written as. It takes
@@ -180,7 +171,7 @@ pub fn check_list_with<R: PeerRule>(bytes: &[u8], rule: &R) -> Result<ListMeasur
 pub fn same_list(left: &[u8], right: &[u8]) -> bool
     ensures { result ≡ info_rule.same left.now right.now }
 {
-    same_over(&BytesPeer, left, right)
+    same_list_over(&BytesPeer, left, right)
 }
 
 /// Whether two lists of link info mean the same, their peers by a rule. It takes no memory, and
@@ -189,18 +180,5 @@ pub fn same_list(left: &[u8], right: &[u8]) -> bool
 pub fn same_list_with<R: PeerRule>(left: &[u8], right: &[u8], rule: &R) -> bool
     ensures { result ≡ (info_rule_under R.peer).same left.now right.now }
 {
-    same_over(&Ruled(rule), left, right)
-}
-
-/// Appends the canonical text of an accepted list of link info that fits, for which there has to be
-/// room; for the crates that write messages.
-pub fn write_list(bytes: &[u8], out: &mut Vec<u8>)
-    requires accepted { info_rule.accepted bytes.now ≡ true }
-    requires fits { info_rule.fits bytes.now ≡ true }
-    requires room { length out.old.items + length (info_rule.canonical bytes.now)
-        ≤ vec_capacity out.old }
-    ensures text { out.new.items ≡ out.old.items ++ info_rule.canonical bytes.now }
-    ensures room { vec_capacity out.old ≤ vec_capacity out.new }
-{
-    write_over(&BytesPeer, bytes, out);
+    same_list_over(&Ruled(rule), left, right)
 }

@@ -5,7 +5,9 @@ mod data;
 mod info;
 mod rows;
 
+pub use attribute_checks::{BytesPeer, PeerSet, Ruled};
 pub use data::{accepts_data, accepts_port_data};
 pub use info::{
-    ListMeasure, check_list, check_list_with, measure_list, same_list, same_list_with, write_list,
+    ListMeasure, check_list, check_list_with, measure_list, same_list, same_list_over,
+    same_list_with, write_list,
 };

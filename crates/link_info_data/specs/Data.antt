@@ -1,5 +1,5 @@
 -- The data of a kind of links: the rule of each kind, and what each value is written as.
-use Rattle.std.specs.Prelude.{◌≡◌, ℕ, Bool, true, ⊤, List, Option, None}
+use Rattle.std.specs.Prelude.{◌≡◌, ℕ, Bool, true, false, ⊤, List, Option, None}
 use Rattle.std.specs.Option.{is_none}
 use Rattle.std.specs.List.{All}
 use Rattle.netlink_packet_core.specs.Attributes.{Attribute, attribute_text}
@@ -48,6 +48,13 @@ data_rule_of_under p k = rule_or_raw p (data_payload_of k)
 
 abbrev pub data_rule_of : InfoKind → Rule
 data_rule_of = data_rule_of_under bytes_peer
+
+-- the kinds whose data hold peers
+abbrev pub has_peers : InfoKind → Bool
+has_peers Kind.Netkit = true
+has_peers Kind.Veth = true
+has_peers Kind.Vxcan = true
+has_peers _ = false
 
 abbrev pub keeps_bytes : InfoKind → Bool
 keeps_bytes k = is_none (data_payload_of k)

@@ -3,18 +3,19 @@
 ghost use Rattle.std.specs.Prelude.{◌≡◌, ◌<◌, false, true, length, IsTrue, IfOk, IfErr, OnOk};
 ghost use Rattle.netlink_packet_core.specs.Errors.{is_memory};
 ghost use Rattle.link_info_data.specs.Data.{info_data_entry, info_data_fits, info_data_payload, info_data_names_row};
-ghost use Rattle.link_info_data.specs.Data.{data_rule_of};
+ghost use Rattle.link_info_data.specs.Data.{data_rule_of, data_rule_of_under};
 
 use super::bytes::parse_bytes;
-use super::laws::names_tell_rules;
+use super::laws::{data_without_peers_have_one_rule, names_tell_rules};
+use attribute_checks::PeerRule;
 use attribute_tables::{parse_family, parse_first};
-use link_info_checks::accepts_data;
+use link_info_checks::{BytesPeer, PeerSet, Ruled, accepts_data};
 use link_info_devices::{
     InfoBatAdv, InfoIpVlan, InfoIpVtap, InfoIpoib, InfoRmNet, InfoVrf, InfoWwan,
 };
 use link_info_kinds::InfoKind;
 use link_info_overlays::{InfoAmt, InfoGeneve, InfoGtp, InfoVxlan};
-use link_info_pairs::{InfoNetkit, InfoVeth, InfoVxcan};
+use link_info_pairs::{InfoNetkit, InfoVeth, InfoVxcan, parse_netkit_with, parse_pair_with};
 use link_info_raw::{
     InfoBond, InfoBridge, InfoCan, InfoDsa, InfoHsr, InfoTun, InfoVlan, InfoWireguard,
 };
@@ -26,6 +27,9 @@ use netlink_packet_core::{DecodeError, Nla, emit_all, fits_all, len_all};
 use std::alloc::Global;
 
 const IFLA_INFO_DATA: u16 = 2;
+
+/// The refusal of data that aren't accepted.
+const NO_DATA: &str = "no data of their kind";
 
 /// The data of a kind of links: a list of the kind's attributes, or bytes.
 #[derive(Debug, PartialEq, Eq, Drop)]
@@ -114,14 +118,14 @@ macro_rules! data {
     };
 }
 
-// Whether the data of a kind are accepted. It takes no memory.
-fn accepts(kind: &InfoKind, payload: &[u8]) -> bool
-    ensures { result ≡ (data_rule_of kind.now).accepted payload.now }
+// Whether the data of a kind are accepted over these peers. It takes no memory.
+fn accepts<P: PeerSet>(peers: &P, kind: &InfoKind, payload: &[u8]) -> bool
+    ensures { result ≡ (data_rule_of_under P.peer kind.now).accepted payload.now }
 {
     names_tell_rules();
     match kind {
         InfoKind::Other(_) => true,
-        _ => accepts_data(kind.as_str().as_bytes(), payload),
+        _ => accepts_data(peers, kind.as_str().as_bytes(), payload),
     }
 }
 
@@ -214,8 +218,69 @@ impl InfoData {
             Ok(data) => return Ok(data),
             Err(error) => error,
         };
-        if error.is_memory() && !accepts(kind, payload) {
-            return Err(DecodeError::from("no data of their kind"));
+        if error.is_memory() && !accepts(&BytesPeer, kind, payload) {
+            return Err(DecodeError::from(NO_DATA));
+        }
+        Err(error)
+    }
+
+    // Reads the data of a kind, peers by a rule, and may tell want of memory in front of a refusal.
+    fn read_with<R: PeerRule>(
+        alloc: Global,
+        payload: &[u8],
+        kind: &InfoKind,
+        rule: &R,
+    ) -> Result<InfoData, DecodeError>
+        ensures ok { OnOk result
+            (IsTrue ((data_rule_of_under R.peer kind.now).accepted payload.now)) }
+        ensures text { IfOk result
+            (λ d. info_data_payload d ≡ (data_rule_of_under R.peer kind.now).canonical payload.now) }
+        ensures fits { IfOk result
+            (λ d. info_data_fits d ≡ (data_rule_of_under R.peer kind.now).fits payload.now) }
+        ensures names_row { IfOk result (λ d. info_data_names_row kind.now d) }
+        ensures err { IfErr result
+            (λ e. is_memory e ≡ false
+            → (data_rule_of_under R.peer kind.now).accepted payload.now ≡ false) }
+        ensures not_empty { IfErr result (λ e. is_memory e ≡ true → 0 < length payload.now) }
+    {
+        match kind {
+            InfoKind::Netkit => data!(Netkit, parse_netkit_with(alloc, payload, rule)),
+            InfoKind::Veth => data!(Veth, parse_pair_with(alloc, payload, rule)),
+            InfoKind::Vxcan => data!(Vxcan, parse_pair_with(alloc, payload, rule)),
+            _ => {
+                data_without_peers_have_one_rule();
+                Self::read(alloc, payload, kind)
+            }
+        }
+    }
+
+    /// Reads the data of a kind, peers by a rule: a value of a peer holds its canonical payload. It
+    /// succeeds exactly where the kind's table accepts them under that rule, memory aside, and
+    /// answers want of memory of accepted data alone. `parse_with_param` is this where peers are
+    /// bytes.
+    pub fn parse_with_peers<R: PeerRule>(
+        alloc: Global,
+        payload: &[u8],
+        kind: &InfoKind,
+        rule: &R,
+    ) -> Result<InfoData, DecodeError>
+        ensures ok { OnOk result
+            (IsTrue ((data_rule_of_under R.peer kind.now).accepted payload.now)) }
+        ensures text { IfOk result
+            (λ d. info_data_payload d ≡ (data_rule_of_under R.peer kind.now).canonical payload.now) }
+        ensures fits { IfOk result
+            (λ d. info_data_fits d ≡ (data_rule_of_under R.peer kind.now).fits payload.now) }
+        ensures names_row { IfOk result (λ d. info_data_names_row kind.now d) }
+        ensures err { IfErr result
+            (λ e. (data_rule_of_under R.peer kind.now).accepted payload.now ≡ is_memory e) }
+        ensures not_empty { IfErr result (λ e. is_memory e ≡ true → 0 < length payload.now) }
+    {
+        let error = match Self::read_with(alloc, payload, kind, rule) {
+            Ok(data) => return Ok(data),
+            Err(error) => error,
+        };
+        if error.is_memory() && !accepts(&Ruled(rule), kind, payload) {
+            return Err(DecodeError::from(NO_DATA));
         }
         Err(error)
     }

@@ -8,7 +8,7 @@ ghost use Rattle.link_info_data.specs.PortData.{info_port_data_names_row, port_d
 use super::bytes::parse_bytes;
 use super::laws::port_names_tell_rules;
 use attribute_tables::parse_family;
-use link_info_checks::accepts_port_data;
+use link_info_checks::{BytesPeer, accepts_port_data};
 use link_info_devices::InfoVrf;
 use link_info_kinds::InfoPortKind;
 use link_info_raw::{InfoBondPort, InfoBridgePort, InfoTeamPort};
@@ -42,7 +42,7 @@ fn accepts(kind: &InfoPortKind, payload: &[u8]) -> bool
     port_names_tell_rules();
     match kind {
         InfoPortKind::Other(_) => true,
-        _ => accepts_port_data(kind.as_str().as_bytes(), payload),
+        _ => accepts_port_data(&BytesPeer, kind.as_str().as_bytes(), payload),
     }
 }
 

@@ -1,1 +1,2 @@
 pub mod Scrubs
+pub mod Begins

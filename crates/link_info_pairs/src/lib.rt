@@ -4,7 +4,9 @@
 pub mod laws;
 mod netkit;
 mod peer;
+mod peers;
 mod veth;
 
 pub use netkit::InfoNetkit;
+pub use peers::{parse_netkit_with, parse_pair_with};
 pub use veth::{InfoVeth, InfoVxcan, PairData};

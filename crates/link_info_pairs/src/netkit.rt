@@ -38,7 +38,7 @@ const IFLA_NETKIT_TAILROOM: u16 = 9;
 #[derive(Debug, PartialEq, Eq, Drop)]
 pub enum InfoNetkit {
     /// `IFLA_NETKIT_PEER_INFO`: the other end, a link message with its header of 16 bytes. The bytes
-    /// are kept as they are.
+    /// are kept as they are; `parse_netkit_with` keeps what its rule writes them as.
     Peer(Vec<u8>),
     /// `IFLA_NETKIT_PRIMARY`: whether this end is the one that programs are attached by; 1 byte,
     /// zero or not.

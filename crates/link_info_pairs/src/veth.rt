@@ -16,7 +16,7 @@ const VETH_INFO_PEER: u16 = 1;
 #[derive(Debug, PartialEq, Eq, Drop)]
 pub enum PairData<const KIND: u16> {
     /// `VETH_INFO_PEER` or `VXCAN_INFO_PEER`: the other end, a link message with its header of 16
-    /// bytes. The bytes are kept as they are.
+    /// bytes. The bytes are kept as they are; `parse_pair_with` keeps what its rule writes them as.
     Peer(Vec<u8>),
     /// Any other kind, kept as it is.
     Other(DefaultNla),

@@ -6,11 +6,9 @@ use Rattle.netlink_packet_core_grammar.specs.Attributes.{nla_align, zeros}
 use Rattle.netlink_packet_core_grammar.specs.Bytes.{AreBytes}
 use Rattle.netlink_packet_core_grammar.specs.Frames.{frame_length, frame_type, frame_body, frame_text}
 use Rattle.netlink_packet_core_grammar.specs.Numbers.{u16_at, u32_at, le4}
-use Rattle.attribute_tables_grammar.specs.Laws.{BytesAreLawful}
-use Rattle.attribute_tables_grammar.specs.Peers.{bytes_peer}
 use Rattle.attribute_tables_grammar.specs.Rules.{Rule, Lawful}
-use Rattle.link_message_grammar.specs.Body.{link_body}
-use Rattle.link_message_grammar.specs.Laws.{BodiesAreLawful}
+use Rattle.link_message_grammar.specs.Body.{link_body, link_peer}
+use Rattle.link_message_grammar.specs.Laws.{BodiesAreLawful, LinkPeerIsLawful}
 use Rattle.link_capture_grammar.specs.declared.fault.FaultKind.{FaultKind}
 use Rattle.link_capture_grammar.specs.Bodies.{Refusal, refused, empty_ports, unfit, error_text, done_text, ruled_text, body_text, body_text_under, is_link_type}
 use Rattle.link_capture_grammar.specs.Captures.{Judged, first_frame, next_texts, texts_after, texts_after_under, texts}
@@ -62,8 +60,8 @@ body_bytes : Lawful link_body → (t : ℕ) (b text : List ℕ) → AreBytes b �
 unfolding body_text_under
 body_bytes l t b text h e = typed_bytes l b text (nat_eq t 1) (nat_eq t 2) (nat_eq t 3) (is_link_type t) h e
 
-link_lawful : BodiesAreLawful → BytesAreLawful → Lawful link_body
-link_lawful lawful peers = lawful bytes_peer peers
+link_lawful : BodiesAreLawful → LinkPeerIsLawful → Lawful link_body
+link_lawful lawful peers = lawful link_peer peers
 
 -- ---- a frame's bytes without their padding
 
@@ -253,7 +251,7 @@ module _ (judged : FramesAreJudged link_body) (counted : CapturesAreCounted link
     told_within zero s t h p q e = absurd (omega (arith, h))
     told_within (suc n) s t h p q e = from_front n s t (told_within n) h (first_of limit s l p) (first_of limit t l q) e
 
-pub captures_told : FramesAreTold → FramesAreJudged link_body → CapturesAreCounted link_body → FramesStandAlone link_body → BodiesAreNormal link_body → BodiesAreLawful → BytesAreLawful → LinesTellTexts
+pub captures_told : FramesAreTold → FramesAreJudged link_body → CapturesAreCounted link_body → FramesStandAlone link_body → BodiesAreNormal link_body → BodiesAreLawful → LinkPeerIsLawful → LinesTellTexts
 captures_told tell judged counted alone normal lawful peers limit s t l p q =
     (told_within judged counted alone normal (link_lawful lawful peers) tell limit l (suc (length s)) s t (omega arith) p q, λ e. ap (λ z. text_lines z) e)
 

@@ -6,8 +6,7 @@ use Rattle.std.proofs.lemmas.Bool.Decides.{eqb_tells}
 use Rattle.std.proofs.lemmas.List.{append_cancel_left, drop_at, length-append, length-take, take-append-drop}
 use Rattle.netlink_packet_core_grammar.specs.Bytes.{AreBytes}
 use Rattle.netlink_packet_core_grammar.specs.Numbers.{u16_at}
-use Rattle.attribute_tables_grammar.specs.Peers.{bytes_peer}
-use Rattle.link_message_grammar.specs.Body.{attributes_rule, header_text, layer_type_text, is_listed, link_body, family}
+use Rattle.link_message_grammar.specs.Body.{attributes_rule, header_text, layer_type_text, is_listed, link_body, link_peer, family}
 use Rattle.link_message_grammar.specs.LinkMessage.{family_of}
 use Rattle.link_message_grammar.specs.Laws.{BodiesAreHeadersAndAttributes}
 use Rattle.link_capture_grammar.specs.Bodies.{error_text, done_text, refused, empty_ports, unfit, is_link_type, body_text, body_text_under, ruled_text}
@@ -96,7 +95,7 @@ second_is (x ∷ y ∷ u ∷ v ∷ b) p l e = sym (ap (λ l. get_or l 1 0) e)
 second_is b p l e = absurd (omega arith)
 
 -- a link's body that is its own text has a header that is, and attributes that are
-own_link : BodiesAreHeadersAndAttributes bytes_peer → (b : List ℕ) → AreBytes b → ruled_text link_body b ≡ Ok b → IsOwnLink b
+own_link : BodiesAreHeadersAndAttributes link_peer → (b : List ℕ) → AreBytes b → ruled_text link_body b ≡ Ok b → IsOwnLink b
 own_link h b a e =
     let parts = h b in
     let rule = attributes_rule (family b) in
@@ -137,7 +136,7 @@ pub record Premises : Type 0 where
   pub digits : DigitsAreTold
   pub bytes : BytesAreTold
   pub numbers : NumbersAreTold
-  pub parts : BodiesAreHeadersAndAttributes bytes_peer
+  pub parts : BodiesAreHeadersAndAttributes link_peer
 
 abbrev BodiesOfTypeAreTold : ℕ → Type 0
 BodiesOfTypeAreTold n = (p q s t : List ℕ) → AreBytes p → AreBytes q → body_text n p ≡ Ok p → body_text n q ≡ Ok q → StartsFrame s → StartsFrame t →

@@ -8,7 +8,8 @@ use Rattle.netlink_packet_core_grammar.specs.Attributes.{proper_kind}
 use Rattle.attribute_tables_grammar.specs.Rules.{Rule, shape_rule}
 use Rattle.attribute_tables_grammar.specs.Shapes.{Shape, never, raw, text}
 use Rattle.attribute_tables_grammar.specs.Lists.{Context, ListForm, Row, without_context}
-use Rattle.attribute_tables_grammar.specs.Peers.{bytes_peer, peer_rule}
+use Rattle.attribute_tables_grammar.specs.Peers.{peer_rule}
+use Rattle.link_message_grammar.specs.Body.{link_peer}
 use Rattle.attribute_tables_grammar.specs.Tables.{Payload, Table, Names, info_next, info_row, lacks_name, named, names_grammar, row_in, row_in_force, rule}
 use Rattle.link_lines_values.specs.declared.values.Shown.{Shown}
 use Rattle.link_lines_values.specs.declared.values.Shown.TheVariants as V
@@ -36,10 +37,10 @@ TitleTold r (Some i) = InsideTold r i
 pub plain_told : ShapesAreTold → (s : Shape) (v : Shown) → shape_tells s v ≡ true → InsideTold (shape_rule s) (Value v)
 plain_told shapes s v h level p q x y o u sx sy same below = (shapes s v p q h o u same, below)
 
-own_bytes : (p : List ℕ) → IsOwn (peer_rule bytes_peer) p → IsOwn (shape_rule raw) p
+own_bytes : (p : List ℕ) → IsOwn (peer_rule link_peer) p → IsOwn (shape_rule raw) p
 own_bytes p o = record { bytes = o.bytes; accepted = refl; canonical = refl }
 
-peer_told : ShapesAreTold → (v : Shown) → shape_tells raw v ≡ true → InsideTold (peer_rule bytes_peer) (Value v)
+peer_told : ShapesAreTold → (v : Shown) → shape_tells raw v ≡ true → InsideTold (peer_rule link_peer) (Value v)
 peer_told shapes v h level p q x y o u sx sy same below = (shapes raw v p q h (own_bytes p o) (own_bytes q u) same, below)
 
 bytes_told : ShapesAreTold → InsideTold (shape_rule raw) (Value V.Bytes)
@@ -74,20 +75,20 @@ known_alone (Payload.link_info form d ports) c i h = absurd cc
 
 -- a row that is looked up, told under a name
 abbrev RowTold : Table → ℕ → Title → Type 0
-RowTold table k t = ((row_in bytes_peer table k).is_typed ≡ true) × ((c : Context) → InsideTold (row_in bytes_peer table k).rule (known_inside c t.4))
+RowTold table k t = ((row_in link_peer table k).is_typed ≡ true) × ((c : Context) → InsideTold (row_in link_peer table k).rule (known_inside c t.4))
 
-first_row : (m k l : ℕ) (nested : Bool) (s : Payload) (table : Table) (t : Title) → (k == l) ≡ true → (i : holds_shown s (inside_of (title_of m l)) ≡ true) → (holds_shown s (Some t.4) ≡ true → InsideTold (rule bytes_peer s) t.4) →
-    title_of m k ≡ Some t → (c : Context) → InsideTold (rule bytes_peer s) (known_inside c t.4)
+first_row : (m k l : ℕ) (nested : Bool) (s : Payload) (table : Table) (t : Title) → (k == l) ≡ true → (i : holds_shown s (inside_of (title_of m l)) ≡ true) → (holds_shown s (Some t.4) ≡ true → InsideTold (rule link_peer s) t.4) →
+    title_of m k ≡ Some t → (c : Context) → InsideTold (rule link_peer s) (known_inside c t.4)
 first_row m k l nested s table t h i told e c =
     let held : holds_shown s (Some t.4) ≡ true = ap (λ z. holds_shown s (inside_of z)) (sym e) ∙ ap (λ z. holds_shown s (inside_of (title_of m z))) (eqb-true k l h) ∙ i in
-    subst (InsideTold (rule bytes_peer s)) (sym (known_alone s c t.4 held)) (told held)
+    subst (InsideTold (rule link_peer s)) (sym (known_alone s c t.4 held)) (told held)
 
 abbrev chosen : Bool → Bool → Payload → Row → Row
-chosen b nested s other = elim b [ true ↦ record { is_typed = true; is_nested = nested; rule = rule bytes_peer s } | false ↦ other ]
+chosen b nested s other = elim b [ true ↦ record { is_typed = true; is_nested = nested; rule = rule link_peer s } | false ↦ other ]
 
-row_by : (m k l : ℕ) (nested : Bool) (s : Payload) (table : Table) (t : Title) (b : Bool) → (k == l) ≡ b → holds_shown s (inside_of (title_of m l)) ≡ true → (holds_shown s (Some t.4) ≡ true → InsideTold (rule bytes_peer s) t.4) →
+row_by : (m k l : ℕ) (nested : Bool) (s : Payload) (table : Table) (t : Title) (b : Bool) → (k == l) ≡ b → holds_shown s (inside_of (title_of m l)) ≡ true → (holds_shown s (Some t.4) ≡ true → InsideTold (rule link_peer s) t.4) →
     (has_row table k ≡ true → RowTold table k t) → title_of m k ≡ Some t → (b || has_row table k) ≡ true →
-    ((chosen b nested s (row_in bytes_peer table k)).is_typed ≡ true) × ((c : Context) → InsideTold (chosen b nested s (row_in bytes_peer table k)).rule (known_inside c t.4))
+    ((chosen b nested s (row_in link_peer table k)).is_typed ≡ true) × ((c : Context) → InsideTold (chosen b nested s (row_in link_peer table k)).rule (known_inside c t.4))
 row_by m k l nested s table t true h i told more e r = (refl, first_row m k l nested s table t h i told e)
 row_by m k l nested s table t false h i told more e r = more r
 
@@ -95,19 +96,19 @@ row_by m k l nested s table t false h i told more e r = more r
 
 -- the data under a name
 abbrev NameTold : Names → List KindTable → List ℕ → Type 0
-NameTold ns kinds n = InsideTold (named bytes_peer ns n) (of_table (table_named n kinds))
+NameTold ns kinds n = InsideTold (named link_peer ns n) (of_table (table_named n kinds))
 
-name_by : (n m : List ℕ) (s : Payload) (ns : Names) (kinds : List KindTable) (b : Bool) → bytes_eq n m ≡ b → InsideTold (rule bytes_peer s) (of_table (table_named m kinds)) → (lacks_name n ns ≡ false → NameTold ns kinds n) →
-    (not b && lacks_name n ns) ≡ false → InsideTold (elim b [ true ↦ rule bytes_peer s | false ↦ named bytes_peer ns n ]) (of_table (table_named n kinds))
-name_by n m s ns kinds true h told more l = subst (λ z. InsideTold (rule bytes_peer s) (of_table (table_named z kinds))) (sym ((bytes_eq-Decides n m).0 h)) told
+name_by : (n m : List ℕ) (s : Payload) (ns : Names) (kinds : List KindTable) (b : Bool) → bytes_eq n m ≡ b → InsideTold (rule link_peer s) (of_table (table_named m kinds)) → (lacks_name n ns ≡ false → NameTold ns kinds n) →
+    (not b && lacks_name n ns) ≡ false → InsideTold (elim b [ true ↦ rule link_peer s | false ↦ named link_peer ns n ]) (of_table (table_named n kinds))
+name_by n m s ns kinds true h told more l = subst (λ z. InsideTold (rule link_peer s) (of_table (table_named z kinds))) (sym ((bytes_eq-Decides n m).0 h)) told
 name_by n m s ns kinds false h told more l = more l
 
-other_by : (n m : List ℕ) (s : Payload) (ns : Names) (b : Bool) → (lacks_name n ns ≡ true → named bytes_peer ns n ≡ shape_rule raw) → (not b && lacks_name n ns) ≡ true → (elim b [ true ↦ rule bytes_peer s | false ↦ named bytes_peer ns n ]) ≡ shape_rule raw
+other_by : (n m : List ℕ) (s : Payload) (ns : Names) (b : Bool) → (lacks_name n ns ≡ true → named link_peer ns n ≡ shape_rule raw) → (not b && lacks_name n ns) ≡ true → (elim b [ true ↦ rule link_peer s | false ↦ named link_peer ns n ]) ≡ shape_rule raw
 other_by n m s ns true more l = absurd cc
 other_by n m s ns false more l = more l
 
 -- a name without a payload holds bytes
-other_name : (ns : Names) (n : List ℕ) → lacks_name n ns ≡ true → named bytes_peer ns n ≡ shape_rule raw
+other_name : (ns : Names) (n : List ℕ) → lacks_name n ns ≡ true → named link_peer ns n ≡ shape_rule raw
 other_name Names.others n l = refl
 other_name (Names.name m s ns) n l = other_by n m s ns (bytes_eq n m) (other_name ns n) l
 
@@ -134,7 +135,7 @@ any_name_by shapes kinds ns n true l h told =
 abbrev AllNamesTold : Names → List KindTable → Type 0
 AllNamesTold ns kinds = (n : List ℕ) → NameTold ns kinds n
 
-force_told : (ns : Names) (kinds : List KindTable) (o : Option (List ℕ)) → AllNamesTold ns kinds → InsideTold (row_in_force o (named bytes_peer ns)).rule (of_name o kinds)
+force_told : (ns : Names) (kinds : List KindTable) (o : Option (List ℕ)) → AllNamesTold ns kinds → InsideTold (row_in_force o (named link_peer ns)).rule (of_name o kinds)
 force_told ns kinds None told = never_told (Value V.Bytes)
 force_told ns kinds (Some n) told = told n
 
@@ -166,19 +167,19 @@ info_kind k t l e =
 
 module _ (shapes : ShapesAreTold) (data' ports : Names) (data_told : AllNamesTold data' KINDS) (ports_told : AllNamesTold ports PORT_KINDS) where
   abbrev info : Context → ℕ → Row
-  info c k = info_row (named bytes_peer data') (named bytes_peer ports) c k
+  info c k = info_row (named link_peer data') (named link_peer ports) c k
 
   info_told : (c : Context) (k : ℕ) → 1 ≤ k → k ≤ 5 → ((info c k).is_typed ≡ true) × KnownTold (info c k).rule c (inside_of (title_of 5 k))
   unfolding title_of data_inside port_inside
   info_told c zero h l = absurd (omega arith)
   info_told c (suc zero) h l = (refl, plain_told shapes text V.Text refl)
-  info_told c (suc (suc zero)) h l = (force_typed c.kind (named bytes_peer data'), force_told data' KINDS c.kind data_told)
+  info_told c (suc (suc zero)) h l = (force_typed c.kind (named link_peer data'), force_told data' KINDS c.kind data_told)
   info_told c (suc (suc (suc zero))) h l = (force_typed c.kind (λ n. shape_rule raw), force_raw shapes c.kind)
   info_told c (suc (suc (suc (suc zero)))) h l = (refl, plain_told shapes text V.Text refl)
-  info_told c (suc (suc (suc (suc (suc zero))))) h l = (force_typed c.port_kind (named bytes_peer ports), force_told ports PORT_KINDS c.port_kind ports_told)
+  info_told c (suc (suc (suc (suc (suc zero))))) h l = (force_typed c.port_kind (named link_peer ports), force_told ports PORT_KINDS c.port_kind ports_told)
   info_told c (suc (suc (suc (suc (suc (suc k)))))) h l = absurd (omega arith)
 
-  info_rows : RowsTold (names_grammar (named bytes_peer data') (named bytes_peer ports)) 5
+  info_rows : RowsTold (names_grammar (named link_peer data') (named link_peer ports)) 5
   info_rows = record {
     titled = λ c k t l e.
         let b = info_kind k t l e in
@@ -189,7 +190,7 @@ module _ (shapes : ShapesAreTold) (data' ports : Names) (data_told : AllNamesTol
 
 -- ---- tables
 
-table_rows : (m : ℕ) (table : Table) → (m == 5) ≡ false → all_titles (is_in m table) TITLES ≡ true → ((k : ℕ) (t : Title) → title_of m k ≡ Some t → has_row table k ≡ true → RowTold table k t) → RowsTold (without_context (row_in bytes_peer table)) m
+table_rows : (m : ℕ) (table : Table) → (m == 5) ≡ false → all_titles (is_in m table) TITLES ≡ true → ((k : ℕ) (t : Title) → title_of m k ≡ Some t → has_row table k ≡ true → RowTold table k t) → RowsTold (without_context (row_in link_peer table)) m
 table_rows m table five a rows = record {
   titled = λ c k t l e. let r = rows k t e (row_is_there m k table t a l e) in (r.0, r.1 c);
   next = λ c e. sym (ap (λ b. cond b (info_next c (proper_kind e.kind) e.payload) c) five);
@@ -201,15 +202,15 @@ pub record TableLaws : Type 0 where
 
 module _ (laws : TableLaws) where
   list_told : (form : ListForm) (table : Table) (n : ℕ) → (not (n == 5) && (all_titles (is_in n table) TITLES && rows_shown n table)) ≡ true →
-      (rows_shown n table ≡ true → (k : ℕ) (t : Title) → title_of n k ≡ Some t → has_row table k ≡ true → RowTold table k t) → InsideTold (rule bytes_peer (Payload.list form table)) (Nested n)
+      (rows_shown n table ≡ true → (k : ℕ) (t : Title) → title_of n k ≡ Some t → has_row table k ≡ true → RowTold table k t) → InsideTold (rule link_peer (Payload.list form table)) (Nested n)
   list_told form table n h rows =
       let parts = and_parts (not (n == 5)) (all_titles (is_in n table) TITLES && rows_shown n table) h in
       let more = and_parts (all_titles (is_in n table) TITLES) (rows_shown n table) parts.1 in
-      nested_told (rule bytes_peer (Payload.list form table)) n (lists_told laws.lists form (without_context (row_in bytes_peer table)) n (names_told n) (table_rows n table (not-true (n == 5) parts.0) more.0 (rows more.1)))
+      nested_told (rule link_peer (Payload.list form table)) n (lists_told laws.lists form (without_context (row_in link_peer table)) n (names_told n) (table_rows n table (not-true (n == 5) parts.0) more.0 (rows more.1)))
 
   info_list_told : (form : ListForm) (data' ports : Names) (n : ℕ) → ((n == 5) && ((names_shown data' KINDS && kinds_listed KINDS data') && (names_shown ports PORT_KINDS && kinds_listed PORT_KINDS ports))) ≡ true →
       (names_shown data' KINDS ≡ true → (m : List ℕ) → lacks_name m data' ≡ false → NameTold data' KINDS m) → (names_shown ports PORT_KINDS ≡ true → (m : List ℕ) → lacks_name m ports ≡ false → NameTold ports PORT_KINDS m) →
-      InsideTold (rule bytes_peer (Payload.link_info form data' ports)) (Nested n)
+      InsideTold (rule link_peer (Payload.link_info form data' ports)) (Nested n)
   info_list_told form data' ports n h data_told ports_told =
       let parts = and_parts (n == 5) _ h in
       let both = and_parts (names_shown data' KINDS && kinds_listed KINDS data') (names_shown ports PORT_KINDS && kinds_listed PORT_KINDS ports) parts.1 in
@@ -217,11 +218,11 @@ module _ (laws : TableLaws) where
       let second = and_parts (names_shown ports PORT_KINDS) (kinds_listed PORT_KINDS ports) both.1 in
       let data_all : AllNamesTold data' KINDS = λ m. any_name_by laws.shapes KINDS data' m (lacks_name m data') refl first.1 (data_told first.0 m) in
       let ports_all : AllNamesTold ports PORT_KINDS = λ m. any_name_by laws.shapes PORT_KINDS ports m (lacks_name m ports) refl second.1 (ports_told second.0 m) in
-      let told = lists_told laws.lists form (names_grammar (named bytes_peer data') (named bytes_peer ports)) 5 (names_told 5) (info_rows laws.shapes data' ports data_all ports_all) in
-      subst (λ k. InsideTold (rule bytes_peer (Payload.link_info form data' ports)) (Nested k)) (sym (eqb-true n 5 parts.0)) (nested_told (rule bytes_peer (Payload.link_info form data' ports)) 5 told)
+      let told = lists_told laws.lists form (names_grammar (named link_peer data') (named link_peer ports)) 5 (names_told 5) (info_rows laws.shapes data' ports data_all ports_all) in
+      subst (λ k. InsideTold (rule link_peer (Payload.link_info form data' ports)) (Nested k)) (sym (eqb-true n 5 parts.0)) (nested_told (rule link_peer (Payload.link_info form data' ports)) 5 told)
 
   mutual
-    pub payload_told : (s : Payload) (i : Inside) → holds_shown s (Some i) ≡ true → InsideTold (rule bytes_peer s) i
+    pub payload_told : (s : Payload) (i : Inside) → holds_shown s (Some i) ≡ true → InsideTold (rule link_peer s) i
     payload_told (Payload.plain s) (Value v) h = plain_told laws.shapes s v h
     payload_told Payload.peer (Value v) h = peer_told laws.shapes v h
     payload_told (Payload.list form table) (Nested n) h = list_told form table n h (rows_told n table)

@@ -5,7 +5,6 @@ ghost use Rattle.link_lines_texts.specs.Laws.{LinesTellMeanings, LinesTellTexts}
 ghost use Rattle.link_lines_texts.specs.Laws.{ListsGoBySteps, RowsAreTold};
 ghost use Rattle.link_lines_texts.specs.Telling.{FramesAreTold, ListsAreTold, ShapesAreTold};
 
-use attribute_tables_grammar::laws::peers_that_are_bytes_are_lawful;
 use link_capture_grammar::laws::{
     bodies_are_normal, captures_are_counted, frames_are_judged, frames_stand_alone,
     texts_tell_meanings,
@@ -14,7 +13,9 @@ use link_lines_values::laws::{
     address_sizes_are_told, addresses_are_told, bytes_are_told, digits_are_told, numbers_are_told,
     records_are_told, settings_are_told, values_stand_on_a_line,
 };
-use link_message_grammar::laws::{bodies_are_headers_and_attributes, bodies_are_lawful};
+use link_message_grammar::laws::{
+    bodies_are_headers_and_attributes, bodies_are_lawful, link_peer_is_lawful,
+};
 use netlink_packet_core_grammar::laws::{
     first_attributes_are_within, texts_are_cut_again, written_attributes_come_first,
 };
@@ -101,7 +102,7 @@ pub fn lines_tell_texts()
     frames_are_judged();
     frames_are_told();
     frames_stand_alone();
-    peers_that_are_bytes_are_lawful();
+    link_peer_is_lawful();
 }
 
 /// So two legal captures have the same lines exactly where they mean the same.

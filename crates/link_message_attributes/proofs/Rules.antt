@@ -5,12 +5,11 @@ use Rattle.netlink_packet_core_grammar.specs.Attributes as Attributes
 use Rattle.attribute_tables_grammar.specs.Lists.{any}
 use Rattle.attribute_tables_grammar.specs.LookUps as LookUps
 use Rattle.attribute_tables_grammar.specs.LookUps.{rows_rule}
-use Rattle.attribute_tables_grammar.specs.Peers.{bytes_peer}
-use Rattle.link_message_grammar.specs.Body.{attribute_row, attributes_rule, info_payload_rule}
+use Rattle.link_message_grammar.specs.Body.{attribute_row, attributes_rule, info_payload_rule, link_peer}
 use Rattle.link_message_grammar.specs.Laws.{AttributesAreLookedUp}
 use Rattle.link_message_grammar.specs.LinkMessage.{Family}
 
-pub attributes-rule : AttributesAreLookedUp bytes_peer → (f : Family) → attributes_rule f ≡ rows_rule any (attribute_row f)
+pub attributes-rule : AttributesAreLookedUp link_peer → (f : Family) → attributes_rule f ≡ rows_rule any (attribute_row f)
 attributes-rule law = law
 
 pub ruleset attribute_rules = (attributes-rule)

@@ -7,16 +7,17 @@ use Rattle.netlink_packet_core.specs.AttributeViews.{viewed_kind, viewed_payload
 use Rattle.netlink_packet_core.specs.Families.{attribute, family_row}
 use Rattle.netlink_packet_core.specs.Lists.{text_by, all_fit_by}
 use Rattle.netlink_packet_core.specs.Numbers.{le4}
-use Rattle.attribute_tables_grammar.specs.Lists.{nothing}
+use Rattle.attribute_tables_grammar.specs.Lists.{nothing, Row}
 use Rattle.attribute_tables_grammar.specs.LookUps.{Line, line_holds_bytes}
+use Rattle.attribute_tables_grammar.specs.Peers.{bytes_peer}
 use Rattle.attribute_tables_grammar.specs.Rows.{raw_bytes}
 use Rattle.attribute_tables_grammar.specs.Readings.{all_named}
 use Rattle.attribute_tables_grammar.specs.Tables.{Payload, Payload.list, Payload.link_info}
 use Rattle.attribute_tables.specs.Beginnings.{begins_readable, line_may_want_memory, table_may_want_memory}
-use Rattle.link_info_grammar.specs.LinkInfo.{info_grammar}
+use Rattle.link_info_grammar.specs.LinkInfo.{info_grammar_under}
 use Rattle.link_info.specs.LinkInfo.{link_info_entry, link_info_fits, link_info_names_row}
 use Rattle.link_message_grammar.specs.LinkMessage.{Family, unspec, bridge, inet_6, family_payload, has_no_link_row, link_line}
-use Rattle.link_message_grammar.specs.Body.{attribute_row, info_payload_rule}
+use Rattle.link_message_grammar.specs.Body.{attribute_row, attribute_row_under, info_payload_rule, link_peer}
 use Rattle.link_message_grammar.specs.NestedTables.{specific}
 use Rattle.link_message_af_spec.specs.AddressFamilies.{af_spec_unspec_entry, af_spec_unspec_fits, af_spec_unspec_names_row}
 use Rattle.link_message_lists.specs.ProtocolInfos.{link_proto_info_inet_6_entry}
@@ -126,7 +127,7 @@ abbrev pub link_attribute_names_row : Family → LinkAttribute → Type 0
 link_attribute_names_row f (Link.VfInfoList vs) = All link_vf_info_names_row vs.items
 link_attribute_names_row f (Link.Xdp vs) = All link_xdp_names_row vs.items
 link_attribute_names_row f (Link.Event e) = e ≡ link_event_of (link_event_number e)
-link_attribute_names_row f (Link.LinkInfo vs) = all_named info_grammar link_info_entry link_info_names_row nothing vs.items
+link_attribute_names_row f (Link.LinkInfo vs) = all_named (info_grammar_under link_peer) link_info_entry link_info_names_row nothing vs.items
 link_attribute_names_row f (Link.ProtoInfoBridge vs) = f ≡ bridge
 link_attribute_names_row f (Link.ProtoInfoInet6 vs) = f ≡ inet_6
 link_attribute_names_row f (Link.ProtoInfoUnknown a) = (proper_kind a.kind ≡ 12) × has_no_link_row f (proper_kind a.kind)
@@ -142,6 +143,10 @@ link_attribute_names_row f (Link.DevlinkPort vs) = All devlink_port_names_row vs
 link_attribute_names_row f (Link.DpllPin vs) = All dpll_pin_names_row vs.items
 link_attribute_names_row f (Link.Other a) = ((proper_kind a.kind == 12) ≡ false) × has_no_link_row f (proper_kind a.kind)
 link_attribute_names_row f _ = Unit {0}
+
+-- the row of a kind where peers are bytes, which is that of every kind but link info's
+abbrev pub plain_row : Family → ℕ → Row
+plain_row = attribute_row_under bytes_peer
 
 -- a row whose payload is a list of attributes
 abbrev pub payload_holds_list : Payload → Bool

@@ -1,7 +1,7 @@
 //! The attributes of a link (if_link.h, IFLA_*), under the address family of the message's header.
 //! Numbers are little-endian.
 
-ghost use Rattle.std.specs.Prelude.{◌≡◌, ◌<◌, false, true, length, map, Some, IsTrue, IfOk, IfErr, IfSome, IfNone, OnOk};
+ghost use Rattle.std.specs.Prelude.{◌≡◌, ◌==◌, ◌<◌, false, true, length, map, Some, IsTrue, IfOk, IfErr, IfSome, IfNone, OnOk};
 ghost use Rattle.std.specs.List.{All};
 ghost use Rattle.netlink_packet_core.specs.AttributeViews.{IsAttribute};
 ghost use Rattle.netlink_packet_core.specs.Errors.{is_memory};
@@ -17,7 +17,7 @@ ghost use Rattle.link_message_grammar.specs.Body.{attribute_row, attributes_rule
 ghost use Rattle.link_message_types.specs.AddressFamilies.{table_family};
 ghost use Rattle.link_message_attributes.specs.LinkAttributes.{link_attribute_entry};
 ghost use Rattle.link_message_attributes.specs.LinkAttributes.{link_attribute_fits, link_attribute_names_row};
-ghost use Rattle.link_message_attributes.specs.LinkAttributes.{IsReadAsNumber, row_may_want_memory, link_attribute_may_want_memory};
+ghost use Rattle.link_message_attributes.specs.LinkAttributes.{IsReadAsNumber, plain_row, row_may_want_memory, link_attribute_may_want_memory};
 ghost use Rattle.link_message_attributes.specs.Payloads.{link_payload_bytes, link_payload_fits};
 
 use super::families::number_of_table;
@@ -94,6 +94,7 @@ use link_message_af_spec::parse_families;
 use link_message_checks::accepts_attribute;
 use link_message_checks::accepts_attributes;
 use link_message_grammar::laws::attributes_are_looked_up;
+use link_message_grammar::laws::peers_stand_in_link_info;
 use link_message_lists::DevlinkPort;
 use link_message_lists::DpllPin;
 use link_message_lists::LinkProtoInfoInet6;
@@ -460,18 +461,18 @@ impl LinkAttribute {
         payload: &[u8],
     ) -> Result<Self, DecodeError>
         ensures ok { OnOk result
-            (IsTrue ((attribute_row (table_family family) 26).rule.accepted payload.now)) }
+            (IsTrue ((plain_row (table_family family) 26).rule.accepted payload.now)) }
         ensures value { IfOk result
             (λ v. link_attribute_entry v
-            ≡ rewrite (attribute_row (table_family family) 26) (attribute 26 payload.now)) }
+            ≡ rewrite (plain_row (table_family family) 26) (attribute 26 payload.now)) }
         ensures inside { IfOk result
             (λ v. link_attribute_fits v
-            ≡ (attribute_row (table_family family) 26).rule.fits payload.now) }
+            ≡ (plain_row (table_family family) 26).rule.fits payload.now) }
         ensures names_row { IfOk result
             (λ v. link_attribute_names_row (table_family family) v) }
         ensures err { IfErr result
             (λ e. is_memory e ≡ false
-            → (attribute_row (table_family family) 26).rule.accepted payload.now ≡ false) }
+            → (plain_row (table_family family) 26).rule.accepted payload.now ≡ false) }
         ensures memory { IfErr result
             (λ e. is_memory e ≡ true
             → row_may_want_memory (table_family family) 26 payload.now ≡ true) }
@@ -486,6 +487,83 @@ impl LinkAttribute {
             | AddressFamily::Packet
             | AddressFamily::Mctp
             | AddressFamily::Other(_) => Ok(Self::AfSpecUnknown(parse_bytes(alloc, payload)?)),
+        }
+    }
+
+    // Reads the payload of a kind that isn't link info's; `None` where the kind has no row.
+    fn read_plain_row(
+        alloc: Global,
+        family: AddressFamily,
+        kind: u16,
+        payload: &[u8],
+    ) -> Result<Option<Self>, DecodeError>
+        requires { (kind == 18) ≡ false }
+        ensures ok { OnOk result
+            (IsTrue ((plain_row (table_family family) kind).rule.accepted payload.now)) }
+        ensures none { IfOk result
+            (λ o. IfNone o (has_no_link_row (table_family family) kind)) }
+        ensures typed { IfOk result
+            (λ o. IfSome o (λ _. (plain_row (table_family family) kind).is_typed ≡ true)) }
+        ensures value { IfOk result
+            (λ o. IfSome o
+            (λ v. link_attribute_entry v
+            ≡ rewrite (plain_row (table_family family) kind) (attribute kind payload.now))) }
+        ensures inside { IfOk result
+            (λ o. IfSome o
+            (λ v. link_attribute_fits v
+            ≡ (plain_row (table_family family) kind).rule.fits payload.now)) }
+        ensures names_row { IfOk result
+            (λ o. IfSome o (λ v. link_attribute_names_row (table_family family) v)) }
+        ensures err { IfErr result
+            (λ e. is_memory e ≡ false
+            → (plain_row (table_family family) kind).rule.accepted payload.now ≡ false) }
+        ensures memory { IfErr result
+            (λ e. is_memory e ≡ true
+            → row_may_want_memory (table_family family) kind payload.now ≡ true) }
+    {
+        match kind {
+            IFLA_ADDRESS => typed!(Address, parse_bytes(alloc, payload)),
+            IFLA_BROADCAST => typed!(Broadcast, parse_bytes(alloc, payload)),
+            IFLA_IFNAME => typed!(IfName, parse_string(alloc, payload)),
+            IFLA_QDISC => typed!(Qdisc, parse_string(alloc, payload)),
+            IFLA_STATS => Ok(Some(Self::Stats(read_settings(payload)))),
+            IFLA_PROTINFO => match family {
+                AddressFamily::Bridge => typed!(ProtoInfoBridge, parse_raw(alloc, payload)),
+                AddressFamily::Inet6 => typed!(ProtoInfoInet6, parse_family(alloc, payload)),
+                AddressFamily::Unspec
+                | AddressFamily::Unix
+                | AddressFamily::Inet
+                | AddressFamily::Netlink
+                | AddressFamily::Packet
+                | AddressFamily::Mctp
+                | AddressFamily::Other(_) => Ok(None),
+            },
+            IFLA_MAP => typed!(Map, Map::parse(payload)),
+            IFLA_IFALIAS => typed!(IfAlias, parse_string(alloc, payload)),
+            IFLA_VFINFO_LIST => typed!(VfInfoList, parse_vf_infos(alloc, payload)),
+            IFLA_STATS64 => Ok(Some(Self::Stats64(read_settings(payload)))),
+            IFLA_VF_PORTS => typed!(VfPorts, parse_vf_ports(alloc, payload)),
+            IFLA_PORT_SELF => match parse_family(alloc, payload) {
+                Ok(list) => Ok(Some(Self::PortSelf(LinkVfPort(list)))),
+                Err(error) => Err(error),
+            },
+            IFLA_AF_SPEC => match Self::parse_af_spec(alloc, family, payload) {
+                Ok(value) => Ok(Some(value)),
+                Err(error) => Err(error),
+            },
+            IFLA_EXT_MASK => typed!(ExtMask, parse_extent_masks(alloc, payload)),
+            IFLA_PHYS_PORT_ID => typed!(PhysPortId, LinkPhysId::parse(alloc, payload)),
+            IFLA_PHYS_SWITCH_ID => typed!(PhysSwitchId, LinkPhysId::parse(alloc, payload)),
+            IFLA_PHYS_PORT_NAME => typed!(PhysPortName, parse_string(alloc, payload)),
+            IFLA_XDP => typed!(Xdp, parse_family(alloc, payload)),
+            IFLA_PROP_LIST => typed!(PropList, parse_family(alloc, payload)),
+            IFLA_PERM_ADDRESS => typed!(PermAddress, parse_bytes(alloc, payload)),
+            IFLA_PROTO_DOWN_REASON => typed!(ProtoDownReason, parse_family(alloc, payload)),
+            IFLA_PARENT_DEV_NAME => typed!(ParentDevName, parse_string(alloc, payload)),
+            IFLA_PARENT_DEV_BUS_NAME => typed!(ParentDevBusName, parse_string(alloc, payload)),
+            IFLA_DEVLINK_PORT => typed!(DevlinkPort, parse_family(alloc, payload)),
+            IFLA_DPLL_PIN => typed!(DpllPin, parse_family(alloc, payload)),
+            _ => Self::read_number(family, kind, payload),
         }
     }
 
@@ -519,50 +597,10 @@ impl LinkAttribute {
             (λ e. is_memory e ≡ true
             → row_may_want_memory (table_family family) kind payload.now ≡ true) }
     {
+        peers_stand_in_link_info();
         match kind {
-            IFLA_ADDRESS => typed!(Address, parse_bytes(alloc, payload)),
-            IFLA_BROADCAST => typed!(Broadcast, parse_bytes(alloc, payload)),
-            IFLA_IFNAME => typed!(IfName, parse_string(alloc, payload)),
-            IFLA_QDISC => typed!(Qdisc, parse_string(alloc, payload)),
-            IFLA_STATS => Ok(Some(Self::Stats(read_settings(payload)))),
-            IFLA_PROTINFO => match family {
-                AddressFamily::Bridge => typed!(ProtoInfoBridge, parse_raw(alloc, payload)),
-                AddressFamily::Inet6 => typed!(ProtoInfoInet6, parse_family(alloc, payload)),
-                AddressFamily::Unspec
-                | AddressFamily::Unix
-                | AddressFamily::Inet
-                | AddressFamily::Netlink
-                | AddressFamily::Packet
-                | AddressFamily::Mctp
-                | AddressFamily::Other(_) => Ok(None),
-            },
-            IFLA_MAP => typed!(Map, Map::parse(payload)),
             IFLA_LINKINFO => typed!(LinkInfo, parse_link_info(alloc, payload)),
-            IFLA_IFALIAS => typed!(IfAlias, parse_string(alloc, payload)),
-            IFLA_VFINFO_LIST => typed!(VfInfoList, parse_vf_infos(alloc, payload)),
-            IFLA_STATS64 => Ok(Some(Self::Stats64(read_settings(payload)))),
-            IFLA_VF_PORTS => typed!(VfPorts, parse_vf_ports(alloc, payload)),
-            IFLA_PORT_SELF => match parse_family(alloc, payload) {
-                Ok(list) => Ok(Some(Self::PortSelf(LinkVfPort(list)))),
-                Err(error) => Err(error),
-            },
-            IFLA_AF_SPEC => match Self::parse_af_spec(alloc, family, payload) {
-                Ok(value) => Ok(Some(value)),
-                Err(error) => Err(error),
-            },
-            IFLA_EXT_MASK => typed!(ExtMask, parse_extent_masks(alloc, payload)),
-            IFLA_PHYS_PORT_ID => typed!(PhysPortId, LinkPhysId::parse(alloc, payload)),
-            IFLA_PHYS_SWITCH_ID => typed!(PhysSwitchId, LinkPhysId::parse(alloc, payload)),
-            IFLA_PHYS_PORT_NAME => typed!(PhysPortName, parse_string(alloc, payload)),
-            IFLA_XDP => typed!(Xdp, parse_family(alloc, payload)),
-            IFLA_PROP_LIST => typed!(PropList, parse_family(alloc, payload)),
-            IFLA_PERM_ADDRESS => typed!(PermAddress, parse_bytes(alloc, payload)),
-            IFLA_PROTO_DOWN_REASON => typed!(ProtoDownReason, parse_family(alloc, payload)),
-            IFLA_PARENT_DEV_NAME => typed!(ParentDevName, parse_string(alloc, payload)),
-            IFLA_PARENT_DEV_BUS_NAME => typed!(ParentDevBusName, parse_string(alloc, payload)),
-            IFLA_DEVLINK_PORT => typed!(DevlinkPort, parse_family(alloc, payload)),
-            IFLA_DPLL_PIN => typed!(DpllPin, parse_family(alloc, payload)),
-            _ => Self::read_number(family, kind, payload),
+            _ => Self::read_plain_row(alloc, family, kind, payload),
         }
     }
 

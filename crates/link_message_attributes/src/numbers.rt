@@ -6,9 +6,8 @@ ghost use Rattle.netlink_packet_core.specs.Families.{attribute};
 ghost use Rattle.netlink_packet_core.specs.Numbers.{le4};
 ghost use Rattle.attribute_tables_grammar.specs.Lists.{rewrite};
 ghost use Rattle.link_message_grammar.specs.LinkMessage.{Family, has_no_link_row};
-ghost use Rattle.link_message_grammar.specs.Body.{attribute_row};
 ghost use Rattle.link_message_types.specs.AddressFamilies.{table_family};
-ghost use Rattle.link_message_attributes.specs.LinkAttributes.{IsReadAsNumber, row_may_want_memory};
+ghost use Rattle.link_message_attributes.specs.LinkAttributes.{IsReadAsNumber, plain_row, row_may_want_memory};
 ghost use Rattle.link_message_attributes.specs.LinkAttributes.{link_attribute_entry, link_attribute_fits};
 ghost use Rattle.link_message_attributes.specs.LinkAttributes.{link_attribute_names_row};
 
@@ -102,24 +101,24 @@ impl LinkAttribute {
     ) -> Result<Option<Self>, DecodeError>
         requires { IsReadAsNumber kind }
         ensures ok { OnOk result
-            (IsTrue ((attribute_row (table_family family) kind).rule.accepted payload.now)) }
+            (IsTrue ((plain_row (table_family family) kind).rule.accepted payload.now)) }
         ensures none { IfOk result
             (λ o. IfNone o (has_no_link_row (table_family family) kind)) }
         ensures typed { IfOk result
-            (λ o. IfSome o (λ _. (attribute_row (table_family family) kind).is_typed ≡ true)) }
+            (λ o. IfSome o (λ _. (plain_row (table_family family) kind).is_typed ≡ true)) }
         ensures value { IfOk result
             (λ o. IfSome o
             (λ v. link_attribute_entry v
-            ≡ rewrite (attribute_row (table_family family) kind) (attribute kind payload.now))) }
+            ≡ rewrite (plain_row (table_family family) kind) (attribute kind payload.now))) }
         ensures inside { IfOk result
             (λ o. IfSome o
             (λ v. link_attribute_fits v
-            ≡ (attribute_row (table_family family) kind).rule.fits payload.now)) }
+            ≡ (plain_row (table_family family) kind).rule.fits payload.now)) }
         ensures names_row { IfOk result
             (λ o. IfSome o (λ v. link_attribute_names_row (table_family family) v)) }
         ensures err { IfErr result
             (λ e. is_memory e ≡ false
-            → (attribute_row (table_family family) kind).rule.accepted payload.now ≡ false) }
+            → (plain_row (table_family family) kind).rule.accepted payload.now ≡ false) }
         ensures memory { IfErr result
             (λ e. is_memory e ≡ true
             → row_may_want_memory (table_family family) kind payload.now ≡ true) }

@@ -6,14 +6,15 @@ ghost use Rattle.netlink_packet_core.specs.Lists.{text_by, all_fit_by};
 ghost use Rattle.netlink_packet_core.specs.Numbers.{as_usize, le4};
 ghost use Rattle.attribute_tables_grammar.specs.Lists.{nothing};
 ghost use Rattle.attribute_tables_grammar.specs.Readings.{all_named};
-ghost use Rattle.link_info_grammar.specs.LinkInfo.{info_grammar};
+ghost use Rattle.link_info_grammar.specs.LinkInfo.{info_grammar_under};
 ghost use Rattle.link_info.specs.LinkInfo.{link_info_entry, link_info_fits, link_info_names_row};
-ghost use Rattle.link_message_grammar.specs.Body.{info_payload_rule};
+ghost use Rattle.link_message_grammar.specs.Body.{info_payload_rule, link_peer};
 ghost use Rattle.link_message_types.specs.ExtentMasks.{joined_extent_masks, link_extent_masks_of};
 ghost use Rattle.link_message_attributes.specs.Payloads.{link_payload_bytes, link_payload_fits};
 
 use link_info::LinkInfo;
 use link_message_af_spec::AfSpecUnspec;
+use link_message_checks::LinkPeer;
 use link_message_grammar::laws::info_is_a_list_inside;
 use link_message_lists::{
     DevlinkPort, DpllPin, LinkProtoInfoInet6, LinkProtocolDownReason, LinkXdp, Prop,
@@ -167,8 +168,8 @@ pub(crate) fn parse_extent_masks(
     LinkExtentMask::list(alloc, parse_u32(payload)?)
 }
 
-/// Reads link info. It succeeds exactly where the list is legal and there is an attribute in it,
-/// memory aside.
+/// Reads link info, peers as link bodies. It succeeds exactly where the list is legal and there is
+/// an attribute in it, memory aside.
 pub(crate) fn parse_link_info(alloc: Global, payload: &[u8]) -> Result<Vec<LinkInfo>, DecodeError>
     ensures ok { OnOk result (IsTrue (info_payload_rule.accepted payload.now)) }
     ensures text { IfOk result
@@ -177,7 +178,8 @@ pub(crate) fn parse_link_info(alloc: Global, payload: &[u8]) -> Result<Vec<LinkI
         (λ v. all_fit_by link_info_entry link_info_fits v.items
         ≡ info_payload_rule.fits payload.now) }
     ensures names_row { IfOk result
-        (λ v. all_named info_grammar link_info_entry link_info_names_row nothing v.items) }
+        (λ v. all_named (info_grammar_under link_peer) link_info_entry link_info_names_row nothing
+        v.items) }
     ensures err { IfErr result (λ e. info_payload_rule.accepted payload.now ≡ is_memory e) }
     ensures not_empty { IfErr result (λ e. is_memory e ≡ true → 0 < length payload.now) }
 {
@@ -185,5 +187,5 @@ pub(crate) fn parse_link_info(alloc: Global, payload: &[u8]) -> Result<Vec<LinkI
         return Err(DecodeError::from("IFLA_LINKINFO without an attribute"));
     }
     info_is_a_list_inside();
-    LinkInfo::parse_list(alloc, payload)
+    LinkInfo::parse_list_with(alloc, payload, &LinkPeer)
 }

@@ -4,12 +4,13 @@ use Rattle.std.specs.Prelude.{◌==◌}
 use Rattle.std.proofs.lemmas.Bool.{ne_eqb}
 use Rattle.attribute_tables_grammar.specs.Lists.{non_empty}
 use Rattle.attribute_tables_grammar.specs.LookUps.{link_info_of}
-use Rattle.attribute_tables_grammar.specs.Peers.{bytes_peer}
+use Rattle.attribute_tables_grammar.specs.Peers.{Peer}
+use Rattle.attribute_tables_grammar.specs.Rules.{Rule}
 use Rattle.attribute_tables_grammar.specs.Tables.{named, names_grammar}
 use Rattle.attribute_tables_grammar.specs.Laws.{MeasuresTellRules, SamenessGoesBySteps}
 use Rattle.attribute_tables_grammar.specs.Walks.{measure}
 use Rattle.link_info_grammar.specs.Families.{kinds, port_kinds}
-use Rattle.link_info_grammar.specs.LinkInfo.{info_rule, info_rule_under, info_grammar_under}
+use Rattle.link_info_grammar.specs.LinkInfo.{info_rule_under, info_grammar_under}
 use Rattle.link_message_grammar.specs.LinkMessage.{family_of, other, bridge, inet_6, unspec}
 use Rattle.link_message_grammar.specs.Laws.{InfoIsAListInside}
 
@@ -19,24 +20,28 @@ family_other n a b c =
     ∙ ap (λ x. cond x bridge (cond (n == 10) inet_6 other)) (ne_eqb n 7 b)
     ∙ ap (λ x. cond x inet_6 other) (ne_eqb n 10 c))
 
--- link info in an attribute, from the laws of measures
-pub info_none : MeasuresTellRules → (b : List ℕ) → length b ≡ 0 → None ≡ measure (link_info_of bytes_peer non_empty kinds port_kinds) b
-unfolding link_info_of
-info_none laws b l = laws.no_bytes non_empty (names_grammar (named bytes_peer kinds) (named bytes_peer port_kinds)) b l tt
+module _ (p : Peer) where
+  abbrev inside : Rule
+  inside = link_info_of p non_empty kinds port_kinds
 
-pub info_some : MeasuresTellRules → (b : List ℕ) → 0 < length b → measure info_rule b ≡ measure (link_info_of bytes_peer non_empty kinds port_kinds) b
-unfolding link_info_of info_rule_under info_grammar_under
-info_some laws b l = sym (laws.non_empty (names_grammar (named bytes_peer kinds) (named bytes_peer port_kinds)) b l)
+  -- link info in an attribute, from the laws of measures
+  pub info_none : MeasuresTellRules → (b : List ℕ) → length b ≡ 0 → None ≡ measure inside b
+  unfolding link_info_of
+  info_none laws b l = laws.no_bytes non_empty (names_grammar (named p kinds) (named p port_kinds)) b l tt
 
--- its canonical text, by what its length and an own text need
-pub info_canonical : InfoIsAListInside bytes_peer → (b : List ℕ) → 0 < length b → info_rule.canonical b ≡ b → (link_info_of bytes_peer non_empty kinds port_kinds).canonical b ≡ b
-info_canonical law b l h = (law.of_some_bytes b l).canonical ∙ h
+  pub info_some : MeasuresTellRules → (b : List ℕ) → 0 < length b → measure (info_rule_under p) b ≡ measure inside b
+  unfolding link_info_of info_rule_under info_grammar_under
+  info_some laws b l = sym (laws.non_empty (names_grammar (named p kinds) (named p port_kinds)) b l)
 
--- no bytes are link info, so they mean the same as none
-pub info_no_left : SamenessGoesBySteps → (a b : List ℕ) → length a ≡ 0 → false ≡ (link_info_of bytes_peer non_empty kinds port_kinds).same a b
-unfolding link_info_of
-info_no_left laws a b l = laws.no_left non_empty (names_grammar (named bytes_peer kinds) (named bytes_peer port_kinds)) a b l tt
+  -- its canonical text, by what its length and an own text need
+  pub info_canonical : InfoIsAListInside p → (b : List ℕ) → 0 < length b → (info_rule_under p).canonical b ≡ b → inside.canonical b ≡ b
+  info_canonical law b l h = (law.of_some_bytes b l).canonical ∙ h
 
-pub info_no_right : SamenessGoesBySteps → (a b : List ℕ) → length b ≡ 0 → false ≡ (link_info_of bytes_peer non_empty kinds port_kinds).same a b
-unfolding link_info_of
-info_no_right laws a b l = laws.no_right non_empty (names_grammar (named bytes_peer kinds) (named bytes_peer port_kinds)) a b l tt
+  -- no bytes are link info, so they mean the same as none
+  pub info_no_left : SamenessGoesBySteps → (a b : List ℕ) → length a ≡ 0 → false ≡ inside.same a b
+  unfolding link_info_of
+  info_no_left laws a b l = laws.no_left non_empty (names_grammar (named p kinds) (named p port_kinds)) a b l tt
+
+  pub info_no_right : SamenessGoesBySteps → (a b : List ℕ) → length b ≡ 0 → false ≡ inside.same a b
+  unfolding link_info_of
+  info_no_right laws a b l = laws.no_right non_empty (names_grammar (named p kinds) (named p port_kinds)) a b l tt

@@ -6,7 +6,8 @@ ghost use Rattle.netlink_packet_core_grammar.specs.Attributes.{proper_kind};
 ghost use Rattle.link_message_grammar.specs.LinkMessage.{family_of};
 ghost use Rattle.link_message_grammar.specs.Body.{attribute_row, attributes_rule};
 
-use crate::message::{MessageTables, measure_attributes, table_of_family};
+use crate::body::{MessageTables, measure_attributes, table_of_family};
+use crate::peer::LinkPeer;
 use attribute_checks::{find, measure_held};
 use attribute_tables_grammar::laws::measures_tell_rules;
 use link_message_grammar::laws::kinds_are_looked_up;
@@ -19,8 +20,9 @@ pub fn accepts_attribute(family: u8, kind: u16, payload: &[u8]) -> bool
 {
     measures_tell_rules();
     kinds_are_looked_up();
-    let found = find(&MessageTables, table_of_family(family), kind);
-    measure_held(&MessageTables, found.held, payload).is_some()
+    let tables = MessageTables(&LinkPeer);
+    let found = find(&tables, table_of_family(family), kind);
+    measure_held(&tables, found.held, payload).is_some()
 }
 
 /// Whether the bytes are attributes of an address family.
@@ -28,5 +30,5 @@ pub fn accepts_attributes(family: u8, bytes: &[u8]) -> bool
     ensures { result ≡ (attributes_rule (family_of family)).accepted bytes.now }
 {
     measures_tell_rules();
-    measure_attributes(family, bytes).is_some()
+    measure_attributes(&LinkPeer, family, bytes).is_some()
 }

@@ -2,6 +2,8 @@
 #![tactic(auto)]
 
 mod attributes;
+mod body;
+mod header;
 mod message;
 mod peer;
 mod rows;

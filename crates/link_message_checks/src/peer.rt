@@ -2,19 +2,21 @@
 
 ghost use Rattle.link_message_grammar.specs.Body.{link_peer};
 
-use crate::message::{HEADER_LEN, measure_body, same, same_header, write_body};
-use attribute_checks::{Measured, PeerMeasure, PeerRule, PeerSet, WritePeer};
-use attribute_tables_grammar::laws::{measures_tell_rules, peers_that_are_bytes_are_lawful};
-use link_message_grammar::laws::{bodies_are_headers_and_attributes, link_peers_are_lawful};
+use crate::body::{body_laws_hold, measure_body_over, same_body_over, write_body_over};
+use crate::header::{HEADER_LEN, same_header};
+use attribute_checks::{BytesPeer, Measured, PeerMeasure, PeerRule, PeerSet, WritePeer};
+use attribute_tables_grammar::laws::measures_tell_rules;
+use link_message_grammar::laws::link_peer_is_lawful;
 use netlink_packet_core_numbers::DecodeError;
 use std::alloc::Global;
 
 /// The refusal of a payload that is no such peer.
 const NO_PEER: &str = "not the body of a link message that can be written";
 
-/// Peers that are bodies of link messages, in which peers are bytes. A payload is accepted where
-/// the crate's `check` accepts it, it fits, and it has no empty ports. Two mean the same where the
-/// bodies do; each is written as the canonical text of its body, and the body's attributes count.
+/// Peers that are bodies of link messages, one level deep: what a peer inside a peer holds stays
+/// bytes. A payload is accepted where it is a body that fits and has no empty ports. Two mean the
+/// same where the bodies do; each is written as the canonical text of its body, and the body's
+/// attributes count.
 #[derive(Clone, Copy, Debug, PartialEq, Eq)]
 pub struct LinkPeer;
 
@@ -22,8 +24,7 @@ impl PeerRule for LinkPeer {
     ghost peer = { link_peer };
 
     fn rule_is_lawful(&self) {
-        peers_that_are_bytes_are_lawful();
-        link_peers_are_lawful();
+        link_peer_is_lawful();
     }
 
     fn check(&self, payload: &[u8]) -> Result<PeerMeasure, DecodeError> {
@@ -59,13 +60,13 @@ impl PeerSet for LinkPeer {
     ghost peer = { link_peer };
 
     fn peers_are_lawful(&self) {
-        peers_that_are_bytes_are_lawful();
-        link_peers_are_lawful();
+        link_peer_is_lawful();
     }
 
+    #[tactic(auto, unfolding(link_message_grammar::specs::Body::link_peer))]
     fn measure_peer(&self, payload: &[u8]) -> Option<Measured> {
         measures_tell_rules();
-        let Some(found) = measure_body(payload) else {
+        let Some(found) = measure_body_over(&BytesPeer, payload) else {
             return None;
         };
         if found.empty_ports || !found.fits {
@@ -75,17 +76,19 @@ impl PeerSet for LinkPeer {
     }
 
     // Bytes that end in the header have no attributes.
+    #[tactic(auto, unfolding(link_message_grammar::specs::Body::link_peer))]
     fn same_peer(&self, left: &[u8], right: &[u8]) -> bool {
-        bodies_are_headers_and_attributes();
+        body_laws_hold(&BytesPeer);
         if left.len() < HEADER_LEN || right.len() < HEADER_LEN {
             return same_header(left, right);
         }
-        same(left, right)
+        same_body_over(&BytesPeer, left, right)
     }
 }
 
 impl WritePeer for LinkPeer {
+    #[tactic(auto, unfolding(link_message_grammar::specs::Body::link_peer))]
     fn write_peer(&self, payload: &[u8], out: &mut Vec<u8>) {
-        write_body(payload, out);
+        write_body_over(&BytesPeer, payload, out);
     }
 }

@@ -7,17 +7,17 @@ use Rattle.std.proofs.lemmas.Slice.Eq.{bytes_eq-Decides}
 use Rattle.netlink_packet_core_grammar.specs.Attributes.{nla_align}
 use Rattle.netlink_packet_core_grammar.specs.Bytes.{AreBytes}
 use Rattle.netlink_packet_core_grammar.proofs.Bytes.{AreBytes-append, AreBytes-take, AreBytes-drop}
-use Rattle.attribute_tables_grammar.specs.Rules.{Rule, Lawful}
-use Rattle.attribute_tables_grammar.specs.Peers.{Peer, LawfulPeer, bytes_peer}
-use Rattle.attribute_tables_grammar.specs.Rules.{Renews}
+use Rattle.attribute_tables_grammar.specs.Rules.{Rule, Lawful, Renews}
 use Rattle.attribute_tables_grammar.specs.Lists.{any}
+use Rattle.attribute_tables_grammar.specs.Peers.{Peer, LawfulPeer, bytes_peer}
 use Rattle.attribute_tables_grammar.specs.Tables.{Payload.list}
-use Rattle.link_message_grammar.specs.LinkMessage.{link_table}
+use Rattle.attribute_tables_grammar.proofs.Attributes.{renews_itself}
 use Rattle.attribute_tables_grammar.proofs.Renewed.{renewed}
+use Rattle.attribute_tables_grammar.proofs.Tables.{bytes_peer_lawful}
 use Rattle.link_message_grammar.proofs.Tables.{table_lawful, table_bounded}
-use Rattle.link_message_grammar.specs.LinkMessage.{Family, family_of}
-use Rattle.link_message_grammar.specs.Body.{is_listed, layer_type_text, header_text, attribute_bytes, family, list_rule_of, body_rule, link_peer_of}
-use Rattle.link_message_grammar.specs.Laws.{LinkPeersAreLawful}
+use Rattle.link_message_grammar.specs.LinkMessage.{Family, family_of, link_table}
+use Rattle.link_message_grammar.specs.Body.{is_listed, layer_type_text, header_text, attribute_bytes, family, list_rule_of, body_rule, link_peer, link_peer_of}
+use Rattle.link_message_grammar.specs.Laws.{LinkPeersAreLawful, LinkPeerIsLawful, OldBodiesAreRenewed}
 
 -- ---- the header
 
@@ -99,39 +99,58 @@ one_family a b v w h = ap (λ n. family_of n) (sym v.first_byte ∙ ap (λ z. sl
 small_rest : (L l : ℕ) → nla_align (4 + L) ≤ 77 * (4 + l) → nla_align (4 + (16 + L)) ≤ 77 * (4 + (16 + l))
 small_rest L l h = omega arith
 
+-- where q's attributes renew those of p, its bodies do
+module _ (p q : Peer) (renews : (f : Family) → Renews (list_rule_of p f) (list_rule_of q f)) where
+  abbrev old_text : List ℕ → List ℕ
+  old_text b = (list_rule_of p (family b)).canonical (attribute_bytes b)
+
+  -- what both accept: a header that is written, and attributes
+  record BothAccept (b : List ℕ) : Type 0 where
+    header : WrittenHeader b
+    old : (list_rule_of p (family b)).accepted (attribute_bytes b) ≡ true
+    new : (list_rule_of q (family b)).accepted (attribute_bytes b) ≡ true
+
+  both_accept : (b : List ℕ) → (body_rule p).accepted b ≡ true → (body_rule q).accepted b ≡ true → BothAccept b
+  unfolding body_rule
+  both_accept b x y =
+      let s = and_parts (nat_le 16 (length b)) ((list_rule_of p (family b)).accepted (attribute_bytes b)) x in
+      let t = and_parts (nat_le 16 (length b)) ((list_rule_of q (family b)).accepted (attribute_bytes b)) y in
+      record { header = written_header b s.0; old = s.1; new = t.1 }
+
+  -- what q says of the attributes in p's text
+  inside : {A : Type 0} (say : Rule → List ℕ → A) (b : List ℕ) → WrittenHeader b → say (list_rule_of q (family (header_text b ++ old_text b))) (attribute_bytes (header_text b ++ old_text b)) ≡ say (list_rule_of q (family b)) (old_text b)
+  inside say b w =
+      ap (λ f. say (list_rule_of q f) (attribute_bytes (header_text b ++ old_text b))) (family_again b (old_text b) w) ∙ ap (say (list_rule_of q (family b))) (w.rest (old_text b))
+
+  pub bodies_renew : Renews (body_rule p) (body_rule q)
+  unfolding body_rule
+  bodies_renew = record {
+    accepted = λ b x y m.
+        let k = both_accept b x y in
+        and_from _ _ (le-leb _ _ (omega (arith, length-append (header_text b) (old_text b), k.header.size)))
+        (inside (λ r. r.accepted) b k.header ∙ (renews (family b)).accepted (attribute_bytes b) k.old k.new m);
+    empty_ports = λ b x y m. let k = both_accept b x y in inside (λ r. r.empty_ports) b k.header ∙ (renews (family b)).empty_ports (attribute_bytes b) k.old k.new m;
+    fits = λ b x y f. let k = both_accept b x y in inside (λ r. r.fits) b k.header ∙ (renews (family b)).fits (attribute_bytes b) k.old k.new f;
+    canonical = λ b x y.
+        let k = both_accept b x y in
+        let rest = inside (λ r. r.canonical) b k.header ∙ (renews (family b)).canonical (attribute_bytes b) k.old k.new in
+        ap (λ z. z ++ (list_rule_of q (family (header_text b ++ old_text b))).canonical (attribute_bytes (header_text b ++ old_text b))) (k.header.again (old_text b)) ∙ ap (λ z. header_text b ++ z) rest;
+  }
+
 module _ (p : Peer) (lawful_peer : LawfulPeer p) where
   law : (f : Family) → Lawful (list_rule_of p f)
   unfolding list_rule_of
   law f = table_lawful p lawful_peer f
 
+  itself : Renews (body_rule p) (body_rule p)
+  itself = bodies_renew p p (λ f. renews_itself (list_rule_of p f) (law f))
+
   pub body_lawful : Lawful (body_rule p)
   unfolding body_rule
   body_lawful = record {
-    again = λ b a m.
-        let s = and_parts (nat_le 16 (length b)) ((list_rule_of p (family b)).accepted (attribute_bytes b)) a in
-        let w = written_header b s.0 in
-        let r = list_rule_of p (family b) in
-        let c = r.canonical (attribute_bytes b) in
-        let o = (law (family b)).again (attribute_bytes b) s.1 m in
-        let long : nat_le 16 (length (header_text b ++ c)) ≡ true = le-leb _ _ (omega (arith, length-append (header_text b) c, w.size)) in
-        let fam = family_again b c w in (
-          and_from _ _ long (ap (λ f. (list_rule_of p f).accepted (attribute_bytes (header_text b ++ c))) fam ∙ ap r.accepted (w.rest c) ∙ o.0),
-          ap (λ f. (list_rule_of p f).empty_ports (attribute_bytes (header_text b ++ c))) fam ∙ ap r.empty_ports (w.rest c) ∙ o.1,
-        );
-    fits_again = λ b a m.
-        let s = and_parts (nat_le 16 (length b)) ((list_rule_of p (family b)).accepted (attribute_bytes b)) a in
-        let w = written_header b s.0 in
-        let r = list_rule_of p (family b) in
-        let c = r.canonical (attribute_bytes b) in
-        ap (λ f. (list_rule_of p f).fits (attribute_bytes (header_text b ++ c))) (family_again b c w) ∙ ap r.fits (w.rest c) ∙ (law (family b)).fits_again (attribute_bytes b) s.1 m;
-    itself = λ b a.
-        let s = and_parts (nat_le 16 (length b)) ((list_rule_of p (family b)).accepted (attribute_bytes b)) a in
-        let w = written_header b s.0 in
-        let r = list_rule_of p (family b) in
-        let c = r.canonical (attribute_bytes b) in
-        let o : (list_rule_of p (family (header_text b ++ c))).canonical (attribute_bytes (header_text b ++ c)) ≡ c =
-        ap (λ f. (list_rule_of p f).canonical (attribute_bytes (header_text b ++ c))) (family_again b c w) ∙ ap r.canonical (w.rest c) ∙ (law (family b)).itself (attribute_bytes b) s.1 in
-        ap (λ z. z ++ (list_rule_of p (family (header_text b ++ c))).canonical (attribute_bytes (header_text b ++ c))) (w.again c) ∙ ap (λ z. header_text b ++ z) o;
+    again = λ b a m. (itself.accepted b a a m, itself.empty_ports b a a m);
+    fits_again = λ b a f. itself.fits b a a f;
+    itself = λ b a. itself.canonical b a a;
     one_text = λ a b x y e.
         let s = and_parts (nat_le 16 (length a)) ((list_rule_of p (family a)).accepted (attribute_bytes a)) x in
         let t = and_parts (nat_le 16 (length b)) ((list_rule_of p (family b)).accepted (attribute_bytes b)) y in
@@ -178,19 +197,10 @@ module _ (p : Peer) (lawful_peer : LawfulPeer p) where
       let c = (list_rule_of p (family b)).canonical (attribute_bytes b) in
       omega (arith, length-append (header_text b) c, w.size, length-drop 16 b, leb-true 16 (length b) s.0, (law (family b)).bounded (attribute_bytes b) s.1)
 
--- under a rule of peers an old text becomes what the first bytes become
-pub body_renewed : (p : Peer) → Renews (body_rule bytes_peer) (body_rule p)
-unfolding list_rule_of body_rule
-body_renewed p b x y =
-    let s = and_parts (nat_le 16 (length b)) ((list_rule_of bytes_peer (family b)).accepted (attribute_bytes b)) x in
-    let t = and_parts (nat_le 16 (length b)) ((list_rule_of p (family b)).accepted (attribute_bytes b)) y in
-    let w = written_header b s.0 in
-    let c = (list_rule_of bytes_peer (family b)).canonical (attribute_bytes b) in
-    let o : (list_rule_of p (family (header_text b ++ c))).canonical (attribute_bytes (header_text b ++ c)) ≡ (list_rule_of p (family b)).canonical (attribute_bytes b) =
-    ap (λ f. (list_rule_of p f).canonical (attribute_bytes (header_text b ++ c))) (family_again b c w)
-    ∙ ap (list_rule_of p (family b)).canonical (w.rest c)
-    ∙ renewed p (list any (link_table (family b))) (table_bounded (family b)) (attribute_bytes b) s.1 t.1 in
-    ap (λ z. z ++ (list_rule_of p (family (header_text b ++ c))).canonical (attribute_bytes (header_text b ++ c))) (w.again c) ∙ ap (λ z. header_text b ++ z) o
+-- bodies whose peers were bytes, under any rule of peers
+pub old_bodies_are_renewed : OldBodiesAreRenewed
+unfolding list_rule_of
+old_bodies_are_renewed p = bodies_renew bytes_peer p (λ f. renewed p (list any (link_table f)) (table_bounded f))
 
 -- ---- peers
 
@@ -216,3 +226,8 @@ link_peer_lawful_of r l small = record {
 
 pub link_peers_are_lawful : LinkPeersAreLawful
 link_peers_are_lawful p l = link_peer_lawful_of (body_rule p) (body_lawful p l) (body_size p l)
+
+-- so the one in force is, whose own peers are bytes
+pub link_peer_lawful : LinkPeerIsLawful
+unfolding link_peer
+link_peer_lawful = link_peers_are_lawful bytes_peer bytes_peer_lawful

@@ -10,7 +10,7 @@ use Rattle.link_message_grammar.specs.Body.{body_rule, is_listed, link_body, lin
 
 -- all that has to compute
 everything : ℕ
-unfolding is_utf8 chars encode attribute_text list_text first_attribute attributes_within all_accepted some_empty_ports rewritten all_fit attributes_inside all_same is_listed list_rule_of body_rule settings
+unfolding is_utf8 chars encode attribute_text list_text first_attribute attributes_within all_accepted some_empty_ports rewritten all_fit attributes_inside all_same is_listed list_rule_of body_rule link_peer settings
 everything = 0
 
 -- a header alone
@@ -409,3 +409,67 @@ peer_with_a_name-text = refl
 peer_of_fifteen_bytes-refused : (peer_rule link_peer).accepted (0 ∷ 0 ∷ 0 ∷ 0 ∷ 0 ∷ 0 ∷ 0 ∷ 0 ∷ 0 ∷ 0 ∷ 0 ∷ 0 ∷ 0 ∷ 0 ∷ 0 ∷ []) ≡ false
 unfolding everything
 peer_of_fifteen_bytes-refused = refl
+
+-- a peer is a link body, and is rewritten as one
+abbrev peer_with_a_name_inside : List ℕ
+peer_with_a_name_inside = (0 ∷ 0 ∷ 0 ∷ 0 ∷ 0 ∷ 0 ∷ 0 ∷ 0 ∷ 0 ∷ 0 ∷ 0 ∷ 0 ∷ 0 ∷ 0 ∷ 0 ∷ 0 ∷ 46 ∷ 0 ∷ 18 ∷ 0 ∷ 9 ∷ 0 ∷ 1 ∷ 0 ∷ 118 ∷ 101 ∷ 116 ∷ 104 ∷ 0 ∷ 0 ∷ 0 ∷ 0 ∷ 30 ∷ 0 ∷ 2 ∷ 0 ∷ 26 ∷ 0 ∷ 1 ∷ 0 ∷ 0 ∷ 0 ∷ 0 ∷ 0 ∷ 0 ∷ 0 ∷ 0 ∷ 0 ∷ 0 ∷ 0 ∷ 0 ∷ 0 ∷ 0 ∷ 0 ∷ 0 ∷ 0 ∷ 6 ∷ 0 ∷ 3 ∷ 0 ∷ 108 ∷ 111 ∷ [])
+
+peer_with_a_name_inside-accepted : link_body.accepted peer_with_a_name_inside ≡ true
+unfolding everything
+peer_with_a_name_inside-accepted = refl
+
+peer_with_a_name_inside-count : link_body.attributes peer_with_a_name_inside ≡ 5
+unfolding everything
+peer_with_a_name_inside-count = refl
+
+peer_with_a_name_inside-fits : link_body.fits peer_with_a_name_inside ≡ true
+unfolding everything
+peer_with_a_name_inside-fits = refl
+
+peer_with_a_name_inside-text : link_body.canonical peer_with_a_name_inside ≡ (0 ∷ 0 ∷ 0 ∷ 0 ∷ 0 ∷ 0 ∷ 0 ∷ 0 ∷ 0 ∷ 0 ∷ 0 ∷ 0 ∷ 0 ∷ 0 ∷ 0 ∷ 0 ∷ 48 ∷ 0 ∷ 18 ∷ 0 ∷ 9 ∷ 0 ∷ 1 ∷ 0 ∷ 118 ∷ 101 ∷ 116 ∷ 104 ∷ 0 ∷ 0 ∷ 0 ∷ 0 ∷ 32 ∷ 0 ∷ 2 ∷ 0 ∷ 28 ∷ 0 ∷ 1 ∷ 0 ∷ 0 ∷ 0 ∷ 0 ∷ 0 ∷ 0 ∷ 0 ∷ 0 ∷ 0 ∷ 0 ∷ 0 ∷ 0 ∷ 0 ∷ 0 ∷ 0 ∷ 0 ∷ 0 ∷ 7 ∷ 0 ∷ 3 ∷ 0 ∷ 108 ∷ 111 ∷ 0 ∷ 0 ∷ [])
+unfolding everything
+peer_with_a_name_inside-text = refl
+
+peer_with_a_name_inside-same : link_body.same peer_with_a_name_inside (0 ∷ 0 ∷ 0 ∷ 0 ∷ 0 ∷ 0 ∷ 0 ∷ 0 ∷ 0 ∷ 0 ∷ 0 ∷ 0 ∷ 0 ∷ 0 ∷ 0 ∷ 0 ∷ 48 ∷ 0 ∷ 18 ∷ 0 ∷ 9 ∷ 0 ∷ 1 ∷ 0 ∷ 118 ∷ 101 ∷ 116 ∷ 104 ∷ 0 ∷ 0 ∷ 0 ∷ 0 ∷ 32 ∷ 0 ∷ 2 ∷ 0 ∷ 28 ∷ 0 ∷ 1 ∷ 0 ∷ 0 ∷ 0 ∷ 0 ∷ 0 ∷ 0 ∷ 0 ∷ 0 ∷ 0 ∷ 0 ∷ 0 ∷ 0 ∷ 0 ∷ 0 ∷ 0 ∷ 0 ∷ 0 ∷ 7 ∷ 0 ∷ 3 ∷ 0 ∷ 108 ∷ 111 ∷ 0 ∷ 0 ∷ []) ≡ true
+unfolding everything
+peer_with_a_name_inside-same = refl
+
+-- a peer inside a peer stays bytes, of any number
+abbrev peer_inside_a_peer : List ℕ
+peer_inside_a_peer = (0 ∷ 0 ∷ 0 ∷ 0 ∷ 0 ∷ 0 ∷ 0 ∷ 0 ∷ 0 ∷ 0 ∷ 0 ∷ 0 ∷ 0 ∷ 0 ∷ 0 ∷ 0 ∷ 79 ∷ 0 ∷ 18 ∷ 0 ∷ 9 ∷ 0 ∷ 1 ∷ 0 ∷ 118 ∷ 101 ∷ 116 ∷ 104 ∷ 0 ∷ 0 ∷ 0 ∷ 0 ∷ 63 ∷ 0 ∷ 2 ∷ 0 ∷ 59 ∷ 0 ∷ 1 ∷ 0 ∷ 0 ∷ 0 ∷ 0 ∷ 0 ∷ 0 ∷ 0 ∷ 0 ∷ 0 ∷ 0 ∷ 0 ∷ 0 ∷ 0 ∷ 0 ∷ 0 ∷ 0 ∷ 0 ∷ 39 ∷ 0 ∷ 18 ∷ 0 ∷ 9 ∷ 0 ∷ 1 ∷ 0 ∷ 118 ∷ 101 ∷ 116 ∷ 104 ∷ 0 ∷ 0 ∷ 0 ∷ 0 ∷ 23 ∷ 0 ∷ 2 ∷ 0 ∷ 19 ∷ 0 ∷ 1 ∷ 0 ∷ 0 ∷ 0 ∷ 0 ∷ 0 ∷ 0 ∷ 0 ∷ 0 ∷ 0 ∷ 0 ∷ 0 ∷ 0 ∷ 0 ∷ 0 ∷ 0 ∷ 0 ∷ [])
+
+peer_inside_a_peer-accepted : link_body.accepted peer_inside_a_peer ≡ true
+unfolding everything
+peer_inside_a_peer-accepted = refl
+
+peer_inside_a_peer-count : link_body.attributes peer_inside_a_peer ≡ 8
+unfolding everything
+peer_inside_a_peer-count = refl
+
+peer_inside_a_peer-fits : link_body.fits peer_inside_a_peer ≡ true
+unfolding everything
+peer_inside_a_peer-fits = refl
+
+peer_inside_a_peer-text : link_body.canonical peer_inside_a_peer ≡ (0 ∷ 0 ∷ 0 ∷ 0 ∷ 0 ∷ 0 ∷ 0 ∷ 0 ∷ 0 ∷ 0 ∷ 0 ∷ 0 ∷ 0 ∷ 0 ∷ 0 ∷ 0 ∷ 80 ∷ 0 ∷ 18 ∷ 0 ∷ 9 ∷ 0 ∷ 1 ∷ 0 ∷ 118 ∷ 101 ∷ 116 ∷ 104 ∷ 0 ∷ 0 ∷ 0 ∷ 0 ∷ 64 ∷ 0 ∷ 2 ∷ 0 ∷ 60 ∷ 0 ∷ 1 ∷ 0 ∷ 0 ∷ 0 ∷ 0 ∷ 0 ∷ 0 ∷ 0 ∷ 0 ∷ 0 ∷ 0 ∷ 0 ∷ 0 ∷ 0 ∷ 0 ∷ 0 ∷ 0 ∷ 0 ∷ 40 ∷ 0 ∷ 18 ∷ 0 ∷ 9 ∷ 0 ∷ 1 ∷ 0 ∷ 118 ∷ 101 ∷ 116 ∷ 104 ∷ 0 ∷ 0 ∷ 0 ∷ 0 ∷ 24 ∷ 0 ∷ 2 ∷ 0 ∷ 19 ∷ 0 ∷ 1 ∷ 0 ∷ 0 ∷ 0 ∷ 0 ∷ 0 ∷ 0 ∷ 0 ∷ 0 ∷ 0 ∷ 0 ∷ 0 ∷ 0 ∷ 0 ∷ 0 ∷ 0 ∷ 0 ∷ 0 ∷ [])
+unfolding everything
+peer_inside_a_peer-text = refl
+
+peer_inside_a_peer-same : link_body.same peer_inside_a_peer (0 ∷ 0 ∷ 0 ∷ 0 ∷ 0 ∷ 0 ∷ 0 ∷ 0 ∷ 0 ∷ 0 ∷ 0 ∷ 0 ∷ 0 ∷ 0 ∷ 0 ∷ 0 ∷ 80 ∷ 0 ∷ 18 ∷ 0 ∷ 9 ∷ 0 ∷ 1 ∷ 0 ∷ 118 ∷ 101 ∷ 116 ∷ 104 ∷ 0 ∷ 0 ∷ 0 ∷ 0 ∷ 64 ∷ 0 ∷ 2 ∷ 0 ∷ 60 ∷ 0 ∷ 1 ∷ 0 ∷ 0 ∷ 0 ∷ 0 ∷ 0 ∷ 0 ∷ 0 ∷ 0 ∷ 0 ∷ 0 ∷ 0 ∷ 0 ∷ 0 ∷ 0 ∷ 0 ∷ 0 ∷ 0 ∷ 40 ∷ 0 ∷ 18 ∷ 0 ∷ 9 ∷ 0 ∷ 1 ∷ 0 ∷ 118 ∷ 101 ∷ 116 ∷ 104 ∷ 0 ∷ 0 ∷ 0 ∷ 0 ∷ 24 ∷ 0 ∷ 2 ∷ 0 ∷ 19 ∷ 0 ∷ 1 ∷ 0 ∷ 0 ∷ 0 ∷ 0 ∷ 0 ∷ 0 ∷ 0 ∷ 0 ∷ 0 ∷ 0 ∷ 0 ∷ 0 ∷ 0 ∷ 0 ∷ 0 ∷ 0 ∷ 0 ∷ []) ≡ true
+unfolding everything
+peer_inside_a_peer-same = refl
+
+-- a peer of fifteen bytes
+abbrev short_peer : List ℕ
+short_peer = (0 ∷ 0 ∷ 0 ∷ 0 ∷ 0 ∷ 0 ∷ 0 ∷ 0 ∷ 0 ∷ 0 ∷ 0 ∷ 0 ∷ 0 ∷ 0 ∷ 0 ∷ 0 ∷ 39 ∷ 0 ∷ 18 ∷ 0 ∷ 9 ∷ 0 ∷ 1 ∷ 0 ∷ 118 ∷ 101 ∷ 116 ∷ 104 ∷ 0 ∷ 0 ∷ 0 ∷ 0 ∷ 23 ∷ 0 ∷ 2 ∷ 0 ∷ 19 ∷ 0 ∷ 1 ∷ 0 ∷ 0 ∷ 0 ∷ 0 ∷ 0 ∷ 0 ∷ 0 ∷ 0 ∷ 0 ∷ 0 ∷ 0 ∷ 0 ∷ 0 ∷ 0 ∷ 0 ∷ 0 ∷ [])
+
+short_peer-accepted : link_body.accepted short_peer ≡ false
+unfolding everything
+short_peer-accepted = refl
+
+-- a peer whose list of ports keeps nothing
+abbrev peer_with_empty_ports : List ℕ
+peer_with_empty_ports = (0 ∷ 0 ∷ 0 ∷ 0 ∷ 0 ∷ 0 ∷ 0 ∷ 0 ∷ 0 ∷ 0 ∷ 0 ∷ 0 ∷ 0 ∷ 0 ∷ 0 ∷ 0 ∷ 48 ∷ 0 ∷ 18 ∷ 0 ∷ 9 ∷ 0 ∷ 1 ∷ 0 ∷ 118 ∷ 101 ∷ 116 ∷ 104 ∷ 0 ∷ 0 ∷ 0 ∷ 0 ∷ 32 ∷ 0 ∷ 2 ∷ 0 ∷ 28 ∷ 0 ∷ 1 ∷ 0 ∷ 0 ∷ 0 ∷ 0 ∷ 0 ∷ 0 ∷ 0 ∷ 0 ∷ 0 ∷ 0 ∷ 0 ∷ 0 ∷ 0 ∷ 0 ∷ 0 ∷ 0 ∷ 0 ∷ 8 ∷ 0 ∷ 24 ∷ 0 ∷ 4 ∷ 0 ∷ 7 ∷ 0 ∷ [])
+
+peer_with_empty_ports-accepted : link_body.accepted peer_with_empty_ports ≡ false
+unfolding everything
+peer_with_empty_ports-accepted = refl

@@ -5,6 +5,7 @@ pub mod Sizes
 pub mod Parts
 pub mod EmptyPorts
 pub mod Together
+pub mod Peerless
 pub mod ReadAgain
 pub mod Cases
 pub mod NestedCases

@@ -71,22 +71,22 @@ link_peer_of r = record {
 abbrev pub link_peer_under : Peer → Peer
 link_peer_under p = link_peer_of (body_rule p)
 
--- ---- the same where peers are bytes, which is in force
+-- ---- the same under the rule of peers in force: a peer is a link body, in which peers are bytes
+
+unfoldable pub link_peer : Peer
+link_peer = link_peer_under bytes_peer
 
 abbrev pub link_body : Rule
-link_body = body_rule bytes_peer
+link_body = body_rule link_peer
 
 abbrev pub attributes_rule : Family → Rule
-attributes_rule = list_rule_of bytes_peer
+attributes_rule = list_rule_of link_peer
 
 abbrev pub attribute_row : Family → ℕ → Row
-attribute_row = attribute_row_under bytes_peer
+attribute_row = attribute_row_under link_peer
 
 abbrev pub info_payload_rule : Rule
-info_payload_rule = info_payload_rule_under bytes_peer
-
-abbrev pub link_peer : Peer
-link_peer = link_peer_under bytes_peer
+info_payload_rule = info_payload_rule_under link_peer
 
 -- ---- what the laws speak of
 

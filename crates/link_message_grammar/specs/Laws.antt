@@ -1,5 +1,5 @@
 -- The laws of the definitions, as the functions of `laws` state them.
-use Rattle.std.specs.Prelude.{◌≡◌, ℕ, ◌+◌, ◌*◌, ◌≤◌, ◌<◌, ◌&&◌, ◌++◌, nat_le, true, false, List, length, take, bytes_eq, Option, Some, None, option_map}
+use Rattle.std.specs.Prelude.{◌≡◌, ℕ, ◌+◌, ◌*◌, ◌≤◌, ◌<◌, ◌==◌, ◌&&◌, ◌++◌, nat_le, true, false, List, length, take, bytes_eq, Option, Some, None, option_map}
 use Rattle.attribute_tables_grammar.specs.Rules.{Lawful, Renews}
 use Rattle.std.specs.List.{list_any}
 use Rattle.attribute_tables_grammar.specs.Lists.{any, without_context}
@@ -11,7 +11,7 @@ use Rattle.attribute_tables_grammar.specs.Walks.{Measure, measure}
 use Rattle.attribute_tables_grammar.specs.Laws.{OneTextEach, KeepsMeaning}
 use Rattle.link_info_grammar.specs.LinkInfo.{info_rule_under}
 use Rattle.link_message_grammar.specs.LinkMessage.{Family, link_line, link_table}
-use Rattle.link_message_grammar.specs.Body.{attribute_bytes, attribute_row_under, behind_header, body_rule, family, header_text, info_payload_rule_under, is_emptied, link_peer_under, list_rule_of}
+use Rattle.link_message_grammar.specs.Body.{attribute_bytes, attribute_row_under, behind_header, body_rule, family, header_text, info_payload_rule_under, is_emptied, link_peer, link_peer_under, list_rule_of}
 
 abbrev pub AttributesAreLawful : Type 0
 AttributesAreLawful = (p : Peer) → LawfulPeer p → (f : Family) → Lawful (rule p (list any (link_table f)))
@@ -39,13 +39,17 @@ ShortBodiesFit = (p : Peer) (b : List ℕ) → (body_rule p).accepted b ≡ true
 abbrev pub LinkPeersAreLawful : Type 0
 LinkPeersAreLawful = (p : Peer) → LawfulPeer p → LawfulPeer (link_peer_under p)
 
+-- and so is the one in force, whose own peers are bytes
+abbrev pub LinkPeerIsLawful : Type 0
+LinkPeerIsLawful = LawfulPeer link_peer
+
 abbrev pub BodiesTellMeanings : Type 0
 BodiesTellMeanings = (p : Peer) → LawfulPeer p → OneTextEach (body_rule p)
 
 abbrev pub BodiesKeepMeanings : Type 0
 BodiesKeepMeanings = (p : Peer) → LawfulPeer p → KeepsMeaning (body_rule p)
 
--- under a rule of peers an old text becomes what the first bytes become
+-- under a rule of peers an old text is accepted, and becomes what the first bytes become
 abbrev pub OldBodiesAreRenewed : Type 0
 OldBodiesAreRenewed = (p : Peer) → Renews (body_rule bytes_peer) (body_rule p)
 
@@ -82,6 +86,10 @@ KindsAreLookedUp = (f : Family) (k : ℕ) → line_at (link_table f) k ≡ link_
 abbrev pub AttributesAreLookedUp : Peer → Type 0
 AttributesAreLookedUp p = (f : Family) → list_rule_of p f ≡ rows_rule any (attribute_row_under p f)
 
+-- peers stand in link info alone: what the other rows say is the same under every rule of peers
+abbrev pub PeersStandInLinkInfo : Type 0
+PeersStandInLinkInfo = (p q : Peer) (f : Family) (k : ℕ) → (k == 18) ≡ false → attribute_row_under p f k ≡ attribute_row_under q f k
+
 -- attributes have a list of ports of which nothing is kept exactly where one of what they are read as is such a list without an entry
 abbrev pub EmptyPortsAreTold : Peer → Type 0
 EmptyPortsAreTold p = (f : Family) (b : List ℕ) (ws : List Written) → reading_as any (without_context (attribute_row_under p f)) b ≡ Some ws →
@@ -105,7 +113,7 @@ pub record BodiesAreMeasured : Type 0 where
   pub long : (p : Peer) (b : List ℕ) (o : Option Measure) → 16 ≤ length b → o ≡ measure (list_rule_of p (family b)) (attribute_bytes b) → option_map behind_header o ≡ measure (body_rule p) b
   pub own : (p : Peer) (b : List ℕ) → header_text b ≡ take 16 b → (list_rule_of p (family b)).canonical (attribute_bytes b) ≡ attribute_bytes b → (body_rule p).canonical b ≡ b
 
--- the laws that functions state where peers are bytes, under any rule of peers
+-- the laws that functions state under the rule of peers in force, under any rule of peers
 pub record BodyLaws (p : Peer) : Type 0 where
   pub headers_and_attributes : BodiesAreHeadersAndAttributes p
   pub read_again : CanonicalTextsAreReadAgain p

@@ -5,12 +5,10 @@ ghost use Rattle.link_message_grammar.specs.Laws.{LinkPeersAreLawful, BodiesTell
 ghost use Rattle.link_message_grammar.specs.Laws.{BodiesAreHeadersAndAttributes, KindsAreLookedUp};
 ghost use Rattle.link_message_grammar.specs.Laws.{AttributesAreLookedUp, InfoIsAListInside};
 ghost use Rattle.link_message_grammar.specs.Laws.{EmptyPortsAreTold, CanonicalTextsAreReadAgain, BodiesAreMeasured};
-ghost use Rattle.link_message_grammar.specs.Laws.{BodiesGrowByAttributes, ShortBodiesFit, BodyLawsHoldForAnyPeers};
-ghost use Rattle.attribute_tables_grammar.specs.Peers.{bytes_peer};
+ghost use Rattle.link_message_grammar.specs.Laws.{BodiesGrowByAttributes, ShortBodiesFit, BodyLawsHoldForAnyPeers, LinkPeerIsLawful, PeersStandInLinkInfo};
+ghost use Rattle.link_message_grammar.specs.Body.{link_peer};
 
-use attribute_tables_grammar::laws::{
-    lists_are_read_again, peers_that_are_bytes_are_lawful, table_grammars_are_lawful,
-};
+use attribute_tables_grammar::laws::{lists_are_read_again, table_grammars_are_lawful};
 
 /// Lists of link attributes are lawful, under each address family.
 pub fn attributes_are_lawful()
@@ -44,9 +42,14 @@ pub fn short_bodies_fit()
     ensures { ShortBodiesFit }
 {}
 
-/// Peers that are link bodies are lawful.
+/// Peers that are link bodies are lawful, under every lawful rule of their own peers.
 pub fn link_peers_are_lawful()
     ensures { LinkPeersAreLawful }
+{}
+
+/// Peers by the rule in force are lawful: link bodies, in which peers are bytes.
+pub fn link_peer_is_lawful()
+    ensures { LinkPeerIsLawful }
 {}
 
 /// Two accepted bodies mean the same exactly where they have one canonical text.
@@ -59,24 +62,25 @@ pub fn bodies_keep_meanings()
     ensures { BodiesKeepMeanings }
 {}
 
-/// Under a rule of peers an old text becomes what the first bytes become.
+/// The canonical text that a body had while peers were bytes becomes, under any rule of peers that
+/// accepts the body, what the body becomes. It fits where the body does, and is accepted without
+/// empty ports where the body had none.
 pub fn old_bodies_are_renewed()
     ensures { OldBodiesAreRenewed }
 {}
 
 /// A body is a header of 16 bytes and the attributes of its family.
 pub fn bodies_are_headers_and_attributes()
-    ensures { BodiesAreHeadersAndAttributes bytes_peer }
+    ensures { BodiesAreHeadersAndAttributes link_peer }
 {}
 
 /// A legal body that fits, and in which no ports are left empty, is read from its canonical text
 /// as from its own bytes.
 pub fn canonical_texts_are_read_again()
-    ensures { CanonicalTextsAreReadAgain bytes_peer }
+    ensures { CanonicalTextsAreReadAgain link_peer }
 {
     lists_are_read_again();
     table_grammars_are_lawful();
-    peers_that_are_bytes_are_lawful();
 }
 
 /// What is looked up of a kind is what the table of the family says of it.
@@ -86,17 +90,22 @@ pub fn kinds_are_looked_up()
 
 /// The attributes of a family have the rule of the rows that a look-up of each kind finds.
 pub fn attributes_are_looked_up()
-    ensures { AttributesAreLookedUp bytes_peer }
+    ensures { AttributesAreLookedUp link_peer }
 {}
 
 /// What a list of attributes is read as tells whether it has a list of ports of which nothing is kept.
 pub fn empty_ports_are_told()
-    ensures { EmptyPortsAreTold bytes_peer }
+    ensures { EmptyPortsAreTold link_peer }
+{}
+
+/// Peers stand in link info alone: what the rows of other kinds say is the same under every rule of peers.
+pub fn peers_stand_in_link_info()
+    ensures { PeersStandInLinkInfo }
 {}
 
 /// Link info in an attribute is the list of link info, and is refused where it is empty.
 pub fn info_is_a_list_inside()
-    ensures { InfoIsAListInside bytes_peer }
+    ensures { InfoIsAListInside link_peer }
 {}
 
 /// A body has the measure of its attributes behind a header of 16 bytes, and is its own text where
@@ -105,7 +114,7 @@ pub fn bodies_are_measured()
     ensures { BodiesAreMeasured }
 {}
 
-/// What is stated here of bodies whose peers are bytes holds under every lawful rule of peers.
+/// What is stated here of bodies under the rule of peers in force holds under every lawful one.
 pub fn body_laws_hold_for_any_peers()
     ensures { BodyLawsHoldForAnyPeers }
 {

@@ -6,10 +6,9 @@ use Rattle.std.proofs.Math.Nat.{min-eq_left, min-eq_right}
 use Rattle.std.proofs.lemmas.Bool.{leb-true, le-leb, eqb-true, ne_eqb, cases_lt}
 use Rattle.netlink_packet_core.specs.Numbers.{as_usize}
 use Rattle.attribute_tables_grammar.specs.Lists.{any, without_context}
-use Rattle.attribute_tables_grammar.specs.Peers.{bytes_peer}
 use Rattle.attribute_tables_grammar.specs.Readings.{reading_as}
 use Rattle.attribute_tables.specs.Written.{written_as}
-use Rattle.link_message_grammar.specs.Body.{attribute_bytes, attribute_row, attributes_rule, family, header_text, is_emptied, link_body}
+use Rattle.link_message_grammar.specs.Body.{attribute_bytes, attribute_row, attributes_rule, family, header_text, is_emptied, link_body, link_peer}
 use Rattle.link_message_grammar.specs.Laws.{BodiesAreHeadersAndAttributes, EmptyPortsAreTold}
 use Rattle.link_message_grammar.specs.LinkMessage.{Family, family_of}
 use Rattle.link_message_types.specs.AddressFamilies.{address_family_of, table_family}
@@ -21,16 +20,16 @@ short : (n : ℕ) (t : Bool) → nat_le 16 n ≡ t → n < 16 → t ≡ false
 short n true e l = absurd (let h : 16 ≤ n = leb-true 16 n e in omega arith)
 short n false e l = refl
 
-pub body-short : BodiesAreHeadersAndAttributes bytes_peer → (b : List ℕ) → length b < 16 → link_body.accepted b ≡ false
+pub body-short : BodiesAreHeadersAndAttributes link_peer → (b : List ℕ) → length b < 16 → link_body.accepted b ≡ false
 body-short parts b l = (parts b).accepted ∙ ap (λ t. t && (attributes_rule (family b)).accepted (attribute_bytes b)) (short (length b) (nat_le 16 (length b)) refl l)
 
-pub body-accepted : BodiesAreHeadersAndAttributes bytes_peer → (b : List ℕ) → 16 ≤ length b → link_body.accepted b ≡ (attributes_rule (family b)).accepted (attribute_bytes b)
+pub body-accepted : BodiesAreHeadersAndAttributes link_peer → (b : List ℕ) → 16 ≤ length b → link_body.accepted b ≡ (attributes_rule (family b)).accepted (attribute_bytes b)
 body-accepted parts b l = (parts b).accepted ∙ ap (λ t. t && (attributes_rule (family b)).accepted (attribute_bytes b)) (le-leb 16 (length b) l)
 
-pub body-canonical : BodiesAreHeadersAndAttributes bytes_peer → (b : List ℕ) → link_body.canonical b ≡ header_text b ++ (attributes_rule (family b)).canonical (attribute_bytes b)
+pub body-canonical : BodiesAreHeadersAndAttributes link_peer → (b : List ℕ) → link_body.canonical b ≡ header_text b ++ (attributes_rule (family b)).canonical (attribute_bytes b)
 body-canonical parts b = (parts b).canonical
 
-pub body-fits : BodiesAreHeadersAndAttributes bytes_peer → (b : List ℕ) → link_body.fits b ≡ (attributes_rule (family b)).fits (attribute_bytes b)
+pub body-fits : BodiesAreHeadersAndAttributes link_peer → (b : List ℕ) → link_body.fits b ≡ (attributes_rule (family b)).fits (attribute_bytes b)
 body-fits parts b = (parts b).fits
 
 -- what the attributes are read as tells whether they have ports of which nothing is kept
@@ -38,7 +37,7 @@ read_empty : (vs : List LinkAttribute) → list_any (λ w. is_emptied w.entry) (
 read_empty [] = refl
 read_empty (v ∷ vs) = ap (λ t. is_emptied (link_attribute_entry v) || t) (read_empty vs)
 
-pub body-empty_ports : BodiesAreHeadersAndAttributes bytes_peer → EmptyPortsAreTold bytes_peer → (b : List ℕ) (f : Family) → f ≡ family b → (vs : List LinkAttribute) → reading_as any (without_context (attribute_row f)) (attribute_bytes b) ≡ Some (map (written_as link_attribute_entry link_attribute_fits) vs) → list_any (λ v. is_emptied (link_attribute_entry v)) vs ≡ link_body.empty_ports b
+pub body-empty_ports : BodiesAreHeadersAndAttributes link_peer → EmptyPortsAreTold link_peer → (b : List ℕ) (f : Family) → f ≡ family b → (vs : List LinkAttribute) → reading_as any (without_context (attribute_row f)) (attribute_bytes b) ≡ Some (map (written_as link_attribute_entry link_attribute_fits) vs) → list_any (λ v. is_emptied (link_attribute_entry v)) vs ≡ link_body.empty_ports b
 body-empty_ports parts law b f h vs r =
     sym (read_empty vs) ∙ sym (law f (attribute_bytes b) _ r) ∙ ap (λ g. (attributes_rule g).empty_ports (attribute_bytes b)) h ∙ sym (parts b).empty_ports
 

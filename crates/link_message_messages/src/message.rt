@@ -32,8 +32,10 @@ pub struct LinkMessage {
 impl LinkMessage {
     /// Reads a message. It succeeds exactly where the body is legal, memory aside: where there are
     /// 16 bytes of header, and then a list of attributes, each accepted by its row under the
-    /// family of the header. It answers want of memory of legal bodies alone: where a growth was
-    /// refused, the rest of the attributes is judged without memory.
+    /// family of the header. The peers of `netkit`, `veth` and `vxcan` are judged as link bodies, one
+    /// level deep, and a value of one holds its canonical text, which this call reads in turn. It
+    /// answers want of memory of legal bodies alone: where a growth was refused, the rest of the
+    /// attributes is judged without memory.
     #[tactic(auto, using(crate::proofs::Bodies::bodies))]
     pub fn parse(alloc: Global, bytes: &[u8]) -> Result<LinkMessage, DecodeError>
         ensures ok { OnOk result (IsTrue (link_body.accepted bytes.now)) }

@@ -1,10 +1,10 @@
 //! Bodies of link messages: what they are read as, and written as.
 
 use crate::callers::{request_by_name, with_mtu, written};
-use link_info::{InfoData, InfoKind, InfoVxlan, LinkInfo};
+use link_info::{InfoData, InfoKind, InfoVeth, InfoVxlan, LinkInfo};
 use link_message::{
-    AddressFamily, LINK_HEADER_LEN, LinkAttribute, LinkExtentMask, LinkHeader, LinkMessage, check,
-    write_canonical,
+    AddressFamily, LINK_HEADER_LEN, LinkAttribute, LinkExtentMask, LinkHeader, LinkMessage,
+    LinkPeer, check, write_canonical,
 };
 use netlink_packet_core::Emitable;
 use std::alloc::Global;
@@ -22,8 +22,39 @@ const VXLAN: &[u8] = b"\x24\0\x12\0\x0a\0\x01\0vxlan\0\0\0\
 const VXLAN_TEXT: &[u8] = b"\x20\0\x12\0\x0a\0\x01\0vxlan\0\0\0\
     \x10\0\x02\0\x05\0\x07\0\x01\0\0\0\x04\0\x17\0";
 
+// A veth whose peer has the name `lo` without a NUL.
+const VETH: &[u8] = b"\x2e\0\x12\0\x09\0\x01\0veth\0\0\0\0\x1e\0\x02\0\x1a\0\x01\0\
+    \0\0\0\0\0\0\0\0\0\0\0\0\0\0\0\0\x06\0\x03\0lo";
+
+// The same as it is written.
+const VETH_TEXT: &[u8] = b"\x30\0\x12\0\x09\0\x01\0veth\0\0\0\0\x20\0\x02\0\x1c\0\x01\0\
+    \0\0\0\0\0\0\0\0\0\0\0\0\0\0\0\0\x07\0\x03\0lo\0\0";
+
+// The peer in it.
+const PEER: &[u8] = b"\0\0\0\0\0\0\0\0\0\0\0\0\0\0\0\0\x07\0\x03\0lo\0\0";
+
+// A veth whose peer is a veth, whose peer has 15 bytes.
+const VETH_TWICE: &[u8] = b"\x4f\0\x12\0\x09\0\x01\0veth\0\0\0\0\x3f\0\x02\0\x3b\0\x01\0\
+    \0\0\0\0\0\0\0\0\0\0\0\0\0\0\0\0\
+    \x27\0\x12\0\x09\0\x01\0veth\0\0\0\0\x17\0\x02\0\x13\0\x01\0\
+    \0\0\0\0\0\0\0\0\0\0\0\0\0\0\0";
+
+// The same as it is written.
+const VETH_TWICE_TEXT: &[u8] = b"\x50\0\x12\0\x09\0\x01\0veth\0\0\0\0\x40\0\x02\0\x3c\0\x01\0\
+    \0\0\0\0\0\0\0\0\0\0\0\0\0\0\0\0\
+    \x28\0\x12\0\x09\0\x01\0veth\0\0\0\0\x18\0\x02\0\x13\0\x01\0\
+    \0\0\0\0\0\0\0\0\0\0\0\0\0\0\0\0";
+
+// The peer in it.
+const PEER_TWICE: &[u8] = b"\0\0\0\0\0\0\0\0\0\0\0\0\0\0\0\0\
+    \x28\0\x12\0\x09\0\x01\0veth\0\0\0\0\x18\0\x02\0\x13\0\x01\0\
+    \0\0\0\0\0\0\0\0\0\0\0\0\0\0\0\0";
+
+// Attributes, the bytes that their peer is held as, and whether these are read as a message.
+const PEERS: [(&[u8], &[u8], bool); 2] = [(VETH, PEER, true), (VETH_TWICE, PEER_TWICE, false)];
+
 // Attributes, and what they are written as.
-const REWRITTEN: [(&[u8], &[u8]); 15] = [
+const REWRITTEN: [(&[u8], &[u8]); 17] = [
     // flag bits and padding of a name
     (b"\x07\0\x03\x80lo\0\xff", b"\x07\0\x03\0lo\0\0"),
     // a name without a NUL, at the end of the body
@@ -55,6 +86,10 @@ const REWRITTEN: [(&[u8], &[u8]); 15] = [
         b"\x20\0\x12\0\x09\0\x01\0veth\0\0\0\0\x0d\0\x02\0\x05\0\x02\0a\0\0\0\xff\0\0\0",
         b"\x1c\0\x12\0\x09\0\x01\0veth\0\0\0\0\x0c\0\x02\0\x05\0\x02\0a\0\0\0",
     ),
+    // a peer is written as a link is
+    (VETH, VETH_TEXT),
+    // a peer inside a peer is kept as bytes
+    (VETH_TWICE, VETH_TWICE_TEXT),
 ];
 
 // Headers without attributes, and what they are written as.
@@ -75,7 +110,7 @@ const HEADERS: [(&[u8], &[u8]); 2] = [
 const SHORT: [&[u8]; 3] = [b"", b"\x11\0\0\0", b"\0\0\0\0\0\0\0\0\0\0\0\0\0\0\0"];
 
 // Attributes for which a body is refused.
-const REFUSED: [&[u8]; 7] = [
+const REFUSED: [&[u8]; 9] = [
     // link info without an attribute
     b"\x04\0\x12\0",
     // a kind is in force in its own link info alone
@@ -84,6 +119,12 @@ const REFUSED: [&[u8]; 7] = [
     b"\x08\0\x12\0\x04\0\x05\0",
     // data of veth without an attribute
     b"\x14\0\x12\0\x09\0\x01\0veth\0\0\0\0\x04\0\x02\0",
+    // a peer of 15 bytes
+    b"\x27\0\x12\0\x09\0\x01\0veth\0\0\0\0\x17\0\x02\0\x13\0\x01\0\
+    \0\0\0\0\0\0\0\0\0\0\0\0\0\0\0",
+    // a peer with a list of ports that has no port
+    b"\x30\0\x12\0\x09\0\x01\0veth\0\0\0\0\x20\0\x02\0\x1c\0\x01\0\
+    \0\0\0\0\0\0\0\0\0\0\0\0\0\0\0\0\x08\0\x18\0\x04\0\x07\0",
     // a name that isn't UTF-8
     b"\x09\0\x03\0caf\xe9\0\0\0\0",
     // a byte where a header should be
@@ -201,6 +242,40 @@ fn link_info_is_typed(rt: HostRuntime) -> Result<(), Fail> {
         data.as_slice(),
         [InfoVxlan::Learning(true), InfoVxlan::Gbp].as_slice()
     );
+    Ok(())
+}
+
+/// A peer is held as it is written, and so it is by itself under the rule of peers. Read as a
+/// message, it is judged as one, with the peers in it.
+#[test]
+fn peers_are_messages(rt: HostRuntime) -> Result<(), Fail> {
+    for (attributes, wanted, is_message) in PEERS {
+        let message = LinkMessage::parse(rt.alloc(), &body(rt.alloc(), attributes)?)?;
+        let [LinkAttribute::LinkInfo(infos)] = message.attributes.as_slice() else {
+            return Err(Fail::from("other attributes"));
+        };
+        let [
+            LinkInfo::Kind(InfoKind::Veth),
+            LinkInfo::Data(InfoData::Veth(InfoVeth::Peer(peer))),
+        ] = infos.as_slice()
+        else {
+            return Err(Fail::from("other link info"));
+        };
+        assert!(rt; peer.as_slice() == wanted);
+        assert!(rt; is_refused(rt.alloc(), peer) == !is_message);
+        // link info by itself, and its data, under the rule of peers
+        let list = attributes.get(4..).unwrap_or(b"");
+        let alone = LinkInfo::parse_list_with(rt.alloc(), list, &LinkPeer)?;
+        assert!(rt; alone.as_slice() == infos.as_slice());
+        let payload = list.get(16..).unwrap_or(b"");
+        let data = InfoData::parse_with_peers(rt.alloc(), payload, &InfoKind::Veth, &LinkPeer)?;
+        assert!(rt; data == InfoData::Veth(InfoVeth::Peer(Vec::from_slice(rt.alloc(), wanted)?)));
+    }
+    let peer = LinkMessage::parse(rt.alloc(), PEER)?;
+    let [LinkAttribute::IfName(name)] = peer.attributes.as_slice() else {
+        return Err(Fail::from("other attributes of the peer"));
+    };
+    assert_eq!(rt; name.as_str(), "lo");
     Ok(())
 }
 

@@ -2,7 +2,9 @@
 
 use super::devices::{Giver, Plan};
 use hex::{decode, encode};
-use link_capture::{CaptureFault, ReadSource, VecSink, normalize, normalize_bytes};
+use link_capture::{
+    CaptureFault, Measure, ReadSource, VecSink, measure, normalize, normalize_bytes, same,
+};
 use std::alloc::Global;
 use std::test::Fail;
 
@@ -48,8 +50,28 @@ struct Case {
     wanted: &'static str,
 }
 
+/// A veth whose peer has the name `lo` without a NUL, and its normal text.
+const VETH: &str =
+    "4e000000100000000000000000000000000000000000000000000000000000002e00120009000100\
+    76657468000000001e0002001a00010000000000000000000000000000000000060003006c6f";
+
+const VETH_TEXT: &str =
+    "50000000100000000000000000000000000000000000000000000000000000003000120009000100\
+    7665746800000000200002001c00010000000000000000000000000000000000070003006c6f0000";
+
+/// A veth whose peer is a veth, whose peer has 15 bytes; and its normal text.
+const VETH_TWICE: &str =
+    "6f000000100000000000000000000000000000000000000000000000000000004f00120009000100\
+    76657468000000003f0002003b000100000000000000000000000000000000002700120009000100\
+    76657468000000001700020013000100000000000000000000000000000000";
+
+const VETH_TWICE_TEXT: &str =
+    "70000000100000000000000000000000000000000000000000000000000000005000120009000100\
+    7665746800000000400002003c000100000000000000000000000000000000002800120009000100\
+    7665746800000000180002001300010000000000000000000000000000000000";
+
 /// Cases worked by hand.
-const WORKED: [Case; 14] = [
+const WORKED: [Case; 18] = [
     Case {
         name: "no bytes are legal and have no text",
         capture: "",
@@ -135,6 +157,32 @@ const WORKED: [Case; 14] = [
         wanted: " refused body at 0",
     },
     Case {
+        name: "a peer is written as a link is",
+        capture: VETH,
+        limit: 1000,
+        wanted: VETH_TEXT,
+    },
+    Case {
+        name: "a peer inside a peer is kept as bytes",
+        capture: VETH_TWICE,
+        limit: 1000,
+        wanted: VETH_TWICE_TEXT,
+    },
+    Case {
+        name: "a peer of 15 bytes is refused",
+        capture: "47000000100000000000000000000000000000000000000000000000000000002700120009000100\
+            76657468000000001700020013000100000000000000000000000000000000",
+        limit: 1000,
+        wanted: " refused body at 0",
+    },
+    Case {
+        name: "a peer with a list of ports that has no port is refused",
+        capture: "50000000100000000000000000000000000000000000000000000000000000003000120009000100\
+            7665746800000000200002001c000100000000000000000000000000000000000800180004000700",
+        limit: 1000,
+        wanted: " refused body at 0",
+    },
+    Case {
         name: "two frames are written one after the other",
         capture: "3000000012000103340ef95a000000000000000000000000000000000000000008001d0009000000\
             070003006c6f00003000000012000103340ef95a0000000000000000000000000000000000000000\
@@ -160,6 +208,26 @@ fn worked_captures(rt: HostRuntime) -> Result<(), Fail> {
                 case.name
             );
         }
+    }
+    Ok(())
+}
+
+/// The attributes of a peer count, and a capture and its normal text mean the same.
+#[test]
+fn peers_are_measured_and_compared(rt: HostRuntime) -> Result<(), Fail> {
+    for (capture, text, attributes, text_len) in [
+        (VETH, VETH_TEXT, 5, 80),
+        (VETH_TWICE, VETH_TWICE_TEXT, 8, 112),
+    ] {
+        let capture = decode(rt.alloc(), capture).map_err(|_| Fail::from("not hex"))?;
+        let text = decode(rt.alloc(), text).map_err(|_| Fail::from("not hex"))?;
+        let wanted = Measure {
+            frames: 1,
+            attributes,
+            text_len,
+        };
+        assert!(rt; measure(capture.as_slice(), 1000) == Ok(wanted));
+        assert!(rt; same(capture.as_slice(), text.as_slice(), 1000) == Ok(true));
     }
     Ok(())
 }

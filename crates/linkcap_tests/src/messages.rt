@@ -2,10 +2,17 @@
 
 use hex::decode;
 use link_capture::{Messages, NotReadable, ReadableLink, RouteFault};
+use link_info::{InfoData, InfoKind, InfoVeth, LinkInfo};
 use link_message::{LinkAttribute, LinkExtentMask, LinkHeader, LinkMessage};
 use netlink_packet_core::DefaultNla;
 use std::alloc::Global;
 use std::test::Fail;
+
+/// A body with the name `lo`, as it is written.
+const PEER: &[u8] = b"\0\0\0\0\0\0\0\0\0\0\0\0\0\0\0\0\x07\0\x03\0lo\0\0";
+
+/// The same without the NUL behind its name.
+const PEER_SHORTER: &[u8] = b"\0\0\0\0\0\0\0\0\0\0\0\0\0\0\0\0\x06\0\x03\0lo";
 
 /// An attribute of each case, made anew.
 fn attribute(alloc: Global, case: usize) -> Result<LinkAttribute, Fail> {
@@ -24,6 +31,8 @@ fn attribute(alloc: Global, case: usize) -> Result<LinkAttribute, Fail> {
             let bytes = Vec::from_slice(alloc, &[4, 0, 7, 0])?;
             Ok(LinkAttribute::Other(DefaultNla::new(24, bytes)))
         }
+        6 => veth(alloc, PEER),
+        7 => veth(alloc, PEER_SHORTER),
         _ => {
             let bytes = Vec::from_slice(alloc, &[0x6c, 0x6f, 0])?;
             Ok(LinkAttribute::Other(DefaultNla::new(3, bytes)))
@@ -36,6 +45,13 @@ fn long_name(alloc: Global, size: usize) -> Result<String, Fail> {
         Ok(name) => Ok(name),
         Err(_) => Err(Fail::from("a name of ASCII")),
     }
+}
+
+/// Link info of a veth with this peer.
+fn veth(alloc: Global, peer: &[u8]) -> Result<LinkAttribute, Fail> {
+    let data = InfoData::Veth(InfoVeth::Peer(Vec::from_slice(alloc, peer)?));
+    let infos = vec![in alloc; LinkInfo::Kind(InfoKind::Veth), LinkInfo::Data(data)]?;
+    Ok(LinkAttribute::LinkInfo(infos))
 }
 
 fn message(alloc: Global, case: usize) -> Result<LinkMessage, Fail> {
@@ -56,6 +72,8 @@ fn messages_are_readable_where_they_read_back(rt: HostRuntime) -> Result<(), Fai
         Some(NotReadable::ReadsOtherwise),
         Some(NotReadable::ReadsOtherwise),
         Some(NotReadable::ReadsOtherwise),
+        Some(NotReadable::ReadsOtherwise),
+        None,
         Some(NotReadable::ReadsOtherwise),
         Some(NotReadable::ReadsOtherwise),
     ];

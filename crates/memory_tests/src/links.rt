@@ -5,6 +5,7 @@ use link_capture::{NotReadable, ReadableLink};
 use link_info::{InfoKind, LinkInfo};
 use link_message::LinkMessage;
 use netlink_packet_core::{Emitable, emit_all, fits_all, len_all};
+use std::alloc::Global;
 use std::test::Fail;
 
 /// A link of IPsec, with its data.
@@ -16,6 +17,16 @@ pub(crate) const VXLAN: [u8; 56] = *b"\0\0\0\0\0\0\0\0\0\0\0\0\0\0\0\0\
     \x07\0\x03\0lo\0\0\
     \x20\0\x12\0\x0a\0\x01\0vxlan\0\0\0\x10\0\x02\0\x05\0\x07\0\x01\0\0\0\x04\0\x17\0";
 
+/// A veth whose peer has the name `lo` without a NUL.
+const VETH: [u8; 62] = *b"\0\0\0\0\0\0\0\0\0\0\0\0\0\0\0\0\
+    \x2e\0\x12\0\x09\0\x01\0veth\0\0\0\0\x1e\0\x02\0\x1a\0\x01\0\
+    \0\0\0\0\0\0\0\0\0\0\0\0\0\0\0\0\x06\0\x03\0lo";
+
+/// The same as it is written.
+const VETH_TEXT: [u8; 64] = *b"\0\0\0\0\0\0\0\0\0\0\0\0\0\0\0\0\
+    \x30\0\x12\0\x09\0\x01\0veth\0\0\0\0\x20\0\x02\0\x1c\0\x01\0\
+    \0\0\0\0\0\0\0\0\0\0\0\0\0\0\0\0\x07\0\x03\0lo\0\0";
+
 /// A link of IPsec, and behind its kind data with a number of one byte.
 const REFUSED_LIST: [u8; 24] = *b"\x09\0\x01\0xfrm\0\0\0\0\
     \x0c\0\x02\0\x05\0\x01\0\x02\0\0\0";
@@ -23,6 +34,11 @@ const REFUSED_LIST: [u8; 24] = *b"\x09\0\x01\0xfrm\0\0\0\0\
 /// The name `lo`, and behind it a name that isn't UTF-8.
 const REFUSED_BODY: [u8; 32] = *b"\0\0\0\0\0\0\0\0\0\0\0\0\0\0\0\0\
     \x07\0\x03\0lo\0\0\x06\0\x03\0\xff\0\0\0";
+
+/// A veth whose peer has the name `lo`, and behind it ports without an entry.
+const REFUSED_PEER: [u8; 72] = *b"\0\0\0\0\0\0\0\0\0\0\0\0\0\0\0\0\
+    \x38\0\x12\0\x09\0\x01\0veth\0\0\0\0\x28\0\x02\0\x24\0\x01\0\
+    \0\0\0\0\0\0\0\0\0\0\0\0\0\0\0\0\x07\0\x03\0lo\0\0\x08\0\x18\0\x04\0\x07\0";
 
 /// Whether a list is written as that of IPsec.
 fn is_xfrm(list: &Vec<LinkInfo>) -> bool {
@@ -34,14 +50,35 @@ fn is_xfrm(list: &Vec<LinkInfo>) -> bool {
     buffer == XFRM
 }
 
-/// Whether a message is written as that of the VXLAN.
-fn is_vxlan(message: &LinkMessage) -> bool {
-    let mut buffer = [0xffu8; 56];
-    if !message.fits() || message.buffer_len() != buffer.len() {
+/// Whether a message is written as this text, of 64 bytes at most.
+fn is_written_as(message: &LinkMessage, text: &[u8]) -> bool {
+    let mut buffer = [0xffu8; 64];
+    let size = message.buffer_len();
+    if !message.fits() || size > buffer.len() {
         return false;
     }
     message.emit(&mut buffer);
-    buffer == VXLAN
+    &buffer[..size] == text
+}
+
+/// What reading a body answers, where it is written as this text.
+fn reading(alloc: Global, bytes: &[u8], text: &[u8]) -> Result<&'static str, Fail> {
+    match LinkMessage::parse(alloc, bytes) {
+        Ok(message) => {
+            if is_written_as(&message, text) {
+                Ok("ok")
+            } else {
+                Err(Fail::from("another text"))
+            }
+        }
+        Err(error) => {
+            if error.is_memory() {
+                Ok("no memory")
+            } else {
+                Err(Fail::from("refused"))
+            }
+        }
+    }
 }
 
 #[test]
@@ -64,16 +101,16 @@ fn a_list_of_link_info(rt: HostRuntime) -> Result<(), Fail> {
 
 #[test]
 fn a_link_message(rt: HostRuntime) -> Result<(), Fail> {
-    match LinkMessage::parse(rt.alloc(), &VXLAN) {
-        Ok(message) => {
-            assert!(rt; is_vxlan(&message));
-            println!(rt; "LinkMessage::parse: ok")?;
-        }
-        Err(error) => {
-            assert!(rt; error.is_memory());
-            println!(rt; "LinkMessage::parse: no memory")?;
-        }
-    }
+    let answer = reading(rt.alloc(), &VXLAN, &VXLAN)?;
+    println!(rt; "LinkMessage::parse: {answer}")?;
+    println!(rt; "last request: {}", last_request(rt.alloc()))?;
+    Ok(())
+}
+
+#[test]
+fn a_link_message_with_a_peer(rt: HostRuntime) -> Result<(), Fail> {
+    let answer = reading(rt.alloc(), &VETH, &VETH_TEXT)?;
+    println!(rt; "LinkMessage::parse: {answer}")?;
     println!(rt; "last request: {}", last_request(rt.alloc()))?;
     Ok(())
 }
@@ -84,11 +121,11 @@ fn a_readable_link(rt: HostRuntime) -> Result<(), Fail> {
     if let Ok(message) = LinkMessage::parse(rt.alloc(), &VXLAN) {
         match ReadableLink::new(rt.alloc(), message) {
             Ok(link) => {
-                assert!(rt; is_vxlan(link.message()));
+                assert!(rt; is_written_as(link.message(), &VXLAN));
                 println!(rt; "ReadableLink::new: ok")?;
             }
             Err((message, why)) => {
-                assert!(rt; why == NotReadable::Memory && is_vxlan(&message));
+                assert!(rt; why == NotReadable::Memory && is_written_as(&message, &VXLAN));
                 println!(rt; "ReadableLink::new: {why}")?;
             }
         }
@@ -104,9 +141,11 @@ fn a_refused_input(rt: HostRuntime) -> Result<(), Fail> {
         Ok(_) => return Err(Fail::from("accepted")),
         Err(error) => assert!(rt; !error.is_memory()),
     }
-    match LinkMessage::parse(rt.alloc(), &REFUSED_BODY) {
-        Ok(_) => return Err(Fail::from("accepted")),
-        Err(error) => assert!(rt; !error.is_memory()),
+    for body in [REFUSED_BODY.as_slice(), REFUSED_PEER.as_slice()] {
+        match LinkMessage::parse(rt.alloc(), body) {
+            Ok(_) => return Err(Fail::from("accepted")),
+            Err(error) => assert!(rt; !error.is_memory()),
+        }
     }
     println!(rt; "refused input: refused")?;
     println!(rt; "last request: {}", last_request(rt.alloc()))?;

@@ -9,7 +9,7 @@ use std::test::Fail;
 
 /// Captures that are legal under a limit of 1000, each with the numbers of its frames, its attributes and the bytes of
 /// its normal text.
-const LEGAL: [(&[u8], [u64; 3]); 10] = [
+const LEGAL: [(&[u8], [u64; 3]); 12] = [
     // No bytes.
     (b"", [0, 0, 0]),
     // A request for the link `lo`.
@@ -55,6 +55,20 @@ const LEGAL: [(&[u8], [u64; 3]); 10] = [
         \x01\0veth\0\0\0\0\x0d\0\x02\0\x05\0\x02\0a\0\0\0\xff\0\0\0",
         [1, 4, 60],
     ),
+    // A veth whose peer has the name `lo` without a NUL.
+    (
+        b"N\0\0\0\x10\0\0\0\0\0\0\0\0\0\0\0\0\0\0\0\0\0\0\0\0\0\0\0\0\0\0\0.\0\x12\0\x09\0\
+        \x01\0veth\0\0\0\0\x1e\0\x02\0\x1a\0\x01\0\0\0\0\0\0\0\0\0\0\0\0\0\0\0\0\0\x06\0\
+        \x03\0lo",
+        [1, 5, 80],
+    ),
+    // A veth whose peer is a veth, whose peer has 15 bytes.
+    (
+        b"o\0\0\0\x10\0\0\0\0\0\0\0\0\0\0\0\0\0\0\0\0\0\0\0\0\0\0\0\0\0\0\0O\0\x12\0\x09\0\
+        \x01\0veth\0\0\0\0?\0\x02\0;\0\x01\0\0\0\0\0\0\0\0\0\0\0\0\0\0\0\0\0'\0\x12\0\x09\
+        \0\x01\0veth\0\0\0\0\x17\0\x02\0\x13\0\x01\0\0\0\0\0\0\0\0\0\0\0\0\0\0\0\0",
+        [1, 8, 112],
+    ),
     // Two requests.
     (
         b"0\0\0\0\x12\0\x01\x034\x0e\xf9Z\0\0\0\0\0\0\0\0\0\0\0\0\0\0\0\0\0\0\0\0\x08\0\
@@ -64,9 +78,30 @@ const LEGAL: [(&[u8], [u64; 3]); 10] = [
     ),
 ];
 
-/// A DONE without a code, and behind it a frame that tells 8 bytes.
-const SHORT: &[u8] =
-    b"\x10\0\0\0\x03\0\x02\0\x01\0\0\0\0\0\0\0\x08\0\0\0\x03\0\0\0\0\0\0\0\0\0\0\0";
+/// Captures with a fault, each with its kind and place.
+const FAULTY: [(&[u8], FaultKind, u64); 3] = [
+    // A DONE without a code, and behind it a frame that tells 8 bytes.
+    (
+        b"\x10\0\0\0\x03\0\x02\0\x01\0\0\0\0\0\0\0\x08\0\0\0\x03\0\0\0\0\0\0\0\0\0\0\0",
+        FaultKind::ShortLength,
+        16,
+    ),
+    // A veth whose peer has 15 bytes.
+    (
+        b"G\0\0\0\x10\0\0\0\0\0\0\0\0\0\0\0\0\0\0\0\0\0\0\0\0\0\0\0\0\0\0\0'\0\x12\0\x09\0\
+        \x01\0veth\0\0\0\0\x17\0\x02\0\x13\0\x01\0\0\0\0\0\0\0\0\0\0\0\0\0\0\0\0",
+        FaultKind::Refused,
+        0,
+    ),
+    // A veth whose peer has ports without an entry.
+    (
+        b"P\0\0\0\x10\0\0\0\0\0\0\0\0\0\0\0\0\0\0\0\0\0\0\0\0\0\0\0\0\0\0\00\0\x12\0\x09\0\
+        \x01\0veth\0\0\0\0 \0\x02\0\x1c\0\x01\0\0\0\0\0\0\0\0\0\0\0\0\0\0\0\0\0\x08\0\x18\
+        \0\x04\0\x07\0",
+        FaultKind::Refused,
+        0,
+    ),
+];
 
 /// What the settings stand behind: a message of 888 bytes, its link header, IFLA_AF_SPEC, and the family 10 in it.
 const FRONT: [u8; 40] =
@@ -117,11 +152,9 @@ fn captures_are_measured(rt: HostRuntime) -> Result<(), Fail> {
         return Err(Fail::from("fewer than 880 bytes"));
     };
     assert!(rt; is_measured(shorter, 65559, [1, 212, 64720]));
-    let fault = CaptureFault {
-        kind: FaultKind::ShortLength,
-        offset: 16,
-    };
-    assert!(rt; measure(SHORT, 1000) == Err(fault));
+    for (capture, kind, offset) in FAULTY {
+        assert!(rt; measure(capture, 1000) == Err(CaptureFault { kind, offset }));
+    }
     println!(rt; "measure: as ever")?;
     println!(rt; "last request: {}", last_request(rt.alloc()))?;
     Ok(())

@@ -4,76 +4,75 @@ use Rattle.netlink_packet_core_grammar.specs.Attributes.{nla_align, proper_kind}
 use Rattle.netlink_packet_core_grammar.specs.AttributeViews.{IsAttribute, viewed_length, viewed_attribute, viewed_kind, viewed_payload, after_first}
 use Rattle.netlink_packet_core.specs.Errors.{is_memory}
 use Rattle.attribute_tables_grammar.specs.Lists.{nothing, rewrite}
-use Rattle.attribute_tables_grammar.specs.Peers.{bytes_peer}
 use Rattle.attribute_tables_grammar.specs.Tables.{info_next}
-use Rattle.link_info_grammar.specs.LinkInfo.{info_rule, link_info_row}
+use Rattle.link_info_grammar.specs.LinkInfo.{info_rule_under, link_info_row_under}
 use Rattle.link_info.specs.LinkInfo.{context_of, link_info_entry, link_info_fits}
 use Rattle.link_info.proofs.InfoReading.{State, Done, state_start, state_more, state_refused, state_stopped, state_done}
 use Rattle.link_info.proofs.infos.LinkInfo.read_list.Goals as goal
 
 pub loop-force-init : goal.loop-force-init
-loop-force-init c = record {
-  state = subst (λ vs. State c.args.bytes.now vs nothing c.args.bytes.now) (sym c.new-list.ensures.items) (state_start c.readings_go_by_steps.ensures c.args.bytes.now);
+loop-force-init g c = record {
+  state = subst (λ vs. State g.R.PeerRule.peer c.args.bytes.now vs nothing c.args.bytes.now) (sym c.new-list.ensures.items) (state_start g.R.PeerRule.peer c.readings_go_by_steps.ensures c.args.bytes.now);
   within = omega arith;
 }
 
 pub returns-in_err-buf-clause-err : goal.returns-in_err-buf-clause-err
-returns-in_err-buf-clause-err c =
+returns-in_err-buf-clause-err g c =
     let b = c.loop-force.rest.now in
     let n : 0 < length b = grind (arith, nat_tests) in
-    let k = state_stopped c.readings_go_by_steps.ensures c.readings_tell_rules.ensures _ _ _ b (λ h. let e : false ≡ true = c.in_err-buf.ensures.whole.1 h in absurd cc) n c.loop-force.invariant.state in
+    let k = state_stopped g.R.PeerRule.peer c.readings_go_by_steps.ensures c.readings_tell_rules.ensures _ _ _ b (λ h. let e : false ≡ true = c.in_err-buf.ensures.whole.1 h in absurd cc) n c.loop-force.invariant.state in
     search rules
 
 pub returns-in_err-read-clause-err : goal.returns-in_err-read-clause-err
-returns-in_err-read-clause-err c =
+returns-in_err-read-clause-err g c =
     let b = c.loop-force.rest.now in
     let f = context_of c.loop-force.force.kind c.loop-force.force.port_kind in
     let h : IsAttribute b = c.in_ok-buf.ensures.whole.0 refl in
-    let k : is_memory c.in_err-read.field-0.0 ≡ false → info_rule.accepted c.args.bytes.now ≡ false =
+    let k : is_memory c.in_err-read.field-0.0 ≡ false → (info_rule_under g.R.PeerRule.peer).accepted c.args.bytes.now ≡ false =
     λ m.
-    let was : (link_info_row f (proper_kind (viewed_kind b))).rule.accepted (viewed_payload b) ≡ false = rw c.in_ok-buf.ensures.ok at c.in_err-read.ensures.err m in
-    state_refused c.readings_go_by_steps.ensures c.readings_tell_rules.ensures _ _ f b h was c.loop-force.invariant.state in
+    let was : (link_info_row_under g.R.PeerRule.peer f (proper_kind (viewed_kind b))).rule.accepted (viewed_payload b) ≡ false = rw c.in_ok-buf.ensures.ok at c.in_err-read.ensures.err m in
+    state_refused g.R.PeerRule.peer c.readings_go_by_steps.ensures c.readings_tell_rules.ensures _ _ f b h was c.loop-force.invariant.state in
     search rules
 
 pub returns-in_err-force-clause-err : goal.returns-in_err-force-clause-err
-returns-in_err-force-clause-err c =
+returns-in_err-force-clause-err g c =
     let b = c.loop-force.rest.now in
     let f = context_of c.loop-force.force.kind c.loop-force.force.port_kind in
     let h : IsAttribute b = c.in_ok-buf.ensures.whole.0 refl in
-    let was : (link_info_row f (proper_kind (viewed_kind b))).rule.accepted (viewed_payload b) ≡ false = rw c.in_ok-buf.ensures.ok at c.in_err-force.ensures.err in
-    let k = state_refused c.readings_go_by_steps.ensures c.readings_tell_rules.ensures _ _ f b h was c.loop-force.invariant.state in
+    let was : (link_info_row_under g.R.PeerRule.peer f (proper_kind (viewed_kind b))).rule.accepted (viewed_payload b) ≡ false = rw c.in_ok-buf.ensures.ok at c.in_err-force.ensures.err g.R.PeerRule.peer in
+    let k = state_refused g.R.PeerRule.peer c.readings_go_by_steps.ensures c.readings_tell_rules.ensures _ _ f b h was c.loop-force.invariant.state in
     search rules
 
 pub loop-force-preserved : goal.loop-force-preserved
-loop-force-preserved c =
+loop-force-preserved g c =
     let b = c.loop-force.rest.now in
     let f = context_of c.loop-force.force.kind c.loop-force.force.port_kind in
     let v = c.in_ok-read.field-0 in
     let h : IsAttribute b = c.in_ok-buf.ensures.whole.0 refl in
-    let was : (link_info_row f (proper_kind (viewed_kind b))).rule.accepted (viewed_payload b) ≡ true = rw c.in_ok-buf.ensures.ok at c.in_ok-read.ensures.ok in
-    let entry : link_info_entry v ≡ rewrite (link_info_row f (proper_kind (viewed_kind b))) (viewed_attribute b) = rw c.in_ok-buf.ensures.ok at c.in_ok-read.ensures.value in
-    let inside : link_info_fits v ≡ (link_info_row f (proper_kind (viewed_kind b))).rule.fits (viewed_payload b) = rw c.in_ok-buf.ensures.ok at c.in_ok-read.ensures.inside in
+    let was : (link_info_row_under g.R.PeerRule.peer f (proper_kind (viewed_kind b))).rule.accepted (viewed_payload b) ≡ true = rw c.in_ok-buf.ensures.ok at c.in_ok-read.ensures.ok in
+    let entry : link_info_entry v ≡ rewrite (link_info_row_under g.R.PeerRule.peer f (proper_kind (viewed_kind b))) (viewed_attribute b) = rw c.in_ok-buf.ensures.ok at c.in_ok-read.ensures.value in
+    let inside : link_info_fits v ≡ (link_info_row_under g.R.PeerRule.peer f (proper_kind (viewed_kind b))).rule.fits (viewed_payload b) = rw c.in_ok-buf.ensures.ok at c.in_ok-read.ensures.inside in
     let next : context_of c.in_ok-force.force.kind c.in_ok-force.force.port_kind ≡ info_next f (proper_kind (viewed_kind b)) (viewed_payload b) = rw c.in_ok-buf.ensures.ok at c.in_ok-force.ensures.next in
     let rest : length c.skip_first-rest.result.now ≡ length (after_first b) = ap length c.skip_first-rest.ensures in
-    let s = state_more c.readings_go_by_steps.ensures c.contexts_go_by_steps.ensures (c.info_grammar_is_lawful.ensures bytes_peer c.peers_that_are_bytes_are_lawful.ensures) c.args.bytes.now c.loop-force.list.items f b v h was entry inside c.in_ok-read.ensures.names_row c.loop-force.invariant.state in
+    let s = state_more g.R.PeerRule.peer c.readings_go_by_steps.ensures c.contexts_go_by_steps.ensures (c.info_grammar_is_lawful.ensures g.R.PeerRule.peer c.rule_is_lawful.ensures) c.args.bytes.now c.loop-force.list.items f b v h was entry inside c.in_ok-read.ensures.names_row c.loop-force.invariant.state in
     record {
-      state = subst (λ vs. State c.args.bytes.now vs (context_of c.in_ok-force.force.kind c.in_ok-force.force.port_kind) c.skip_first-rest.result.now) (sym c.in_ok-push.ensures.items)
-          (subst (λ d. State c.args.bytes.now (c.loop-force.list.items ++ v ∷ []) d c.skip_first-rest.result.now) (sym next)
-          (subst (λ r. State c.args.bytes.now (c.loop-force.list.items ++ v ∷ []) (info_next f (proper_kind (viewed_kind b)) (viewed_payload b)) r) (sym c.skip_first-rest.ensures) s));
+      state = subst (λ vs. State g.R.PeerRule.peer c.args.bytes.now vs (context_of c.in_ok-force.force.kind c.in_ok-force.force.port_kind) c.skip_first-rest.result.now) (sym c.in_ok-push.ensures.items)
+          (subst (λ d. State g.R.PeerRule.peer c.args.bytes.now (c.loop-force.list.items ++ v ∷ []) d c.skip_first-rest.result.now) (sym next)
+          (subst (λ r. State g.R.PeerRule.peer c.args.bytes.now (c.loop-force.list.items ++ v ∷ []) (info_next f (proper_kind (viewed_kind b)) (viewed_payload b)) r) (sym c.skip_first-rest.ensures) s));
       within = omega (arith, rest, length-drop (nla_align (viewed_length b)) b, c.loop-force.invariant.within);
     }
 
-ended : (c : goal.After-loop-force) → Done c.args.bytes.now c.loop-force.list.items
-ended c = state_done c.readings_go_by_steps.ensures c.readings_tell_rules.ensures _ _ _ c.loop-force.rest.now (grind (arith, nat_tests)) c.loop-force.invariant.state
+ended : (g : _) (c : goal.After-loop-force g) → Done g.R.PeerRule.peer c.args.bytes.now c.loop-force.list.items
+ended g c = state_done g.R.PeerRule.peer c.readings_go_by_steps.ensures c.readings_tell_rules.ensures _ _ _ c.loop-force.rest.now (grind (arith, nat_tests)) c.loop-force.invariant.state
 
 pub returns-clause-ok : goal.returns-clause-ok
-returns-clause-ok c = (ended c).accepted
+returns-clause-ok g c = (ended g c).accepted
 
 pub returns-clause-read : goal.returns-clause-read
-returns-clause-read c = (ended c).read
+returns-clause-read g c = (ended g c).read
 
 pub returns-clause-text : goal.returns-clause-text
-returns-clause-text c = (ended c).canonical
+returns-clause-text g c = (ended g c).canonical
 
 pub returns-clause-fits : goal.returns-clause-fits
-returns-clause-fits c = (ended c).fits
+returns-clause-fits g c = (ended g c).fits

@@ -5,10 +5,10 @@ use Rattle.link_info.proofs.InfoReading.{State}
 use Rattle.link_info.proofs.infos.LinkInfo.read_list.Given as goal
 
 abbrev pub invariant-loop-force : goal.invariant-loop-force
-invariant-loop-force l = record {
-  state : State l.bytes l.list.items (context_of l.force.kind l.force.port_kind) l.rest;
+invariant-loop-force g l = record {
+  state : State g.R.PeerRule.peer l.bytes l.list.items (context_of l.force.kind l.force.port_kind) l.rest;
   within : length l.rest ≤ length l.bytes;
 }
 
 abbrev pub decreases-loop-force : goal.decreases-loop-force
-decreases-loop-force l = length l.rest
+decreases-loop-force g l = length l.rest

@@ -1,0 +1,46 @@
+use Rattle.std.proofs.Common.{◌++◌, length, sym, ap, ◌∙◌, append_assoc, arith}
+use Rattle.std.proofs.lemmas.Bool.{and_parts}
+use Rattle.std.proofs.lemmas.List.{length-append, take_rest}
+use Rattle.link_message_grammar.specs.Body.{attribute_bytes, family, header_text, list_rule_of}
+use Rattle.link_message_grammar.proofs.Body.{written_header}
+use Rattle.link_message_checks.proofs.body.write_body_over.Goals as goal
+
+pub write_header-requires-clause-room : goal.write_header-requires-clause-room
+write_header-requires-clause-room g c =
+    let b = c.args.bytes.now in
+    let p = c.body_laws_hold.ensures.headers_and_attributes b in
+    let header = written_header b (and_parts _ _ (sym p.accepted ∙ c.requires.accepted)).0 in
+    let size = ap length p.canonical ∙ length-append (header_text b) ((list_rule_of g.P.PeerSet.peer (family b)).canonical (attribute_bytes b)) in
+    omega (arith, size, header.size, c.requires.room)
+
+pub write_attributes-requires-clause-accepted : goal.write_attributes-requires-clause-accepted
+write_attributes-requires-clause-accepted g c =
+    let b = c.args.bytes.now in
+    let p = c.body_laws_hold.ensures.headers_and_attributes b in
+    ap (list_rule_of g.P.PeerSet.peer (family b)).accepted (take_rest b 16) ∙ (and_parts _ _ (sym p.accepted ∙ c.requires.accepted)).1
+
+pub write_attributes-requires-clause-fits : goal.write_attributes-requires-clause-fits
+write_attributes-requires-clause-fits g c =
+    let b = c.args.bytes.now in
+    let p = c.body_laws_hold.ensures.headers_and_attributes b in
+    ap (list_rule_of g.P.PeerSet.peer (family b)).fits (take_rest b 16) ∙ sym p.fits ∙ c.requires.fits
+
+pub write_attributes-requires-clause-room : goal.write_attributes-requires-clause-room
+write_attributes-requires-clause-room g c =
+    let b = c.args.bytes.now in
+    let p = c.body_laws_hold.ensures.headers_and_attributes b in
+    let size = ap length p.canonical ∙ length-append (header_text b) ((list_rule_of g.P.PeerSet.peer (family b)).canonical (attribute_bytes b)) in
+    let rest = ap (λ x. length ((list_rule_of g.P.PeerSet.peer (family b)).canonical x)) (take_rest b 16) in
+    let header = ap length c.write_header.ensures.text ∙ length-append c.args.out.now.items (header_text b) in
+    omega (arith, size, rest, header, c.requires.room, c.write_header.ensures.room)
+
+pub returns-clause-text : goal.returns-clause-text
+returns-clause-text g c =
+    let b = c.args.bytes.now in
+    let out = c.args.out.now.items in
+    let p = c.body_laws_hold.ensures.headers_and_attributes b in
+    let rule = list_rule_of g.P.PeerSet.peer (family b) in
+    c.write_attributes.ensures.text ∙ ap (λ x. c.write_header.new.out.items ++ rule.canonical x) (take_rest b 16)
+    ∙ ap (λ x. x ++ rule.canonical (attribute_bytes b)) c.write_header.ensures.text
+    ∙ append_assoc out (header_text b) (rule.canonical (attribute_bytes b))
+    ∙ ap (λ x. out ++ x) (sym p.canonical)

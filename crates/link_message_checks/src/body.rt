@@ -1,0 +1,194 @@
+//! Bodies of link messages and their attributes, over peers.
+
+ghost use Rattle.std.specs.Prelude.{◌≡◌, ◌≤◌, ◌<◌, ◌+◌, ◌++◌, true, length, option_map, vec_capacity, IfSome};
+ghost use Rattle.attribute_tables_grammar.specs.Walks.{measure};
+ghost use Rattle.link_message_grammar.specs.Laws.{BodyLaws};
+ghost use Rattle.link_message_grammar.specs.LinkMessage.{family_of, info, link_table};
+ghost use Rattle.link_message_grammar.specs.Body.{body_rule, list_rule_of};
+ghost use Rattle.attribute_checks.specs.Measures.{view};
+ghost use Rattle.link_message_checks.specs.Tables.{table_of};
+
+use crate::header::{HEADER_LEN, is_own_header, same_header, write_header};
+use crate::rows::ROWS;
+use attribute_checks::{
+    Form, Held, Measured, PeerSet, Row, TableSet, WritePeer, WriteSet, measure_held, same_held,
+    write_held,
+};
+use attribute_tables_grammar::laws::{measures_tell_rules, sameness_goes_by_steps};
+use link_info_checks::{measure_list, same_list_over, write_list};
+use link_message_grammar::laws::{
+    bodies_are_measured, bodies_are_small, body_laws_hold_for_any_peers,
+};
+
+// What is known of bodies over these peers. It does nothing.
+pub(crate) fn body_laws_hold<P: PeerSet>(peers: &P)
+    ensures { BodyLaws P.peer }
+{
+    body_laws_hold_for_any_peers();
+    peers.peers_are_lawful();
+}
+
+// The tables of link messages, over peers.
+#[derive_where(Clone, Copy)]
+pub(crate) struct MessageTables<'p, P>(pub(crate) &'p P);
+
+impl<P: PeerSet> TableSet for MessageTables<'_, P> {
+    ghost tables = { table_of };
+
+    ghost count = { 19 };
+
+    ghost peer = { P.peer };
+
+    ghost info = { info };
+
+    fn rows(&self) -> &[Row] {
+        self.0.peers_are_lawful();
+        &ROWS
+    }
+
+    fn measure_peer(&self, payload: &[u8]) -> Option<Measured> {
+        self.0.measure_peer(payload)
+    }
+
+    fn measure_info(&self, payload: &[u8]) -> Option<Measured> {
+        measures_tell_rules();
+        body_laws_hold(self.0);
+        if payload.is_empty() {
+            None
+        } else {
+            measure_list(self.0, payload)
+        }
+    }
+
+    fn same_peer(&self, left: &[u8], right: &[u8]) -> bool {
+        self.0.same_peer(left, right)
+    }
+
+    fn same_info(&self, left: &[u8], right: &[u8]) -> bool {
+        sameness_goes_by_steps();
+        body_laws_hold(self.0);
+        if left.is_empty() || right.is_empty() {
+            false
+        } else {
+            same_list_over(self.0, left, right)
+        }
+    }
+}
+
+impl<P: WritePeer> WriteSet for MessageTables<'_, P> {
+    fn write_peer(&self, payload: &[u8], out: &mut Vec<u8>) {
+        self.0.write_peer(payload, out);
+    }
+
+    fn write_info(&self, payload: &[u8], out: &mut Vec<u8>) {
+        body_laws_hold(self.0);
+        write_list(self.0, payload, out);
+    }
+}
+
+// The number of a family's table.
+pub(crate) fn table_of_family(family: u8) -> u8
+    ensures known { result < 19 }
+    ensures table { table_of result ≡ link_table (family_of family) }
+{
+    if family == 0 {
+        return 15;
+    }
+    if family == 7 {
+        return 16;
+    }
+    if family == 10 {
+        return 17;
+    }
+    18
+}
+
+// Whether the bytes are attributes of a family over these peers, and their measure.
+pub(crate) fn measure_attributes<P: PeerSet>(
+    peers: &P,
+    family: u8,
+    bytes: &[u8],
+) -> Option<Measured>
+    ensures measure { option_map view result
+        ≡ measure (list_rule_of P.peer (family_of family)) bytes.now }
+    ensures own { IfSome result
+        (λ m. m.is_own ≡ true
+        → (list_rule_of P.peer (family_of family)).canonical bytes.now ≡ bytes.now) }
+{
+    let held = Held::List(Form::Any, table_of_family(family));
+    measure_held(&MessageTables(peers), held, bytes)
+}
+
+// Whether the bytes are a body over these peers, and what is found in one walk of them.
+pub(crate) fn measure_body_over<P: PeerSet>(peers: &P, bytes: &[u8]) -> Option<Measured>
+    ensures measure { option_map view result ≡ measure (body_rule P.peer) bytes.now }
+    ensures own { IfSome result
+        (λ m. m.is_own ≡ true → (body_rule P.peer).canonical bytes.now ≡ bytes.now) }
+{
+    bodies_are_measured();
+    if bytes.len() < HEADER_LEN {
+        return None;
+    }
+    let Some(found) = measure_attributes(peers, bytes[0], &bytes[HEADER_LEN..]) else {
+        return None;
+    };
+    measures_tell_rules();
+    bodies_are_small();
+    peers.peers_are_lawful();
+    Some(Measured {
+        text_len: 16 + found.text_len,
+        attributes: found.attributes,
+        fits: found.fits,
+        empty_ports: found.empty_ports,
+        is_own: found.is_own & is_own_header(bytes),
+    })
+}
+
+// Whether two lists of attributes of a family over these peers mean the same.
+fn same_attributes<P: PeerSet>(peers: &P, family: u8, left: &[u8], right: &[u8]) -> bool
+    ensures { result ≡ (list_rule_of P.peer (family_of family)).same left.now right.now }
+{
+    let held = Held::List(Form::Any, table_of_family(family));
+    same_held(&MessageTables(peers), held, left, right)
+}
+
+// Whether two bodies over these peers mean the same. Each has at least the bytes of a header.
+pub(crate) fn same_body_over<P: PeerSet>(peers: &P, left: &[u8], right: &[u8]) -> bool
+    requires left { 16 ≤ length left.now }
+    requires right { 16 ≤ length right.now }
+    ensures { result ≡ (body_rule P.peer).same left.now right.now }
+{
+    body_laws_hold(peers);
+    same_header(left, right)
+        && same_attributes(peers, left[0], &left[HEADER_LEN..], &right[HEADER_LEN..])
+}
+
+// Appends the canonical text of attributes of a family over these peers.
+fn write_attributes<P: WritePeer>(peers: &P, family: u8, bytes: &[u8], out: &mut Vec<u8>)
+    requires accepted { (list_rule_of P.peer (family_of family)).accepted bytes.now ≡ true }
+    requires fits { (list_rule_of P.peer (family_of family)).fits bytes.now ≡ true }
+    requires room { length out.old.items
+        + length ((list_rule_of P.peer (family_of family)).canonical bytes.now)
+        ≤ vec_capacity out.old }
+    ensures text { out.new.items
+        ≡ out.old.items ++ (list_rule_of P.peer (family_of family)).canonical bytes.now }
+    ensures room { vec_capacity out.old ≤ vec_capacity out.new }
+{
+    let held = Held::List(Form::Any, table_of_family(family));
+    write_held(&MessageTables(peers), held, bytes, out);
+}
+
+// Appends the canonical text of an accepted body over these peers that fits, for which there has to
+// be room.
+pub(crate) fn write_body_over<P: WritePeer>(peers: &P, bytes: &[u8], out: &mut Vec<u8>)
+    requires accepted { (body_rule P.peer).accepted bytes.now ≡ true }
+    requires fits { (body_rule P.peer).fits bytes.now ≡ true }
+    requires room { length out.old.items + length ((body_rule P.peer).canonical bytes.now)
+        ≤ vec_capacity out.old }
+    ensures text { out.new.items ≡ out.old.items ++ (body_rule P.peer).canonical bytes.now }
+    ensures room { vec_capacity out.old ≤ vec_capacity out.new }
+{
+    body_laws_hold(peers);
+    write_header(bytes, out);
+    write_attributes(peers, bytes[0], &bytes[HEADER_LEN..], out);
+}

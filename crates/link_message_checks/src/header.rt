@@ -1,0 +1,68 @@
+//! Headers of link messages: how each is written, and which mean the same.
+
+ghost use Rattle.std.specs.Prelude.{◌≡◌, ◌≤◌, ◌+◌, ◌%◌, ◌/◌, ◌∷◌, ◌++◌, [], true, length, take, bytes_eq};
+ghost use Rattle.std.specs.Prelude.{slice_index, vec_capacity};
+ghost use Rattle.std.specs.List.{list_any};
+ghost use Rattle.link_message_grammar.specs.Body.{header_text, layer_type_text};
+
+use crate::rows::LAYER_TYPES;
+use attribute_checks::append;
+
+/// The bytes of a body's header (if_link.h, struct ifinfomsg).
+pub(crate) const HEADER_LEN: usize = 16;
+
+/// The bytes of a header up to the end of its layer type.
+const FRONT_LEN: usize = 4;
+
+/// The layer type without a name (if_arp.h, ARPHRD_VOID).
+const VOID_LAYER: u16 = 0xffff;
+
+// Whether a body's header is written as it stands: its second byte is zero, and its layer type has
+// a name.
+pub(crate) fn is_own_header(bytes: &[u8]) -> bool
+    requires { 16 ≤ length bytes.now }
+    ensures { result ≡ true → header_text bytes.now ≡ take 16 bytes.now }
+{
+    let layer_type = bytes[2] as u16 + 256 * bytes[3] as u16;
+    bytes[1] == 0 && LAYER_TYPES.contains(&layer_type)
+}
+
+// The layer type of a header (if_arp.h, ARPHRD_*); void where it has no name.
+fn layer_type(bytes: &[u8]) -> u16
+    requires { 4 ≤ length bytes.now }
+    ensures { result % 256 ∷ result / 256 ∷ []
+        ≡ layer_type_text (slice_index bytes.now 2) (slice_index bytes.now 3) }
+{
+    let layer_type = bytes[2] as u16 + 256 * bytes[3] as u16;
+    if LAYER_TYPES.contains(&layer_type) {
+        layer_type
+    } else {
+        VOID_LAYER
+    }
+}
+
+// Whether two headers mean the same: their second byte is no matter, and layer types without a name
+// are one. Of a header that is cut short counts what is there, and of one under four bytes nothing.
+pub(crate) fn same_header(left: &[u8], right: &[u8]) -> bool
+    ensures { result ≡ bytes_eq (header_text left.now) (header_text right.now) }
+{
+    if left.len() < FRONT_LEN || right.len() < FRONT_LEN {
+        return left.len() < FRONT_LEN && right.len() < FRONT_LEN;
+    }
+    left[0] == right[0]
+        && layer_type(left) == layer_type(right)
+        && &left[FRONT_LEN..left.len().min(HEADER_LEN)]
+            == &right[FRONT_LEN..right.len().min(HEADER_LEN)]
+}
+
+// Appends a header as it is written: its second byte zero, and a layer type without a name void.
+pub(crate) fn write_header(bytes: &[u8], out: &mut Vec<u8>)
+    requires header { 16 ≤ length bytes.now }
+    requires room { length out.old.items + 16 ≤ vec_capacity out.old }
+    ensures text { out.new.items ≡ out.old.items ++ header_text bytes.now }
+    ensures room { vec_capacity out.old ≤ vec_capacity out.new }
+{
+    let [low, high] = layer_type(bytes).to_le_bytes();
+    append(&[bytes[0], 0, low, high], out);
+    append(&bytes[FRONT_LEN..HEADER_LEN], out);
+}

@@ -10,11 +10,6 @@ use Rattle.attribute_tables_grammar.specs.Tables.{Table}
 use Rattle.attribute_tables.specs.Views.{is_accepted_by}
 use Rattle.attribute_tables.specs.Beginnings.{begins_with_attribute, begins_accepted, begins_readable, first_entry_within, first_entry, is_readable_entry, entries_begin_readable}
 
-pub both : (a b : Bool) → (a && b) ≡ true → (a ≡ true) × (b ≡ true)
-both true true h = (refl, refl)
-both true false h = absurd cc
-both false b h = absurd cc
-
 or_right : (a b : Bool) → b ≡ true → (a || b) ≡ true
 or_right true b h = refl
 or_right false b h = h

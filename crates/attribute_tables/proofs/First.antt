@@ -1,6 +1,7 @@
 -- A payload that begins with one attribute, and holds any bytes after it.
 use Rattle.std.proofs.Common.{◌≡◌, ℕ, Bool, true, false, List, [], ◌∷◌, refl, sym, ap, ◌∙◌, append-nil}
 use Rattle.std.proofs.Math.Bool.{and-true}
+use Rattle.std.proofs.lemmas.Bool.{and_parts}
 use Rattle.std.specs.Prelude.{◌&&◌, Result, Ok, Err, IfErr}
 use Rattle.netlink_packet_core_grammar.specs.Attributes.{Attribute, attribute_text, list_text}
 use Rattle.netlink_packet_core_grammar.specs.AttributeViews.{IsAttribute, viewed_attribute}
@@ -17,7 +18,7 @@ use Rattle.attribute_tables_grammar.specs.Tables.{Table}
 use Rattle.attribute_tables_grammar.specs.Laws.{ReadingsTellRules, FirstAloneIsRead, RowsAreLookedUp}
 use Rattle.attribute_tables.specs.Beginnings.{begins_accepted}
 use Rattle.attribute_tables.specs.Views.{viewed_row, is_accepted_by}
-use Rattle.attribute_tables.proofs.Beginnings.{both, accepted-begins}
+use Rattle.attribute_tables.proofs.Beginnings.{accepted-begins}
 
 pub record First (rows : ℕ → Row) (b : List ℕ) (w : Written) : Type 0 where
   pub accepted : (rows_rule first_alone rows).accepted b ≡ true
@@ -53,7 +54,7 @@ module _ (alone : FirstAloneIsRead) (tell : ReadingsTellRules) (rows : ℕ → R
 module _ (alone : FirstAloneIsRead) (tell : ReadingsTellRules) (looked_up : RowsAreLookedUp) (t : Table) (b : List ℕ) where
   -- an attribute that may want memory is accepted
   if_wanting : (m : Bool) → (m ≡ false → (rows_rule first_alone (family_row t)).accepted b ≡ false) → (m ≡ true → IsAttribute b) → (m ≡ true → may_want_memory t b ≡ true) → (rows_rule first_alone (family_row t)).accepted b ≡ m
-  if_wanting true denied whole wants = (first_of alone tell (family_row t) b (written_by (viewed_row (family_row t) b) (viewed_attribute b)) (whole refl) (both _ _ (wants refl)).1 refl).accepted
+  if_wanting true denied whole wants = (first_of alone tell (family_row t) b (written_by (viewed_row (family_row t) b) (viewed_attribute b)) (whole refl) (and_parts _ _ (wants refl)).1 refl).accepted
   if_wanting false denied whole wants = denied refl
 
   pub family-first-err : {V : Type 0} (r : Result V DecodeError) → IfErr r (λ e. is_memory e ≡ false → (rows_rule first_alone (family_row t)).accepted b ≡ false) → IfErr r (λ e. is_memory e ≡ true → IsAttribute b) →
@@ -64,4 +65,4 @@ module _ (alone : FirstAloneIsRead) (tell : ReadingsTellRules) (looked_up : Rows
 pub family-first-memory : FirstIsViewed → (t : Table) (b : List ℕ) {V : Type 0} (r : Result V DecodeError) → IfErr r (λ e. is_memory e ≡ true → IsAttribute b) → IfErr r (λ e. is_memory e ≡ true → may_want_memory t b ≡ true) →
     IfErr r (λ e. is_memory e ≡ true → begins_accepted (family_row t) b ≡ true)
 family-first-memory first t b (Ok v) whole wants = tt
-family-first-memory first t b (Err e) whole wants = λ m. accepted-begins first (family_row t) b (whole m) (both _ _ (wants m)).1
+family-first-memory first t b (Err e) whole wants = λ m. accepted-begins first (family_row t) b (whole m) (and_parts _ _ (wants m)).1

@@ -1,7 +1,8 @@
 //! Facts of the definitions. No function here makes a call.
 
 ghost use Rattle.attribute_tables_grammar.specs.Laws.{CanonicalIsCut, TablesAreLawful, BytesAreLawful, TextsTellMeanings};
-ghost use Rattle.attribute_tables_grammar.specs.Laws.{TextsKeepMeanings, ShortTextsFit, OldTextsAreRenewed, OneContext, RulesWithoutPeersAreOne};
+ghost use Rattle.attribute_tables_grammar.specs.Laws.{TextsKeepMeanings, ShortTextsFit, OldTextsAreRenewed, OneContext};
+ghost use Rattle.attribute_tables_grammar.specs.Laws.{RulesWithoutPeersAreOne};
 ghost use Rattle.attribute_tables_grammar.specs.Laws.{TableGrammarsAreLawful, RowsAreLookedUp, NamesAreLookedUp};
 ghost use Rattle.attribute_tables_grammar.specs.Laws.{ReadingsGoBySteps, ReadingsTellRules, FirstAloneIsRead, PortsAreEntries};
 ghost use Rattle.attribute_tables_grammar.specs.Laws.{ContextsGoBySteps, ListsAreReadAgain, RowsWithoutListsFit};

@@ -17,7 +17,8 @@ ghost use Rattle.link_message_grammar.specs.Body.{attribute_row, attributes_rule
 ghost use Rattle.link_message_types.specs.AddressFamilies.{table_family};
 ghost use Rattle.link_message_attributes.specs.LinkAttributes.{link_attribute_entry};
 ghost use Rattle.link_message_attributes.specs.LinkAttributes.{link_attribute_fits, link_attribute_names_row};
-ghost use Rattle.link_message_attributes.specs.LinkAttributes.{IsReadAsNumber, plain_row, row_may_want_memory, link_attribute_may_want_memory};
+ghost use Rattle.link_message_attributes.specs.LinkAttributes.{IsReadAsNumber, plain_row};
+ghost use Rattle.link_message_attributes.specs.LinkAttributes.{row_may_want_memory, link_attribute_may_want_memory};
 ghost use Rattle.link_message_attributes.specs.Payloads.{link_payload_bytes, link_payload_fits};
 
 use super::families::number_of_table;

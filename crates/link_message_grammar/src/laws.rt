@@ -5,7 +5,8 @@ ghost use Rattle.link_message_grammar.specs.Laws.{LinkPeersAreLawful, BodiesTell
 ghost use Rattle.link_message_grammar.specs.Laws.{BodiesAreHeadersAndAttributes, KindsAreLookedUp};
 ghost use Rattle.link_message_grammar.specs.Laws.{AttributesAreLookedUp, InfoIsAListInside};
 ghost use Rattle.link_message_grammar.specs.Laws.{EmptyPortsAreTold, CanonicalTextsAreReadAgain, BodiesAreMeasured};
-ghost use Rattle.link_message_grammar.specs.Laws.{BodiesGrowByAttributes, ShortBodiesFit, BodyLawsHoldForAnyPeers, LinkPeerIsLawful, PeersStandInLinkInfo};
+ghost use Rattle.link_message_grammar.specs.Laws.{BodiesGrowByAttributes, ShortBodiesFit, BodyLawsHoldForAnyPeers};
+ghost use Rattle.link_message_grammar.specs.Laws.{LinkPeerIsLawful, PeersStandInLinkInfo};
 ghost use Rattle.link_message_grammar.specs.Body.{link_peer};
 
 use attribute_tables_grammar::laws::{lists_are_read_again, table_grammars_are_lawful};

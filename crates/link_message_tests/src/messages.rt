@@ -54,7 +54,7 @@ const PEER_TWICE: &[u8] = b"\0\0\0\0\0\0\0\0\0\0\0\0\0\0\0\0\
 const PEERS: [(&[u8], &[u8], bool); 2] = [(VETH, PEER, true), (VETH_TWICE, PEER_TWICE, false)];
 
 // Attributes, and what they are written as.
-const REWRITTEN: [(&[u8], &[u8]); 17] = [
+const REWRITTEN: [(&[u8], &[u8]); 18] = [
     // flag bits and padding of a name
     (b"\x07\0\x03\x80lo\0\xff", b"\x07\0\x03\0lo\0\0"),
     // a name without a NUL, at the end of the body
@@ -90,6 +90,13 @@ const REWRITTEN: [(&[u8], &[u8]); 17] = [
     (VETH, VETH_TEXT),
     // a peer inside a peer is kept as bytes
     (VETH_TWICE, VETH_TWICE_TEXT),
+    // the peer of a netkit, which stands in a list
+    (
+        b"\x2e\0\x12\0\x0b\0\x01\0netkit\0\0\x1e\0\x02\0\x1a\0\x01\0\
+    \0\0\0\0\0\0\0\0\0\0\0\0\0\0\0\0\x06\0\x03\0lo",
+        b"\x30\0\x12\0\x0b\0\x01\0netkit\0\0\x20\0\x02\0\x1c\0\x01\0\
+    \0\0\0\0\0\0\0\0\0\0\0\0\0\0\0\0\x07\0\x03\0lo\0\0",
+    ),
 ];
 
 // Headers without attributes, and what they are written as.

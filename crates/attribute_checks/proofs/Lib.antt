@@ -1,4 +1,3 @@
-pub mod Bisection
 pub mod LookUps
 pub mod Loop
 pub mod InfoRows

@@ -1,101 +1,104 @@
 -- The row that is found is the line of the table that the rows build.
-use Rattle.std.proofs.Common.{◌≡◌, ℕ, zero, suc, ◌+◌, ◌*◌, ◌<◌, Bool, true, false, cond, List, [], ◌∷◌, drop, get_or, Option, Some, None, refl, sym, ap, ◌∙◌, inl, inr, arith}
-use Rattle.std.specs.Prelude.{◌&&◌, nat_lt, option_map}
-use Rattle.std.proofs.lemmas.Bool.{ltb-true, eq-eqb, ne_eqb}
-use Rattle.std.proofs.lemmas.Bool.Decides.{eqb_tells}
-use Rattle.attribute_tables_grammar.specs.LookUps.{line_at, payload_rule, row_of_line, table_row, rows_rule}
-use Rattle.attribute_tables_grammar.specs.Rules.{Rule, raw_rule}
+use Rattle.std.proofs.Common.{◌≡◌, ℕ, zero, suc, ◌+◌, ◌-◌, ◌<◌, ◌≤◌, Bool, true, false, cond, List, [], ◌∷◌, length, get_or, Bor, Option, Some, None, refl, sym, ap, ◌∙◌, arith}
+use Rattle.std.specs.Prelude.{◌&&◌, ◌==◌}
+use Rattle.std.specs.List.{list_all}
+use Rattle.std.proofs.lemmas.Bool.{and_parts, eqb-true, eq-eqb, ne_eqb, ltb-true}
+use Rattle.attribute_tables_grammar.specs.LookUps.{Line, line_at, payload_rule, row_of_line, table_row, rows_rule}
+use Rattle.attribute_tables_grammar.specs.Rules.{Rule}
 use Rattle.attribute_tables_grammar.specs.Lists.{list_rule, written_kind}
-use Rattle.netlink_packet_core_grammar.specs.Attributes.{proper_kind}
 use Rattle.attribute_tables_grammar.specs.Peers.{Peer}
-use Rattle.attribute_tables_grammar.specs.Tables.{Payload, Table, Table.end, Table.row, rows_bounded}
+use Rattle.attribute_tables_grammar.specs.Tables.{Payload, Table, Table.end}
 use Rattle.attribute_tables_grammar.specs.Laws.{RowsAreLookedUp}
 use Rattle.attribute_tables_grammar.specs.Walks.{Measure, measure}
 use Rattle.attribute_checks.specs.declared.rows.Row.{Row}
+use Rattle.attribute_checks.specs.declared.rows.Row.TheVariants.{Listed, Unlisted}
 use Rattle.attribute_checks.specs.declared.rows.Held.{Held}
 use Rattle.attribute_checks.specs.declared.rows.Held.TheVariants.{List as HeldList}
 use Rattle.attribute_checks.specs.declared.rows.Form.{Form}
-use Rattle.attribute_checks.specs.Rows.{form_of, find_row, key_of, are_known, is_below, build, line_of, payload_of, tables_below, all_bounded}
+use Rattle.attribute_checks.specs.Rows.{form_of, kind_of, stand_from, are_dense, are_known, is_known, is_below, build, line_of, payload_of, lists_of, tables_of}
 use Rattle.attribute_checks.specs.Measures.{rows_of}
-use Rattle.attribute_checks.proofs.Bisection.{both_true}
 
 module _ (tables : ℕ → Table) (info : Payload) where
-  same_line : (r : Row) (rs : List Row) (t k : ℕ) → r.0 ≡ t → k ≡ r.1 → Some (line_of tables info r) ≡ line_at (build tables info t (r ∷ rs)) k
-  same_line r rs t k p q =
-      ap (λ b. cond b (Some (line_of tables info r)) (line_at (build tables info t rs) k)) (sym (eq-eqb k r.1 q))
-      ∙ ap (λ b. line_at (cond b (row r.1 r.2 (payload_of tables info r.3) (build tables info t rs)) (build tables info t rs)) k) (sym (eq-eqb r.0 t p))
+  other_kind : (m k : ℕ) (b : Bool) (held : Held) (rs : List Row) → (k ≡ m → ⊥) → line_at (build tables info rs) k ≡ line_at (build tables info (Listed m b held ∷ rs)) k
+  other_kind m k b held rs q = sym (ap (λ c. cond c (line_of tables info (Listed m b held)) (line_at (build tables info rs) k)) (ne_eqb k m q))
 
-  other_kind : (r : Row) (rs : List Row) (t k : ℕ) → r.0 ≡ t → (k ≡ r.1 → ⊥) → line_at (build tables info t rs) k ≡ line_at (build tables info t (r ∷ rs)) k
-  other_kind r rs t k p q =
-      ap (λ b. cond b (Some (line_of tables info r)) (line_at (build tables info t rs) k)) (sym (ne_eqb k r.1 q))
-      ∙ ap (λ b. line_at (cond b (row r.1 r.2 (payload_of tables info r.3) (build tables info t rs)) (build tables info t rs)) k) (sym (eq-eqb r.0 t p))
+  -- rows that stand from a kind on list none below it
+  below_first : (rs : List Row) (n k : ℕ) → stand_from n rs ≡ true → k < n → None ≡ line_at (build tables info rs) k
+  below_first [] n k h l = refl
+  below_first (Listed m b held ∷ rs) n k h l =
+      let a = and_parts (m == n) (stand_from (suc n) rs) h in
+      let e = eqb-true m n a.0 in
+      below_first rs (suc n) k a.1 (omega (arith, l)) ∙ other_kind m k b held rs (λ x. omega (arith, e, l, x))
+  below_first (Unlisted m ∷ rs) n k h l = let a = and_parts (m == n) (stand_from (suc n) rs) h in below_first rs (suc n) k a.1 (omega (arith, l))
 
-  other_table : (r : Row) (rs : List Row) (t k : ℕ) → (r.0 ≡ t → ⊥) → line_at (build tables info t rs) k ≡ line_at (build tables info t (r ∷ rs)) k
-  other_table r rs t k p = ap (λ b. line_at (cond b (row r.1 r.2 (payload_of tables info r.3) (build tables info t rs)) (build tables info t rs)) k) (sym (ne_eqb r.0 t p))
+  -- each row is that of the kind as far behind
+  placed : (rs : List Row) (n j : ℕ) (d : Row) → stand_from n rs ≡ true → j < length rs → line_of tables info (get_or rs j d) ≡ line_at (build tables info rs) (n + j)
+  placed [] n j d h l = absurd (omega arith)
+  placed (Listed m b held ∷ rs) n zero d h l =
+      let a = and_parts (m == n) (stand_from (suc n) rs) h in
+      let e = eqb-true m n a.0 in
+      sym (ap (λ c. cond c (line_of tables info (Listed m b held)) (line_at (build tables info rs) (n + 0))) (eq-eqb (n + 0) m (omega (arith, e))))
+  placed (Unlisted m ∷ rs) n zero d h l = let a = and_parts (m == n) (stand_from (suc n) rs) h in below_first rs (suc n) (n + 0) a.1 (omega arith)
+  placed (Listed m b held ∷ rs) n (suc j) d h l =
+      let a = and_parts (m == n) (stand_from (suc n) rs) h in
+      let e = eqb-true m n a.0 in
+      let k : suc n + j ≡ n + suc j = omega arith in
+      placed rs (suc n) j d a.1 (omega (arith, l)) ∙ ap (line_at (build tables info rs)) k ∙ other_kind m (n + suc j) b held rs (λ x. omega (arith, e, x))
+  placed (Unlisted m ∷ rs) n (suc j) d h l =
+      let a = and_parts (m == n) (stand_from (suc n) rs) h in
+      let k : suc n + j ≡ n + suc j = omega arith in
+      placed rs (suc n) j d a.1 (omega (arith, l)) ∙ ap (line_at (build tables info rs)) k
 
-  there : (r : Row) (rs : List Row) (w : ℕ) → key_of r ≡ w → option_map (line_of tables info) (find_row w (r ∷ rs)) ≡ Some (line_of tables info r)
-  there r rs w e = ap (λ b. option_map (line_of tables info) (cond b (Some r) (find_row w rs))) (eq-eqb (key_of r) w e)
+  -- no kind behind the last row is listed
+  past_last : (rs : List Row) (n k : ℕ) → stand_from n rs ≡ true → n + length rs ≤ k → None ≡ line_at (build tables info rs) k
+  past_last [] n k h l = refl
+  past_last (Listed m b held ∷ rs) n k h l =
+      let a = and_parts (m == n) (stand_from (suc n) rs) h in
+      let e = eqb-true m n a.0 in
+      past_last rs (suc n) k a.1 (omega (arith, l)) ∙ other_kind m k b held rs (λ x. omega (arith, e, l, x))
+  past_last (Unlisted m ∷ rs) n k h l = let a = and_parts (m == n) (stand_from (suc n) rs) h in past_last rs (suc n) k a.1 (omega (arith, l))
 
-  further : (r : Row) (rs : List Row) (w : ℕ) → (key_of r ≡ w → ⊥) → option_map (line_of tables info) (find_row w (r ∷ rs)) ≡ option_map (line_of tables info) (find_row w rs)
-  further r rs w e = ap (λ b. option_map (line_of tables info) (cond b (Some r) (find_row w rs))) (ne_eqb (key_of r) w e)
+  pub no_rows : (rs : List Row) (k : ℕ) → length rs ≡ 0 → None ≡ line_at (build tables info rs) k
+  no_rows [] k l = refl
+  no_rows (r ∷ rs) k l = absurd (omega arith)
 
-  pub found_line : (n : ℕ) (rs : List Row) (t k : ℕ) → are_known n rs ≡ true → k < 65536 → option_map (line_of tables info) (find_row (t * 65536 + k) rs) ≡ line_at (build tables info t rs) k
-  found_line n [] t k h l = refl
-  found_line n (r ∷ rs) t k h l =
-      let a = both_true (nat_lt r.1 65536 && is_below n r.3) (are_known n rs) h in
-      let b = both_true (nat_lt r.1 65536) (is_below n r.3) a.0 in
-      let s = ltb-true r.1 65536 b.0 in
-      let more = found_line n rs t k a.1 l in
-      elim (eqb_tells r.0 t) [
-        | inl p ↦
-            let e = p.1 in
-            elim (eqb_tells k r.1) [
-              | inl q ↦ let f = q.1 in there r rs (t * 65536 + k) (omega (arith, e, f)) ∙ same_line r rs t k e f
-              | inr q ↦ let f = q.1 in further r rs (t * 65536 + k) (λ x. f (omega (arith, e, x))) ∙ more ∙ other_kind r rs t k e f
-            ]
-        | inr p ↦ let e = p.1 in further r rs (t * 65536 + k) (λ x. e (omega (arith, x, l, s))) ∙ more ∙ other_table r rs t k e
-      ]
+  -- the same, where the first row's kind is n
+  from_first : (rs : List Row) (d : Row) (n : ℕ) → n ≡ kind_of (get_or rs 0 d) → are_dense rs ≡ true → stand_from n rs ≡ true
+  from_first [] d n e h = refl
+  from_first (r ∷ rs) d n e h = ap (λ m. stand_from m (r ∷ rs)) e ∙ ap (λ b. b && stand_from (suc (kind_of r)) rs) (eq-eqb (kind_of r) (kind_of r) refl) ∙ h
 
-known_or : ℕ → Option Row → Bool
-known_or n None = true
-known_or n (Some r) = is_below n r.3
+  pub line_below : (rs : List Row) (d : Row) (n k : ℕ) → n ≡ kind_of (get_or rs 0 d) → are_dense rs ≡ true → k < n → None ≡ line_at (build tables info rs) k
+  line_below rs d n k e h l = below_first rs n k (from_first rs d n e h) l
 
--- a row that is found is known
-pub found_known : (n : ℕ) (rs : List Row) (w : ℕ) (r : Row) → are_known n rs ≡ true → Some r ≡ find_row w rs → is_below n r.3 ≡ true
-unfolding known_or
-found_known n [] w r h f = absurd cc
-found_known n (s ∷ rs) w r h f =
-    let a = both_true (nat_lt s.1 65536 && is_below n s.3) (are_known n rs) h in
-    let b = both_true (nat_lt s.1 65536) (is_below n s.3) a.0 in
-    elim (eqb_tells (key_of s) w) [
-      | inl p ↦ let e : Some r ≡ Some s = f ∙ ap (λ b. cond b (Some s) (find_row w rs)) p.0 in ap (known_or n) e ∙ b.1
-      | inr p ↦ found_known n rs w r a.1 (f ∙ ap (λ b. cond b (Some s) (find_row w rs)) p.0)
-    ]
+  pub line_placed : (rs : List Row) (d : Row) (n k : ℕ) → n ≡ kind_of (get_or rs 0 d) → are_dense rs ≡ true → n ≤ k → k - n < length rs → line_of tables info (get_or rs (k - n) d) ≡ line_at (build tables info rs) k
+  line_placed rs d n k e h m l =
+      let at : n + (k - n) ≡ k = omega (arith, m) in
+      placed rs n (k - n) d (from_first rs d n e h) l ∙ ap (line_at (build tables info rs)) at
 
--- what is found holds what the table's row does
-pub rule_found : (p : Peer) (tables : ℕ → Table) (info : Payload) (n : ℕ) (rs : List Row) (t k : ℕ) (r : Row) → are_known n rs ≡ true → k < 65536 → build tables info t rs ≡ tables t → Some r ≡ find_row (t * 65536 + k) rs → payload_rule p (payload_of tables info r.3) ≡ (table_row p (tables t) k).rule
-rule_found p tables info n rs t k r h l b f = ap (λ o. (row_of_line p o).rule) (ap (option_map (line_of tables info)) f ∙ found_line tables info n rs t k h l ∙ ap (λ x. line_at x k) b)
+  pub line_past : (rs : List Row) (d : Row) (n k : ℕ) → n ≡ kind_of (get_or rs 0 d) → are_dense rs ≡ true → n ≤ k → length rs ≤ k - n → None ≡ line_at (build tables info rs) k
+  line_past rs d n k e h m l = past_last rs n k (from_first rs d n e h) (omega (arith, m, l))
 
-pub rule_missing : (p : Peer) (tables : ℕ → Table) (info : Payload) (n : ℕ) (rs : List Row) (t k : ℕ) → are_known n rs ≡ true → k < 65536 → build tables info t rs ≡ tables t → None ≡ find_row (t * 65536 + k) rs → raw_rule ≡ (table_row p (tables t) k).rule
-rule_missing p tables info n rs t k h l b f = ap (λ o. (row_of_line p o).rule) (ap (option_map (line_of tables info)) f ∙ found_line tables info n rs t k h l ∙ ap (λ x. line_at x k) b)
+pub known_at : (n : ℕ) (rs : List Row) (j : ℕ) (d : Row) → are_known n rs ≡ true → j < length rs → is_known n (get_or rs j d) ≡ true
+known_at n [] j d h l = absurd (omega arith)
+known_at n (r ∷ rs) zero d h l = (and_parts (is_known n r) (are_known n rs) h).0
+known_at n (r ∷ rs) (suc j) d h l = known_at n rs j d (and_parts (is_known n r) (are_known n rs) h).1 (omega (arith, l))
 
--- tables that are the same one after another are the same by number
-pub built_at : (f h : ℕ → Table) (n t : ℕ) → t < n → tables_below f n ≡ tables_below h n → f t ≡ h t
-built_at f h zero t l e = absurd (omega arith)
-built_at f h (suc n) t l e =
-    elim (eqb_tells t n) [
-      | inl p ↦ ap f p.1 ∙ ap (λ ts. get_or ts 0 end) e ∙ sym (ap h p.1)
-      | inr p ↦ let o = p.1 in built_at f h n t (omega (arith, l, o)) (ap (drop 1) e)
-    ]
+-- rows that stand one after another, by number
+pub list_at : (bs : List (Bor (List Row))) (n : ℕ) (d : Bor (List Row)) → n < length bs → (get_or bs n d).now ≡ get_or (lists_of bs) n []
+list_at [] n d l = absurd (omega arith)
+list_at (b ∷ bs) zero d l = refl
+list_at (b ∷ bs) (suc n) d l = list_at bs n d (omega (arith, l))
 
-pub bounded_at : (f : ℕ → Table) (n t : ℕ) → t < n → all_bounded f n ≡ true → rows_bounded (f t) ≡ true
-bounded_at f zero t l e = absurd (omega arith)
-bounded_at f (suc n) t l e =
-    let b = both_true (rows_bounded (f n)) (all_bounded f n) e in
-    elim (eqb_tells t n) [
-      | inl p ↦ ap (λ k. rows_bounded (f k)) p.1 ∙ b.0
-      | inr p ↦ let o = p.1 in bounded_at f n t (omega (arith, l, o)) b.1
-    ]
+pub built_at : (tables : ℕ → Table) (info : Payload) (lists : List (List Row)) (n : ℕ) → build tables info (get_or lists n []) ≡ get_or (tables_of tables info lists) n end
+built_at tables info [] n = refl
+built_at tables info (rs ∷ lists) zero = refl
+built_at tables info (rs ∷ lists) (suc n) = built_at tables info lists n
+
+-- what holds of each list, and of none, holds of one by number
+pub all_at : {A : Type 0} (f : A → Bool) (xs : List A) (n : ℕ) (d : A) → list_all f xs ≡ true → f d ≡ true → f (get_or xs n d) ≡ true
+all_at f [] n d h e = e
+all_at f (x ∷ xs) zero d h e = (and_parts (f x) (list_all f xs) h).0
+all_at f (x ∷ xs) (suc n) d h e = all_at f xs n d (and_parts (f x) (list_all f xs) h).1 e
 
 -- a list's rule is that of what it holds
 pub list_held : RowsAreLookedUp → (p : Peer) (tables : ℕ → Table) (info : Payload) (held : Held) (form : Form) (t : ℕ) → held ≡ HeldList form t → list_rule (form_of form) (rows_of p (tables t)) ≡ payload_rule p (payload_of tables info held)
@@ -108,16 +111,3 @@ measured_as r s payload o e h = h ∙ ap (λ r. measure r payload) e
 
 pub known_list : (n : ℕ) (held : Held) (form : Form) (t : ℕ) → held ≡ HeldList form t → is_below n held ≡ true → t < n
 known_list n held form t e h = ltb-true t n (sym (ap (is_below n) e) ∙ h)
-
-pub written_some : (p : Peer) (tables : ℕ → Table) (info : Payload) (n : ℕ) (rs : List Row) (t k kind : ℕ) (r : Row) → are_known n rs ≡ true → k < 65536 → build tables info t rs ≡ tables t → Some r ≡ find_row (t * 65536 + k) rs → proper_kind kind + cond r.2 32768 0 ≡ written_kind (table_row p (tables t) k) kind
-written_some p tables info n rs t k kind r h l b f = ap (λ o. written_kind (row_of_line p o) kind) (ap (option_map (line_of tables info)) f ∙ found_line tables info n rs t k h l ∙ ap (λ x. line_at x k) b)
-
-pub written_none : (p : Peer) (tables : ℕ → Table) (info : Payload) (n : ℕ) (rs : List Row) (t k kind : ℕ) → are_known n rs ≡ true → k < 65536 → build tables info t rs ≡ tables t → None ≡ find_row (t * 65536 + k) rs → kind ≡ written_kind (table_row p (tables t) k) kind
-written_none p tables info n rs t k kind h l b f = ap (λ o. written_kind (row_of_line p o) kind) (ap (option_map (line_of tables info)) f ∙ found_line tables info n rs t k h l ∙ ap (λ x. line_at x k) b)
-
--- a kind is of a type where its row is found
-pub typed_some : (p : Peer) (tables : ℕ → Table) (info : Payload) (n : ℕ) (rs : List Row) (t k : ℕ) (r : Row) → are_known n rs ≡ true → k < 65536 → build tables info t rs ≡ tables t → Some r ≡ find_row (t * 65536 + k) rs → true ≡ (table_row p (tables t) k).is_typed
-typed_some p tables info n rs t k r h l b f = ap (λ o. (row_of_line p o).is_typed) (ap (option_map (line_of tables info)) f ∙ found_line tables info n rs t k h l ∙ ap (λ x. line_at x k) b)
-
-pub typed_none : (p : Peer) (tables : ℕ → Table) (info : Payload) (n : ℕ) (rs : List Row) (t k : ℕ) → are_known n rs ≡ true → k < 65536 → build tables info t rs ≡ tables t → None ≡ find_row (t * 65536 + k) rs → false ≡ (table_row p (tables t) k).is_typed
-typed_none p tables info n rs t k h l b f = ap (λ o. (row_of_line p o).is_typed) (ap (option_map (line_of tables info)) f ∙ found_line tables info n rs t k h l ∙ ap (λ x. line_at x k) b)

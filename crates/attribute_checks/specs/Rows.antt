@@ -1,9 +1,10 @@
 -- What constant rows stand for.
-use Rattle.std.specs.Prelude.{ℕ, zero, suc, ◌+◌, ◌*◌, ◌==◌, ◌&&◌, nat_lt, Bool, true, cond, List, [], ◌∷◌, Option, Some, None}
+use Rattle.std.specs.Borrow.{Bor}
+use Rattle.std.specs.Prelude.{ℕ, suc, ◌==◌, ◌&&◌, nat_lt, Bool, true, List, [], ◌∷◌, Option, Some, None}
 use Rattle.attribute_tables_grammar.specs.Shapes as shapes
 use Rattle.attribute_tables_grammar.specs.Lists as lists
 use Rattle.attribute_tables_grammar.specs.LookUps.{Line}
-use Rattle.attribute_tables_grammar.specs.Tables.{Payload, Payload.plain, Payload.peer, Payload.list, Table, Table.end, Table.row, rows_bounded}
+use Rattle.attribute_tables_grammar.specs.Tables.{Payload, Payload.plain, Payload.peer, Payload.list, Table, Table.end, Table.row}
 use Rattle.attribute_checks.specs.declared.rows.Shape.{Shape}
 use Rattle.attribute_checks.specs.declared.rows.Shape.TheVariants.{Exact, Either, AtMost, NonzeroByte, OneByte, TruthOfFour, Presence, Text, Raw, Never, FixedRecord, IdAndTruth, Resized}
 use Rattle.attribute_checks.specs.declared.rows.Form.{Form}
@@ -11,6 +12,7 @@ use Rattle.attribute_checks.specs.declared.rows.Form.TheVariants.{Any, NonEmpty,
 use Rattle.attribute_checks.specs.declared.rows.Held.{Held}
 use Rattle.attribute_checks.specs.declared.rows.Held.TheVariants.{Plain, Peer, List as HeldList, LinkInfo}
 use Rattle.attribute_checks.specs.declared.rows.Row.{Row}
+use Rattle.attribute_checks.specs.declared.rows.Row.TheVariants.{Listed, Unlisted}
 
 abbrev pub shape_of : Shape → shapes.Shape
 shape_of (Exact n) = shapes.exact n
@@ -41,46 +43,50 @@ payload_of tables info Peer = peer
 payload_of tables info (HeldList f t) = list (form_of f) (tables t)
 payload_of tables info LinkInfo = info
 
-abbrev pub line_of : (ℕ → Table) → Payload → Row → Line
-line_of tables info r = record { is_nested = r.2; payload = payload_of tables info r.3 }
+-- what a row says, where it lists its kind
+abbrev pub line_of : (ℕ → Table) → Payload → Row → Option Line
+line_of tables info (Listed k n h) = Some (record { is_nested = n; payload = payload_of tables info h })
+line_of tables info (Unlisted k) = None
 
--- the rows of one table
-abbrev pub build : (ℕ → Table) → Payload → ℕ → List Row → Table
-build tables info t [] = end
-build tables info t (r ∷ rs) = cond (r.0 == t) (row r.1 r.2 (payload_of tables info r.3) (build tables info t rs)) (build tables info t rs)
+-- the table of these rows
+abbrev pub build : (ℕ → Table) → Payload → List Row → Table
+build tables info [] = end
+build tables info (Listed k n h ∷ rs) = row k n (payload_of tables info h) (build tables info rs)
+build tables info (Unlisted k ∷ rs) = build tables info rs
 
-abbrev pub key_of : Row → ℕ
-key_of r = r.0 * 65536 + r.1
+abbrev pub kind_of : Row → ℕ
+kind_of (Listed k n h) = k
+kind_of (Unlisted k) = k
 
--- the first row of a table and kind
-abbrev pub find_row : ℕ → List Row → Option Row
-find_row w [] = None
-find_row w (r ∷ rs) = cond (key_of r == w) (Some r) (find_row w rs)
+-- rows of all kinds from this one on
+abbrev pub stand_from : ℕ → List Row → Bool
+stand_from n [] = true
+stand_from n (r ∷ rs) = (kind_of r == n) && stand_from (suc n) rs
 
-abbrev pub key_above : ℕ → List Row → Bool
-key_above n [] = true
-key_above n (r ∷ rs) = nat_lt n (key_of r)
-
--- rows in strictly rising order of table and kind
-abbrev pub keys_rise : List Row → Bool
-keys_rise [] = true
-keys_rise (r ∷ rs) = key_above (key_of r) rs && keys_rise rs
+-- rows of all kinds from that of the first one on
+abbrev pub are_dense : List Row → Bool
+are_dense [] = true
+are_dense (r ∷ rs) = stand_from (suc (kind_of r)) rs
 
 abbrev pub is_below : ℕ → Held → Bool
 is_below n (HeldList f t) = nat_lt t n
 is_below n _ = true
 
--- each kind has 16 bits, and each list is of a table below n
+abbrev pub is_known : ℕ → Row → Bool
+is_known n (Listed k b h) = is_below n h
+is_known n (Unlisted k) = true
+
+-- each list is of a table below n
 abbrev pub are_known : ℕ → List Row → Bool
 are_known n [] = true
-are_known n (r ∷ rs) = (nat_lt r.1 65536 && is_below n r.3) && are_known n rs
+are_known n (r ∷ rs) = is_known n r && are_known n rs
 
--- the tables below n, the last one first
-abbrev pub tables_below : (ℕ → Table) → ℕ → List Table
-tables_below tables zero = []
-tables_below tables (suc n) = tables n ∷ tables_below tables n
+-- the rows of tables that stand one after another
+abbrev pub lists_of : List (Bor (List Row)) → List (List Row)
+lists_of [] = []
+lists_of (b ∷ bs) = b.now ∷ lists_of bs
 
--- no table below n has a large row
-abbrev pub all_bounded : (ℕ → Table) → ℕ → Bool
-all_bounded tables zero = true
-all_bounded tables (suc n) = rows_bounded (tables n) && all_bounded tables n
+-- what one number after another names, as its rows build it
+abbrev pub tables_of : (ℕ → Table) → Payload → List (List Row) → List Table
+tables_of tables info [] = []
+tables_of tables info (rs ∷ lists) = build tables info rs ∷ tables_of tables info lists

@@ -20,7 +20,7 @@ pub use measure::measure_held;
 pub use names::{NameRow, held_by_name};
 pub use peers::{BytesPeer, PeerMeasure, PeerRule, PeerSet, Ruled, WritePeer};
 pub use room::{append, append_zeros};
-pub use rows::{Form, Held, Row, Shape};
+pub use rows::{Form, Held, Row, Shape, table_at};
 pub use same::same_held;
 pub use shapes::{Measured, measure_shape};
 pub use tables::{Found, TableSet, WriteSet, find};

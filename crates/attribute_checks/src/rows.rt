@@ -1,7 +1,9 @@
 //! Rows of tables as constant data, and the look-up of a kind.
 
-ghost use Rattle.std.specs.Prelude.{◌≡◌, ◌+◌, ◌*◌, true};
-ghost use Rattle.attribute_checks.specs.Rows.{keys_rise, find_row};
+ghost use Rattle.std.specs.Prelude.{◌≡◌, ◌<◌, ℕ, true, [], length, get_or};
+ghost use Rattle.attribute_tables_grammar.specs.LookUps.{line_at};
+ghost use Rattle.attribute_tables_grammar.specs.Tables.{Payload, Table};
+ghost use Rattle.attribute_checks.specs.Rows.{kind_of, are_dense, are_known, is_known, build, line_of, lists_of};
 
 /// Payloads that hold no attributes. Sizes are in bytes.
 #[derive(Clone, Copy)]
@@ -57,35 +59,52 @@ pub enum Held {
     LinkInfo,
 }
 
-/// A row: its table, its kind without flag bits, whether it is written with the nested bit, and
-/// what it holds.
+/// What a table says of a kind, which has no flag bits here.
 #[derive(Clone, Copy)]
-pub struct Row(pub u8, pub u16, pub bool, pub Held);
+pub enum Row {
+    /// The kind, whether it is written with the nested bit, and what the payload holds.
+    Listed(u16, bool, Held),
+    /// A kind between those that the table lists.
+    Unlisted(u16),
+}
 
-/// The row of a kind in a table, by bisection.
-pub fn look_up(rows: &[Row], table: u8, kind: u16) -> Option<Row>
-    requires { keys_rise rows.now ≡ true }
-    ensures { result ≡ find_row (table * 65536 + kind) rows.now }
-{
-    let wanted = table as u32 * 65536 + kind as u32;
-    let mut low = 0;
-    let mut high = rows.len();
-    while low < high {
-        let middle = low + (high - low) / 2;
-        let row = rows[middle];
-        if (row.0 as u32 * 65536 + row.1 as u32) < wanted {
-            low = middle + 1;
-        } else {
-            high = middle;
+impl Row {
+    fn kind(self) -> u16
+        ensures { result ≡ kind_of self }
+    {
+        match self {
+            Self::Listed(kind, _, _) | Self::Unlisted(kind) => kind,
         }
     }
-    if low == rows.len() {
-        return None;
+}
+
+/// The rows of the table with that number.
+pub fn table_at<'a>(tables: &'a [&'a [Row]], table: u8) -> &'a [Row]
+    requires { table < length tables.now }
+    ensures { result.now ≡ get_or (lists_of tables.now) table [] }
+{
+    tables[table as usize]
+}
+
+/// What the rows of a table say of a kind: each row stands as far behind the first as its kind is
+/// above the first one's.
+pub fn look_up(rows: &[Row], kind: u16) -> Row
+    requires { are_dense rows.now ≡ true }
+    ensures line { (tables : ℕ → Table) (info : Payload)
+        → line_of tables info result ≡ line_at (build tables info rows.now) kind }
+    ensures known { (count : ℕ) → are_known count rows.now ≡ true → is_known count result ≡ true }
+{
+    if rows.is_empty() {
+        return Row::Unlisted(kind);
     }
-    let row = rows[low];
-    if row.0 as u32 * 65536 + row.1 as u32 == wanted {
-        Some(row)
+    let first = rows[0].kind();
+    if kind < first {
+        return Row::Unlisted(kind);
+    }
+    let place = (kind - first) as usize;
+    if place < rows.len() {
+        rows[place]
     } else {
-        None
+        Row::Unlisted(kind)
     }
 }

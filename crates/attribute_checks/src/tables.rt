@@ -6,9 +6,9 @@ ghost use Rattle.attribute_tables_grammar.specs.Lists.{written_kind};
 ghost use Rattle.attribute_tables_grammar.specs.LookUps.{payload_rule, table_row};
 ghost use Rattle.attribute_tables_grammar.specs.Peers.{Peer, LawfulPeer, peer_rule};
 ghost use Rattle.attribute_tables_grammar.specs.Rules.{Lawful};
-ghost use Rattle.attribute_tables_grammar.specs.Tables.{Payload, Table};
+ghost use Rattle.attribute_tables_grammar.specs.Tables.{Payload, Table, rows_bounded};
 ghost use Rattle.attribute_tables_grammar.specs.Walks.{measure};
-ghost use Rattle.attribute_checks.specs.Rows.{keys_rise, are_known, is_below, build, payload_of, tables_below, all_bounded};
+ghost use Rattle.attribute_checks.specs.Rows.{are_dense, are_known, is_below, build, payload_of};
 ghost use Rattle.attribute_checks.specs.Measures.{view};
 
 use crate::rows::{Held, Row, Shape, look_up};
@@ -28,13 +28,13 @@ pub trait TableSet {
     /// Link info as a payload.
     ghost info: { Payload };
 
-    /// The rows of all tables, in rising order of table and kind.
-    fn rows(&self) -> &[Row]
-        ensures rise { keys_rise result.now ≡ true }
+    /// The rows of a table, without a gap between the first kind and the last.
+    fn table(&self, table: u8) -> &[Row]
+        requires { table < Self.count }
+        ensures dense { are_dense result.now ≡ true }
         ensures known { are_known count result.now ≡ true }
-        ensures built { tables_below (λ t. build tables info t result.now) count
-            ≡ tables_below tables count }
-        ensures bounded { all_bounded tables count ≡ true }
+        ensures built { build tables info result.now ≡ tables table }
+        ensures bounded { rows_bounded (tables table) ≡ true }
         ensures lawful_peer { LawfulPeer peer };
 
     /// Whether a peer's payload is accepted, and its measure.
@@ -111,13 +111,13 @@ pub fn find<T: TableSet>(set: &T, table: u8, kind: u16) -> Found
         ≡ written_kind (table_row T.peer (T.tables table) (proper_kind kind)) kind }
 {
     table_rows_are_lawful();
-    match look_up(set.rows(), table, kind % 0x4000) {
-        Some(row) => Found {
-            held: row.3,
+    match look_up(set.table(table), kind % 0x4000) {
+        Row::Listed(_, is_nested, held) => Found {
+            held,
             is_typed: true,
-            kind: written_kind(row.2, kind),
+            kind: written_kind(is_nested, kind),
         },
-        None => Found {
+        Row::Unlisted(_) => Found {
             held: Held::Plain(Shape::Raw),
             is_typed: false,
             kind,

@@ -1,26 +1,32 @@
 -- The constant rows are the tables, and the constant names those of kinds and port kinds.
-use Rattle.std.proofs.Common.{◌≡◌, true, refl}
+use Rattle.std.proofs.Common.{◌≡◌, ℕ, true, List, [], ◌∷◌, get_or, refl}
 use Rattle.attribute_tables_grammar.specs.Shapes.{raw}
-use Rattle.attribute_tables_grammar.specs.Tables.{Payload.plain}
-use Rattle.attribute_checks.specs.Rows.{build, keys_rise, are_known, tables_below, all_bounded}
+use Rattle.attribute_tables_grammar.specs.Tables.{Payload.plain, Table.end, rows_bounded}
+use Rattle.attribute_checks.specs.declared.rows.Row.{Row}
+use Rattle.attribute_checks.specs.Rows.{build, are_dense, are_known}
+use Rattle.attribute_checks.proofs.LookUps.{all_at, built_at}
 use Rattle.attribute_checks.specs.Names.{names_of, names_known}
 use Rattle.link_info_grammar.specs.Families.{kinds, port_kinds}
-use Rattle.link_info_checks.specs.declared.rows.TheConstants.{ROWS, KINDS, PORT_KINDS}
-use Rattle.link_info_checks.specs.Tables.{table_of}
+use Rattle.link_info_checks.specs.declared.rows.TheConstants.{AMT, BAREUDP, BATADV, GENEVE, GRE, GRE6, GTP, IPOIB, IPVLAN, IP_TUNNEL, IP6_TUNNEL, MACVLAN, MACVLAN_ADDRESS, MACSEC, NETKIT, PAIR, RMNET, VRF, WWAN, XFRM, VTI, VXLAN, UNTYPED, KINDS, PORT_KINDS}
+use Rattle.link_info_checks.specs.Tables.{all_tables, table_of}
 
-pub rows_rise : keys_rise ROWS ≡ true
-rows_rise = refl
+-- the constant rows, in the order of the tables
+abbrev pub lists : List (List Row)
+lists = AMT ∷ BAREUDP ∷ BATADV ∷ GENEVE ∷ GRE ∷ GRE6 ∷ GTP ∷ IPOIB ∷ IPVLAN ∷ IP_TUNNEL ∷ IP6_TUNNEL ∷ MACVLAN ∷ MACVLAN_ADDRESS ∷ MACSEC ∷ NETKIT ∷ PAIR ∷ RMNET ∷ VRF ∷ WWAN ∷ XFRM ∷ VTI ∷ VXLAN ∷ UNTYPED ∷ []
 
-pub rows_known : are_known 23 ROWS ≡ true
-rows_known = refl
+pub dense : (t : ℕ) → are_dense (get_or lists t []) ≡ true
+dense t = all_at are_dense lists t [] refl refl
 
-pub rows_built : tables_below (λ t. build table_of (plain raw) t ROWS) 23 ≡ tables_below table_of 23
+pub known : (t : ℕ) → are_known 23 (get_or lists t []) ≡ true
+known t = all_at (are_known 23) lists t [] refl refl
+
+pub built : (t : ℕ) → build table_of (plain raw) (get_or lists t []) ≡ table_of t
 unfolding table_of
-rows_built = refl
+built t = built_at table_of (plain raw) lists t
 
-pub tables_bounded : all_bounded table_of 23 ≡ true
+pub bounded : (t : ℕ) → rows_bounded (table_of t) ≡ true
 unfolding table_of
-tables_bounded = refl
+bounded t = all_at rows_bounded all_tables t end refl refl
 
 pub kinds_built : names_of table_of (plain raw) KINDS ≡ kinds
 unfolding table_of

@@ -10,10 +10,11 @@ ghost use Rattle.link_info_grammar.specs.LinkInfo.{info_rule, info_rule_under};
 ghost use Rattle.attribute_checks.specs.Measures.{view};
 ghost use Rattle.link_info_checks.specs.Tables.{table_of, IsListMeasure};
 
-use crate::rows::{KINDS, PORT_KINDS, ROWS};
+use crate::rows::{KINDS, PORT_KINDS, TABLES};
 use attribute_checks::{
     BytesPeer, Held, Measured, NameSet, PeerRule, PeerSet, Row, Ruled, Shape, TableSet, WritePeer,
-    WriteSet, held_by_name, measure_info, measure_shape, same_info, write_info, write_shape,
+    WriteSet, held_by_name, measure_info, measure_shape, same_info, table_at, write_info,
+    write_shape,
 };
 use attribute_tables_grammar::laws::measures_tell_rules;
 use link_info_grammar::laws::info_grammar_is_lawful;
@@ -33,9 +34,9 @@ impl<P: PeerSet> TableSet for InfoTables<'_, P> {
     // No row of these holds link info.
     ghost info = { plain raw };
 
-    fn rows(&self) -> &[Row] {
+    fn table(&self, table: u8) -> &[Row] {
         self.0.peers_are_lawful();
-        &ROWS
+        table_at(&TABLES, table)
     }
 
     fn measure_peer(&self, payload: &[u8]) -> Option<Measured> {

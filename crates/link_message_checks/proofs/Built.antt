@@ -1,21 +1,28 @@
 -- The constant rows are the tables.
-use Rattle.std.proofs.Common.{◌≡◌, true, refl}
-use Rattle.attribute_checks.specs.Rows.{build, keys_rise, are_known, tables_below, all_bounded}
+use Rattle.std.proofs.Common.{◌≡◌, ℕ, true, List, [], ◌∷◌, get_or, refl}
+use Rattle.attribute_tables_grammar.specs.Tables.{Table.end, rows_bounded}
+use Rattle.attribute_checks.specs.declared.rows.Row.{Row}
+use Rattle.attribute_checks.specs.Rows.{build, are_dense, are_known}
+use Rattle.attribute_checks.proofs.LookUps.{all_at, built_at}
 use Rattle.link_message_grammar.specs.NestedTables.{settings}
 use Rattle.link_message_grammar.specs.LinkMessage.{info}
-use Rattle.link_message_checks.specs.declared.rows.TheConstants.{ROWS}
-use Rattle.link_message_checks.specs.Tables.{table_of}
+use Rattle.link_message_checks.specs.declared.rows.TheConstants.{XDP, PROPS, PROTOCOL_DOWN_REASON, DEVLINK_PORT, DPLL_PIN, MCTP, INET, INET6, SPECIFIC, VF_STATS, VF_VLANS, VF, VF_INFOS, VF_PORTS, UNTYPED, LINK_UNSPEC, LINK_BRIDGE, LINK_INET6, LINK_OTHER}
+use Rattle.link_message_checks.specs.Tables.{all_tables, table_of}
 
-pub rows_rise : keys_rise ROWS ≡ true
-rows_rise = refl
+-- the constant rows, in the order of the tables
+abbrev pub lists : List (List Row)
+lists = XDP ∷ PROPS ∷ PROTOCOL_DOWN_REASON ∷ DEVLINK_PORT ∷ DPLL_PIN ∷ MCTP ∷ INET ∷ INET6 ∷ SPECIFIC ∷ VF_STATS ∷ VF_VLANS ∷ VF ∷ VF_INFOS ∷ VF_PORTS ∷ UNTYPED ∷ LINK_UNSPEC ∷ LINK_BRIDGE ∷ LINK_INET6 ∷ LINK_OTHER ∷ []
 
-pub rows_known : are_known 19 ROWS ≡ true
-rows_known = refl
+pub dense : (t : ℕ) → are_dense (get_or lists t []) ≡ true
+dense t = all_at are_dense lists t [] refl refl
 
-pub rows_built : tables_below (λ t. build table_of info t ROWS) 19 ≡ tables_below table_of 19
+pub known : (t : ℕ) → are_known 19 (get_or lists t []) ≡ true
+known t = all_at (are_known 19) lists t [] refl refl
+
+pub built : (t : ℕ) → build table_of info (get_or lists t []) ≡ table_of t
 unfolding table_of settings
-rows_built = refl
+built t = built_at table_of info lists t
 
-pub tables_bounded : all_bounded table_of 19 ≡ true
+pub bounded : (t : ℕ) → rows_bounded (table_of t) ≡ true
 unfolding table_of settings
-tables_bounded = refl
+bounded t = all_at rows_bounded all_tables t end refl refl

@@ -6,11 +6,14 @@ use Rattle.link_message_grammar.specs.NestedTables.{devlink_port, dpll_pin, inet
 use Rattle.link_message_grammar.specs.LinkMessage.{unspec, bridge, inet_6, other, link_table}
 use Rattle.link_message_checks.specs.declared.message.BodyMeasure.{BodyMeasure}
 
--- in the order of the rows: nested tables, the one of raw attributes, and a table of the message for each family
+-- in the order of the constant rows: nested tables, the one of raw attributes, and a table of the message for each family
+abbrev pub all_tables : List Table
+all_tables =
+    xdp ∷ props ∷ protocol_down_reason ∷ devlink_port ∷ dpll_pin ∷ mctp ∷ inet ∷ inet6 ∷ specific ∷ vf_stats ∷ vf_vlans ∷ vf ∷ vf_infos ∷ vf_ports ∷ end
+    ∷ link_table unspec ∷ link_table bridge ∷ link_table inet_6 ∷ link_table other ∷ []
+
 unfoldable pub table_of : ℕ → Table
-table_of n =
-    get_or (xdp ∷ props ∷ protocol_down_reason ∷ devlink_port ∷ dpll_pin ∷ mctp ∷ inet ∷ inet6 ∷ specific ∷ vf_stats ∷ vf_vlans ∷ vf ∷ vf_infos ∷ vf_ports ∷ end
-    ∷ link_table unspec ∷ link_table bridge ∷ link_table inet_6 ∷ link_table other ∷ []) n end
+table_of n = get_or all_tables n end
 
 -- the numbers are those of the canonical text
 pub record IsBodyMeasure (r : Rule) (bytes : List ℕ) (m : BodyMeasure) : Type 0 where

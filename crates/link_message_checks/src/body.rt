@@ -9,10 +9,10 @@ ghost use Rattle.attribute_checks.specs.Measures.{view};
 ghost use Rattle.link_message_checks.specs.Tables.{table_of};
 
 use crate::header::{HEADER_LEN, is_own_header, same_header, write_header};
-use crate::rows::ROWS;
+use crate::rows::TABLES;
 use attribute_checks::{
     Form, Held, Measured, PeerSet, Row, TableSet, WritePeer, WriteSet, measure_held, same_held,
-    write_held,
+    table_at, write_held,
 };
 use attribute_tables_grammar::laws::{measures_tell_rules, sameness_goes_by_steps};
 use link_info_checks::{measure_list, same_list_over, write_list};
@@ -41,9 +41,9 @@ impl<P: PeerSet> TableSet for MessageTables<'_, P> {
 
     ghost info = { info };
 
-    fn rows(&self) -> &[Row] {
+    fn table(&self, table: u8) -> &[Row] {
         self.0.peers_are_lawful();
-        &ROWS
+        table_at(&TABLES, table)
     }
 
     fn measure_peer(&self, payload: &[u8]) -> Option<Measured> {

@@ -1,11 +1,11 @@
 -- The row that is found is the line of the table that the rows build.
-use Rattle.std.proofs.Common.{◌≡◌, ℕ, zero, suc, ◌+◌, ◌-◌, ◌<◌, ◌≤◌, Bool, true, false, cond, List, [], ◌∷◌, length, get_or, Bor, Option, Some, None, refl, sym, ap, ◌∙◌, arith}
+use Rattle.std.proofs.Common.{◌≡◌, ℕ, zero, suc, ◌+◌, ◌-◌, ◌<◌, ◌≤◌, Bool, true, cond, List, [], ◌∷◌, length, get_or, Bor, Option, None, refl, sym, ap, ◌∙◌, arith}
 use Rattle.std.specs.Prelude.{◌&&◌, ◌==◌}
 use Rattle.std.specs.List.{list_all}
 use Rattle.std.proofs.lemmas.Bool.{and_parts, eqb-true, eq-eqb, ne_eqb, ltb-true}
-use Rattle.attribute_tables_grammar.specs.LookUps.{Line, line_at, payload_rule, row_of_line, table_row, rows_rule}
+use Rattle.attribute_tables_grammar.specs.LookUps.{line_at, payload_rule, rows_rule}
 use Rattle.attribute_tables_grammar.specs.Rules.{Rule}
-use Rattle.attribute_tables_grammar.specs.Lists.{list_rule, written_kind}
+use Rattle.attribute_tables_grammar.specs.Lists.{list_rule}
 use Rattle.attribute_tables_grammar.specs.Peers.{Peer}
 use Rattle.attribute_tables_grammar.specs.Tables.{Payload, Table, Table.end}
 use Rattle.attribute_tables_grammar.specs.Laws.{RowsAreLookedUp}

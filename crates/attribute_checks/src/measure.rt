@@ -1,11 +1,11 @@
 //! Measures of lists, without a typed value.
 
 ghost use Rattle.std.specs.Prelude.{◌≡◌, ◌<◌, ◌+◌, ◌*◌, ◌^◌, ◌&&◌, ℕ, true, false, option_map, IfSome};
-ghost use Rattle.attribute_tables_grammar.specs.Lists.{is_kept};
+ghost use Rattle.attribute_tables_grammar.specs.Lists.{is_kept, first_alone, list_rule};
 ghost use Rattle.attribute_tables_grammar.specs.LookUps.{payload_rule};
 ghost use Rattle.attribute_tables_grammar.specs.Walks.{measure, plus, with_header, dropped, closed};
 ghost use Rattle.attribute_checks.specs.Rows.{is_below, payload_of, form_of};
-ghost use Rattle.attribute_checks.specs.Measures.{view};
+ghost use Rattle.attribute_checks.specs.Measures.{view, rows_of};
 
 use crate::attribute::{Attribute, first_attribute, is_own_attribute};
 use crate::rows::{Form, Held};
@@ -77,6 +77,8 @@ fn close(form: Form, total: Measured) -> Measured
 }
 
 /// Whether bytes are accepted as what a row holds, and their measure.
+#[cycle(measure)]
+#[inline(always)]
 pub fn measure_held<T: TableSet>(set: &T, held: Held, bytes: &[u8]) -> Option<Measured>
     requires { is_below T.count held ≡ true }
     ensures measure { option_map view result
@@ -85,31 +87,31 @@ pub fn measure_held<T: TableSet>(set: &T, held: Held, bytes: &[u8]) -> Option<Me
         (λ m. m.is_own ≡ true
         → (payload_rule T.peer (payload_of T.tables T.info held)).canonical bytes.now ≡ bytes.now) }
 {
-    let (form, table) = match held {
-        Held::Plain(shape) => return measure_shape(shape, bytes),
-        Held::Peer => return set.measure_peer(bytes),
-        Held::LinkInfo => return set.measure_info(bytes),
-        Held::List(form, table) => (form, table),
-    };
     rows_are_looked_up();
+    match held {
+        Held::Plain(shape) => measure_shape(shape, bytes),
+        Held::Peer => set.measure_peer(bytes),
+        Held::LinkInfo => set.measure_info(bytes),
+        Held::List(form, table) => measure_list(set, form, table, bytes),
+    }
+}
+
+// Whether bytes are a list of this form under a table, and its measure.
+#[cycle(measure)]
+fn measure_list<T: TableSet>(set: &T, form: Form, table: u8, bytes: &[u8]) -> Option<Measured>
+    requires { table < T.count }
+    ensures measure { option_map view result
+        ≡ measure (list_rule (form_of form) (rows_of T.peer (T.tables table))) bytes.now }
+    ensures own { IfSome result
+        (λ m. m.is_own ≡ true
+        → (list_rule (form_of form) (rows_of T.peer (T.tables table))).canonical bytes.now ≡ bytes.now) }
+{
     measures_go_by_steps();
     measures_tell_rules();
     own_texts_go_by_steps();
     first_attributes_are_within();
-    let mut total = NOTHING_YET;
     match form {
-        Form::FirstAlone => {
-            let Some((attribute, after)) = first_attribute(bytes) else {
-                return None;
-            };
-            let found = find(set, table, attribute.kind);
-            let Some(inside) = measure_held(set, found.held, attribute.payload) else {
-                return None;
-            };
-            let is_own = is_own_attribute(bytes, attribute, after);
-            let is_whole = is_own & ((found.kind == attribute.kind) & after.is_empty());
-            return Some(with_attribute(total, inside, is_whole));
-        }
+        Form::FirstAlone => return measure_first(set, table, bytes),
         Form::NonEmpty | Form::Ports => {
             if bytes.is_empty() {
                 return None;
@@ -117,6 +119,7 @@ pub fn measure_held<T: TableSet>(set: &T, held: Held, bytes: &[u8]) -> Option<Me
         }
         Form::Any | Form::OfKindOne => {}
     }
+    let mut total = NOTHING_YET;
     let mut rest = bytes;
     while !rest.is_empty() {
         let Some((attribute, after)) = first_attribute(rest) else {
@@ -135,4 +138,30 @@ pub fn measure_held<T: TableSet>(set: &T, held: Held, bytes: &[u8]) -> Option<Me
         rest = after;
     }
     Some(close(form, total))
+}
+
+// Whether bytes begin with an attribute of a table, and the measure of that one alone.
+#[cycle(measure)]
+fn measure_first<T: TableSet>(set: &T, table: u8, bytes: &[u8]) -> Option<Measured>
+    requires { table < T.count }
+    ensures measure { option_map view result
+        ≡ measure (list_rule first_alone (rows_of T.peer (T.tables table))) bytes.now }
+    ensures own { IfSome result
+        (λ m. m.is_own ≡ true
+        → (list_rule first_alone (rows_of T.peer (T.tables table))).canonical bytes.now ≡ bytes.now) }
+{
+    measures_go_by_steps();
+    measures_tell_rules();
+    own_texts_go_by_steps();
+    first_attributes_are_within();
+    let Some((attribute, after)) = first_attribute(bytes) else {
+        return None;
+    };
+    let found = find(set, table, attribute.kind);
+    let Some(inside) = measure_held(set, found.held, attribute.payload) else {
+        return None;
+    };
+    let is_own = is_own_attribute(bytes, attribute, after);
+    let is_whole = is_own & ((found.kind == attribute.kind) & after.is_empty());
+    Some(with_attribute(NOTHING_YET, inside, is_whole))
 }

@@ -2,9 +2,11 @@
 
 ghost use Rattle.std.specs.Prelude.{◌≡◌, ◌<◌, true, is_some, IfSome};
 ghost use Rattle.netlink_packet_core_grammar.specs.Attributes.{proper_kind};
+ghost use Rattle.attribute_tables_grammar.specs.Lists.{first_alone, list_rule};
 ghost use Rattle.attribute_tables_grammar.specs.LookUps.{payload_rule, table_row};
 ghost use Rattle.attribute_tables_grammar.specs.Sameness.{kept_of, same_kinds};
 ghost use Rattle.attribute_checks.specs.Rows.{is_below, payload_of, form_of};
+ghost use Rattle.attribute_checks.specs.Measures.{rows_of};
 ghost use Rattle.attribute_checks.specs.Sameness.{next_of, IsShorter};
 
 use crate::attribute::{Attribute, first_attribute};
@@ -66,34 +68,34 @@ fn held_by_both<T: TableSet>(set: &T, table: u8, left: u16, right: u16) -> Optio
 }
 
 /// Whether two payloads mean the same as what a row holds. It is of use where both are accepted.
+#[cycle(same)]
+#[inline(always)]
 pub fn same_held<T: TableSet>(set: &T, held: Held, left: &[u8], right: &[u8]) -> bool
     requires { is_below T.count held ≡ true }
     ensures { result
         ≡ (payload_rule T.peer (payload_of T.tables T.info held)).same left.now right.now }
 {
-    let (form, table) = match held {
-        Held::Plain(shape) => return same_shape(shape, left, right),
-        Held::Peer => return set.same_peer(left, right),
-        Held::LinkInfo => return set.same_info(left, right),
-        Held::List(form, table) => (form, table),
-    };
     rows_are_looked_up();
+    match held {
+        Held::Plain(shape) => same_shape(shape, left, right),
+        Held::Peer => set.same_peer(left, right),
+        Held::LinkInfo => set.same_info(left, right),
+        Held::List(form, table) => same_list(set, form, table, left, right),
+    }
+}
+
+// Whether two lists of this form under a table mean the same.
+#[cycle(same)]
+fn same_list<T: TableSet>(set: &T, form: Form, table: u8, left: &[u8], right: &[u8]) -> bool
+    requires { table < T.count }
+    ensures { result ≡ (list_rule (form_of form) (rows_of T.peer (T.tables table))).same
+        left.now right.now }
+{
     sameness_goes_by_steps();
     attributes_are_compared();
     first_attributes_are_within();
     match form {
-        Form::FirstAlone => {
-            let Some((a, _)) = first_attribute(left) else {
-                return false;
-            };
-            let Some((b, _)) = first_attribute(right) else {
-                return false;
-            };
-            return match held_by_both(set, table, a.kind, b.kind) {
-                Some(held) => same_held(set, held, a.payload, b.payload),
-                None => false,
-            };
-        }
+        Form::FirstAlone => return same_first(set, table, left, right),
         Form::NonEmpty | Form::Ports => {
             if left.is_empty() || right.is_empty() {
                 return false;
@@ -118,5 +120,27 @@ pub fn same_held<T: TableSet>(set: &T, held: Held, left: &[u8], right: &[u8]) ->
             (Next::End, Next::End) => return true,
             _ => return false,
         }
+    }
+}
+
+// Whether two lists begin with attributes of a table that say the same.
+#[cycle(same)]
+fn same_first<T: TableSet>(set: &T, table: u8, left: &[u8], right: &[u8]) -> bool
+    requires { table < T.count }
+    ensures { result ≡ (list_rule first_alone (rows_of T.peer (T.tables table))).same
+        left.now right.now }
+{
+    sameness_goes_by_steps();
+    attributes_are_compared();
+    first_attributes_are_within();
+    let Some((a, _)) = first_attribute(left) else {
+        return false;
+    };
+    let Some((b, _)) = first_attribute(right) else {
+        return false;
+    };
+    match held_by_both(set, table, a.kind, b.kind) {
+        Some(held) => same_held(set, held, a.payload, b.payload),
+        None => false,
     }
 }

@@ -71,6 +71,7 @@ fn is_own_spelling(shape: Shape, payload: &[u8]) -> bool
 }
 
 /// Whether a shape accepts a payload, and its measure.
+#[inline(always)]
 pub fn measure_shape(shape: Shape, payload: &[u8]) -> Option<Measured>
     ensures measure { option_map view result ≡ measure (shape_rule (shape_of shape)) payload.now }
     ensures own { IfSome result

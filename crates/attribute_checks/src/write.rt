@@ -1,8 +1,10 @@
 //! Canonical texts, written straight from accepted bytes.
 
-ghost use Rattle.std.specs.Prelude.{◌≡◌, ◌≤◌, ◌+◌, ◌++◌, true, false, length, vec_capacity, IfSome, IfNone};
+ghost use Rattle.std.specs.Prelude.{◌≡◌, ◌<◌, ◌≤◌, ◌+◌, ◌++◌, true, false, length, vec_capacity, IfSome, IfNone};
+ghost use Rattle.attribute_tables_grammar.specs.Lists.{first_alone, list_rule};
 ghost use Rattle.attribute_tables_grammar.specs.LookUps.{payload_rule};
-ghost use Rattle.attribute_checks.specs.Rows.{is_below, payload_of};
+ghost use Rattle.attribute_checks.specs.Rows.{is_below, payload_of, form_of};
+ghost use Rattle.attribute_checks.specs.Measures.{rows_of};
 ghost use Rattle.attribute_checks.specs.Writing.{IsPlan};
 
 use crate::attribute::{first_attribute, is_own_attribute};
@@ -28,6 +30,7 @@ pub struct Planned {
 }
 
 /// How an accepted payload of a row is written; None where it isn't accepted.
+#[inline(always)]
 pub fn plan<T: TableSet>(set: &T, held: Held, payload: &[u8]) -> Option<Planned>
     requires { is_below T.count held ≡ true }
     ensures known { IfSome result (λ plan. is_below T.count plan.held ≡ true) }
@@ -57,6 +60,7 @@ pub fn plan<T: TableSet>(set: &T, held: Held, payload: &[u8]) -> Option<Planned>
 }
 
 /// Appends the canonical text of accepted bytes that fit, for which there has to be room.
+#[cycle(write)]
 pub fn write_held<T: WriteSet>(set: &T, held: Held, bytes: &[u8], out: &mut Vec<u8>)
     requires known { is_below T.count held ≡ true }
     requires accepted { (payload_rule T.peer (payload_of T.tables T.info held)).accepted bytes.now
@@ -69,29 +73,35 @@ pub fn write_held<T: WriteSet>(set: &T, held: Held, bytes: &[u8], out: &mut Vec<
         ++ (payload_rule T.peer (payload_of T.tables T.info held)).canonical bytes.now }
     ensures room { vec_capacity out.old ≤ vec_capacity out.new }
 {
-    let (form, table) = match held {
-        Held::Plain(shape) => return write_shape(shape, bytes, out),
-        Held::Peer => return set.write_peer(bytes, out),
-        Held::LinkInfo => return set.write_info(bytes, out),
-        Held::List(form, table) => (form, table),
-    };
-    measures_tell_rules();
     rows_are_looked_up();
+    match held {
+        Held::Plain(shape) => write_shape(shape, bytes, out),
+        Held::Peer => set.write_peer(bytes, out),
+        Held::LinkInfo => set.write_info(bytes, out),
+        Held::List(form, table) => write_list(set, form, table, bytes, out),
+    }
+}
+
+// Appends the canonical text of an accepted list of this form under a table.
+#[cycle(write)]
+fn write_list<T: WriteSet>(set: &T, form: Form, table: u8, bytes: &[u8], out: &mut Vec<u8>)
+    requires known { table < T.count }
+    requires accepted { (list_rule (form_of form) (rows_of T.peer (T.tables table))).accepted bytes.now
+        ≡ true }
+    requires fits { (list_rule (form_of form) (rows_of T.peer (T.tables table))).fits bytes.now ≡ true }
+    requires room { length out.old.items
+        + length ((list_rule (form_of form) (rows_of T.peer (T.tables table))).canonical bytes.now)
+        ≤ vec_capacity out.old }
+    ensures text { out.new.items ≡ out.old.items
+        ++ (list_rule (form_of form) (rows_of T.peer (T.tables table))).canonical bytes.now }
+    ensures room { vec_capacity out.old ≤ vec_capacity out.new }
+{
+    if let Form::FirstAlone = form {
+        return write_first(set, table, bytes, out);
+    }
+    measures_tell_rules();
     texts_are_written_by_steps();
     first_attributes_are_within();
-    if let Form::FirstAlone = form {
-        let Some((attribute, _)) = first_attribute(bytes) else {
-            unreachable!();
-        };
-        let found = find(set, table, attribute.kind);
-        let Some(plan) = plan(set, found.held, attribute.payload) else {
-            unreachable!();
-        };
-        append_header(found.kind, plan.size as usize, out);
-        write_held(set, plan.held, attribute.payload, out);
-        append_padding(plan.size as usize, out);
-        return;
-    }
     let mut rest = bytes;
     while !rest.is_empty() {
         let Some((attribute, after)) = first_attribute(rest) else {
@@ -113,4 +123,33 @@ pub fn write_held<T: WriteSet>(set: &T, held: Held, bytes: &[u8], out: &mut Vec<
         }
         rest = after;
     }
+}
+
+// Appends the canonical text of an accepted list of its first attribute alone, under a table.
+#[cycle(write)]
+fn write_first<T: WriteSet>(set: &T, table: u8, bytes: &[u8], out: &mut Vec<u8>)
+    requires known { table < T.count }
+    requires accepted { (list_rule first_alone (rows_of T.peer (T.tables table))).accepted bytes.now
+        ≡ true }
+    requires fits { (list_rule first_alone (rows_of T.peer (T.tables table))).fits bytes.now ≡ true }
+    requires room { length out.old.items
+        + length ((list_rule first_alone (rows_of T.peer (T.tables table))).canonical bytes.now)
+        ≤ vec_capacity out.old }
+    ensures text { out.new.items ≡ out.old.items
+        ++ (list_rule first_alone (rows_of T.peer (T.tables table))).canonical bytes.now }
+    ensures room { vec_capacity out.old ≤ vec_capacity out.new }
+{
+    measures_tell_rules();
+    texts_are_written_by_steps();
+    first_attributes_are_within();
+    let Some((attribute, _)) = first_attribute(bytes) else {
+        unreachable!();
+    };
+    let found = find(set, table, attribute.kind);
+    let Some(plan) = plan(set, found.held, attribute.payload) else {
+        unreachable!();
+    };
+    append_header(found.kind, plan.size as usize, out);
+    write_held(set, plan.held, attribute.payload, out);
+    append_padding(plan.size as usize, out);
 }

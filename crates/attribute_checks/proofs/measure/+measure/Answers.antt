@@ -1,0 +1,116 @@
+use Rattle.std.proofs.Common.{◌≡◌, true, false, length, Some, None, sym, ap, subst, ◌∙◌, arith}
+use Rattle.std.specs.Prelude.{◌&&◌, ◌==◌, IfSome}
+use Rattle.std.proofs.lemmas.Bool.{eqb-true, and_parts}
+use Rattle.netlink_packet_core_grammar.specs.Attributes.{Attribute}
+use Rattle.attribute_tables_grammar.specs.Lists.{nothing}
+use Rattle.attribute_tables_grammar.specs.Walks.{Measure, MeasuredSoFar, measure}
+use Rattle.attribute_checks.specs.Rows.{form_of}
+use Rattle.attribute_checks.specs.Measures.{view, rows_of}
+use Rattle.attribute_checks.proofs.LookUps.{list_held, measured_as}
+use Rattle.attribute_checks.proofs.Loop.{plus_start}
+use Rattle.attribute_checks.proofs.measure.+measure.Goals as goal
+
+pub measure_held-returns-in-List-clause-measure : goal.measure_held-returns-in-List-clause-measure
+measure_held-returns-in-List-clause-measure g t c =
+    c.measure_list.ensures.measure
+    ∙ ap (λ r. measure r c.args.bytes.now) (list_held c.rows_are_looked_up.ensures g.T.TableSet.peer g.T.TableSet.tables g.T.TableSet.info c.args.held c.in-List.form c.in-List.table c.in-List.is)
+
+pub measure_held-returns-in-List-clause-own : goal.measure_held-returns-in-List-clause-own
+measure_held-returns-in-List-clause-own g t c =
+    subst (λ r. IfSome c.measure_list.result (λ m. m.is_own ≡ true → r.canonical c.args.bytes.now ≡ c.args.bytes.now)) (list_held c.rows_are_looked_up.ensures g.T.TableSet.peer g.T.TableSet.tables g.T.TableSet.info c.args.held c.in-List.form c.in-List.table c.in-List.is) c.measure_list.ensures.own
+
+pub measure_first-returns-in_default-measure_held-clause-measure : goal.measure_first-returns-in_default-measure_held-clause-measure
+measure_first-returns-in_default-measure_held-clause-measure g t c =
+    let rows = rows_of g.T.TableSet.peer (g.T.TableSet.tables c.args.table) in
+    let e : Attribute = record { kind = c.in-Some.attribute.kind; payload = c.in-Some.attribute.payload.now } in
+    c.measures_tell_rules.ensures.first_some rows c.args.bytes.now e c.in-Some.after.now None c.in-Some.ensures
+    (measured_as _ _ e.payload None c.find-found.ensures.rule c.in_default-measure_held.ensures.measure)
+
+pub measure_first-returns-clause-measure : goal.measure_first-returns-clause-measure
+measure_first-returns-clause-measure g t c =
+    let rows = rows_of g.T.TableSet.peer (g.T.TableSet.tables c.args.table) in
+    let e : Attribute = record { kind = c.in-Some.attribute.kind; payload = c.in-Some.attribute.payload.now } in
+    ap (λ m. Some m) c.with_attribute.ensures.measure ∙ plus_start (view c.in-Some-measure_held.inside)
+    ∙ c.measures_tell_rules.ensures.first_some rows c.args.bytes.now e c.in-Some.after.now (Some (view c.in-Some-measure_held.inside)) c.in-Some.ensures
+    (measured_as _ _ e.payload (Some (view c.in-Some-measure_held.inside)) c.find-found.ensures.rule c.in-Some-measure_held.ensures.measure)
+
+pub measure_first-returns-clause-own : goal.measure_first-returns-clause-own
+measure_first-returns-clause-own g t c =
+    let rows = rows_of g.T.TableSet.peer (g.T.TableSet.tables c.args.table) in
+    let e : Attribute = record { kind = c.in-Some.attribute.kind; payload = c.in-Some.attribute.payload.now } in
+    λ h.
+    let b = and_parts c.in-Some-measure_held.inside.is_own (c.is_own_attribute-is_own.result && ((c.find-found.result.kind == c.in-Some.attribute.kind) && c.is_empty.result)) (sym c.with_attribute.ensures.own ∙ h) in
+    let d = and_parts c.is_own_attribute-is_own.result ((c.find-found.result.kind == c.in-Some.attribute.kind) && c.is_empty.result) b.1 in
+    let k = and_parts (c.find-found.result.kind == c.in-Some.attribute.kind) c.is_empty.result d.1 in
+    c.own_texts_go_by_steps.ensures.alone rows c.args.bytes.now e c.in-Some.after.now c.in-Some.ensures (eqb-true (length c.in-Some.after.now) 0 (sym c.is_empty.ensures ∙ k.1)) (sym c.find-found.ensures.written ∙ eqb-true _ _ k.0)
+    (sym (ap (λ r. r.canonical e.payload) c.find-found.ensures.rule) ∙ c.in-Some-measure_held.ensures.own b.0) (c.is_own_attribute-is_own.ensures d.0)
+
+pub measure_list-returns-in_default-measure_held-clause-measure : goal.measure_list-returns-in_default-measure_held-clause-measure
+measure_list-returns-in_default-measure_held-clause-measure g t c =
+    let e : Attribute = record { kind = c.in-Some.attribute.kind; payload = c.in-Some.attribute.payload.now } in
+    c.measures_go_by_steps.ensures.refused (form_of c.args.form) (rows_of g.T.TableSet.peer (g.T.TableSet.tables c.args.table)) c.args.bytes.now c.loop-rest.rest.now nothing e c.in-Some.after.now (view c.loop-rest.total) c.loop-rest.invariant.walked c.in-Some.ensures (sym c.is_kept.ensures ∙ c.if-is_kept.true)
+    (measured_as _ _ e.payload None c.find-found.ensures.rule c.in_default-measure_held.ensures.measure) c.loop-rest.invariant.so_far
+
+pub measure_list-loop-rest-smaller-in-Some-measure_held : goal.measure_list-loop-rest-smaller-in-Some-measure_held
+measure_list-loop-rest-smaller-in-Some-measure_held g t c =
+    let e : Attribute = record { kind = c.in-Some.attribute.kind; payload = c.in-Some.attribute.payload.now } in
+    let w = c.first_attributes_are_within.ensures.within c.loop-rest.rest.now e c.in-Some.after.now c.in-Some.ensures in
+    let l = c.first_attributes_are_within.ensures.rest_length c.loop-rest.rest.now e c.in-Some.after.now c.in-Some.ensures in
+    omega (arith, w, l)
+
+pub measure_list-loop-rest-smaller : goal.measure_list-loop-rest-smaller
+measure_list-loop-rest-smaller g t c =
+    let e : Attribute = record { kind = c.in-Some.attribute.kind; payload = c.in-Some.attribute.payload.now } in
+    let w = c.first_attributes_are_within.ensures.within c.loop-rest.rest.now e c.in-Some.after.now c.in-Some.ensures in
+    let l = c.first_attributes_are_within.ensures.rest_length c.loop-rest.rest.now e c.in-Some.after.now c.in-Some.ensures in
+    omega (arith, w, l)
+
+pub measure_list-loop-rest-preserved-in-Some-measure_held : goal.measure_list-loop-rest-preserved-in-Some-measure_held
+measure_list-loop-rest-preserved-in-Some-measure_held g t c =
+    let form = form_of c.args.form in
+    let rows = rows_of g.T.TableSet.peer (g.T.TableSet.tables c.args.table) in
+    let bytes = c.args.bytes.now in
+    let rest = c.loop-rest.rest.now in
+    let after = c.in-Some.after.now in
+    let e : Attribute = record { kind = c.in-Some.attribute.kind; payload = c.in-Some.attribute.payload.now } in
+    let f = c.in-Some.ensures in
+    let k = sym c.is_kept.ensures ∙ c.if-is_kept.true in
+    let inside = measured_as _ _ e.payload (Some (view c.in-Some-measure_held.inside)) c.find-found.ensures.rule c.in-Some-measure_held.ensures.measure in
+    let s = c.measures_go_by_steps.ensures.small _ c.find-found.ensures.lawful rest e after (view c.in-Some-measure_held.inside) f inside in
+    let is = c.with_attribute-total.ensures.measure in
+    let size_is = ap (λ (m : Measure). m.size) is in
+    let headers_is = ap (λ (m : Measure). m.attributes) is in
+    record {
+      walked = c.loop-rest.invariant.walked;
+      so_far = subst (λ m. MeasuredSoFar form rows bytes m nothing after) (sym is)
+          (c.measures_go_by_steps.ensures.more form rows bytes rest nothing e after (view c.loop-rest.total) (view c.in-Some-measure_held.inside) f k inside c.loop-rest.invariant.so_far);
+      own = λ h.
+          let a = and_parts _ _ (sym c.with_attribute-total.ensures.own ∙ h) in
+          let b = and_parts _ _ a.1 in
+          let d = and_parts _ _ b.1 in
+          c.own_texts_go_by_steps.ensures.more form rows bytes rest nothing e after f k (sym c.find-found.ensures.written ∙ eqb-true _ _ d.1)
+          (sym (ap (λ r. r.canonical e.payload) c.find-found.ensures.rule) ∙ c.in-Some-measure_held.ensures.own b.0) (c.is_own_attribute-is_own.ensures d.0) (c.loop-rest.invariant.own a.0);
+      within = omega (arith, s.within, size_is, c.loop-rest.invariant.within);
+      few = omega (arith, s.few, headers_is, c.loop-rest.invariant.few);
+    }
+
+pub measure_list-loop-rest-preserved : goal.measure_list-loop-rest-preserved
+measure_list-loop-rest-preserved g t c =
+    let form = form_of c.args.form in
+    let rows = rows_of g.T.TableSet.peer (g.T.TableSet.tables c.args.table) in
+    let after = c.in-Some.after.now in
+    let e : Attribute = record { kind = c.in-Some.attribute.kind; payload = c.in-Some.attribute.payload.now } in
+    let f = c.in-Some.ensures in
+    let w = c.first_attributes_are_within.ensures.within c.loop-rest.rest.now e after f in
+    let l = c.first_attributes_are_within.ensures.rest_length c.loop-rest.rest.now e after f in
+    let is = c.with_dropped-total.ensures.measure in
+    let size_is = ap (λ (m : Measure). m.size) is in
+    let headers_is = ap (λ (m : Measure). m.attributes) is in
+    record {
+      walked = c.loop-rest.invariant.walked;
+      so_far = subst (λ m. MeasuredSoFar form rows c.args.bytes.now m nothing after) (sym is)
+          (c.measures_go_by_steps.ensures.past form rows c.args.bytes.now c.loop-rest.rest.now nothing e after (view c.loop-rest.total) f (sym c.is_kept.ensures ∙ c.if-is_kept.false) c.loop-rest.invariant.so_far);
+      own = λ h. absurd (let x : true ≡ false = sym h ∙ c.with_dropped-total.ensures.own in cc);
+      within = omega (arith, w, l, size_is, c.loop-rest.invariant.within);
+      few = omega (arith, w, l, headers_is, c.loop-rest.invariant.few);
+    }

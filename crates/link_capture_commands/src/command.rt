@@ -1,6 +1,6 @@
 //! The words and the statuses of the program.
 
-ghost use Rattle.std.specs.Prelude.{◌≡◌, ◌≢◌, ◌≤◌, ℕ, ⊤, map, IfSome, IfNone, string_bytes};
+ghost use Rattle.std.specs.Prelude.{◌≡◌, ◌≢◌, ◌≤◌, ℕ, ⊤, [], map, IfSome, IfNone, string_bytes};
 ghost use Rattle.std.specs.Str.Parse.{digits_value};
 ghost use Rattle.link_capture_commands.specs.Commands.{IsLimitWord, IsLimit, IsCommand, HasLimit, status_of, status_of_same};
 
@@ -57,6 +57,8 @@ fn read_last(words: &[String]) -> Option<u32>
 pub fn read_words(words: &[String]) -> Option<Command<'_>>
     ensures some { IfSome result (λ command. IsCommand (map string_bytes words.now) command) }
     ensures limit { IfSome result (λ command. HasLimit command) }
+    // Where no word gives a limit, it is this.
+    ensures default { IsLimit [] DEFAULT_LIMIT }
     ensures none { IfNone result ((command : Command)
         → IsCommand (map string_bytes words.now) command → ⊥) }
 {

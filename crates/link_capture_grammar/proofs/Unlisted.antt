@@ -1,20 +1,20 @@
 -- The text of a list holds the attributes that no table lists as the list does.
-use Rattle.std.proofs.Common.{◌≡◌, ℕ, zero, suc, true, false, List, [], ◌∷◌, ◌++◌, length, Ok, refl, sym, ap, subst, ◌∙◌}
-use Rattle.std.specs.Prelude.{nat_le}
+use Rattle.std.proofs.Common.{◌≡◌, ◌⊎◌, inl, inr, ℕ, zero, suc, true, false, List, [], ◌∷◌, ◌++◌, length, Ok, refl, sym, ap, subst, ◌∙◌}
+use Rattle.std.specs.Prelude.{◌&&◌, not, nat_le}
 use Rattle.std.proofs.lemmas.Bool.{and_parts}
 use Rattle.netlink_packet_core_grammar.specs.Attributes.{Attribute, proper_kind, list_text}
 use Rattle.netlink_packet_core_grammar.specs.Frames.{frame_type, frame_body}
 use Rattle.attribute_tables_grammar.specs.Lists.{Context, nothing, Row, raw_row, Grammar, LawfulGrammar, row_of, context_after, all_accepted, rewrite, rewritten, written_kind, without_context, ListForm, any, non_empty, of_kind_one, ports, first_alone, read_as, kept, is_empty_ports, if_read, list_rule}
-use Rattle.attribute_tables_grammar.specs.Peers.{Peer, LawfulPeer}
+use Rattle.attribute_tables_grammar.specs.Peers.{Peer, LawfulPeer, peer_rule}
 use Rattle.attribute_tables_grammar.specs.Rules.{Rule}
 use Rattle.attribute_tables_grammar.specs.Tables.{grammar}
 use Rattle.attribute_tables_grammar.proofs.Attributes.{proper_kind-written}
 use Rattle.attribute_tables_grammar.proofs.Lists.{read_again}
 use Rattle.attribute_tables_grammar.proofs.Named.{next_rewritten}
 use Rattle.attribute_tables_grammar.proofs.Tables.{table_lawful}
-use Rattle.link_message_grammar.specs.Body.{attribute_bytes, attribute_row, attribute_row_under, body_rule, family, link_peer, list_rule_of}
+use Rattle.link_message_grammar.specs.Body.{attribute_bytes, attribute_row, attribute_row_under, body_rule, family, header_text, link_peer, link_peer_under, list_rule_of}
 use Rattle.link_message_grammar.specs.LinkMessage.{Family, link_table}
-use Rattle.link_message_grammar.proofs.Body.{link_peer_lawful, written_header}
+use Rattle.link_message_grammar.proofs.Body.{family_again, link_peer_lawful, written_header}
 use Rattle.link_message_grammar.proofs.Lines.{attributes-grammar}
 use Rattle.link_message_grammar.proofs.Tables.{table_bounded}
 use Rattle.link_capture_grammar.specs.Bodies.{is_link_type}
@@ -74,6 +74,44 @@ again form g bytes x k lawful a =
       row = ap (λ d. g.row d (proper_kind (written_kind (row_there g k) x.kind))) r.context ∙ ap (g.row (context_after g nothing k.before)) (proper_kind-written (row_there g k) x.kind);
     }
 
+-- what holds of the text of each list holds of each attribute so many lists inside
+abbrev StandsAgain : ℕ → Attribute → Type 0
+StandsAgain depth e = (form : ListForm) (g : Grammar) (bytes : List ℕ) → LawfulGrammar g → (list_rule form g).accepted bytes ≡ true → HoldsUnlisted depth form g bytes e → HoldsUnlisted depth form g ((list_rule form g).canonical bytes) e
+
+-- ---- in front of the attributes a header
+
+module _ (p : Peer) (lawful : LawfulPeer p) (depth : ℕ) (e : Attribute) (stands : StandsAgain depth e) where
+  abbrev Holds : Family → List ℕ → Type 0
+  Holds f b = HoldsUnlisted depth any (without_context (attribute_row_under p f)) b e
+
+  attributes_again : (f : Family) (b : List ℕ) → (list_rule_of p f).accepted b ≡ true → Holds f b → Holds f ((list_rule_of p f).canonical b)
+  unfolding list_rule_of
+  attributes_again f b a =
+      subst (λ g. HoldsUnlisted depth any g b e → HoldsUnlisted depth any g ((list_rule_of p f).canonical b) e) (attributes-grammar p f)
+      (stands any (grammar p (link_table f)) b (table_lawful p lawful (link_table f) (table_bounded f)) a)
+
+  body_again : (b text : List ℕ) → (body_rule p).accepted b ≡ true → text ≡ (body_rule p).canonical b → Holds (family b) (attribute_bytes b) → Holds (family b) (attribute_bytes text)
+  unfolding body_rule
+  body_again b text a is w =
+      let r = list_rule_of p (family b) in
+      let s = and_parts (nat_le 16 (length b)) (r.accepted (attribute_bytes b)) a in
+      let rest : attribute_bytes text ≡ r.canonical (attribute_bytes b) = ap attribute_bytes is ∙ (written_header b s.0).rest (r.canonical (attribute_bytes b)) in
+      subst (Holds (family b)) (sym rest) (attributes_again (family b) (attribute_bytes b) s.1 w)
+
+  one_family : (b : List ℕ) → (body_rule p).accepted b ≡ true → family ((body_rule p).canonical b) ≡ family b
+  unfolding body_rule
+  one_family b a =
+      let s = and_parts (nat_le 16 (length b)) ((list_rule_of p (family b)).accepted (attribute_bytes b)) a in
+      family_again b ((list_rule_of p (family b)).canonical (attribute_bytes b)) (written_header b s.0)
+
+  -- a peer, which is told by its own first byte
+  peer_again : (b : List ℕ) → (link_peer_under p).accepted b ≡ true → Holds (family b) (attribute_bytes b) →
+      Holds (family ((link_peer_under p).canonical b)) (attribute_bytes ((link_peer_under p).canonical b))
+  peer_again b a w =
+      let both = and_parts ((body_rule p).accepted b && not ((body_rule p).empty_ports b)) ((body_rule p).fits b) a in
+      let s = and_parts ((body_rule p).accepted b) (not ((body_rule p).empty_ports b)) both.0 in
+      subst (λ f. Holds f (attribute_bytes ((body_rule p).canonical b))) (sym (one_family b s.0)) (body_again b ((body_rule p).canonical b) s.0 refl w)
+
 pub unlisted_again : (depth : ℕ) (form : ListForm) (g : Grammar) (bytes : List ℕ) (e : Attribute) → LawfulGrammar g → (list_rule form g).accepted bytes ≡ true → HoldsUnlisted depth form g bytes e → HoldsUnlisted depth form g ((list_rule form g).canonical bytes) e
 unlisted_again zero form g bytes e lawful a w =
     let k = w.0 in
@@ -83,33 +121,32 @@ unlisted_again zero form g bytes e lawful a w =
 unlisted_again (suc depth) form g bytes e lawful a w =
     let outer = w.0 in
     let k = w.1 in
-    let inner = w.2 in
-    let h = w.3 in
-    let is = w.5 in
     let n = again form g bytes outer k lawful a in
-    let accepted : (list_rule inner h).accepted outer.payload ≡ true = sym (ap (λ (r : Rule). r.accepted outer.payload) is) ∙ n.accepted in
-    let deeper = unlisted_again depth inner h outer.payload e w.4 accepted w.6 in
-    let payload : (list_rule inner h).canonical outer.payload ≡ (row_there g k).rule.canonical outer.payload = sym (ap (λ (r : Rule). r.canonical outer.payload) is) in
-    (rewrite (row_there g k) outer, n.keeps, inner, h, w.4, ap (λ (r : Row). r.rule) n.row ∙ is, subst (λ p. HoldsUnlisted depth inner h p e) payload deeper)
+    elim w.2 [
+      | inl v ↦
+          let inner = v.0 in
+          let h = v.1 in
+          let is = v.3 in
+          let accepted : (list_rule inner h).accepted outer.payload ≡ true = sym (ap (λ (r : Rule). r.accepted outer.payload) is) ∙ n.accepted in
+          let deeper = unlisted_again depth inner h outer.payload e v.2 accepted v.4 in
+          let payload : (list_rule inner h).canonical outer.payload ≡ (row_there g k).rule.canonical outer.payload = sym (ap (λ (r : Rule). r.canonical outer.payload) is) in
+          (rewrite (row_there g k) outer, n.keeps, inl (inner, h, v.2, ap (λ (r : Row). r.rule) n.row ∙ is, subst (λ p. HoldsUnlisted depth inner h p e) payload deeper))
+      | inr v ↦
+          let p = v.0 in
+          let is = v.2 in
+          let accepted : (link_peer_under p).accepted outer.payload ≡ true = sym (ap (λ (r : Rule). r.accepted outer.payload) is) ∙ n.accepted in
+          let deeper = peer_again p v.1 depth e (λ f h b l x y. unlisted_again depth f h b e l x y) outer.payload accepted v.3 in
+          let payload : (link_peer_under p).canonical outer.payload ≡ (row_there g k).rule.canonical outer.payload = sym (ap (λ (r : Rule). r.canonical outer.payload) is) in
+          (rewrite (row_there g k) outer, n.keeps, inr (p, v.1, ap (λ (r : Row). r.rule) n.row ∙ is, subst (λ b. HoldsUnlisted depth any (without_context (attribute_row_under p (family b))) (attribute_bytes b) e) payload deeper))
+    ]
 
 -- ---- of frames
 
 module _ (p : Peer) (lawful : LawfulPeer p) where
-  attributes_again : (f : Family) (b : List ℕ) (depth : ℕ) (e : Attribute) → (list_rule_of p f).accepted b ≡ true → HoldsUnlisted depth any (without_context (attribute_row_under p f)) b e → HoldsUnlisted depth any (without_context (attribute_row_under p f)) ((list_rule_of p f).canonical b) e
-  unfolding list_rule_of
-  attributes_again f b depth e a =
-      subst (λ g. HoldsUnlisted depth any g b e → HoldsUnlisted depth any g ((list_rule_of p f).canonical b) e) (attributes-grammar p f)
-      (unlisted_again depth any (grammar p (link_table f)) b e (table_lawful p lawful (link_table f) (table_bounded f)) a)
-
   pub of_frames_under : (limit : ℕ) (c : List ℕ) (frame : ℕ × List ℕ) → IsLimit limit → is_link_type (frame_type c) ≡ true → first_frame_under (body_rule p) limit c ≡ Ok frame → KeepsUnlisted (attribute_row_under p) (frame_body c) (frame_body frame.1)
-  unfolding body_rule
   of_frames_under limit c frame l is_link h depth e w =
-      let b = frame_body c in
       let k = link (body_rule p) limit c frame l is_link h in
-      let r = list_rule_of p (family b) in
-      let s = and_parts (nat_le 16 (length b)) (r.accepted (attribute_bytes b)) k.0 in
-      let text : attribute_bytes (frame_body frame.1) ≡ r.canonical (attribute_bytes b) = ap attribute_bytes k.1 ∙ (written_header b s.0).rest (r.canonical (attribute_bytes b)) in
-      subst (λ x. HoldsUnlisted depth any (without_context (attribute_row_under p (family b))) x e) (sym text) (attributes_again (family b) (attribute_bytes b) depth e s.1 w)
+      body_again p lawful depth e (λ f g b x y z. unlisted_again depth f g b e x y z) (frame_body c) (frame_body frame.1) k.0 k.1 w
 
 -- the rule in force
 of_frames : (limit : ℕ) (c : List ℕ) (frame : ℕ × List ℕ) → IsLimit limit → is_link_type (frame_type c) ≡ true → first_frame limit c ≡ Ok frame → KeepsUnlisted attribute_row (frame_body c) (frame_body frame.1)

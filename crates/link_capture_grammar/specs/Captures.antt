@@ -1,5 +1,5 @@
 -- Captures: the first fault with its place, and the normal text, under a rule of link bodies.
-use Rattle.std.specs.Prelude.{◌≡◌, ℕ, zero, suc, ◌+◌, ◌-◌, ◌%◌, ◌<◌, ◌≤◌, List, [], ◌∷◌, ◌++◌, length, take, Option, None, Some, Result, Ok, Err, nat_lt, cond}
+use Rattle.std.specs.Prelude.{◌≡◌, ℕ, zero, suc, ◌+◌, ◌-◌, ◌%◌, ◌<◌, ◌≤◌, List, [], ◌∷◌, ◌++◌, length, take, drop, ◌⊎◌, Option, None, Some, Result, Ok, Err, nat_lt, cond}
 use Rattle.netlink_packet_core_grammar.specs.Attributes.{nla_align}
 use Rattle.netlink_packet_core_grammar.specs.Frames.{frame_length, frame_type, frame_body, frame_text}
 use Rattle.attribute_tables_grammar.specs.Rules.{Rule}
@@ -100,10 +100,15 @@ reach_under r limit c = reach_by (length c) (first_fault_under r limit c)
 abbrev pub IsLegalUnder : Rule → ℕ → List ℕ → Type 0
 IsLegalUnder r limit c = first_fault_under r limit c ≡ None
 
--- a frame starts at this place of c, and what c has before it is legal
+-- the header in front isn't refused: fewer than 16 bytes are there, or it tells a length that a frame may have
+abbrev pub HeaderStands : ℕ → List ℕ → Type 0
+HeaderStands limit c = (length c < 16) ⊎ ((16 ≤ frame_length c) × (frame_length c ≤ limit))
+
+-- a frame starts at this place of c whose header isn't refused, and what c has before it is legal
 pub record StopsAtUnder (r : Rule) (limit : ℕ) (c : List ℕ) (place : ℕ) : Type 0 where
   pub inside : place < length c
   pub start : place % 4 ≡ 0
+  pub header : HeaderStands limit (drop place c)
   pub legal : IsLegalUnder r limit (take place c)
 
 -- the kinds of fault that a frame itself can have

@@ -1,8 +1,9 @@
--- Attributes that no table lists, at any depth of a list.
-use Rattle.std.specs.Prelude.{◌≡◌, ℕ, zero, suc, List, ◌∷◌, ◌++◌, Some}
+-- Attributes that no table lists, at any depth of a list, also inside peers that are judged.
+use Rattle.std.specs.Prelude.{◌≡◌, ℕ, zero, suc, List, ◌∷◌, ◌++◌, Some, ◌⊎◌}
 use Rattle.netlink_packet_core_grammar.specs.Attributes.{Attribute}
 use Rattle.attribute_tables_grammar.specs.Lists.{nothing, Row, raw_row, Grammar, LawfulGrammar, row_of, context_after, ListForm, any, read_as, kept, list_rule, without_context}
-use Rattle.link_message_grammar.specs.Body.{attribute_bytes, family}
+use Rattle.attribute_tables_grammar.specs.Peers.{Peer, LawfulPeer, peer_rule}
+use Rattle.link_message_grammar.specs.Body.{attribute_bytes, attribute_row_under, family, link_peer_under}
 use Rattle.link_message_grammar.specs.LinkMessage.{Family}
 
 -- among the attributes that a list keeps, this one stands behind some and before others
@@ -17,12 +18,15 @@ pub record Keeps (form : ListForm) (bytes : List ℕ) (e : Attribute) : Type 0 w
 abbrev pub row_there : {form : ListForm} {bytes : List ℕ} {e : Attribute} → Grammar → Keeps form bytes e → Row
 row_there {e = e} g k = row_of g (context_after g nothing k.before) e
 
--- An attribute that no table lists is kept by a list, or by one that is so many lists further inside.
+-- An attribute that no table lists is kept by a list, or by one that is so many lists further inside: in the payload of an attribute, or behind the
+-- header of a peer that is judged as a link's body.
 abbrev pub HoldsUnlisted : ℕ → ListForm → Grammar → List ℕ → Attribute → Type 0
 HoldsUnlisted zero form g bytes e = (k : Keeps form bytes e) × (row_there g k ≡ raw_row)
 HoldsUnlisted (suc depth) form g bytes e =
-    (outer : Attribute) × (k : Keeps form bytes outer) × (inner : ListForm) × (h : Grammar) × LawfulGrammar h × ((row_there g k).rule ≡ list_rule inner h)
-    × HoldsUnlisted depth inner h outer.payload e
+    (outer : Attribute) × (k : Keeps form bytes outer)
+    × (((inner : ListForm) × (h : Grammar) × LawfulGrammar h × ((row_there g k).rule ≡ list_rule inner h) × HoldsUnlisted depth inner h outer.payload e)
+    ⊎ ((p : Peer) × LawfulPeer p × ((row_there g k).rule ≡ peer_rule (link_peer_under p))
+    × HoldsUnlisted depth any (without_context (attribute_row_under p (family outer.payload))) (attribute_bytes outer.payload) e))
 
 -- under such rows of each family, a text of a link's body holds the attributes that no table lists and that the body holds
 abbrev pub KeepsUnlisted : (Family → ℕ → Row) → List ℕ → List ℕ → Type 0

@@ -101,8 +101,8 @@ pub fn small_frames_fit()
 {}
 
 /// An attribute that no table lists is kept with its kind, flag bits and payload, at any depth: one that a list keeps,
-/// or a list inside that is kept, stands in the text of the list, and of a link's frame, as it does in its bytes, under
-/// every lawful rule of peers.
+/// or a list or a judged peer inside that is kept, stands in the text of the list, and of a link's frame, as it does in
+/// its bytes, under every lawful rule of peers.
 pub fn unlisted_attributes_are_kept()
     ensures { UnlistedAttributesAreKept }
 {}

@@ -1,13 +1,17 @@
 -- The cut frame's bytes, once more have come.
-use Rattle.std.proofs.Common.{◌≡◌, ◌≢◌, ℕ, ◌+◌, ◌-◌, ◌<◌, ◌≤◌, ◌⊎◌, inl, inr, Ok, Err, List, ◌++◌, length, take, drop, max, sym, ap, ◌∙◌, arith, length-append, append_assoc}
-use Rattle.std.proofs.lemmas.List.{length-drop, drop-drop, take-append-drop}
-use Rattle.std.proofs.Math.Seq.{take-add, drop-append-add}
+use Rattle.std.proofs.Common.{◌≡◌, ◌≢◌, ℕ, ◌+◌, ◌-◌, ◌<◌, ◌≤◌, ◌⊎◌, inl, inr, Ok, Err, List, [], ◌++◌, length, take, drop, min, max, sym, ap, ◌∙◌, arith, length-append, append_assoc}
+use Rattle.std.proofs.lemmas.Bool.{cases_lt}
+use Rattle.std.proofs.lemmas.List.{append-nil, drop_all, drop-drop, length-drop, length-take, take-append-drop, take-append-le, take_all, take_at}
+use Rattle.std.proofs.Math.Seq.{take-add, take-append-add, drop-append-add}
+use borrow.Rule.Slice.PartMut.{put_mid}
 use Rattle.link_capture_grammar.specs.Body.{link_body}
+use Rattle.link_capture_grammar.specs.declared.fault.FaultKind.{FaultKind}
 use Rattle.link_capture_grammar.specs.declared.fault.FaultKind.TheVariants.{Cut}
 use Rattle.netlink_packet_core_grammar.specs.Attributes.{nla_align}
 use Rattle.netlink_packet_core_grammar.specs.Numbers.{u32_at}
 use Rattle.netlink_packet_core_grammar.specs.Laws.{NumbersStandAlone}
-use Rattle.link_capture_grammar.specs.Captures.{Judged, first_frame}
+use Rattle.netlink_packet_core_grammar.specs.Frames.{frame_length}
+use Rattle.link_capture_grammar.specs.Captures.{Judged, first_frame, HeaderStands}
 use Rattle.link_capture_grammar.specs.Laws.{FramesStandAlone}
 
 -- bytes come in two steps
@@ -32,6 +36,46 @@ not_cut_short frames limit c h w e =
       | inl a ↦ omega arith
       | inr a ↦ elim w [ inl b ↦ omega (arith, a.low) | inr b ↦ elim b [ inl d ↦ omega (arith, a.high) | inr d ↦ omega (arith, a.short) ] ]
     ]
+
+-- the first bytes of two strings, filled into a place of as many
+joined_front : (k p : List ℕ) (f n : ℕ) → f ≡ min (length k) n → take n (k ++ p) ≡ take f k ++ take (n - f) p
+joined_front k p f n e =
+    elim (cases_lt n (length k)) [
+      | inl l ↦
+          let f_is : f ≡ n = omega (arith, e, l) in
+          let none : n - f ≡ 0 = omega (arith, f_is) in
+          take-append-le n k p (omega (arith, l)) ∙ sym (append-nil (take n k)) ∙ ap (λ m. take m k ++ take 0 p) (sym f_is) ∙ ap (λ m. take f k ++ take m p) (sym none)
+      | inr l ↦
+          let f_is : f ≡ length k = omega (arith, e, l) in
+          let all : n ≡ length k + (n - f) = omega (arith, f_is, l) in
+          ap (λ m. take m (k ++ p)) all ∙ take-append-add k p (n - f) ∙ ap (λ x. x ++ take (n - f) p) (sym (take_all f k (omega (arith, f_is))))
+    ]
+
+pub filled : (k p place one two : List ℕ) (f : ℕ) → f ≡ min (length k) (length place) → length place ≤ length k + length p → one ≡ take f k → two ≡ take (length place - f) p → put_mid f (length place - f) (one ++ drop f place) two ≡ take (length place) (k ++ p)
+filled k p place one two f e l g h =
+    let n = length place in
+    let size : length one ≡ f = ap length g ∙ length-take f k ∙ omega (arith, e) in
+    let rest : drop (n - f) (drop f (one ++ drop f place)) ≡ [] = drop_all (n - f) (drop f (one ++ drop f place)) (omega (arith, length-drop f (one ++ drop f place), length-append one (drop f place), length-drop f place, size)) in
+    ap (λ x. x ++ (two ++ drop (n - f) (drop f (one ++ drop f place)))) (take_at one (drop f place) f size)
+    ∙ ap (λ x. one ++ (two ++ x)) rest ∙ ap (λ x. one ++ x) (append-nil two) ∙ ap (λ x. x ++ two) g ∙ ap (λ x. take f k ++ x) h
+    ∙ sym (joined_front k p f n e)
+
+-- a header of 16 bytes stands where its length may be one of a frame, and is refused whatever follows
+pub header_stands : NumbersStandAlone → (limit : ℕ) (c : List ℕ) → 16 ≤ length c → 16 ≤ frame_length (take 16 c) → frame_length (take 16 c) ≤ limit → HeaderStands limit c
+header_stands numbers limit c l low high =
+    let n : frame_length c ≡ frame_length (take 16 c) = ap frame_length (sym (take-append-drop 16 c)) ∙ numbers.four_bytes (take 16 c) (drop 16 c) (omega (arith, length-take 16 c)) in
+    inr (omega (arith, low, n), omega (arith, high, n))
+
+pub header_cut : NumbersStandAlone → FramesStandAlone link_body → (limit : ℕ) (c : List ℕ) → 16 ≤ length c → first_frame limit (take 16 c) ≡ Err Cut → HeaderStands limit c
+header_cut numbers frames limit c l h =
+    elim (frames.cut limit (take 16 c) h) [
+      | inl a ↦ absurd (omega (arith, length-take 16 c, a))
+      | inr a ↦ header_stands numbers limit c l a.low a.high
+    ]
+
+pub header_refused : FramesStandAlone link_body → (limit : ℕ) (c : List ℕ) (kind : FaultKind) → kind ≢ Cut → first_frame limit (take 16 c) ≡ Err kind → first_frame limit c ≡ Err kind
+header_refused frames limit c kind n h =
+    ap (first_frame limit) (sym (take-append-drop 16 c)) ∙ frames.followed limit (take 16 c) (drop 16 c) (λ e. n (let q = sym h ∙ e in cc)) ∙ h
 
 not_cut : (j : Judged) (frame : ℕ × List ℕ) → j ≡ Ok frame → j ≢ Err Cut
 not_cut j frame h e = cc

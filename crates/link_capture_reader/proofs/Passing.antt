@@ -1,5 +1,5 @@
 -- What a walk has passed, and what is left of it.
-use Rattle.std.proofs.Common.{◌≡◌, ℕ, ◌+◌, ◌%◌, ◌<◌, ◌≤◌, Option, None, Some, Ok, Err, List, [], ◌++◌, length, take, drop, sym, ap, subst, ◌∙◌, refl, arith, append_assoc}
+use Rattle.std.proofs.Common.{◌≡◌, ℕ, ◌+◌, ◌%◌, ◌<◌, ◌≤◌, ◌⊎◌, inl, inr, Option, None, Some, Ok, Err, List, [], ◌++◌, length, take, drop, sym, ap, subst, ◌∙◌, refl, arith, append_assoc}
 use Rattle.std.proofs.lemmas.List.{length-take, length-drop, append-nil, drop_at, drop-drop, take_all, take-append-drop}
 use Rattle.std.proofs.Math.Seq.{take-add}
 use Rattle.link_capture_grammar.specs.Body.{link_body}
@@ -7,8 +7,8 @@ use Rattle.link_capture_grammar.specs.declared.fault.CaptureFault.{CaptureFault}
 use Rattle.link_capture_grammar.specs.declared.fault.FaultKind.{FaultKind}
 use Rattle.link_capture_grammar.specs.declared.fault.FaultKind.TheVariants.{Cut}
 use Rattle.netlink_packet_core_grammar.specs.Attributes.{nla_align}
-use Rattle.link_capture_grammar.specs.Captures.{first_frame, first_fault, fault_after_under, texts, texts_after_under, raised, reach, reach_by, IsLegal, StopsAt}
-use Rattle.link_capture_grammar.specs.Laws.{CapturesGoByFrames}
+use Rattle.link_capture_grammar.specs.Captures.{first_frame, first_fault, fault_after_under, texts, texts_after_under, raised, reach, reach_by, Accepted, HeaderStands, IsLegal, StopsAt}
+use Rattle.link_capture_grammar.specs.Laws.{CapturesGoByFrames, FramesStandAlone}
 use Rattle.link_capture_reader.specs.Readers.{Resumes}
 use Rattle.link_capture_reader.specs.Walks.{Goes, Faults, Lacks, Passed}
 
@@ -33,8 +33,15 @@ grown old w t {out} {new} {v} d e f = e ∙ ap (λ x. x ++ t) d ∙ append_assoc
 pub passed_none : (limit : ℕ) (c : List ℕ) → Passed limit c 0
 passed_none limit c = record { inside = omega arith; start = refl; legal = fault_nil limit }
 
-pub stop_zero : (limit : ℕ) (c : List ℕ) → 0 < length c → StopsAt limit c 0
-stop_zero limit c h = record { inside = h; start = refl; legal = fault_nil limit }
+-- the header of an accepted frame stands, and so does that of a cut one
+pub accepted_header : FramesStandAlone link_body → (limit : ℕ) (c : List ℕ) (frame : ℕ × List ℕ) → first_frame limit c ≡ Ok frame → HeaderStands limit c
+accepted_header frames limit c frame h = let a = frames.accepted limit c frame h in inr (omega (arith, a.low, a.is), omega (arith, a.high, a.is))
+
+pub cut_header : FramesStandAlone link_body → (limit : ℕ) (c : List ℕ) → first_frame limit c ≡ Err Cut → HeaderStands limit c
+cut_header frames limit c h = elim (frames.cut limit c h) [ inl a ↦ inl a | inr a ↦ inr (a.low, a.high) ]
+
+pub stop_zero : (limit : ℕ) (c : List ℕ) → 0 < length c → HeaderStands limit c → StopsAt limit c 0
+stop_zero limit c h stands = record { inside = h; start = refl; header = stands; legal = fault_nil limit }
 
 pub no_texts : (limit : ℕ) (old : List ℕ) → old ≡ old ++ texts limit []
 no_texts limit old = rw (texts_nil limit) (sym (append-nil old))
@@ -79,6 +86,7 @@ module _ (go : CapturesGoByFrames link_body) where
       record {
         inside = omega (arith, h.inside, length-drop m c);
         start = omega (arith, h.start, w.start);
+        header = subst (HeaderStands limit) (drop-drop at m c) h.header;
         legal = ap (first_fault limit) (take-add m at c)
             ∙ joined_fault limit (take m c) (take at (drop m c)) w.legal (ap (λ k. k % 4) n ∙ w.start)
             ∙ ap (raised (length (take m c))) h.legal;

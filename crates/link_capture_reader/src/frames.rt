@@ -6,7 +6,7 @@ ghost use Rattle.link_capture_reader.specs.Readers.{LacksRoomAt};
 
 use link_capture_checks::push_frame;
 use link_capture_grammar::fault::{CaptureFault, FaultKind};
-use link_capture_grammar::laws::captures_go_by_frames;
+use link_capture_grammar::laws::{captures_go_by_frames, frames_stand_alone};
 use netlink_packet_core::nla_align;
 
 /// Writes the texts of these bytes at the end of `out`. Where they aren't legal, the answer is their first fault,
@@ -27,6 +27,7 @@ pub(crate) fn push_frames(bytes: &[u8], limit: u32, out: &mut Vec<u8>) -> Result
         (λ fault. fault.kind ≡ FaultKind.Memory → LacksRoomAt limit bytes.now fault.offset out.old) }
 {
     captures_go_by_frames();
+    frames_stand_alone();
     let mut at = 0usize;
     while at < bytes.len() {
         match push_frame(&bytes[at..], limit, out) {

@@ -4,15 +4,15 @@ ghost use Rattle.std.specs.Prelude.{◌≡◌, ◌≢◌, ◌+◌, ◌-◌, ◌^
 ghost use Rattle.std.specs.Prelude.{IfErr, OnOk, OnErr, None, Err};
 ghost use Rattle.netlink_packet_core.specs.Attributes.{nla_align};
 ghost use Rattle.netlink_packet_core.specs.Frames.{frame_length};
-ghost use Rattle.link_capture_grammar.specs.Captures.{first_frame, first_fault};
+ghost use Rattle.link_capture_grammar.specs.Captures.{first_frame, first_fault, HeaderStands, IsOfFrames};
 ghost use Rattle.link_capture_reader.specs.Readers.{IsReader, Resumes, Gains, FeedFault, WantsMemory};
 ghost use Rattle.link_capture_reader.specs.Walks.{Goes, Faults, Lacks};
 
 use super::frames::push_frames;
-use link_capture_checks::push_frame;
+use link_capture_checks::{frame_len, push_frame};
 use link_capture_grammar::fault::{CaptureFault, FaultKind};
 use link_capture_grammar::laws::{
-    captures_go_by_frames, faults_stand_at_frames, frames_stand_alone,
+    captures_go_by_frames, faults_stand_at_frames, frames_are_judged, frames_stand_alone,
 };
 use netlink_packet_core::{NETLINK_HEADER_LEN, NetlinkBuffer, nla_align};
 use netlink_packet_core_grammar::laws::numbers_stand_alone;
@@ -46,6 +46,45 @@ fn fill(kept: &mut Vec<u8>, piece: &[u8], size: usize) -> Result<usize, AllocErr
     Ok(count)
 }
 
+/// The header of a frame that begins with the bytes kept and goes on with the piece.
+fn joined_header(kept: &[u8], piece: &[u8]) -> [u8; NETLINK_HEADER_LEN]
+    requires { 16 ≤ length kept.now + length piece.now }
+    ensures { result ≡ take 16 (kept.now ++ piece.now) }
+{
+    let mut header = [0u8; NETLINK_HEADER_LEN];
+    let front = kept.len().min(NETLINK_HEADER_LEN);
+    header[..front].copy_from_slice(&kept[..front]);
+    header[front..].copy_from_slice(&piece[..NETLINK_HEADER_LEN - front]);
+    header
+}
+
+/// Judges, without memory, the header of a frame that begins with the bytes kept and goes on with the piece: refused is
+/// one that is whole and tells a length which no frame may have.
+fn judge_header(kept: &[u8], piece: &[u8], limit: u32) -> Result<(), FaultKind>
+    ensures ok { OnOk result (HeaderStands limit (kept.now ++ piece.now)) }
+    ensures err { IfErr result
+        (λ kind. (kind ≢ FaultKind.Cut) × (first_frame limit (kept.now ++ piece.now) ≡ Err kind)) }
+    ensures of_frames { IfErr result (λ kind. IsOfFrames kind) }
+{
+    if piece.len() < NETLINK_HEADER_LEN.saturating_sub(kept.len()) {
+        return Ok(());
+    }
+    numbers_stand_alone();
+    frames_stand_alone();
+    frames_are_judged();
+    let header = joined_header(kept, piece);
+    match frame_len(&header, limit) {
+        Ok(length) => {
+            prove!(length >= NETLINK_HEADER_LEN);
+            Ok(())
+        }
+        Err(kind) => match kind {
+            FaultKind::Cut => Ok(()),
+            kind => Err(kind),
+        },
+    }
+}
+
 /// Moves bytes from the piece's front until the cut frame can be judged, or the piece is used up.
 fn complete_frame(kept: &mut Vec<u8>, piece: &[u8], limit: u32) -> Result<usize, AllocError>
     requires { first_frame limit kept.old.items ≡ Err FaultKind.Cut }
@@ -62,9 +101,6 @@ fn complete_frame(kept: &mut Vec<u8>, piece: &[u8], limit: u32) -> Result<usize,
     numbers_stand_alone();
     frames_stand_alone();
     let claimed = claimed_length(kept.as_slice());
-    if claimed > limit {
-        return Ok(header);
-    }
     let more = fill(kept, &piece[header..], claimed as usize)?;
     Ok(header + more)
 }
@@ -97,6 +133,7 @@ fn read_frames(
                 Ok(()) => Ok(0),
                 Err(_) => {
                     captures_go_by_frames();
+                    frames_stand_alone();
                     Err(CaptureFault {
                         kind: FaultKind::Memory,
                         offset: start + fault.offset,
@@ -137,6 +174,12 @@ fn resume_frame(
     }
     frames_stand_alone();
     captures_go_by_frames();
+    if let Err(kind) = judge_header(kept.as_slice(), bytes, limit) {
+        return Err(CaptureFault {
+            kind,
+            offset: start,
+        });
+    }
     let Ok(moved) = complete_frame(kept, bytes, limit) else {
         return Err(CaptureFault {
             kind: FaultKind::Memory,

@@ -6,8 +6,8 @@ use Rattle.std.proofs.lemmas.List.{append-nil, length-append, take-append-drop}
 use Rattle.link_capture_grammar.specs.Body.{link_body}
 use Rattle.link_capture_grammar.specs.declared.fault.CaptureFault.{CaptureFault}
 use Rattle.link_capture_grammar.specs.declared.fault.FaultKind.TheVariants.{Memory}
-use Rattle.link_capture_grammar.specs.Captures.{Judged, first_fault, first_frame, texts, fault_after_under, IsLegal, StopsAt}
-use Rattle.link_capture_grammar.specs.Laws.{CapturesGoByFrames, PrefixTexts}
+use Rattle.link_capture_grammar.specs.Captures.{Judged, first_fault, first_frame, texts, fault_after_under, HeaderStands, IsLegal, StopsAt}
+use Rattle.link_capture_grammar.specs.Laws.{CapturesGoByFrames, FramesStandAlone, PrefixTexts}
 use Rattle.link_capture_reader.specs.Readers.{WantsMemory}
 use Rattle.link_lines_texts.specs.Captures.{text_lines, lines}
 use Rattle.link_lines_texts.specs.Laws.{AcceptedFramesHaveLines, LinesAreJoined}
@@ -73,6 +73,13 @@ front_accepted : CapturesGoByFrames link_body → (limit : ℕ) (c : List ℕ) (
 front_accepted go limit c (Ok frame) e l = (frame, e)
 front_accepted go limit c (Err kind) e l = absurd (omega (arith, ap length (go.front_texts limit c kind e), l))
 
+-- and its header stands
+front_stands : CapturesGoByFrames link_body → FramesStandAlone link_body → (limit : ℕ) (c : List ℕ) → 0 < length (texts limit c) → HeaderStands limit c
+front_stands go frames limit c l =
+    let front = front_accepted go limit c (first_frame limit c) refl l in
+    let a = frames.accepted limit c front.0 front.1 in
+    inr (omega (arith, a.low, a.is), omega (arith, a.high, a.is))
+
 -- and they have lines
 pub lines_wanted : CapturesGoByFrames link_body → AcceptedFramesHaveLines → (limit : ℕ) (c : List ℕ) → limit < 2 ^ 32 → 0 < length (texts limit c) → WantsMemoryAt limit c 0
 lines_wanted go have limit c b l = inl ((have limit c b).1 (front_accepted go limit c (first_frame limit c) refl l))
@@ -87,8 +94,8 @@ unfolding fault_after_under
 legal_nil limit = refl
 
 -- no memory for the lines: nothing is shown, and what stands before the first frame is nothing
-pub nothing_shown : LinesAreJoined → (limit : ℕ) (c old new : List ℕ) → 0 < length c → new ≡ old → StopsAt limit c 0 × (new ≡ old ++ lines limit [])
-nothing_shown joined limit c old new l e = (
-  record { inside = l; start = refl; legal = legal_nil limit },
+pub nothing_shown : CapturesGoByFrames link_body → FramesStandAlone link_body → LinesAreJoined → (limit : ℕ) (c old new : List ℕ) → 0 < length (texts limit c) → new ≡ old → StopsAt limit c 0 × (new ≡ old ++ lines limit [])
+nothing_shown go frames joined limit c old new l e = (
+  record { inside = some_bytes limit c l; start = refl; header = front_stands go frames limit c l; legal = legal_nil limit },
   e ∙ sym (append-nil old) ∙ ap (λ x. old ++ x) (sym (lines_nil joined limit)),
 )

@@ -8,7 +8,7 @@ ghost use Rattle.link_lines_texts.specs.Captures.{lines, text_lines};
 
 use link_capture_grammar::fault::{CaptureFault, FaultKind};
 use link_capture_grammar::laws::{
-    captures_go_by_frames, joined_captures_have_joined_texts, texts_are_normal,
+    captures_go_by_frames, frames_stand_alone, joined_captures_have_joined_texts, texts_are_normal,
     texts_of_a_prefix_stay, texts_tell_meanings,
 };
 use link_capture_reader::normalize_bytes;
@@ -78,6 +78,7 @@ pub fn show_bytes(
     texts_tell_meanings();
     joined_captures_have_joined_texts();
     captures_go_by_frames();
+    frames_stand_alone();
     texts_of_a_prefix_stay();
     lines_are_joined();
     accepted_frames_have_lines();

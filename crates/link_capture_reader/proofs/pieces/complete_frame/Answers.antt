@@ -5,19 +5,6 @@ use Rattle.netlink_packet_core_grammar.specs.Numbers.{u32_at}
 use Rattle.link_capture_reader.proofs.CutFrames.{two_steps, header_exact, not_cut_short}
 use Rattle.link_capture_reader.proofs.pieces.complete_frame.Goals as goal
 
-pub returns-then-claimed-limit-clause-judged : goal.returns-then-claimed-limit-clause-judged
-returns-then-claimed-limit-clause-judged c =
-    let claimed : c.claimed_length-claimed.result ≡ u32_at 0 c.fill.new.kept.items = c.claimed_length-claimed.ensures ∙ ap (u32_at 0) c.as_slice.ensures.value in
-    inr (not_cut_short c.frames_stand_alone.ensures c.args.limit c.fill.new.kept.items (omega arith) (inr (inl (omega arith))))
-
-pub returns-then-claimed-limit-clause-exact : goal.returns-then-claimed-limit-clause-exact
-returns-then-claimed-limit-clause-exact c =
-    let claimed : c.claimed_length-claimed.result ≡ u32_at 0 c.fill.new.kept.items = c.claimed_length-claimed.ensures ∙ ap (u32_at 0) c.as_slice.ensures.value in
-    elim (header_exact c.numbers_stand_alone.ensures c.frames_stand_alone.ensures c.args.limit c.args.kept.now.items c.fill.new.kept.items c.requires c.in_ok-header.ensures.exact _ c.in_ok-header.ensures.moved) [
-      | inl a ↦ omega arith
-      | inr a ↦ omega (arith, a.0, a.2)
-    ]
-
 pub returns-clause-moved : goal.returns-clause-moved
 returns-clause-moved c =
     two_steps c.args.kept.now.items c.args.piece.now c.fill.new.kept.items c.fill-2.new.kept.items c.in_ok-header.header c.in_ok-more.more c.in_ok-header.ensures.moved

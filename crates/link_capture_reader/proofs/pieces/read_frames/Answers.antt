@@ -1,7 +1,7 @@
 -- no memory for the cut frame's bytes: what stands before it is written
-use Rattle.std.proofs.Common.{◌≢◌, ◌++◌, refl, sym, ap, ◌∙◌}
+use Rattle.std.proofs.Common.{◌≢◌, ◌++◌, Err, drop, refl, sym, ap, ◌∙◌}
 use Rattle.link_capture_grammar.specs.declared.fault.FaultKind.TheVariants.{Memory}
-use Rattle.link_capture_reader.proofs.Passing.{before_fault}
+use Rattle.link_capture_reader.proofs.Passing.{before_fault, cut_header}
 use Rattle.link_capture_reader.proofs.pieces.read_frames.Goals as goal
 
 pub returns-in-Err-extend_from_slice-clause-memory : goal.returns-in-Err-extend_from_slice-clause-memory
@@ -12,6 +12,11 @@ returns-in-Err-extend_from_slice-clause-memory c = λ _.
     let b = before_fault c.captures_go_by_frames.ensures c.args.limit c.args.bytes.now c.in-Err.fault claimed.0 in (
       c.in-Err.fault.offset,
       refl,
-      record { inside = c.in-Err.ensures.place.0; start = c.in-Err.ensures.place.1; legal = b.0 },
+      record {
+        inside = c.in-Err.ensures.place.0;
+        start = c.in-Err.ensures.place.1;
+        header = cut_header c.frames_stand_alone.ensures c.args.limit (drop c.in-Err.fault.offset c.args.bytes.now) (c.captures_go_by_frames.ensures.fault_there c.args.limit c.args.bytes.now c.in-Err.fault claimed.0 ∙ ap (λ k. Err k) cut);
+        legal = b.0;
+      },
       claimed.1 ∙ ap (λ t. c.args.out.now.items ++ t) (sym b.1),
     )

@@ -5,23 +5,35 @@ use Rattle.std.proofs.lemmas.Bool.{eq-eqb}
 use Rattle.std.proofs.lemmas.Result.{IfOk-weaker, IfErr-weaker}
 use Rattle.link_capture_grammar.specs.declared.fault.FaultKind.TheVariants.{Cut, Memory}
 use Rattle.netlink_packet_core_grammar.specs.Attributes.{nla_align}
-use Rattle.link_capture_grammar.specs.Captures.{first_frame, first_fault}
+use Rattle.link_capture_grammar.specs.Captures.{HeaderStands, first_frame, first_fault}
 use Rattle.link_capture_reader.proofs.CutFrames.{completed, whole}
 use Rattle.link_capture_reader.proofs.Passing.{passed_one, only_one_fault, only_one_texts, then_goes, then_faults, then_lacks, stop_zero, no_texts, cut_resumes, start_fault, start_texts}
 use Rattle.link_capture_reader.specs.Readers.{Resumes}
 use Rattle.link_capture_reader.specs.Walks.{Goes, Faults, Lacks}
 use Rattle.link_capture_reader.proofs.pieces.resume_frame.Goals as goal
 
-pub returns-in_default-clause-memory : goal.returns-in_default-clause-memory
-returns-in_default-clause-memory c = λ _.
-    (0, omega arith, stop_zero _ _ (omega (arith, length-append c.args.kept.now.items c.args.bytes.now)), no_texts c.args.limit c.args.out.now.items)
+pub returns-in-Err-clause-fault : goal.returns-in-Err-clause-fault
+returns-in-Err-clause-fault c = λ _.
+    let joined = c.args.kept.now.items ++ c.args.bytes.now in
+    let some : 0 < length joined = omega (arith, length-append c.args.kept.now.items c.args.bytes.now) in
+    let refused : first_frame c.args.limit joined ≡ Err c.in-Err.kind = ap (λ x. first_frame c.args.limit (x ++ c.args.bytes.now)) (sym c.as_slice.ensures.value) ∙ c.in-Err.ensures.err.1 in (
+      c.in-Err.ensures.err.0,
+      start_fault c.captures_go_by_frames.ensures c.args.limit c.args.start joined c.in-Err.kind some refused,
+      start_texts c.captures_go_by_frames.ensures c.args.limit joined c.args.out.now.items c.in-Err.kind refused,
+    )
+
+pub returns-in_default-complete_frame-clause-memory : goal.returns-in_default-complete_frame-clause-memory
+returns-in_default-complete_frame-clause-memory c = λ _.
+    let joined = c.args.kept.now.items ++ c.args.bytes.now in
+    let stands = subst (λ x. HeaderStands c.args.limit (x ++ c.args.bytes.now)) c.as_slice.ensures.value c.in_default.ensures.ok in
+    (0, omega arith, stop_zero c.args.limit joined (omega (arith, length-append c.args.kept.now.items c.args.bytes.now)) stands, no_texts c.args.limit c.args.out.now.items)
 
 pub returns-then-left-owed-clause-ok : goal.returns-then-left-owed-clause-ok
 returns-then-left-owed-clause-ok c =
     let old = c.args.kept.now.items in
     let bytes = c.args.bytes.now in
     let ok = c.in-Ok-push_frame.ensures.ok in
-    let fr = ap (first_frame c.args.limit) (sym c.as_slice.ensures.value) ∙ ok.1 in
+    let fr = ap (first_frame c.args.limit) (sym c.as_slice-2.ensures.value) ∙ ok.1 in
     let d = completed c.frames_stand_alone.ensures c.args.limit old bytes c.complete_frame.new.kept.items c.in-Ok.moved c.in-Ok-push_frame.size ok.0 c.in-Ok.ensures.moved c.in-Ok.ensures.within c.in-Ok.ensures.exact fr in
     let pad = c.padding-owed.ensures in
     let le : length (old ++ bytes) ≤ nla_align c.in-Ok-push_frame.size = omega (arith, d.total) in (
@@ -36,7 +48,7 @@ returns-else-left-owed-clause-ok c =
     let old = c.args.kept.now.items in
     let bytes = c.args.bytes.now in
     let ok = c.in-Ok-push_frame.ensures.ok in
-    let fr = ap (first_frame c.args.limit) (sym c.as_slice.ensures.value) ∙ ok.1 in
+    let fr = ap (first_frame c.args.limit) (sym c.as_slice-2.ensures.value) ∙ ok.1 in
     let d = completed c.frames_stand_alone.ensures c.args.limit old bytes c.complete_frame.new.kept.items c.in-Ok.moved c.in-Ok-push_frame.size ok.0 c.in-Ok.ensures.moved c.in-Ok.ensures.within c.in-Ok.ensures.exact fr in
     let pad = c.padding-owed.ensures in
     let w = passed_one c.captures_go_by_frames.ensures c.args.limit (old ++ bytes) (c.in-Ok-push_frame.size, ok.0) d.front_is (omega (arith, d.total)) in
@@ -53,7 +65,7 @@ returns-else-left-owed-clause-fault c =
     let old = c.args.kept.now.items in
     let bytes = c.args.bytes.now in
     let ok = c.in-Ok-push_frame.ensures.ok in
-    let fr = ap (first_frame c.args.limit) (sym c.as_slice.ensures.value) ∙ ok.1 in
+    let fr = ap (first_frame c.args.limit) (sym c.as_slice-2.ensures.value) ∙ ok.1 in
     let d = completed c.frames_stand_alone.ensures c.args.limit old bytes c.complete_frame.new.kept.items c.in-Ok.moved c.in-Ok-push_frame.size ok.0 c.in-Ok.ensures.moved c.in-Ok.ensures.within c.in-Ok.ensures.exact fr in
     let pad = c.padding-owed.ensures in
     let w = passed_one c.captures_go_by_frames.ensures c.args.limit (old ++ bytes) (c.in-Ok-push_frame.size, ok.0) d.front_is (omega (arith, d.total)) in
@@ -70,7 +82,7 @@ returns-else-left-owed-clause-memory c =
     let old = c.args.kept.now.items in
     let bytes = c.args.bytes.now in
     let ok = c.in-Ok-push_frame.ensures.ok in
-    let fr = ap (first_frame c.args.limit) (sym c.as_slice.ensures.value) ∙ ok.1 in
+    let fr = ap (first_frame c.args.limit) (sym c.as_slice-2.ensures.value) ∙ ok.1 in
     let d = completed c.frames_stand_alone.ensures c.args.limit old bytes c.complete_frame.new.kept.items c.in-Ok.moved c.in-Ok-push_frame.size ok.0 c.in-Ok.ensures.moved c.in-Ok.ensures.within c.in-Ok.ensures.exact fr in
     let pad = c.padding-owed.ensures in
     let w = passed_one c.captures_go_by_frames.ensures c.args.limit (old ++ bytes) (c.in-Ok-push_frame.size, ok.0) d.front_is (omega (arith, d.total)) in
@@ -88,12 +100,12 @@ returns-in-Cut-clause-ok c =
     let bytes = c.args.bytes.now in
     let new = c.complete_frame.new.kept.items in
     let cut = c.in-Cut.is in
-    let other : c.in-Err.kind ≢ Memory = λ e. cc in
-    let fr : first_frame c.args.limit new ≡ Err Cut = ap (first_frame c.args.limit) (sym c.as_slice.ensures.value) ∙ c.in-Err.ensures.refused other ∙ ap (λ k. Err k) cut in
+    let other : c.in-Err-push_frame.kind ≢ Memory = λ e. cc in
+    let fr : first_frame c.args.limit new ≡ Err Cut = ap (first_frame c.args.limit) (sym c.as_slice-2.ensures.value) ∙ c.in-Err-push_frame.ensures.refused other ∙ ap (λ k. Err k) cut in
     let all : c.in-Ok.moved ≡ length bytes = elim c.in-Ok.ensures.judged [ inl a ↦ a | inr a ↦ absurd (a fr) ] in
     let same : new ≡ old ++ bytes = c.in-Ok.ensures.moved ∙ ap (λ x. old ++ x) (take_all c.in-Ok.moved bytes (omega arith)) in
     let some : 0 < length new = omega (arith, ap length same, length-append old bytes) in
-    (subst (λ d. Resumes (first_fault c.args.limit d) d new 0) same (cut_resumes c.captures_go_by_frames.ensures c.args.limit new some fr), c.in-Err.ensures.err ∙ start_texts c.captures_go_by_frames.ensures c.args.limit (old ++ bytes) c.args.out.now.items Cut (ap (first_frame c.args.limit) (sym same) ∙ fr))
+    (subst (λ d. Resumes (first_fault c.args.limit d) d new 0) same (cut_resumes c.captures_go_by_frames.ensures c.args.limit new some fr), c.in-Err-push_frame.ensures.err ∙ start_texts c.captures_go_by_frames.ensures c.args.limit (old ++ bytes) c.args.out.now.items Cut (ap (first_frame c.args.limit) (sym same) ∙ fr))
 
 pub returns-in_default-kind : goal.returns-in_default-kind
 returns-in_default-kind c =
@@ -102,17 +114,18 @@ returns-in_default-kind c =
     let new = c.complete_frame.new.kept.items in
     let w = whole old bytes new c.in-Ok.moved c.in-Ok.ensures.moved in
     let some : 0 < length (old ++ bytes) = omega (arith, length-append old bytes) in
+    let stands = subst (λ x. HeaderStands c.args.limit (x ++ bytes)) c.as_slice.ensures.value c.in_default.ensures.ok in
     record {
       ok = tt;
       fault = λ n.
-          let fr : first_frame c.args.limit new ≡ Err c.in-Err.kind = ap (first_frame c.args.limit) (sym c.as_slice.ensures.value) ∙ c.in-Err.ensures.refused n in
+          let fr : first_frame c.args.limit new ≡ Err c.in-Err-push_frame.kind = ap (first_frame c.args.limit) (sym c.as_slice-2.ensures.value) ∙ c.in-Err-push_frame.ensures.refused n in
           let not_cut : first_frame c.args.limit new ≢ Err Cut = λ e. c.in_default-kind.not-Cut (let q = sym fr ∙ e in cc) in
-          let all : first_frame c.args.limit (old ++ bytes) ≡ Err c.in-Err.kind = ap (first_frame c.args.limit) w ∙ c.frames_stand_alone.ensures.followed c.args.limit new (drop c.in-Ok.moved bytes) not_cut ∙ fr in (
+          let all : first_frame c.args.limit (old ++ bytes) ≡ Err c.in-Err-push_frame.kind = ap (first_frame c.args.limit) w ∙ c.frames_stand_alone.ensures.followed c.args.limit new (drop c.in-Ok.moved bytes) not_cut ∙ fr in (
             c.in_default-kind.not-Cut,
-            start_fault c.captures_go_by_frames.ensures c.args.limit c.args.start (old ++ bytes) c.in-Err.kind some all,
-            c.in-Err.ensures.err ∙ start_texts c.captures_go_by_frames.ensures c.args.limit (old ++ bytes) c.args.out.now.items c.in-Err.kind all,
+            start_fault c.captures_go_by_frames.ensures c.args.limit c.args.start (old ++ bytes) c.in-Err-push_frame.kind some all,
+            c.in-Err-push_frame.ensures.err ∙ start_texts c.captures_go_by_frames.ensures c.args.limit (old ++ bytes) c.args.out.now.items c.in-Err-push_frame.kind all,
           );
-      memory = λ _. (0, omega arith, stop_zero _ _ some, c.in-Err.ensures.err ∙ no_texts c.args.limit c.args.out.now.items);
+      memory = λ _. (0, omega arith, stop_zero c.args.limit (old ++ bytes) some stands, c.in-Err-push_frame.ensures.err ∙ no_texts c.args.limit c.args.out.now.items);
       room = λ k _.
           let none : c.args.kept.now.len ≡ 0 = omega (arith, ap length k, c.args.kept.now.ok.0) in
           absurd (let f : true ≡ false = sym (eq-eqb c.args.kept.now.len 0 none) ∙ sym c.is_empty.ensures ∙ c.if-is_empty.false in cc);

@@ -33,7 +33,7 @@ pub returns-then-is_err-clause-memory : goal.returns-then-is_err-clause-memory
 returns-then-is_err-clause-memory c = λ m.
     let at = goal.at.returns-then-is_err-clause-memory c in
     let z = lacking at.Then-is_err (gathered at.After-push_all) in
-    nothing_shown c.lines_are_joined.ensures c.args.limit c.args.bytes.now c.args.out.now.items c.push_all.new.out.items (some_bytes c.args.limit c.args.bytes.now z.0) z.1
+    nothing_shown c.captures_go_by_frames.ensures c.frames_stand_alone.ensures c.lines_are_joined.ensures c.args.limit c.args.bytes.now c.args.out.now.items c.push_all.new.out.items z.0 z.1
 
 pub returns-then-is_err-clause-place : goal.returns-then-is_err-clause-place
 returns-then-is_err-clause-place c =

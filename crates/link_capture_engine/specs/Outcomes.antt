@@ -5,6 +5,7 @@ use Rattle.link_capture_grammar.specs.declared.fault.FaultKind.{FaultKind}
 use Rattle.link_capture_grammar.specs.declared.fault.FaultKind.TheVariants.{Cut, Memory, Read, Write, TooLong, Failed}
 use Rattle.link_capture_grammar.specs.declared.fault.CaptureFault.{CaptureFault}
 use Rattle.link_capture_grammar.specs.Captures.{first_fault, texts, StopsAt, IsLegal}
+use Rattle.link_capture_engine.specs.Devices.{Rises}
 
 -- no fault, or a cut frame, which more bytes may complete
 abbrev pub IsOpen : Option CaptureFault → Type 0
@@ -46,8 +47,8 @@ abbrev pub Normalizes : Option (List ℕ) → Option (List ℕ) → Option (List
 Normalizes from left held holds ended read_failed write_failed limit result =
     (s w : List ℕ) × Consumes from left s × Appends held holds w × Outcome ended read_failed write_failed limit s w result
 
--- s was read to the fault, of this kind, that `read_all` answers
-abbrev pub ReadFault : Type 0 → List ℕ → FaultKind → Type 0
-ReadFault read_failed s Read = read_failed
-ReadFault read_failed s Memory = 0 < length s
-ReadFault read_failed s kind = ⊥
+-- s was read to the fault, of this kind, that `read_all` answers, while the source's failures went from one number to the other
+abbrev pub ReadFault : ℕ → ℕ → List ℕ → FaultKind → Type 0
+ReadFault old new s Read = Rises old new
+ReadFault old new s Memory = (new ≡ old) × (0 < length s)
+ReadFault old new s kind = ⊥

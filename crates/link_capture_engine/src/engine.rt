@@ -79,14 +79,15 @@ pub fn normalize<S: Source, K: Sink>(
     }
 }
 
-/// All bytes of a source. A failed read and want of memory are told at the number of bytes read.
+/// All bytes of a source. A failed read and want of memory are told at the number of bytes read; want of memory, of no
+/// source that failed.
 pub fn read_all<S: Source>(alloc: Global, source: &mut S) -> Result<Vec<u8>, CaptureFault>
     // s was read.
     ensures { (s : List ℕ) × Consumes (S.to_come source.old) (S.to_come source.new) s
         × MatchResult result
-        (λ bytes. (bytes.items ≡ s)
+        (λ bytes. (bytes.items ≡ s) × (S.failures source.new ≡ S.failures source.old)
         × TellsItsEnd (S.ends_told source.old) (S.ends_told source.new) (S.to_come source.new))
-        (λ fault. ReadFault (Rises (S.failures source.old) (S.failures source.new)) s fault.kind
+        (λ fault. ReadFault (S.failures source.old) (S.failures source.new) s fault.kind
         × (fault.offset ≡ length s)) }
 {
     let mut buffer = [0u8; 65536];

@@ -1,7 +1,9 @@
 //! Sinks: bytes in memory, and a writer.
 
-ghost use Rattle.std.specs.Prelude.{◌≡◌, [], Some};
-ghost use Rattle.link_capture_engine.specs.Known.{sink_bytes, sink_writer};
+ghost use Rattle.std.specs.Prelude.{◌≡◌, ◌<◌, ◌≤◌, ◌+◌, [], Some, length, IfOk, OnErr};
+ghost use Rattle.std.specs.Io.KnownBytes.{WriteAppends};
+ghost use Rattle.link_capture_engine.specs.Devices.{write_failed, counted};
+ghost use Rattle.link_capture_engine.specs.Known.{sink_bytes, sink_room, growths_refused, sink_writer, sink_failures};
 
 use super::devices::{DeviceFailed, Sink};
 use std::alloc::Global;
@@ -15,9 +17,10 @@ pub struct VecSink {
 }
 
 impl VecSink {
-    /// It holds no bytes yet.
+    /// It holds no bytes yet, and no failure is counted.
     pub fn new(alloc: Global) -> VecSink
-        ensures { sink_bytes result ≡ [] }
+        ensures holds { sink_bytes result ≡ [] }
+        ensures failures { growths_refused result ≡ 0 }
     {
         VecSink {
             bytes: Vec::new(alloc),
@@ -38,7 +41,17 @@ impl Sink for VecSink {
 
     ghost failures = { λ s. s.failures };
 
-    fn write(&mut self, bytes: &[u8]) -> Result<usize, DeviceFailed> {
+    /// Takes all of the bytes, or fails where there was less room than they want.
+    fn write(&mut self, bytes: &[u8]) -> Result<usize, DeviceFailed>
+        ensures within { IfOk result (λ n. n ≤ length bytes.now) }
+        ensures bytes { WriteAppends (Some (sink_bytes self.old)) (Some (sink_bytes self.new))
+            result bytes.now }
+        ensures failures { growths_refused self.new
+            ≡ counted (write_failed result (length bytes.now)) (growths_refused self.old) }
+        ensures whole { IfOk result (λ n. n ≡ length bytes.now) }
+        ensures room { OnErr result
+            (sink_room self.old < length (sink_bytes self.old) + length bytes.now) }
+    {
         match self.bytes.extend_from_slice(bytes) {
             Ok(()) => Ok(bytes.len()),
             Err(_) => {
@@ -57,9 +70,10 @@ pub struct WriteSink<W> {
 }
 
 impl<W: Write> WriteSink<W> {
-    /// It holds what this writer holds.
+    /// It holds what this writer holds, and no failure is counted.
     pub fn new(writer: W) -> WriteSink<W>
-        ensures { sink_writer result ≡ writer }
+        ensures writer { sink_writer result ≡ writer }
+        ensures failures { sink_failures result ≡ 0 }
     {
         WriteSink {
             writer,

@@ -1,7 +1,7 @@
 //! Sources: the bytes of a slice, and those behind a reader.
 
 ghost use Rattle.std.specs.Prelude.{◌≡◌, Some};
-ghost use Rattle.link_capture_engine.specs.Known.{slice_rest, source_reader};
+ghost use Rattle.link_capture_engine.specs.Known.{slice_rest, slice_ends_told, source_reader, source_failures, source_ends_told};
 
 use super::devices::{DeviceFailed, Source};
 use std::io::Read;
@@ -14,9 +14,10 @@ pub struct SliceSource<'a> {
 }
 
 impl<'a> SliceSource<'a> {
-    /// All bytes of this slice are to come.
+    /// All bytes of this slice are to come, and no end is counted.
     pub fn new(bytes: &'a [u8]) -> SliceSource<'a>
-        ensures { slice_rest result ≡ bytes.now }
+        ensures rest { slice_rest result ≡ bytes.now }
+        ensures ends { slice_ends_told result ≡ 0 }
     {
         SliceSource {
             rest: bytes,
@@ -53,9 +54,11 @@ pub struct ReadSource<R> {
 }
 
 impl<R: Read> ReadSource<R> {
-    /// All bytes that remain in this reader are to come.
+    /// All bytes that remain in this reader are to come, and no failure or end is counted.
     pub fn new(reader: R) -> ReadSource<R>
-        ensures { source_reader result ≡ reader }
+        ensures reader { source_reader result ≡ reader }
+        ensures failures { source_failures result ≡ 0 }
+        ensures ends { source_ends_told result ≡ 0 }
     {
         ReadSource {
             reader,

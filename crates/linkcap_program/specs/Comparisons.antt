@@ -1,11 +1,12 @@
 -- What files hold, and what is answered of two of them.
-use Rattle.std.specs.Prelude.{◌≡◌, ℕ, ⊤, Bool, true, List, length, cond, Option, None, Some, Result, Ok, Err, ◌⊎◌, ◌↔◌}
+use Rattle.std.specs.Prelude.{◌≡◌, ℕ, ⊤, Bool, true, false, List, length, cond, Option, None, Some, Result, Ok, Err, ◌⊎◌, ◌↔◌}
+use Rattle.std.specs.Io.KnownBytes.{Consumes}
 use Rattle.link_capture_grammar.specs.declared.fault.CaptureFault.{CaptureFault}
 use Rattle.link_capture_checks.specs.declared.sameness.SideFault.{SideFault}
 use Rattle.link_capture_grammar.specs.declared.fault.FaultKind.TheVariants.{Read}
 use Rattle.link_capture_grammar.specs.Captures.{first_fault, IsLegal}
-use Rattle.link_capture_engine.specs.Devices.{Rises}
-use Rattle.link_capture_engine.specs.Outcomes.{IsPrefix, ReadFault}
+use Rattle.link_capture_engine.specs.Devices.{risen}
+use Rattle.link_capture_engine.specs.Outcomes.{ReadFault}
 use Rattle.link_capture_grammar.specs.Same.{SameCapture}
 
 -- a file holds these bytes, as far as its bytes are known
@@ -13,34 +14,44 @@ abbrev pub Holds : Option (List ℕ) → List ℕ → Type 0
 Holds None bytes = ⊤
 Holds (Some known) bytes = bytes ≡ known
 
--- a file begins with these bytes, as far as its bytes are known
-abbrev pub BeginsWith : Option (List ℕ) → List ℕ → Type 0
-BeginsWith None bytes = ⊤
-BeginsWith (Some known) bytes = IsPrefix bytes known
+-- A file, of which these bytes are known, was opened and read to the place of this fault, and no further: there its reading failed, or memory was
+-- wanting for what was read.
+abbrev pub IsUnread : {File : Type 0} → (File → Option (List ℕ)) → (File → ℕ) → Option (List ℕ) → CaptureFault → Type 0
+IsUnread {File} to_come failures known fault =
+    (file after : File) × (bytes : List ℕ) × (to_come file ≡ known) × Consumes (to_come file) (to_come after) bytes
+    × ReadFault (failures file) (failures after) bytes fault.kind × (fault.offset ≡ length bytes)
 
--- an open file failed once more
-abbrev pub Fails : {File : Type 0} → (File → ℕ) → Type 0
-Fails {File} failures = (before after : File) × Rises (failures before) (failures after)
+-- how often a file system was asked to open a file, and how often it couldn't
+pub record Counts : Type 0 where
+  pub asked : ℕ
+  pub failures : ℕ
 
--- A file was read as far as the place of this fault, and no further: it couldn't be opened, or its reading failed, or
--- memory was wanting for what was read.
-abbrev pub IsUnread : Option (List ℕ) → Type 0 → Type 0 → CaptureFault → Type 0
-IsUnread known unopened failed fault =
-    (unopened × (fault ≡ record { kind = Read; offset = 0 }))
-    ⊎ ((bytes : List ℕ) × BeginsWith known bytes × ReadFault failed bytes fault.kind × (fault.offset ≡ length bytes))
+-- the same once one file more was opened, or couldn't be
+abbrev pub opened : Counts → Counts
+opened n = record { asked = risen n.asked; failures = n.failures }
+
+abbrev pub unopened : Counts → Counts
+unopened n = record { asked = risen n.asked; failures = risen n.failures }
 
 -- the captures of two files were read, and this was told of them
 abbrev pub Judges : List ℕ → List ℕ → ℕ → Result Bool SideFault → Type 0
 Judges left right limit (Ok is_same) = IsLegal limit left × IsLegal limit right × ((is_same ≡ true) ↔ SameCapture limit left right)
 Judges left right limit (Err e) = (first_fault limit (cond e.second right left) ≡ Some e.fault) × (e.second ≡ true → IsLegal limit left)
 
--- one of two files couldn't be read
-abbrev pub CannotRead : Option (List ℕ) → Option (List ℕ) → Type 0 → Type 0 → Result Bool SideFault → Type 0
-CannotRead first second unopened failed (Ok is_same) = ⊥
-CannotRead first second unopened failed (Err e) = IsUnread (cond e.second second first) unopened failed e.fault
+-- the file that is opened next couldn't be, or couldn't be read, and this was told of it
+abbrev pub CannotRead : (CaptureFault → Type 0) → Counts → Counts → CaptureFault → Type 0
+CannotRead Unread before after fault =
+    ((after ≡ unopened before) × (fault ≡ record { kind = Read; offset = 0 })) ⊎ ((after ≡ opened before) × Unread fault)
 
--- Two files, of which these bytes are known, are compared: both were read and judged, or one of them couldn't be read.
-abbrev pub Compares : Option (List ℕ) → Option (List ℕ) → Type 0 → Type 0 → ℕ → Result Bool SideFault → Type 0
-Compares first second unopened failed limit result =
-    ((left right : List ℕ) × Holds first left × Holds second right × Judges left right limit result)
-    ⊎ CannotRead first second unopened failed result
+-- One of two files couldn't be read: the first, and then the second wasn't asked for; or the second, when the first had been read.
+abbrev pub ReadsOne : (Option (List ℕ) → CaptureFault → Type 0) → Option (List ℕ) → Option (List ℕ) → Counts → Counts → Result Bool SideFault → Type 0
+ReadsOne Unread first second before after (Ok is_same) = ⊥
+ReadsOne Unread first second before after (Err e) =
+    ((e.second ≡ false) × CannotRead (Unread first) before after e.fault)
+    ⊎ ((e.second ≡ true) × ((left : List ℕ) × Holds first left) × CannotRead (Unread second) (opened before) after e.fault)
+
+-- Two files, of which these bytes are known, are compared: each was opened once and read, and then they were judged; or one couldn't be read.
+abbrev pub Compares : (Option (List ℕ) → CaptureFault → Type 0) → Option (List ℕ) → Option (List ℕ) → Counts → Counts → ℕ → Result Bool SideFault → Type 0
+Compares Unread first second before after limit result =
+    ((left right : List ℕ) × Holds first left × Holds second right × (after ≡ opened (opened before)) × Judges left right limit result)
+    ⊎ ReadsOne Unread first second before after result

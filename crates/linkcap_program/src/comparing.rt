@@ -1,11 +1,11 @@
 //! Whether the captures in two files mean the same.
 
-ghost use Rattle.std.specs.Prelude.{◌≡◌, Bool, Ok, IfOk, IfErr, cond};
+ghost use Rattle.std.specs.Prelude.{◌≡◌, Bool, Ok, IfOk, IfErr, OnOk, cond};
 ghost use Rattle.std.specs.Process.{exit_status};
 ghost use Rattle.link_capture_commands.specs.Commands.{status_of_same};
 ghost use Rattle.link_capture_engine.specs.Devices.{Rises};
 ghost use Rattle.link_capture_engine.specs.Known.{sink_writer, sink_failures};
-ghost use Rattle.linkcap_program.specs.Comparisons.{Fails, Holds, IsUnread, Compares};
+ghost use Rattle.linkcap_program.specs.Comparisons.{Holds, IsUnread, CannotRead, Compares, opened};
 ghost use Rattle.linkcap_program.specs.Runs.{SameAnswer, IsTold, Tells, same_line, same_error};
 
 use super::files::FileSystem;
@@ -38,11 +38,11 @@ fn read_side<F: FileSystem>(
     second: bool,
 ) -> Result<Vec<u8>, SideFault>
     ensures ok { IfOk result (λ bytes. Holds (F.contents files.old name.now) bytes.items) }
-    ensures opened { IfOk result (λ _. F.failures files.new ≡ F.failures files.old) }
+    ensures opened { OnOk result (F.counts files.new ≡ opened (F.counts files.old)) }
     ensures side { IfErr result (λ e. e.second ≡ second) }
-    ensures fault { IfErr result (λ e. IsUnread (F.contents files.old name.now)
-        (Rises (F.failures files.old) (F.failures files.new))
-        (Fails F.File.failures) e.fault) }
+    ensures fault { IfErr result
+        (λ e. CannotRead (IsUnread F.File.to_come F.File.failures (F.contents files.old name.now))
+        (F.counts files.old) (F.counts files.new) e.fault) }
     ensures contents { F.contents files.new ≡ F.contents files.old }
 {
     let Ok(mut file) = files.open(name) else {
@@ -57,8 +57,8 @@ fn read_side<F: FileSystem>(
     }
 }
 
-/// Whether the captures in the files of two names mean the same under a limit. Both are read, the first one first,
-/// before one is judged.
+/// Whether the captures in the files of two names mean the same under a limit. Each is opened once and read, the first
+/// one first, before one is judged.
 ///
 /// Else the first thing that went wrong: a file that couldn't be opened, at 0, or read, at the number of bytes that
 /// were, or for whose bytes memory was wanting; or the first fault of the first capture, or of the second where the
@@ -70,8 +70,9 @@ pub fn compare<F: FileSystem>(
     second: &str,
     limit: u32,
 ) -> Result<bool, SideFault>
-    ensures { Compares (F.contents files.old first.now) (F.contents files.old second.now)
-        (Rises (F.failures files.old) (F.failures files.new)) (Fails F.File.failures) limit result }
+    ensures { Compares (IsUnread F.File.to_come F.File.failures)
+        (F.contents files.old first.now) (F.contents files.old second.now)
+        (F.counts files.old) (F.counts files.new) limit result }
 {
     let left = read_side(alloc, files, first, false)?;
     let right = read_side(alloc, files, second, true)?;
@@ -126,8 +127,9 @@ pub fn answer_same<F: FileSystem, W: Write, E: Write>(
     limit: u32,
 ) -> ExitCode
     ensures { SameAnswer
-        (Compares (F.contents files.old first.now) (F.contents files.old second.now)
-        (Rises (F.failures files.old) (F.failures files.new)) (Fails F.File.failures) limit)
+        (Compares (IsUnread F.File.to_come F.File.failures)
+        (F.contents files.old first.now) (F.contents files.old second.now)
+        (F.counts files.old) (F.counts files.new) limit)
         (IsTold (W.contents (sink_writer sink.old)) (W.contents (sink_writer sink.new))
         (Rises (sink_failures sink.old) (sink_failures sink.new)))
         (Tells (E.contents (sink_writer errors.old)) (E.contents (sink_writer errors.new))

@@ -1,14 +1,15 @@
 //! Files by their names.
 
-ghost use Rattle.std.specs.Prelude.{◌≡◌, ℕ, List, Option, IfOk, IfErr, None};
-ghost use Rattle.link_capture_engine.specs.Devices.{Rises};
+ghost use Rattle.std.specs.Prelude.{◌≡◌, ℕ, List, Option, IfOk, OnErr, None};
+ghost use Rattle.linkcap_program.specs.Comparisons.{Counts, opened, unopened};
 
 use link_capture_engine::{DeviceFailed, ReadSource, Source};
 use std::fs::File;
 
 /// What opens files by their names.
 ///
-/// It counts how often it couldn't: the number is held by it, and stays at `u64::MAX` once it is there.
+/// It counts how often it was asked to, and how often it couldn't: each of these numbers is held by it, and stays at
+/// `u64::MAX` once it is there.
 pub trait FileSystem {
     /// An open file.
     type File: Source + Drop;
@@ -16,22 +17,33 @@ pub trait FileSystem {
     /// The bytes of the file of a name, where they are known.
     ghost contents: { Self → List ℕ → Option (List ℕ) };
 
-    /// How often it failed.
-    ghost failures: { Self → ℕ };
+    /// How often it was asked for a file, and how often it failed.
+    ghost counts: { Self → Counts };
 
     /// Opens a file, to be read from its first byte on. What other files hold stays.
     fn open(&mut self, name: &str) -> Result<Self::File, DeviceFailed>
         ensures bytes { IfOk result (λ file. Self.File.to_come file ≡ contents self.old name.now) }
-        ensures opened { IfOk result (λ _. failures self.new ≡ failures self.old) }
-        ensures failed { IfErr result (λ _. Rises (failures self.old) (failures self.new)) }
+        ensures opened { IfOk result (λ _. counts self.new ≡ opened (counts self.old)) }
+        ensures failed { OnErr result (counts self.new ≡ unopened (counts self.old)) }
         ensures contents { contents self.new ≡ contents self.old };
 }
 
 /// The file system of the process. What its files hold isn't known.
 #[derive(Drop)]
 pub(crate) struct HostFiles<'a> {
-    pub rt: &'a HostRuntime,
-    pub failures: u64,
+    rt: &'a HostRuntime,
+    asked: u64,
+    failures: u64,
+}
+
+impl<'a> HostFiles<'a> {
+    pub fn new(rt: &'a HostRuntime) -> HostFiles<'a> {
+        HostFiles {
+            rt,
+            asked: 0,
+            failures: 0,
+        }
+    }
 }
 
 impl FileSystem for HostFiles<'_> {
@@ -39,9 +51,10 @@ impl FileSystem for HostFiles<'_> {
 
     ghost contents = { λ _ _. None };
 
-    ghost failures = { λ s. s.failures };
+    ghost counts = { λ s. record { asked = s.asked; failures = s.failures } };
 
     fn open(&mut self, name: &str) -> Result<ReadSource<File>, DeviceFailed> {
+        self.asked = self.asked.saturating_add(1);
         match File::open(self.rt, name) {
             Ok(file) => Ok(ReadSource::new(file)),
             Err(_) => {

@@ -8,7 +8,7 @@ ghost use Rattle.link_capture_engine.specs.Devices.{Rises, TellsItsEnd};
 ghost use Rattle.link_capture_engine.specs.Known.{source_reader, source_failures, source_ends_told, sink_writer, sink_failures};
 ghost use Rattle.link_capture_engine.specs.Outcomes.{Normalizes};
 ghost use Rattle.linkcap_program.specs.Runs.{Answers, NormAnswer, SameAnswer, UsageAnswer, IsTold, Tells};
-ghost use Rattle.linkcap_program.specs.Comparisons.{Compares, Fails};
+ghost use Rattle.linkcap_program.specs.Comparisons.{Compares, IsUnread};
 
 mod comparing;
 mod environment;
@@ -42,8 +42,8 @@ fn answer_usage<E: Write>(errors: &mut WriteSink<E>) -> ExitCode
 }
 
 /// The program: does what the words behind its name ask for, tells on the error writer what went wrong, and answers
-/// with its status. Where the words ask for nothing, nothing is read or printed; where they ask whether two files mean
-/// the same, the source isn't read.
+/// with its status. Where the words ask for nothing, nothing is opened, read or printed; for a normal text no file is
+/// opened; and where they ask whether two files mean the same, the source isn't read.
 pub fn answer<F: FileSystem, R: Read, W: Write, E: Write>(
     alloc: Global,
     words: &[String],
@@ -53,11 +53,11 @@ pub fn answer<F: FileSystem, R: Read, W: Write, E: Write>(
     errors: &mut WriteSink<E>,
 ) -> ExitCode
     ensures { Answers (map string_bytes words.now)
-        ((source.new ≡ source.old) × (sink.new ≡ sink.old)
+        ((files.new ≡ files.old) × (source.new ≡ source.old) × (sink.new ≡ sink.old)
         × UsageAnswer (Tells (E.contents (sink_writer errors.old))
         (E.contents (sink_writer errors.new))
         (Rises (sink_failures errors.old) (sink_failures errors.new))) (exit_status result))
-        (λ limit. NormAnswer (Normalizes
+        (λ limit. (files.new ≡ files.old) × NormAnswer (Normalizes
         (R.remaining (source_reader source.old)) (R.remaining (source_reader source.new))
         (W.contents (sink_writer sink.old)) (W.contents (sink_writer sink.new))
         (TellsItsEnd (source_ends_told source.old) (source_ends_told source.new)
@@ -67,8 +67,9 @@ pub fn answer<F: FileSystem, R: Read, W: Write, E: Write>(
         (Tells (E.contents (sink_writer errors.old)) (E.contents (sink_writer errors.new))
         (Rises (sink_failures errors.old) (sink_failures errors.new))) (exit_status result))
         (λ first second limit. (source.new ≡ source.old)
-        × SameAnswer (Compares (F.contents files.old first) (F.contents files.old second)
-        (Rises (F.failures files.old) (F.failures files.new)) (Fails F.File.failures) limit)
+        × SameAnswer (Compares (IsUnread F.File.to_come F.File.failures)
+        (F.contents files.old first) (F.contents files.old second)
+        (F.counts files.old) (F.counts files.new) limit)
         (IsTold (W.contents (sink_writer sink.old)) (W.contents (sink_writer sink.new))
         (Rises (sink_failures sink.old) (sink_failures sink.new)))
         (Tells (E.contents (sink_writer errors.old)) (E.contents (sink_writer errors.new))
@@ -96,7 +97,7 @@ pub fn outcome(rt: &HostRuntime) -> ExitCode {
     answer(
         rt.alloc(),
         words.as_slice(),
-        &mut HostFiles { rt, failures: 0 },
+        &mut HostFiles::new(rt),
         &mut source,
         &mut sink,
         &mut errors,

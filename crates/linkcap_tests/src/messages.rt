@@ -3,7 +3,9 @@
 use hex::decode;
 use link_capture::{Messages, NotReadable, ReadableLink, RouteFault};
 use link_info::{InfoData, InfoKind, InfoVeth, LinkInfo};
-use link_message::{LinkAttribute, LinkExtentMask, LinkHeader, LinkMessage};
+use link_message::{
+    AfSpecInet, AfSpecUnspec, LinkAttribute, LinkExtentMask, LinkHeader, LinkMessage, Values,
+};
 use netlink_packet_core::DefaultNla;
 use std::alloc::Global;
 use std::test::Fail;
@@ -33,6 +35,11 @@ fn attribute(alloc: Global, case: usize) -> Result<LinkAttribute, Fail> {
         }
         6 => veth(alloc, PEER),
         7 => veth(alloc, PEER_SHORTER),
+        8 => {
+            let request = AfSpecInet::DevConfRequest(Values { values: [1; 33] });
+            let families = vec![in alloc; AfSpecUnspec::Inet(vec![in alloc; request]?)]?;
+            Ok(LinkAttribute::AfSpecUnspec(families))
+        }
         _ => {
             let bytes = Vec::from_slice(alloc, &[0x6c, 0x6f, 0])?;
             Ok(LinkAttribute::Other(DefaultNla::new(3, bytes)))
@@ -74,6 +81,7 @@ fn messages_are_readable_where_they_read_back(rt: HostRuntime) -> Result<(), Fai
         Some(NotReadable::ReadsOtherwise),
         Some(NotReadable::ReadsOtherwise),
         None,
+        Some(NotReadable::ReadsOtherwise),
         Some(NotReadable::ReadsOtherwise),
         Some(NotReadable::ReadsOtherwise),
     ];

@@ -9,20 +9,28 @@ use linkcap_program::{FileSystem, answer, answer_same};
 use std::alloc::Global;
 use std::test::Fail;
 
-/// Files by their names, and how often one of another name was asked for.
+/// Files by their names, how often one was asked for, and how often one of another name.
 #[derive(Drop)]
 struct SampleFiles {
+    asked: u64,
     failures: u64,
 }
+
+/// Files that nobody has asked for yet.
+const FILES: SampleFiles = SampleFiles {
+    asked: 0,
+    failures: 0,
+};
 
 impl FileSystem for SampleFiles {
     type File = ReadSource<Giver<'static>>;
 
     ghost contents = { λ _ _. None };
 
-    ghost failures = { λ s. s.failures };
+    ghost counts = { λ s. record { asked = s.asked; failures = s.failures } };
 
     fn open(&mut self, name: &str) -> Result<ReadSource<Giver<'static>>, DeviceFailed> {
+        self.asked = self.asked.saturating_add(1);
         let rest: &'static [u8] = match name {
             "capture" => &CAPTURE,
             "text" => &TEXT,
@@ -97,7 +105,7 @@ fn words_are_followed(rt: HostRuntime) -> Result<(), Fail> {
         answer(
             rt.alloc(),
             strings.as_slice(),
-            &mut SampleFiles { failures: 0 },
+            &mut FILES,
             &mut source,
             &mut sink,
             &mut errors,
@@ -124,7 +132,7 @@ fn an_answer_that_is_not_printed_is_told(rt: HostRuntime) {
     let mut errors = WriteSink::new(&mut told);
     answer_same(
         rt.alloc(),
-        &mut SampleFiles { failures: 0 },
+        &mut FILES,
         &mut sink,
         &mut errors,
         "capture",

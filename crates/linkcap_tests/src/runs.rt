@@ -2,7 +2,7 @@
 //! does, and then neither reads nor writes.
 
 use super::devices::{Giver, Plan, Taker};
-use link_capture::{CaptureFault, FaultKind, ReadSource, WriteSink, read_all};
+use link_capture::{CaptureFault, FaultKind, ReadSource, WriteSink, read_all, write_all};
 use linkcap_program::norm;
 use std::alloc::Global;
 use std::test::Fail;
@@ -310,4 +310,19 @@ fn a_run_ends_with_its_sink(rt: HostRuntime) {
             }
         }
     }
+}
+
+/// More bytes than a piece has, and more calls than a device might count: a megabyte byte by byte, and as much at once.
+#[test]
+fn large_captures_are_read_and_written(rt: HostRuntime) -> Result<(), Fail> {
+    let capture = vec![in rt.alloc(); 0u8; 1_000_100]?;
+    let mut source = ReadSource::new(Giver {
+        rest: capture.as_slice(),
+        plan: Plan::steady(1),
+    });
+    assert!(rt; read_all(rt.alloc(), &mut source) == Ok(capture.clone()?));
+    let mut taken = Vec::new(rt.alloc());
+    let written = write_all(&mut WriteSink::new(&mut taken), capture.as_slice(), 0);
+    assert!(rt; written == Ok(1_000_100) && taken == capture);
+    Ok(())
 }

@@ -12,4 +12,4 @@ returns-then-is_err g c =
     let size : length piece ≡ c.in-Ok.count = length-take c.in-Ok.count c.read.new.buffer ∙ omega (arith, c.in-Ok.ensures.within) in
     let n : c.len-then-is_err.result ≡ length old = grind (arith, common_steps) in
     let total = length-append old piece in
-    (old ++ piece, Consumes-trans _ _ _ old piece c.pieces.invariant.consumed c.in-Ok.ensures.bytes.0, (omega (arith, size, total), omega (arith, size, total, n)))
+    (old ++ piece, Consumes-trans _ _ _ old piece c.pieces.invariant.consumed c.in-Ok.ensures.bytes.0, ((grind (arith, common_steps), omega (arith, size, total)), omega (arith, size, total, n)))

@@ -18,6 +18,8 @@ fn kinds_have_names(rt: HostRuntime) -> Result<(), Fail> {
     let port_kind = InfoPortKind::from_name(rt.alloc(), "vrf")?;
     assert_eq!(rt; port_kind, InfoPortKind::Vrf);
     assert_eq!(rt; format!(in rt.alloc(); "{port_kind}")?.as_str(), "vrf");
+    let unlisted = InfoPortKind::Other("foo".to_string(rt.alloc())?);
+    assert!(rt; InfoPortKind::from_name(rt.alloc(), "foo")? == unlisted);
     Ok(())
 }
 

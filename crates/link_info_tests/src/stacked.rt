@@ -2,7 +2,7 @@ use crate::attributes::{are_read_as, is_written_as};
 use link_info::{
     InfoMacSec, InfoMacVlan, MacSecCipherId, MacSecValidate, MacVlanMode, parse_mac_vlan,
 };
-use netlink_packet_core::{DefaultNla, Nla};
+use netlink_packet_core::{DefaultNla, Nla, NlaBuffer, Parseable};
 use std::test::Fail;
 
 // How deep a list is nested in itself.
@@ -46,6 +46,19 @@ fn macvlan(rt: HostRuntime) -> Result<(), Fail> {
         .as_slice()
     );
     assert!(rt; is_written_as(&list[1], &bytes[8..20]));
+    Ok(())
+}
+
+/// A list of source addresses by the attribute's own reader.
+#[test]
+fn an_attribute_of_macvlan_is_read_alone(rt: HostRuntime) -> Result<(), Fail> {
+    let bytes: &[u8] = &[16, 0, 5, 0, 10, 0, 4, 0, 2, 0, 0, 0, 0, 1, 0, 0];
+    let Ok(buf) = NlaBuffer::new_checked(bytes) else {
+        return Err(Fail::from("cut"));
+    };
+    let addresses = vec![in rt.alloc(); InfoMacVlan::MacAddr([2, 0, 0, 0, 0, 1])]?;
+    let wanted = InfoMacVlan::MacAddrData(addresses);
+    assert!(rt; InfoMacVlan::parse(rt.alloc(), &buf)? == wanted);
     Ok(())
 }
 

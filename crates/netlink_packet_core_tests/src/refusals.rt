@@ -2,6 +2,7 @@ use netlink_packet_core::{
     DecodeError, DoneBuffer, ErrorBuffer, ErrorContext, NetlinkBuffer, NlaBuffer, emit_u32,
     parse_ip, parse_mac, parse_str, parse_u8, parse_u16_be,
 };
+use std::alloc::AllocError;
 use std::test::Fail;
 
 /// Why these bytes begin with no whole attribute.
@@ -61,6 +62,7 @@ fn causes_are_shown(rt: HostRuntime) -> Result<(), Fail> {
         ),
         (parse_str(&[0xff]).err(), "invalid UTF-8"),
         (Some(DecodeError::memory()), "out of memory"),
+        (Some(DecodeError::from(AllocError)), "out of memory"),
     ] {
         let Some(error) = refusal else {
             return Err(Fail::from("accepted"));

@@ -7,10 +7,11 @@ ghost use Rattle.norm_vectors.specs.Answers.{answer, measure_text};
 
 use hex::{decode, encode};
 use link_capture::{
-    CaptureFault, CaptureReader, FaultKind, Measure, check, measure, normal_len, normalize_bytes,
+    CaptureFault, CaptureReader, FaultKind, Measure, ReadSource, SliceSource, Source, VecSink,
+    check, measure, normal_len, normalize, normalize_bytes, read_all,
 };
 use std::alloc::{AllocError, Global};
-use std::io::{self, BufRead, BufReader, BufWriter, ErrorKind, Write};
+use std::io::{self, BufRead, BufReader, BufWriter, ErrorKind, Read, Write};
 
 /// A capture, and the greatest length in bytes that a message in it may have.
 #[derive(Drop)]
@@ -88,7 +89,76 @@ fn read_pieces(
     reader.finish()
 }
 
-/// Whether a capture is answered in pieces, and when it is checked, as it is in one.
+/// Gives bytes, so many a call.
+#[derive(Drop)]
+struct Giver<'a> {
+    rest: &'a [u8],
+    size: usize,
+}
+
+impl Read for Giver<'_> {
+    fn read(&mut self, buf: &mut [u8]) -> io::Result<usize> {
+        let count = self.rest.len().min(self.size).min(buf.len());
+        buf[..count].copy_from_slice(&self.rest[..count]);
+        self.rest = &self.rest[count..];
+        Ok(count)
+    }
+}
+
+/// Whether a source's text comes to a sink as this, with this outcome.
+fn flows<S: Source>(
+    alloc: Global,
+    source: &mut S,
+    limit: u32,
+    text: &[u8],
+    outcome: Result<(), CaptureFault>,
+) -> bool
+    requires { 16 ≤ limit }
+{
+    let mut sink = VecSink::new(alloc);
+    normalize(alloc, source, &mut sink, limit) == outcome && sink.bytes() == text
+}
+
+/// Whether a capture is normalised from a slice, and from readers of few bytes a call, as it is in one; and whether all
+/// of it is read.
+fn agrees_between_devices(
+    alloc: Global,
+    case: &Case,
+    text: &[u8],
+    outcome: Result<(), CaptureFault>,
+) -> bool
+    requires { 16 ≤ case.now.limit }
+{
+    let capture = case.capture.as_slice();
+    if !flows(
+        alloc,
+        &mut SliceSource::new(capture),
+        case.limit,
+        text,
+        outcome,
+    ) {
+        return false;
+    }
+    for size in [1, 7] {
+        let mut source = ReadSource::new(Giver {
+            rest: capture,
+            size,
+        });
+        if !flows(alloc, &mut source, case.limit, text, outcome) {
+            return false;
+        }
+        let mut source = ReadSource::new(Giver {
+            rest: capture,
+            size,
+        });
+        if !read_all(alloc, &mut source).is_ok_and(|bytes| bytes.as_slice() == capture) {
+            return false;
+        }
+    }
+    true
+}
+
+/// Whether a capture is answered in pieces, between devices, and when it is checked, as it is in one.
 fn agrees(alloc: Global, case: &Case) -> bool
     requires { 16 ≤ case.now.limit }
 {
@@ -111,7 +181,7 @@ fn agrees(alloc: Global, case: &Case) -> bool
             return false;
         }
     }
-    true
+    agrees_between_devices(alloc, case, text.as_slice(), whole)
 }
 
 fn main(rt: HostRuntime) -> io::Result<()> {

@@ -36,7 +36,7 @@ header_line f =
 
 -- the table of the attributes of a link of an address family
 unfoldable pub family_table : ℕ → ℕ
-family_table n = cond (n == 0) 0 (cond (n == 7) 1 (cond (n == 10) 2 3))
+family_table n = cond (n == 0) 15 (cond (n == 7) 16 (cond (n == 10) 17 18))
 
 -- family, type and index
 unfoldable pub link_numbers : List ℕ → List ℕ

@@ -1,47 +1,64 @@
--- What the rows of names say.
-use Rattle.std.specs.Prelude.{ℕ, ◌+◌, ◌*◌, ◌==◌, ◌&&◌, nat_lt, nat_le, Bool, true, cond, List, [], ◌∷◌, take, Option, Some, None, bytes_eq}
-use Rattle.link_lines_texts.specs.declared.rows.Title.{Title}
-use Rattle.link_lines_texts.specs.declared.rows.KindTable.{KindTable}
-use Rattle.link_lines_texts.specs.declared.titles.TheConstants.{TITLES}
+-- What the titles say.
+use Rattle.std.specs.Prelude.{ℕ, ◌+◌, ◌-◌, nat_lt, cond, List, [], ◌∷◌, Option, get_or, map, option_map}
+use Rattle.attribute_checks.specs.declared.rows.Held.{Held}
+use Rattle.attribute_checks.specs.declared.rows.Held.TheVariants.{List as HeldList}
+use Rattle.link_lines_values.specs.declared.values.Shown.{Shown}
+use Rattle.link_lines_values.specs.declared.values.Shown.TheVariants.{Bytes}
+use Rattle.link_lines_texts.specs.declared.titles.Behind.{Behind}
+use Rattle.link_lines_texts.specs.declared.titles.Behind.TheVariants as B
+use Rattle.link_lines_texts.specs.declared.data_titles.TheConstants.{DATA_TITLES}
+use Rattle.link_lines_texts.specs.declared.message_titles.TheConstants.{MESSAGE_TITLES}
+use Rattle.link_lines_texts.specs.Placed.{find}
 
-abbrev pub key_of : Title → ℕ
-key_of t = t.0 * 65536 + t.1
+-- what stands behind an attribute's name: the value of the payload, or, below it, the attributes of a table, or of the one that a name in force tells
+pub data Inside : Type 0 where
+  Value : Shown → Inside
+  Nested : ℕ → Inside
+  Data : Inside
+  PortData : Inside
 
--- the first row of a table and kind
-abbrev pub find_title : ℕ → List Title → Option Title
-find_title w [] = None
-find_title w (t ∷ ts) = cond (key_of t == w) (Some t) (find_title w ts)
+-- a name, and what stands behind it
+abbrev pub Name : Type 0
+Name = List ℕ × Inside
 
-abbrev pub key_above : ℕ → List Title → Bool
-key_above n [] = true
-key_above n (t ∷ ts) = nat_lt n (key_of t)
+-- a kind, and its name where the table has a row for it
+abbrev pub Title : Type 0
+Title = ℕ × Option Name
 
--- rows in strictly rising order of table and kind
-abbrev pub keys_rise : List Title → Bool
-keys_rise [] = true
-keys_rise (t ∷ ts) = key_above (key_of t) ts && keys_rise ts
+-- link info is table 19; the tables of data stand behind it
+abbrev pub inside_of : Behind → Inside
+inside_of (B.Value shown) = Value shown
+inside_of B.Peer = Value Bytes
+inside_of (B.List form table) = Nested table
+inside_of (B.DataList form table) = Nested (20 + table)
+inside_of B.LinkInfo = Nested 19
+inside_of B.Data = Data
+inside_of B.PortData = PortData
 
--- each name lies within its bytes
-abbrev pub titles_fit : List Title → Bool
-titles_fit [] = true
-titles_fit (t ∷ ts) = nat_le t.2 32 && titles_fit ts
+-- the same of what data hold
+abbrev pub of_held : Held → Inside
+of_held (HeldList form table) = Nested (20 + table)
+of_held held = Value Bytes
 
-abbrev pub or_else : Option Title → Option Title → Option Title
-or_else None b = b
-or_else (Some t) b = Some t
+-- a name in code
+abbrev pub viewed : {N : Type 0} → (N → List ℕ) → N × Behind → Name
+viewed f n = (f n.0, inside_of n.1)
 
--- the row of a kind without flag bits: the tables below that of all families are those of one family each
-unfoldable pub title_of : ℕ → ℕ → Option Title
-title_of table kind = or_else (find_title (table * 65536 + kind) TITLES) (cond (nat_lt table 4) (find_title (4 * 65536 + kind) TITLES) None)
+-- the titles in code
+abbrev pub said : {N : Type 0} → (N → List ℕ) → List (ℕ × Option (N × Behind)) → List Title
+said f [] = []
+said f (t ∷ ts) = (t.0, option_map (viewed f) t.1) ∷ said f ts
 
-abbrev pub title_name : Title → List ℕ
-title_name t = take t.2 t.3
+unfoldable pub message_titles : List (List Title)
+message_titles = map (λ b. said (λ n. n.now) b.now) MESSAGE_TITLES
 
--- the table of the data of a kind, by its name
-abbrev pub table_named : List ℕ → List KindTable → Option ℕ
-table_named n [] = None
-table_named n (r ∷ rs) = cond (bytes_eq n (take r.0 r.1)) (Some r.2) (table_named n rs)
+unfoldable pub data_titles : List (List Title)
+data_titles = map (λ b. said (λ n. n.now) b.now) DATA_TITLES
 
-abbrev pub kinds_fit : List KindTable → Bool
-kinds_fit [] = true
-kinds_fit (r ∷ rs) = nat_le r.0 12 && kinds_fit rs
+-- the titles of a table
+unfoldable pub titles_of : ℕ → List Title
+titles_of n = cond (nat_lt n 20) (get_or message_titles n []) (get_or data_titles (n - 20) [])
+
+-- the name of a kind without flag bits
+unfoldable pub title_of : ℕ → ℕ → Option Name
+title_of table kind = find kind (titles_of table)

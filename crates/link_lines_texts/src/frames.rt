@@ -12,7 +12,6 @@ ghost use Rattle.link_lines_texts.specs.Captures.{is_frame, text_lines};
 
 use crate::attributes::push_list;
 use crate::laws::lines_go_by_frames;
-use crate::titles::{BRIDGE, INET6_LINK, OTHER, UNSPEC};
 use link_lines_values::{
     FlagSet, Numbers, Shown, push_bytes, push_decimal, push_flags, push_name, push_number,
     push_value,
@@ -112,16 +111,16 @@ fn push_header(frame: &[u8], out: &mut Vec<u8>) -> Result<(), AllocError>
     out.extend_from_slice(b"\n")
 }
 
-/// The table of the attributes of a link of an address family.
+/// The table of the attributes of a link of an address family, by the interpreter's number.
 #[tactic(auto, unfolding(crate::specs::Frames::family_table))]
-fn family_table(family: u8) -> u8
+fn family_table(family: u8) -> usize
     ensures { result ≡ family_table family }
 {
     match family {
-        0 => UNSPEC,
-        7 => BRIDGE,
-        10 => INET6_LINK,
-        _ => OTHER,
+        0 => 15,
+        7 => 16,
+        10 => 17,
+        _ => 18,
     }
 }
 

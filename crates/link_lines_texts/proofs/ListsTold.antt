@@ -6,17 +6,22 @@ use Rattle.std.proofs.lemmas.Option.{same_Some}
 use Rattle.netlink_packet_core_grammar.specs.Attributes.{Attribute, first_attribute, list_text, proper_kind}
 use Rattle.netlink_packet_core_grammar.specs.Bytes.{AreBytes}
 use Rattle.netlink_packet_core_grammar.specs.Laws.{TextIsCut, WrittenIsFirst}
+use Rattle.attribute_checks.specs.declared.names.NameRow.{NameRow}
+use Rattle.attribute_checks.specs.declared.rows.Held.{Held}
+use Rattle.attribute_checks.specs.declared.rows.Held.TheVariants.{List as HeldList}
+use Rattle.attribute_checks.specs.Names.{held_by_name}
 use Rattle.attribute_tables_grammar.specs.Rules.{Rule}
+use Rattle.link_info_checks.specs.declared.rows.TheConstants.{KINDS, PORT_KINDS}
 use Rattle.attribute_tables_grammar.specs.Lists.{Context, Grammar, ListForm, Row, list_rule, nothing, row_of, written_kind}
 use Rattle.link_lines_values.specs.Bytes.{bytes_text}
 use Rattle.link_lines_values.specs.Digits.{four_digits}
 use Rattle.link_lines_values.specs.Laws.{BytesAreTold, Ends, IsLine, IsBehindASpace, ValuesStandOnALine}
 use Rattle.link_lines_values.specs.Values.{value_text}
-use Rattle.link_lines_values.specs.declared.values.Shown.TheVariants.{Bytes}
+use Rattle.link_lines_values.specs.declared.values.ShownBy.TheVariants.{Bytes}
 use Rattle.link_lines_texts.specs.Laws.{ListsGoBySteps}
-use Rattle.link_lines_texts.specs.Lists.{indent, inside_table, inside_text, known_inside, list_lines, nested_lines, next_in, own_line, rest_lines, table_inside, titled_table, titled_text}
+use Rattle.link_lines_texts.specs.Lists.{data_inside, indent, inside_table, inside_text, known_inside, list_lines, nested_lines, next_in, of_name, own_line, port_inside, rest_lines, table_inside, titled_table, titled_text}
 use Rattle.link_lines_texts.specs.Telling.{IsOwn, IsShallow}
-use Rattle.link_lines_texts.specs.Titles.{Inside, Inside.Value, Inside.Nested, Inside.Data, Inside.PortData, Name, title_of}
+use Rattle.link_lines_texts.specs.Titles.{Inside, Inside.Value, Inside.Nested, Inside.Data, Inside.PortData, Name, is_inside_on_a_line, of_held, title_of}
 use Rattle.link_lines_texts.proofs.CanonicalLists.{AllOwn, OwnAttribute, own_list}
 use Rattle.link_lines_texts.proofs.LineCuts.{IsWord, Starts, cut_line, cut_word, line_shallow, lines_joined, shallower, starts_joined, word_line}
 
@@ -29,10 +34,11 @@ InsideTold r i = (level : ℕ) (p q s t : List ℕ) → IsOwn r p → IsOwn r q 
 abbrev pub NestedTold : Rule → ℕ → Type 0
 NestedTold r m = (level : ℕ) (p q s t : List ℕ) → IsOwn r p → IsOwn r q → IsShallow level s → IsShallow level t → list_lines level m p ++ s ≡ list_lines level m q ++ t → (p ≡ q) × (s ≡ t)
 
--- the names of a table are words, an upper case letter first, and no two are equal
+-- the names of a table are words, an upper case letter first, what stands behind them is on their line, and no two are equal
 pub record NamesTold (m : ℕ) : Type 0 where
   pub word : (k : ℕ) (t : Name) → k < 65536 → title_of m k ≡ Some t → IsWord t.0
   pub upper : (k : ℕ) (t : Name) → k < 65536 → title_of m k ≡ Some t → Starts t.0 × (get_or t.0 0 0 < 97)
+  pub line : (k : ℕ) (t : Name) → title_of m k ≡ Some t → is_inside_on_a_line t.1 ≡ true
   pub apart : (k l : ℕ) (t u : Name) → k < 65536 → l < 65536 → title_of m k ≡ Some t → title_of m l ≡ Some u → t.0 ≡ u.0 → k ≡ l
 
 -- where a row has a name, what stands behind it tells what the row holds
@@ -59,12 +65,28 @@ by_attributes steps first level m c (e ∷ es) =
 
 -- ---- one line
 
+held_line : (h : Held) → is_inside_on_a_line (of_held h) ≡ true
+held_line (HeldList form table) = refl
+held_line h = refl
+
+name_line : (o : Option (List ℕ)) (kinds : List NameRow) → is_inside_on_a_line (of_name o kinds) ≡ true
+name_line None kinds = refl
+name_line (Some n) kinds = held_line (held_by_name kinds n)
+
+-- what names in force tell stands on a line
+known_line : (c : Context) (i : Inside) → is_inside_on_a_line i ≡ true → is_inside_on_a_line (known_inside c i) ≡ true
+unfolding data_inside port_inside
+known_line c (Value v) h = h
+known_line c (Nested n) h = h
+known_line c Data h = name_line c.kind KINDS
+known_line c PortData h = name_line c.port_kind PORT_KINDS
+
 module _ (values : ValuesStandOnALine) where
-  inside_line : (i : Inside) (p : List ℕ) → IsLine (inside_text i p)
-  inside_line (Value v) p = values.line v p
-  inside_line (Nested n) p = record {}
-  inside_line Data p = record {}
-  inside_line PortData p = record {}
+  inside_line : (i : Inside) (p : List ℕ) → is_inside_on_a_line i ≡ true → IsLine (inside_text i p)
+  inside_line (Value v) p h = values.line v p h
+  inside_line (Nested n) p h = record {}
+  inside_line Data p h = record {}
+  inside_line PortData p h = record {}
 
   space_ends : (s : List ℕ) → IsBehindASpace s → Ends s
   space_ends [] h = record {}
@@ -85,12 +107,12 @@ module _ (values : ValuesStandOnALine) where
 
   kind_line : (e : Attribute) → IsLine (codes "kind " ++ (four_digits e.kind ++ bytes_text e.payload))
   kind_line e =
-      let rest : IsLine (four_digits e.kind ++ bytes_text e.payload) = lines_joined (four_digits e.kind) (bytes_text e.payload) (digits_line e.kind) (values.line Bytes e.payload) in
+      let rest : IsLine (four_digits e.kind ++ bytes_text e.payload) = lines_joined (four_digits e.kind) (bytes_text e.payload) (digits_line e.kind) (values.line Bytes e.payload refl) in
       (omega arith, (omega arith, (omega arith, (omega arith, (omega arith, rest)))))
 
   titled_line : (m : ℕ) (names : NamesTold m) (c : Context) (k : ℕ) (o : Option Name) (e : Attribute) → k < 65536 → title_of m k ≡ o → IsLine (titled_text c o e)
   titled_line m names c k None e l h = kind_line e
-  titled_line m names c k (Some t) e l h = lines_joined t.0 (inside_text (known_inside c t.1) e.payload) (word_line t.0 (names.word k t l h)) (inside_line (known_inside c t.1) e.payload)
+  titled_line m names c k (Some t) e l h = lines_joined t.0 (inside_text (known_inside c t.1) e.payload) (word_line t.0 (names.word k t l h)) (inside_line (known_inside c t.1) e.payload (known_line c t.1 (names.line k t h)))
 
 titled_starts : (m : ℕ) (names : NamesTold m) (c : Context) (k : ℕ) (o : Option Name) (e : Attribute) → k < 65536 → title_of m k ≡ o → Starts (titled_text c o e)
 titled_starts m names c k None e l h = omega arith

@@ -6,9 +6,11 @@ use Rattle.std.proofs.lemmas.Bool.{and_parts}
 use Rattle.std.proofs.lemmas.List.{get_or-map}
 use Rattle.attribute_checks.specs.Names.{names_fit}
 use Rattle.link_info_checks.specs.declared.rows.TheConstants.{KINDS, PORT_KINDS}
-use Rattle.link_lines_texts.specs.declared.titles.Behind.{Behind}
+use Rattle.link_lines_values.specs.declared.fields.FieldOf.{FieldOf}
+use Rattle.link_lines_values.specs.declared.values.ShownBy.{ShownBy}
+use Rattle.link_lines_texts.specs.declared.titles.BehindBy.{BehindBy}
 use Rattle.link_lines_texts.specs.Placed.{are_dense, find}
-use Rattle.link_lines_texts.specs.Titles.{said, viewed}
+use Rattle.link_lines_texts.specs.Titles.{Name, Title, said, viewed}
 
 pub kinds_within : names_fit KINDS ≡ true
 kinds_within = refl
@@ -16,23 +18,34 @@ kinds_within = refl
 pub port_kinds_within : names_fit PORT_KINDS ≡ true
 port_kinds_within = refl
 
+-- what stands behind a name, as code has it
+abbrev pub Behind : Type 0
+Behind = BehindBy (ShownBy (Bor (List (ℕ × Bor (List ℕ)))) (Bor (List (FieldOf (Bor (List ℕ))))))
+
 -- a title as code has it
 abbrev pub Row : Type 0
 Row = ℕ × Option (Bor (List ℕ) × Behind)
 
-picked : (b : Bool) (o : Option (Bor (List ℕ) × Behind)) (k : ℕ) (ts : List Row) → option_map (viewed (λ x. x.now)) (find k ts) ≡ find k (said (λ x. x.now) ts) →
-    option_map (viewed (λ x. x.now)) (cond b o (find k ts)) ≡ cond b (option_map (viewed (λ x. x.now)) o) (find k (said (λ x. x.now) ts))
+-- and what it says
+abbrev name : Bor (List ℕ) × Behind → Name
+name n = viewed (λ x. x.now) (λ t. t.now) (λ r. r.now) n
+
+abbrev titles : List Row → List Title
+titles ts = said (λ x. x.now) (λ t. t.now) (λ r. r.now) ts
+
+picked : (b : Bool) (o : Option (Bor (List ℕ) × Behind)) (k : ℕ) (ts : List Row) → option_map name (find k ts) ≡ find k (titles ts) →
+    option_map name (cond b o (find k ts)) ≡ cond b (option_map name o) (find k (titles ts))
 picked true o k ts h = refl
 picked false o k ts h = h
 
-pub said_at : (k : ℕ) (ts : List Row) → option_map (viewed (λ x. x.now)) (find k ts) ≡ find k (said (λ x. x.now) ts)
+pub said_at : (k : ℕ) (ts : List Row) → option_map name (find k ts) ≡ find k (titles ts)
 said_at k [] = refl
 said_at k (t ∷ ts) = picked (t.0 == k) t.1 k ts (said_at k ts)
 
-pub list_at : (bs : List (Bor (List Row))) (n : ℕ) (d : Bor (List Row)) → n < length bs → said (λ x. x.now) (get_or bs n d).now ≡ get_or (map (λ b. said (λ x. x.now) b.now) bs) n []
-list_at bs n d l = sym (get_or-map (λ b. said (λ x. x.now) b.now) bs n d [] l)
+pub list_at : (bs : List (Bor (List Row))) (n : ℕ) (d : Bor (List Row)) → n < length bs → titles (get_or bs n d).now ≡ get_or (map (λ b. titles b.now) bs) n []
+list_at bs n d l = sym (get_or-map (λ b. titles b.now) bs n d [] l)
 
-pub list_past : (bs : List (Bor (List Row))) (n : ℕ) → length bs ≤ n → [] ≡ get_or (map (λ b. said (λ x. x.now) b.now) bs) n []
+pub list_past : (bs : List (Bor (List Row))) (n : ℕ) → length bs ≤ n → [] ≡ get_or (map (λ b. titles b.now) bs) n []
 list_past [] n l = refl
 list_past (b ∷ bs) zero l = absurd (omega arith)
 list_past (b ∷ bs) (suc n) l = list_past bs n (omega arith)

@@ -6,12 +6,12 @@ use Rattle.std.proofs.lemmas.Bool.{and_parts, eqb-true, leb-true, ltb-true, not-
 use Rattle.std.proofs.lemmas.Option.{same_Some}
 use Rattle.std.proofs.lemmas.Slice.Eq.{bytes_eq-Decides}
 use Rattle.attribute_checks.proofs.LookUps.{all_at}
-use Rattle.link_lines_texts.specs.Coverage.{all_titles, has_name, if_named, in_each, is_name, is_new, is_other, is_word, names_apart}
+use Rattle.link_lines_texts.specs.Coverage.{all_titles, has_line, has_name, if_named, in_each, is_name, is_new, is_other, is_word, names_apart}
 use Rattle.link_lines_texts.specs.Placed.{find}
-use Rattle.link_lines_texts.specs.Titles.{Name, Title, data_titles, message_titles, title_of, titles_of}
+use Rattle.link_lines_texts.specs.Titles.{Name, Title, data_titles, link_titles, nested_titles, title_of, titles_of}
 use Rattle.link_lines_texts.proofs.LineCuts.{IsWord, Starts, word_of}
 use Rattle.link_lines_texts.proofs.ListsTold.{NamesTold}
-use Rattle.link_lines_texts.proofs.Told.{all_are_apart, all_are_named}
+use Rattle.link_lines_texts.proofs.Told.{all_are_apart, all_are_named, all_on_lines}
 
 -- ---- what holds in each table
 
@@ -22,8 +22,10 @@ chosen f false x y h k = k
 in_table : (f : List Title → Bool) (m : ℕ) → f [] ≡ true → in_each f ≡ true → f (titles_of m) ≡ true
 unfolding titles_of
 in_table f m e h =
-    let parts = and_parts (list_all f message_titles) (list_all f data_titles) h in
-    chosen f (nat_lt m 20) (get_or message_titles m []) (get_or data_titles (m - 20) []) (all_at f message_titles m [] parts.0 e) (all_at f data_titles (m - 20) [] parts.1 e)
+    let parts = and_parts (list_all f nested_titles) (list_all f link_titles && list_all f data_titles) h in
+    let more = and_parts (list_all f link_titles) (list_all f data_titles) parts.1 in
+    chosen f (nat_lt m 15) (get_or nested_titles m []) (cond (nat_lt m 20) (get_or link_titles (m - 15) []) (get_or data_titles (m - 20) [])) (all_at f nested_titles m [] parts.0 e)
+    (chosen f (nat_lt m 20) (get_or link_titles (m - 15) []) (get_or data_titles (m - 20) []) (all_at f link_titles (m - 15) [] more.0 e) (all_at f data_titles (m - 20) [] more.1 e))
 
 -- ---- a name that is found
 
@@ -87,4 +89,4 @@ unfolding title_of
 one_name m k l t u e f same = apart_in k l t u (titles_of m) (in_table names_apart m refl all_are_apart) same e f
 
 pub names_told : (m : ℕ) → NamesTold m
-names_told m = record { word = λ k t l e. (named m k t e).0; upper = λ k t l e. (named m k t e).1; apart = λ k l t u i j. one_name m k l t u }
+names_told m = record { word = λ k t l e. (named m k t e).0; upper = λ k t l e. (named m k t e).1; line = λ k t e. found has_line m k t (in_table (all_titles has_line) m refl all_on_lines) e; apart = λ k l t u i j. one_name m k l t u }

@@ -5,14 +5,13 @@ use Rattle.attribute_checks.specs.declared.names.NameRow.{NameRow}
 use Rattle.attribute_checks.specs.Names.{held_by_name}
 use Rattle.attribute_tables_grammar.specs.Shapes.{Shape, exact, either, at_most, nonzero_byte, one_byte, truth_of_four, presence, text, raw, never, fixed_record, id_and_truth, resized}
 use Rattle.attribute_tables_grammar.specs.Tables.{Payload, Payload.plain, Payload.peer, Payload.list, Payload.link_info, Table, Table.end, Table.row, Names, Names.others, Names.name, lacks_name}
-use Rattle.link_lines_values.specs.declared.fields.Field.{Field}
 use Rattle.link_lines_values.specs.declared.fields.FieldShown.{FieldShown}
 use Rattle.link_lines_values.specs.declared.fields.FieldShown.TheVariants as F
-use Rattle.link_lines_values.specs.declared.values.Shown.{Shown}
-use Rattle.link_lines_values.specs.declared.values.Shown.TheVariants as V
-use Rattle.link_lines_values.specs.Records.{fields_of, total_size}
+use Rattle.link_lines_values.specs.declared.values.ShownBy.TheVariants as V
+use Rattle.link_lines_values.specs.Records.{Field, fields_tell, total_size}
+use Rattle.link_lines_values.specs.Values.{Shown}
 use Rattle.link_info_checks.specs.declared.rows.TheConstants.{KINDS, PORT_KINDS}
-use Rattle.link_lines_texts.specs.Titles.{Inside, Inside.Value, Inside.Nested, Name, Title, data_titles, message_titles, of_held, title_of, titles_of}
+use Rattle.link_lines_texts.specs.Titles.{Inside, Inside.Value, Inside.Nested, Name, Title, data_titles, is_inside_on_a_line, link_titles, nested_titles, of_held, title_of, titles_of}
 
 -- ---- shapes
 
@@ -72,11 +71,11 @@ is_no_truth v = true
 
 abbrev pub lacks_truths : List Field → Bool
 lacks_truths [] = true
-lacks_truths (f ∷ fs) = is_no_truth f.3 && lacks_truths fs
+lacks_truths (f ∷ fs) = is_no_truth f.2 && lacks_truths fs
 
 -- a number of 4 bytes and a truth of 4 bytes
 abbrev pub is_setting : List Field → Bool
-is_setting (f ∷ g ∷ []) = (f.2 == 4) && (is_no_truth f.3 && (g.2 == 4))
+is_setting (f ∷ g ∷ []) = (f.1 == 4) && (is_no_truth f.2 && (g.1 == 4))
 is_setting fs = false
 
 -- the shape's own payloads hold the fields, and zeros behind them
@@ -104,8 +103,8 @@ shape_tells s V.HardwareAddress = true
 shape_tells s V.Address = is_address s
 shape_tells s V.PortRange = is_sized (own_size s) (λ n. n == 4)
 shape_tells s V.FlagsAndMask = is_sized (own_size s) (λ n. n == 8)
-shape_tells s (V.Record held) = has_fields s (fields_of held)
-shape_tells s (V.SparseRecord held) = has_fields s (fields_of held)
+shape_tells s (V.Record fields) = fields_tell fields && has_fields s fields
+shape_tells s (V.SparseRecord fields) = fields_tell fields && has_fields s fields
 
 abbrev pub behind : Option Name → Option Inside
 behind None = None
@@ -124,7 +123,7 @@ all_titles f (t ∷ ts) = if_named f t && all_titles f ts
 
 -- in each table
 abbrev pub in_each : (List Title → Bool) → Bool
-in_each f = list_all f message_titles && list_all f data_titles
+in_each f = list_all f nested_titles && (list_all f link_titles && list_all f data_titles)
 
 -- upper case letters, digits and underscores, a letter first
 abbrev pub is_word : List ℕ → Bool
@@ -137,6 +136,10 @@ is_name (c ∷ s) = nat_le 65 c && (nat_lt c 97 && is_word s)
 
 abbrev pub has_name : ℕ → Name → Bool
 has_name k n = is_name n.0
+
+-- what is shown behind it stands on one line
+abbrev pub has_line : ℕ → Name → Bool
+has_line k n = is_inside_on_a_line n.1
 
 abbrev pub is_other : List ℕ → ℕ → Name → Bool
 is_other s k n = not (bytes_eq s n.0)

@@ -8,7 +8,7 @@ use Rattle.attribute_tables_grammar.specs.Tables.{Payload}
 use Rattle.link_capture_grammar.specs.Captures.{first_frame, IsLegal, texts}
 use Rattle.link_capture_grammar.specs.Same.{SameCapture}
 use Rattle.link_message_grammar.specs.LinkMessage.{unspec, bridge, inet_6, other, link_table}
-use Rattle.link_lines_texts.specs.Coverage.{all_titles, has_name, holds_shown, in_each, is_info_kind, names_apart}
+use Rattle.link_lines_texts.specs.Coverage.{all_titles, has_line, has_name, holds_shown, in_each, is_info_kind, names_apart}
 use Rattle.link_lines_texts.specs.Lists.{own_line, table_inside, next_in, list_lines, nested_lines, rest_lines}
 use Rattle.link_lines_texts.specs.Frames.{frame_lines}
 use Rattle.link_lines_texts.specs.Titles.{Inside.Nested, titles_of}
@@ -42,6 +42,7 @@ pub record RowsAreTold : Type 0 where
   pub inet6_told : holds_shown (Payload.list any (link_table inet_6)) (Some (Nested 17)) ≡ true
   pub other_told : holds_shown (Payload.list any (link_table other)) (Some (Nested 18)) ≡ true
   pub named : in_each (all_titles has_name) ≡ true
+  pub on_lines : in_each (all_titles has_line) ≡ true
   pub info_named : all_titles is_info_kind (titles_of 19) ≡ true
   pub apart : in_each names_apart ≡ true
 

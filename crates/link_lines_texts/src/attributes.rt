@@ -9,10 +9,10 @@ ghost use Rattle.link_lines_texts.specs.Lists.{inside_table, own_line, table_ins
 ghost use Rattle.link_lines_texts.specs.Views.{in_force, attribute_of};
 
 use crate::laws::lists_go_by_steps;
-use crate::titles::{Behind, DATA, LINK_INFO, title_of};
+use crate::titles::{Behind, BehindBy, DATA, LINK_INFO, title_of};
 use attribute_checks::{Held, held_by_name};
 use link_info_checks::{KINDS, PORT_KINDS};
-use link_lines_values::{Shown, push_bytes, push_four_digits, push_value};
+use link_lines_values::{ShownBy, push_bytes, push_four_digits, push_value};
 use netlink_packet_core::{NlaBuffer, skip_first};
 use netlink_packet_core_grammar::laws::{first_attributes_are_viewed, first_attributes_are_within};
 use netlink_packet_core_numbers::without_nul;
@@ -85,43 +85,47 @@ fn next_force<'a>(table: usize, force: InForce<'a>, attribute: Attribute<'a>) ->
 
 /// What data hold, as it stands behind a name.
 fn of_held(held: Held) -> Behind
-    ensures { inside_of result ≡ of_held held }
+    ensures { inside_of (λ b. b.now) (λ t. t.now) (λ r. r.now) result ≡ of_held held }
 {
     match held {
-        Held::List(form, table) => Behind::DataList(form, table),
-        Held::Plain(_) | Held::Peer | Held::LinkInfo => Behind::Value(Shown::Bytes),
+        Held::List(form, table) => BehindBy::DataList(form, table),
+        Held::Plain(_) | Held::Peer | Held::LinkInfo => BehindBy::Value(ShownBy::Bytes),
     }
 }
 
 /// What the data of a kind of link hold.
 #[tactic(auto, unfolding(crate::specs::Lists::data_inside))]
 fn data_behind(name: Option<&[u8]>) -> Behind
-    ensures { inside_of result ≡ data_inside (option_map (λ b. b.now) name.entry) }
+    ensures { inside_of (λ b. b.now) (λ t. t.now) (λ r. r.now) result
+        ≡ data_inside (option_map (λ b. b.now) name.entry) }
 {
     match name {
         Some(name) => of_held(held_by_name(&KINDS, name)),
-        None => Behind::Value(Shown::Bytes),
+        None => BehindBy::Value(ShownBy::Bytes),
     }
 }
 
 /// What the data of a kind of port hold.
 #[tactic(auto, unfolding(crate::specs::Lists::port_inside))]
 fn port_behind(name: Option<&[u8]>) -> Behind
-    ensures { inside_of result ≡ port_inside (option_map (λ b. b.now) name.entry) }
+    ensures { inside_of (λ b. b.now) (λ t. t.now) (λ r. r.now) result
+        ≡ port_inside (option_map (λ b. b.now) name.entry) }
 {
     match name {
         Some(name) => of_held(held_by_name(&PORT_KINDS, name)),
-        None => Behind::Value(Shown::Bytes),
+        None => BehindBy::Value(ShownBy::Bytes),
     }
 }
 
 /// What stands behind a name where names are in force.
 fn known_behind(force: InForce<'_>, behind: Behind) -> Behind
-    ensures { inside_of result ≡ known_inside (in_force force.entry.kind force.entry.port_kind) (inside_of behind) }
+    ensures { inside_of (λ b. b.now) (λ t. t.now) (λ r. r.now) result
+        ≡ known_inside (in_force force.entry.kind force.entry.port_kind)
+        (inside_of (λ b. b.now) (λ t. t.now) (λ r. r.now) behind.entry) }
 {
     match behind {
-        Behind::Data => data_behind(force.kind),
-        Behind::PortData => port_behind(force.port_kind),
+        BehindBy::Data => data_behind(force.kind),
+        BehindBy::PortData => port_behind(force.port_kind),
         _ => behind,
     }
 }
@@ -149,16 +153,17 @@ fn push_behind(
     payload: &[u8],
     out: &mut Vec<u8>,
 ) -> Result<Option<usize>, AllocError>
-    ensures ok { OnOk result (out.new.items ≡ out.old.items ++ inside_text (inside_of behind) payload.now) }
-    ensures table { IfOk result (λ table. table ≡ inside_table (inside_of behind)) }
+    ensures ok { OnOk result (out.new.items ≡ out.old.items
+        ++ inside_text (inside_of (λ b. b.now) (λ t. t.now) (λ r. r.now) behind.entry) payload.now) }
+    ensures table { IfOk result (λ table. table ≡ inside_table (inside_of (λ b. b.now) (λ t. t.now) (λ r. r.now) behind.entry)) }
 {
     match behind {
-        Behind::Value(shown) => push_value(shown, payload, out)?,
-        Behind::Peer => push_bytes(payload, out)?,
-        Behind::List(_, table) => return Ok(Some(usize::from(table))),
-        Behind::DataList(_, table) => return Ok(Some(DATA + usize::from(table))),
-        Behind::LinkInfo => return Ok(Some(LINK_INFO)),
-        Behind::Data | Behind::PortData => {}
+        BehindBy::Value(shown) => push_value(shown, payload, out)?,
+        BehindBy::Peer => push_bytes(payload, out)?,
+        BehindBy::List(_, table) => return Ok(Some(usize::from(table))),
+        BehindBy::DataList(_, table) => return Ok(Some(DATA + usize::from(table))),
+        BehindBy::LinkInfo => return Ok(Some(LINK_INFO)),
+        BehindBy::Data | BehindBy::PortData => {}
     }
     Ok(None)
 }

@@ -1,87 +1,55 @@
 //! The titles of link messages and of link info.
 
 use crate::list_titles;
-use crate::titles::Behind::{Data, LinkInfo, List, PortData, Value};
+use crate::titles::BehindBy::{Data, LinkInfo, List, PortData, Value};
 use crate::titles::Title;
 use attribute_checks::Form::{Any, OfKindOne, Ports};
-use link_lines_values::Numbers::{In6AddrGenMode, LinkMode, MctpPhysBinding, Plain, State};
-use link_lines_values::Record::{
-    Cacheinfo, Icmp6Stats, Ip6Stats, Ipv4Devconf, Ipv6Devconf, Map, Stats, Stats64, VfBroadcast,
-    VfLinkState, VfMac, VfRate, VfSetting, VfTxRate, VfVlan, VfVlanInfo,
-};
-use link_lines_values::Shown::{
+use link_lines_values::ShownBy::{
     Address, Bytes, Flags, HardwareAddress, Number, Record as Fields, Signed, SparseRecord, Text,
+};
+use link_lines_values::{
+    CACHEINFO, ICMP6_STATS, IN6_ADDR_GEN_MODE, IP6_STATS, IPV4_DEVCONF, IPV6_DEVCONF, LINK_MODE,
+    MAP, MCTP_PHYS_BINDING, PLAIN, STATE, STATS, STATS64, VF_BROADCAST, VF_LINK_STATE, VF_MAC,
+    VF_RATE, VF_SETTING, VF_TX_RATE, VF_VLAN, VF_VLAN_INFO,
 };
 use link_message_checks::{
     devlink_port, dpll_pin, inet, inet6, link_bridge, link_inet6, link_other, link_unspec, mctp,
     props, protocol_down_reason, specific, vf, vf_infos, vf_ports, vf_stats, vf_vlans, xdp,
 };
 
-/// The tables, by the number that the interpreter's `List` has, and last that of link info.
-pub const MESSAGE_TITLES: [&[Title]; 20] = [
-    &XDP,
-    &PROPS,
-    &PROTOCOL_DOWN_REASON,
-    &DEVLINK_PORT,
-    &DPLL_PIN,
-    &MCTP,
-    &INET,
-    &INET6,
-    &SPECIFIC,
-    &VF_STATS,
-    &VF_VLANS,
-    &VF,
-    &VF_INFOS,
-    &VF_PORTS,
-    &UNTYPED,
-    &LINK_UNSPEC,
-    &LINK_BRIDGE,
-    &LINK_INET6,
-    &LINK_OTHER,
-    &LINK_INFO,
+/// The tables of what attributes of links hold, by the number that the interpreter's `List` has.
+pub const NESTED_TITLES: [&[Title]; 15] = [
+    &xdp!(list_titles),
+    &props!(list_titles),
+    &protocol_down_reason!(list_titles),
+    &devlink_port!(list_titles),
+    &dpll_pin!(list_titles),
+    &mctp!(list_titles),
+    &inet!(list_titles),
+    &inet6!(list_titles),
+    &specific!(list_titles),
+    &vf_stats!(list_titles),
+    &vf_vlans!(list_titles),
+    &vf!(list_titles),
+    &vf_infos!(list_titles),
+    &vf_ports!(list_titles),
+    &[],
 ];
 
-const XDP: [Title; 8] = xdp!(list_titles);
+/// Links of no family.
+pub const UNSPEC_TITLES: &[Title] = &link_unspec!(list_titles);
 
-const PROPS: [Title; 1] = props!(list_titles);
+/// Links of bridges.
+pub const BRIDGE_TITLES: &[Title] = &link_bridge!(list_titles);
 
-const PROTOCOL_DOWN_REASON: [Title; 2] = protocol_down_reason!(list_titles);
+/// Links of IPv6.
+pub const INET6_TITLES: &[Title] = &link_inet6!(list_titles);
 
-const DEVLINK_PORT: [Title; 3] = devlink_port!(list_titles);
-
-const DPLL_PIN: [Title; 1] = dpll_pin!(list_titles);
-
-const MCTP: [Title; 2] = mctp!(list_titles);
-
-const INET: [Title; 1] = inet!(list_titles);
-
-const INET6: [Title; 9] = inet6!(list_titles);
-
-const SPECIFIC: [Title; 44] = specific!(list_titles);
-
-const VF_STATS: [Title; 9] = vf_stats!(list_titles);
-
-const VF_VLANS: [Title; 1] = vf_vlans!(list_titles);
-
-const VF: [Title; 13] = vf!(list_titles);
-
-const VF_INFOS: [Title; 1] = vf_infos!(list_titles);
-
-const VF_PORTS: [Title; 1] = vf_ports!(list_titles);
-
-const LINK_UNSPEC: [Title; 65] = link_unspec!(list_titles);
-
-const LINK_BRIDGE: [Title; 65] = link_bridge!(list_titles);
-
-const LINK_INET6: [Title; 65] = link_inet6!(list_titles);
-
-const LINK_OTHER: [Title; 65] = link_other!(list_titles);
-
-/// Attributes that are told by number.
-const UNTYPED: [Title; 0] = [];
+/// Links of every other family.
+pub const OTHER_TITLES: &[Title] = &link_other!(list_titles);
 
 /// IFLA_INFO_* (if_link.h).
-const LINK_INFO: [Title; 5] = [
+pub const INFO_TITLES: &[Title] = &[
     (1, Some((b"IFLA_INFO_KIND", Value(Text)))),
     (2, Some((b"IFLA_INFO_DATA", Data))),
     (3, Some((b"IFLA_INFO_XSTATS", Value(Bytes)))),

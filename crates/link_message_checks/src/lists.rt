@@ -6,13 +6,13 @@ macro_rules! xdp {
     ($write:ident) => {
         $write! {
             1, b"IFLA_XDP_FD", Exact(4), Signed;
-            2, b"IFLA_XDP_ATTACHED", Exact(1), Number(Plain);
-            3, b"IFLA_XDP_FLAGS", Exact(4), Number(Plain);
-            4, b"IFLA_XDP_PROG_ID", Exact(4), Number(Plain);
-            5, b"IFLA_XDP_DRV_PROG_ID", Exact(4), Number(Plain);
-            6, b"IFLA_XDP_SKB_PROG_ID", Exact(4), Number(Plain);
-            7, b"IFLA_XDP_HW_PROG_ID", Exact(4), Number(Plain);
-            8, b"IFLA_XDP_EXPECTED_FD", Exact(4), Number(Plain);
+            2, b"IFLA_XDP_ATTACHED", Exact(1), Number(PLAIN);
+            3, b"IFLA_XDP_FLAGS", Exact(4), Number(PLAIN);
+            4, b"IFLA_XDP_PROG_ID", Exact(4), Number(PLAIN);
+            5, b"IFLA_XDP_DRV_PROG_ID", Exact(4), Number(PLAIN);
+            6, b"IFLA_XDP_SKB_PROG_ID", Exact(4), Number(PLAIN);
+            7, b"IFLA_XDP_HW_PROG_ID", Exact(4), Number(PLAIN);
+            8, b"IFLA_XDP_EXPECTED_FD", Exact(4), Number(PLAIN);
         }
     };
 }
@@ -32,8 +32,8 @@ macro_rules! props {
 macro_rules! protocol_down_reason {
     ($write:ident) => {
         $write! {
-            1, b"IFLA_PROTO_DOWN_REASON_MASK", Exact(4), Number(Plain);
-            2, b"IFLA_PROTO_DOWN_REASON_VALUE", Exact(4), Number(Plain);
+            1, b"IFLA_PROTO_DOWN_REASON_MASK", Exact(4), Number(PLAIN);
+            2, b"IFLA_PROTO_DOWN_REASON_VALUE", Exact(4), Number(PLAIN);
         }
     };
 }
@@ -45,7 +45,7 @@ macro_rules! devlink_port {
         $write! {
             1, b"DEVLINK_ATTR_BUS_NAME", Text, Text;
             2, b"DEVLINK_ATTR_DEV_NAME", Text, Text;
-            3, b"DEVLINK_ATTR_PORT_INDEX", Exact(4), Number(Plain);
+            3, b"DEVLINK_ATTR_PORT_INDEX", Exact(4), Number(PLAIN);
         }
     };
 }
@@ -55,7 +55,7 @@ macro_rules! devlink_port {
 macro_rules! dpll_pin {
     ($write:ident) => {
         $write! {
-            1, b"DPLL_A_PIN_ID", Exact(4), Number(Plain);
+            1, b"DPLL_A_PIN_ID", Exact(4), Number(PLAIN);
         }
     };
 }
@@ -65,8 +65,8 @@ macro_rules! dpll_pin {
 macro_rules! mctp {
     ($write:ident) => {
         $write! {
-            1, b"IFLA_MCTP_NET", Exact(4), Number(Plain);
-            2, b"IFLA_MCTP_PHYS_BINDING", Exact(1), Number(MctpPhysBinding);
+            1, b"IFLA_MCTP_NET", Exact(4), Number(PLAIN);
+            2, b"IFLA_MCTP_PHYS_BINDING", Exact(1), Number(MCTP_PHYS_BINDING);
         }
     };
 }
@@ -76,7 +76,7 @@ macro_rules! mctp {
 macro_rules! inet {
     ($write:ident) => {
         $write! {
-            1, b"IFLA_INET_CONF", Resized(132), SparseRecord(Ipv4Devconf);
+            1, b"IFLA_INET_CONF", Resized(132), SparseRecord(IPV4_DEVCONF);
         }
     };
 }
@@ -87,14 +87,14 @@ macro_rules! inet6 {
     ($write:ident) => {
         $write! {
             1, b"IFLA_INET6_FLAGS", Exact(4), Flags;
-            2, b"IFLA_INET6_CONF", Resized(236), SparseRecord(Ipv6Devconf);
-            3, b"IFLA_INET6_STATS", Resized(304), SparseRecord(Ip6Stats);
+            2, b"IFLA_INET6_CONF", Resized(236), SparseRecord(IPV6_DEVCONF);
+            3, b"IFLA_INET6_STATS", Resized(304), SparseRecord(IP6_STATS);
             4;
-            5, b"IFLA_INET6_CACHEINFO", FixedRecord(16, 16), Fields(Cacheinfo);
-            6, b"IFLA_INET6_ICMP6STATS", Resized(56), SparseRecord(Icmp6Stats);
+            5, b"IFLA_INET6_CACHEINFO", FixedRecord(16, 16), Fields(CACHEINFO);
+            6, b"IFLA_INET6_ICMP6STATS", Resized(56), SparseRecord(ICMP6_STATS);
             7, b"IFLA_INET6_TOKEN", Exact(16), Address;
-            8, b"IFLA_INET6_ADDR_GEN_MODE", Exact(1), Number(In6AddrGenMode);
-            9, b"IFLA_INET6_RA_MTU", Exact(4), Number(Plain);
+            8, b"IFLA_INET6_ADDR_GEN_MODE", Exact(1), Number(IN6_ADDR_GEN_MODE);
+            9, b"IFLA_INET6_RA_MTU", Exact(4), Number(PLAIN);
         }
     };
 }
@@ -120,15 +120,15 @@ macro_rules! specific {
 macro_rules! vf_stats {
     ($write:ident) => {
         $write! {
-            0, b"IFLA_VF_STATS_RX_PACKETS", Exact(8), Number(Plain);
-            1, b"IFLA_VF_STATS_TX_PACKETS", Exact(8), Number(Plain);
-            2, b"IFLA_VF_STATS_RX_BYTES", Exact(8), Number(Plain);
-            3, b"IFLA_VF_STATS_TX_BYTES", Exact(8), Number(Plain);
-            4, b"IFLA_VF_STATS_BROADCAST", Exact(8), Number(Plain);
-            5, b"IFLA_VF_STATS_MULTICAST", Exact(8), Number(Plain);
+            0, b"IFLA_VF_STATS_RX_PACKETS", Exact(8), Number(PLAIN);
+            1, b"IFLA_VF_STATS_TX_PACKETS", Exact(8), Number(PLAIN);
+            2, b"IFLA_VF_STATS_RX_BYTES", Exact(8), Number(PLAIN);
+            3, b"IFLA_VF_STATS_TX_BYTES", Exact(8), Number(PLAIN);
+            4, b"IFLA_VF_STATS_BROADCAST", Exact(8), Number(PLAIN);
+            5, b"IFLA_VF_STATS_MULTICAST", Exact(8), Number(PLAIN);
             6;
-            7, b"IFLA_VF_STATS_RX_DROPPED", Exact(8), Number(Plain);
-            8, b"IFLA_VF_STATS_TX_DROPPED", Exact(8), Number(Plain);
+            7, b"IFLA_VF_STATS_RX_DROPPED", Exact(8), Number(PLAIN);
+            8, b"IFLA_VF_STATS_TX_DROPPED", Exact(8), Number(PLAIN);
         }
     };
 }
@@ -138,7 +138,7 @@ macro_rules! vf_stats {
 macro_rules! vf_vlans {
     ($write:ident) => {
         $write! {
-            1, b"IFLA_VF_VLAN_INFO", FixedRecord(14, 16), Fields(VfVlanInfo);
+            1, b"IFLA_VF_VLAN_INFO", FixedRecord(14, 16), Fields(VF_VLAN_INFO);
         }
     };
 }
@@ -148,18 +148,18 @@ macro_rules! vf_vlans {
 macro_rules! vf {
     ($write:ident) => {
         $write! {
-            1, b"IFLA_VF_MAC", FixedRecord(36, 36), Fields(VfMac);
-            2, b"IFLA_VF_VLAN", FixedRecord(12, 12), Fields(VfVlan);
-            3, b"IFLA_VF_TX_RATE", FixedRecord(8, 8), Fields(VfTxRate);
-            4, b"IFLA_VF_SPOOFCHK", IdAndTruth, Fields(VfSetting);
-            5, b"IFLA_VF_LINK_STATE", FixedRecord(8, 8), Fields(VfLinkState);
-            6, b"IFLA_VF_RATE", FixedRecord(12, 12), Fields(VfRate);
-            7, b"IFLA_VF_RSS_QUERY_EN", IdAndTruth, Fields(VfSetting);
+            1, b"IFLA_VF_MAC", FixedRecord(36, 36), Fields(VF_MAC);
+            2, b"IFLA_VF_VLAN", FixedRecord(12, 12), Fields(VF_VLAN);
+            3, b"IFLA_VF_TX_RATE", FixedRecord(8, 8), Fields(VF_TX_RATE);
+            4, b"IFLA_VF_SPOOFCHK", IdAndTruth, Fields(VF_SETTING);
+            5, b"IFLA_VF_LINK_STATE", FixedRecord(8, 8), Fields(VF_LINK_STATE);
+            6, b"IFLA_VF_RATE", FixedRecord(12, 12), Fields(VF_RATE);
+            7, b"IFLA_VF_RSS_QUERY_EN", IdAndTruth, Fields(VF_SETTING);
             8 -> b"IFLA_VF_STATS", List(Any, 9);
-            9, b"IFLA_VF_TRUST", IdAndTruth, Fields(VfSetting);
+            9, b"IFLA_VF_TRUST", IdAndTruth, Fields(VF_SETTING);
             10; 11;
             12 -> b"IFLA_VF_VLAN_LIST", List(Any, 10);
-            13, b"IFLA_VF_BROADCAST", FixedRecord(32, 32), Fields(VfBroadcast);
+            13, b"IFLA_VF_BROADCAST", FixedRecord(32, 32), Fields(VF_BROADCAST);
         }
     };
 }
@@ -192,66 +192,66 @@ macro_rules! link {
             1, b"IFLA_ADDRESS", Raw, HardwareAddress;
             2, b"IFLA_BROADCAST", Raw, HardwareAddress;
             3, b"IFLA_IFNAME", Text, Text;
-            4, b"IFLA_MTU", Exact(4), Number(Plain);
-            5, b"IFLA_LINK", Exact(4), Number(Plain);
+            4, b"IFLA_MTU", Exact(4), Number(PLAIN);
+            5, b"IFLA_LINK", Exact(4), Number(PLAIN);
             6, b"IFLA_QDISC", Text, Text;
-            7, b"IFLA_STATS", Resized(96), SparseRecord(Stats);
+            7, b"IFLA_STATS", Resized(96), SparseRecord(STATS);
             8; 9;
-            10, b"IFLA_MASTER", Exact(4), Number(Plain);
+            10, b"IFLA_MASTER", Exact(4), Number(PLAIN);
             11;
             $($protocol)*
-            13, b"IFLA_TXQLEN", Exact(4), Number(Plain);
-            14, b"IFLA_MAP", FixedRecord(28, 32), Fields(Map);
+            13, b"IFLA_TXQLEN", Exact(4), Number(PLAIN);
+            14, b"IFLA_MAP", FixedRecord(28, 32), Fields(MAP);
             15;
-            16, b"IFLA_OPERSTATE", Exact(1), Number(State);
-            17, b"IFLA_LINKMODE", Exact(1), Number(LinkMode);
+            16, b"IFLA_OPERSTATE", Exact(1), Number(STATE);
+            17, b"IFLA_LINKMODE", Exact(1), Number(LINK_MODE);
             18 -> b"IFLA_LINKINFO", LinkInfo;
-            19, b"IFLA_NET_NS_PID", Exact(4), Number(Plain);
+            19, b"IFLA_NET_NS_PID", Exact(4), Number(PLAIN);
             20, b"IFLA_IFALIAS", Text, Text;
-            21, b"IFLA_NUM_VF", Exact(4), Number(Plain);
+            21, b"IFLA_NUM_VF", Exact(4), Number(PLAIN);
             22 -> b"IFLA_VFINFO_LIST", List(OfKindOne, 12);
-            23, b"IFLA_STATS64", Resized(200), SparseRecord(Stats64);
+            23, b"IFLA_STATS64", Resized(200), SparseRecord(STATS64);
             24 -> b"IFLA_VF_PORTS", List(Ports, 13);
             25 -> b"IFLA_PORT_SELF", List(Any, 14);
             $($specific)*
-            27, b"IFLA_GROUP", Exact(4), Number(Plain);
+            27, b"IFLA_GROUP", Exact(4), Number(PLAIN);
             28, b"IFLA_NET_NS_FD", Exact(4), Signed;
             29, b"IFLA_EXT_MASK", Exact(4), Flags;
-            30, b"IFLA_PROMISCUITY", Exact(4), Number(Plain);
-            31, b"IFLA_NUM_TX_QUEUES", Exact(4), Number(Plain);
-            32, b"IFLA_NUM_RX_QUEUES", Exact(4), Number(Plain);
-            33, b"IFLA_CARRIER", Exact(1), Number(Plain);
+            30, b"IFLA_PROMISCUITY", Exact(4), Number(PLAIN);
+            31, b"IFLA_NUM_TX_QUEUES", Exact(4), Number(PLAIN);
+            32, b"IFLA_NUM_RX_QUEUES", Exact(4), Number(PLAIN);
+            33, b"IFLA_CARRIER", Exact(1), Number(PLAIN);
             34, b"IFLA_PHYS_PORT_ID", Raw, HardwareAddress;
-            35, b"IFLA_CARRIER_CHANGES", Exact(4), Number(Plain);
+            35, b"IFLA_CARRIER_CHANGES", Exact(4), Number(PLAIN);
             36, b"IFLA_PHYS_SWITCH_ID", Raw, HardwareAddress;
-            37, b"IFLA_LINK_NETNSID", Exact(4), Number(Plain);
+            37, b"IFLA_LINK_NETNSID", Exact(4), Number(PLAIN);
             38, b"IFLA_PHYS_PORT_NAME", Text, Text;
-            39, b"IFLA_PROTO_DOWN", Exact(1), Number(Plain);
-            40, b"IFLA_GSO_MAX_SEGS", Exact(4), Number(Plain);
-            41, b"IFLA_GSO_MAX_SIZE", Exact(4), Number(Plain);
+            39, b"IFLA_PROTO_DOWN", Exact(1), Number(PLAIN);
+            40, b"IFLA_GSO_MAX_SEGS", Exact(4), Number(PLAIN);
+            41, b"IFLA_GSO_MAX_SIZE", Exact(4), Number(PLAIN);
             42;
             43 -> b"IFLA_XDP", List(Any, 0);
-            44, b"IFLA_EVENT", Exact(4), Number(Plain);
-            45, b"IFLA_NEW_NETNSID", Exact(4), Number(Plain);
-            46, b"IFLA_IF_NETNSID", Exact(4), Number(Plain);
-            47, b"IFLA_CARRIER_UP_COUNT", Exact(4), Number(Plain);
-            48, b"IFLA_CARRIER_DOWN_COUNT", Exact(4), Number(Plain);
-            49, b"IFLA_NEW_IFINDEX", Exact(4), Number(Plain);
-            50, b"IFLA_MIN_MTU", Exact(4), Number(Plain);
-            51, b"IFLA_MAX_MTU", Exact(4), Number(Plain);
+            44, b"IFLA_EVENT", Exact(4), Number(PLAIN);
+            45, b"IFLA_NEW_NETNSID", Exact(4), Number(PLAIN);
+            46, b"IFLA_IF_NETNSID", Exact(4), Number(PLAIN);
+            47, b"IFLA_CARRIER_UP_COUNT", Exact(4), Number(PLAIN);
+            48, b"IFLA_CARRIER_DOWN_COUNT", Exact(4), Number(PLAIN);
+            49, b"IFLA_NEW_IFINDEX", Exact(4), Number(PLAIN);
+            50, b"IFLA_MIN_MTU", Exact(4), Number(PLAIN);
+            51, b"IFLA_MAX_MTU", Exact(4), Number(PLAIN);
             52 => b"IFLA_PROP_LIST", List(Any, 1);
             53;
             54, b"IFLA_PERM_ADDRESS", Raw, HardwareAddress;
             55 => b"IFLA_PROTO_DOWN_REASON", List(Any, 2);
             56, b"IFLA_PARENT_DEV_NAME", Text, Text;
             57, b"IFLA_PARENT_DEV_BUS_NAME", Text, Text;
-            58, b"IFLA_GRO_MAX_SIZE", Exact(4), Number(Plain);
-            59, b"IFLA_TSO_MAX_SIZE", Exact(4), Number(Plain);
-            60, b"IFLA_TSO_MAX_SEGS", Exact(4), Number(Plain);
-            61, b"IFLA_ALLMULTI", Exact(4), Number(Plain);
+            58, b"IFLA_GRO_MAX_SIZE", Exact(4), Number(PLAIN);
+            59, b"IFLA_TSO_MAX_SIZE", Exact(4), Number(PLAIN);
+            60, b"IFLA_TSO_MAX_SEGS", Exact(4), Number(PLAIN);
+            61, b"IFLA_ALLMULTI", Exact(4), Number(PLAIN);
             62 => b"IFLA_DEVLINK_PORT", List(Any, 3);
-            63, b"IFLA_GSO_IPV4_MAX_SIZE", Exact(4), Number(Plain);
-            64, b"IFLA_GRO_IPV4_MAX_SIZE", Exact(4), Number(Plain);
+            63, b"IFLA_GSO_IPV4_MAX_SIZE", Exact(4), Number(PLAIN);
+            64, b"IFLA_GRO_IPV4_MAX_SIZE", Exact(4), Number(PLAIN);
             65 => b"IFLA_DPLL_PIN", List(Any, 4);
         }
     };

@@ -8,4 +8,4 @@ use Rattle.link_lines_texts.proofs.titles.title_of.Goals as goal
 pub returns : goal.returns
 unfolding title_of
 returns c =
-    ap (option_map (viewed (λ x. x.now))) c.look_up.ensures ∙ said_at c.args.kind c.titles_of.result.now ∙ ap (find c.args.kind) c.titles_of.ensures.titles
+    ap (option_map (viewed (λ x. x.now) (λ t. t.now) (λ r. r.now))) c.look_up.ensures ∙ said_at c.args.kind c.titles_of.result.now ∙ ap (find c.args.kind) c.titles_of.ensures.titles

@@ -38,6 +38,7 @@ fn find_name(rows: &[NameRow], name: &[u8]) -> Held
 /// listed.
 pub fn held_by_name(rows: &[NameRow], name: &[u8]) -> Held
     requires { names_fit rows.now ≡ true }
+    ensures held { result ≡ held_by_name rows.now name.now }
     ensures rule { (p : Peer) (tables : ℕ → Table) (info : Payload)
         → payload_rule p (payload_of tables info result)
         ≡ rule_or_raw p (payload_at (names_of tables info rows.now) name.now) }

@@ -7,18 +7,18 @@ use Rattle.attribute_checks.specs.Rows.{build, are_dense, are_known}
 use Rattle.attribute_checks.proofs.LookUps.{all_at, built_at}
 use Rattle.attribute_checks.specs.Names.{names_of, names_known}
 use Rattle.link_info_grammar.specs.Families.{kinds, port_kinds}
-use Rattle.link_info_checks.specs.declared.rows.TheConstants.{AMT, BAREUDP, BATADV, GENEVE, GRE, GRE6, GTP, IPOIB, IPVLAN, IP_TUNNEL, IP6_TUNNEL, MACVLAN, MACVLAN_ADDRESS, MACSEC, NETKIT, PAIR, RMNET, VRF, WWAN, XFRM, VTI, VXLAN, UNTYPED, KINDS, PORT_KINDS}
+use Rattle.link_info_checks.specs.declared.rows.TheConstants.{AMT, BAREUDP, BATADV, GENEVE, GRE, GRE6, GTP, IPOIB, IPVLAN, IP_TUNNEL, IP6_TUNNEL, MACVLAN, MACVLAN_ADDRESS, MACSEC, NETKIT, VETH, RMNET, VRF, WWAN, XFRM, VTI, VXLAN, VXCAN, UNTYPED, KINDS, PORT_KINDS}
 use Rattle.link_info_checks.specs.Tables.{all_tables, table_of}
 
 -- the constant rows, in the order of the tables
 abbrev pub lists : List (List Row)
-lists = AMT ∷ BAREUDP ∷ BATADV ∷ GENEVE ∷ GRE ∷ GRE6 ∷ GTP ∷ IPOIB ∷ IPVLAN ∷ IP_TUNNEL ∷ IP6_TUNNEL ∷ MACVLAN ∷ MACVLAN_ADDRESS ∷ MACSEC ∷ NETKIT ∷ PAIR ∷ RMNET ∷ VRF ∷ WWAN ∷ XFRM ∷ VTI ∷ VXLAN ∷ UNTYPED ∷ []
+lists = AMT ∷ BAREUDP ∷ BATADV ∷ GENEVE ∷ GRE ∷ GRE6 ∷ GTP ∷ IPOIB ∷ IPVLAN ∷ IP_TUNNEL ∷ IP6_TUNNEL ∷ MACVLAN ∷ MACVLAN_ADDRESS ∷ MACSEC ∷ NETKIT ∷ VETH ∷ RMNET ∷ VRF ∷ WWAN ∷ XFRM ∷ VTI ∷ VXLAN ∷ VXCAN ∷ UNTYPED ∷ []
 
 pub dense : (t : ℕ) → are_dense (get_or lists t []) ≡ true
 dense t = all_at are_dense lists t [] refl refl
 
-pub known : (t : ℕ) → are_known 23 (get_or lists t []) ≡ true
-known t = all_at (are_known 23) lists t [] refl refl
+pub known : (t : ℕ) → are_known 24 (get_or lists t []) ≡ true
+known t = all_at (are_known 24) lists t [] refl refl
 
 pub built : (t : ℕ) → build table_of (plain raw) (get_or lists t []) ≡ table_of t
 unfolding table_of
@@ -36,8 +36,8 @@ pub port_kinds_built : names_of table_of (plain raw) PORT_KINDS ≡ port_kinds
 unfolding table_of
 port_kinds_built = refl
 
-pub kinds_known : names_known 23 KINDS ≡ true
+pub kinds_known : names_known 24 KINDS ≡ true
 kinds_known = refl
 
-pub port_kinds_known : names_known 23 PORT_KINDS ≡ true
+pub port_kinds_known : names_known 24 PORT_KINDS ≡ true
 port_kinds_known = refl

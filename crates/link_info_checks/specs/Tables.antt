@@ -10,7 +10,7 @@ use Rattle.link_info_checks.specs.declared.info.ListMeasure.{ListMeasure}
 abbrev pub all_tables : List Table
 all_tables =
     amt ∷ bareudp ∷ batadv ∷ geneve ∷ gre ∷ gre6 ∷ gtp ∷ ipoib ∷ ipvlan ∷ ip_tunnel (exact 2) ∷ ip_tunnel (exact 4) ∷ macvlan ∷ macvlan_address
-    ∷ macsec ∷ netkit ∷ pair ∷ rmnet ∷ vrf ∷ wwan ∷ xfrm ∷ vti ∷ vxlan ∷ untyped ∷ []
+    ∷ macsec ∷ netkit ∷ pair ∷ rmnet ∷ vrf ∷ wwan ∷ xfrm ∷ vti ∷ vxlan ∷ pair ∷ untyped ∷ []
 
 unfoldable pub table_of : ℕ → Table
 table_of n = get_or all_tables n end

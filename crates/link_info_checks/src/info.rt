@@ -27,7 +27,7 @@ pub(crate) struct InfoTables<'p, P>(pub &'p P);
 impl<P: PeerSet> TableSet for InfoTables<'_, P> {
     ghost tables = { table_of };
 
-    ghost count = { 23 };
+    ghost count = { 24 };
 
     ghost peer = { P.peer };
 

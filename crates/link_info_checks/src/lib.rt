@@ -3,6 +3,7 @@
 
 mod data;
 mod info;
+mod lists;
 mod rows;
 
 pub use attribute_checks::{BytesPeer, PeerSet, Ruled};
@@ -11,3 +12,4 @@ pub use info::{
     ListMeasure, check_list, check_list_with, measure_list, same_list, same_list_over,
     same_list_with, write_list,
 };
+pub use rows::{KINDS, PORT_KINDS};

@@ -14,7 +14,7 @@ use Rattle.link_capture_grammar.specs.Bodies.{Refusal, refused, empty_ports, unf
 use Rattle.link_capture_grammar.specs.Captures.{Judged, first_frame, next_texts, texts_after, texts_after_under, texts}
 use Rattle.link_capture_grammar.specs.Laws.{FramesAreJudged, FramesStandAlone, CapturesAreCounted, BodiesAreNormal, TextsTellMeanings}
 use Rattle.link_lines_values.specs.Flags.{named_flags}
-use Rattle.link_lines_texts.specs.Frames.{labelled, flag_set, type_text, header_line, body_lines, frame_lines}
+use Rattle.link_lines_texts.specs.Frames.{labelled, flag_names, type_text, header_line, body_lines, frame_lines}
 use Rattle.link_lines_texts.specs.Captures.{lines_after, text_lines}
 use Rattle.link_lines_texts.specs.Laws.{LinesTellMeanings, LinesTellTexts}
 use Rattle.link_lines_texts.specs.Telling.{IsOwnFrame, StartsFrame, FramesAreTold}
@@ -138,7 +138,7 @@ pub frame_has_lines : (f s : List ℕ) → frame_lines f ++ s ≡ [] → ⊥
 unfolding frame_lines header_line
 frame_has_lines f s e =
     let t = u16_at 4 f in
-    let flags = labelled (codes " flags ") (named_flags (flag_set t) (u16_at 6 f)) in
+    let flags = labelled (codes " flags ") (named_flags (flag_names t) (u16_at 6 f)) in
     let seq = labelled (codes " seq ") (decimal (u32_at 8 f)) in
     let port = labelled (codes " port ") (decimal (u32_at 12 f)) in
     header_some (type_text t) flags seq port (body_lines t (drop 16 f)) s e

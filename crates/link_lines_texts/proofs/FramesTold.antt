@@ -10,7 +10,7 @@ use Rattle.link_message_grammar.specs.Body.{attributes_rule, header_text, layer_
 use Rattle.link_message_grammar.specs.LinkMessage.{family_of}
 use Rattle.link_message_grammar.specs.Laws.{BodiesAreHeadersAndAttributes}
 use Rattle.link_capture_grammar.specs.Bodies.{error_text, done_text, refused, empty_ports, unfit, is_link_type, body_text, body_text_under, ruled_text}
-use Rattle.link_lines_values.specs.declared.values.Shown.TheVariants.{Signed, Bytes}
+use Rattle.link_lines_values.specs.declared.values.ShownBy.TheVariants.{Signed, Bytes}
 use Rattle.link_lines_values.specs.Bytes.{bytes_text}
 use Rattle.link_lines_values.specs.Values.{value_text}
 use Rattle.link_lines_values.specs.Laws.{BytesAreTold, DigitsAreTold, NumbersAreTold, ValuesStandOnALine}
@@ -41,7 +41,7 @@ bytes_line_told k v name (x ∷ p) (y ∷ q) s t a b i j e =
     let n = bytes_text (y ∷ q) in
     let named_alike = behind name (m ++ 10 ∷ []) s name (n ++ 10 ∷ []) t (ap (drop 2) e) in
     let shown = behind m (10 ∷ []) s n (10 ∷ []) t (append_cancel_left name ((m ++ 10 ∷ []) ++ s) ((n ++ 10 ∷ []) ++ t) named_alike) in
-    let r = cut_line m n s t (v.line Bytes (x ∷ p)) (v.line Bytes (y ∷ q)) shown in
+    let r = cut_line m n s t (v.line Bytes (x ∷ p) refl) (v.line Bytes (y ∷ q) refl) shown in
     (k.bytes (x ∷ p) (y ∷ q) a b r.0, r.1)
 
 abbrev rest_part : List ℕ → List ℕ
@@ -62,7 +62,7 @@ code_told n k v p q s t a b l m i j e =
     let y = value_text Signed (take 4 q) in
     let lines = sym (ap (λ z. z ++ s) (code_lines_are p l)) ∙ e ∙ ap (λ z. z ++ t) (code_lines_are q m) in
     let shown = behind x (10 ∷ rest_part p) s y (10 ∷ rest_part q) t (ap (drop 6) lines) in
-    let c = cut_line x y (rest_part p ++ s) (rest_part q ++ t) (v.line Signed (take 4 p)) (v.line Signed (take 4 q)) shown in
+    let c = cut_line x y (rest_part p ++ s) (rest_part q ++ t) (v.line Signed (take 4 p) refl) (v.line Signed (take 4 q) refl) shown in
     let r = bytes_line_told k v (codes "rest") (drop 4 p) (drop 4 q) s t (later_bytes 4 p a) (later_bytes 4 q b) i j c.1 in
     let code = n.signed (take 4 p) (take 4 q) (first_bytes 4 p a) (first_bytes 4 q b) (omega (arith, length-take 4 p)) (omega (arith, length-take 4 q)) c.0 in
     (joined 4 p q code r.0, r.1)

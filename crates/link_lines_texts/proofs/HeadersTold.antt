@@ -6,17 +6,12 @@ use Rattle.std.proofs.lemmas.Bool.{and_parts, eqb-true, ltb-true}
 use Rattle.std.proofs.lemmas.List.{append_cancel_left, length-drop, get_or-drop, drop-drop}
 use Rattle.netlink_packet_core_grammar.specs.Bytes.{AreBytes}
 use Rattle.netlink_packet_core_grammar.specs.Numbers.{u16_at, u32_at}
-use Rattle.link_lines_values.specs.declared.flags.FlagSet.{FlagSet}
-use Rattle.link_lines_values.specs.declared.number_texts.NumberText.{NumberText}
-use Rattle.link_lines_values.specs.declared.numbers.Numbers.{Numbers}
-use Rattle.link_lines_values.specs.declared.numbers.Numbers.TheVariants.{AddressFamily, LinkLayerType, MessageType}
-use Rattle.link_lines_values.specs.declared.flags.FlagSet.TheVariants.{Link}
 use Rattle.link_lines_values.specs.Digits.{hex_number}
-use Rattle.link_lines_values.specs.Flags.{listed, named_flags, nameless, names_of, names_set}
-use Rattle.link_lines_values.specs.Names.{bracketed, named_number, name_or_nothing, text_in, texts_of}
+use Rattle.link_lines_values.specs.Flags.{listed, named_flags, nameless, names_set}
+use Rattle.link_lines_values.specs.Names.{Text, bracketed, named_number, text_in}
 use Rattle.link_lines_values.specs.Laws.{DigitsAreTold, Ends}
 use Rattle.link_lines_texts.specs.Coverage.{is_word}
-use Rattle.link_lines_texts.specs.Frames.{flag_set, header_line, labelled, link_flags, link_header_line, link_numbers, or_number, type_text}
+use Rattle.link_lines_texts.specs.Frames.{address_families, flag_names, header_line, labelled, layer_types, link_flag_names, link_flags, link_header_line, link_numbers, message_types, or_number, type_text}
 use Rattle.link_lines_texts.specs.Telling.{StartsFrame}
 use Rattle.link_lines_texts.proofs.ByteParts.{later_bytes}
 use Rattle.link_lines_texts.proofs.LineCuts.{IsWord, behind, cut_word, word_of}
@@ -32,16 +27,16 @@ listed_ends [] rest s h = h
 listed_ends (name ∷ names) rest s h = omega arith
 
 -- a number is told, with its name or without
-number_told : DigitsAreTold → (numbers : Numbers) (m n : ℕ) (s t : List ℕ) → m < 2 ^ 64 → n < 2 ^ 64 → Ends s → Ends t → named_number numbers m ++ s ≡ named_number numbers n ++ t → (m ≡ n) × (s ≡ t)
-number_told d numbers m n s t p q k l e =
-    let name : ℕ → List ℕ = λ n. bracketed (name_or_nothing numbers n) in
+number_told : DigitsAreTold → (texts : List Text) (m n : ℕ) (s t : List ℕ) → m < 2 ^ 64 → n < 2 ^ 64 → Ends s → Ends t → named_number texts m ++ s ≡ named_number texts n ++ t → (m ≡ n) × (s ≡ t)
+number_told d texts m n s t p q k l e =
+    let name : ℕ → List ℕ = λ n. bracketed (text_in texts n) in
     let shown = behind (decimal m) (name m) s (decimal n) (name n) t e in
     let r = d.decimal_digits m n (name m ++ s) (name n ++ t) p q (bracket_ends _ s k) (bracket_ends _ t l) shown in
     (r.0, append_cancel_left (name m) s t (r.1 ∙ ap (λ n. name n ++ t) (sym r.0)))
 
-flags_told : DigitsAreTold → (set other : FlagSet) (m n : ℕ) (s t : List ℕ) → set ≡ other → m < 2 ^ 64 → n < 2 ^ 64 → Ends s → Ends t → named_flags set m ++ s ≡ named_flags other n ++ t → (m ≡ n) × (s ≡ t)
+flags_told : DigitsAreTold → (set other : List Text) (m n : ℕ) (s t : List ℕ) → set ≡ other → m < 2 ^ 64 → n < 2 ^ 64 → Ends s → Ends t → named_flags set m ++ s ≡ named_flags other n ++ t → (m ≡ n) × (s ≡ t)
 flags_told d set other m n s t same p q k l e =
-    let names : FlagSet → ℕ → List ℕ = λ f n. listed (names_set (names_of f) n) (nameless (names_of f) n) in
+    let names : List Text → ℕ → List ℕ = λ f n. listed (names_set f n) (nameless f n) in
     let shown = behind (hex_number m) (names set m) s (hex_number n) (names other n) t e in
     let r = d.hex_digits m n (names set m ++ s) (names other n ++ t) p q (listed_ends _ _ s k) (listed_ends _ _ t l) shown in
     let back : names other n ++ t ≡ names set m ++ t = ap (λ n. names other n ++ t) (sym r.0) ∙ ap (λ f. names f m ++ t) (sym same) in
@@ -50,29 +45,29 @@ flags_told d set other m n s t same p q k l e =
 -- ---- the names of types
 
 -- the number that has a name
-abbrev named : List NumberText → List ℕ → ℕ
+abbrev named : List Text → List ℕ → ℕ
 named [] name = 0
-named (r ∷ rs) name = cond (bytes_eq (take r.1 r.2) name) r.0 (named rs name)
+named (r ∷ rs) name = cond (bytes_eq r.1 name) r.0 (named rs name)
 
 -- no name, or a word that doesn't begin as `type` does and tells its number among all
-abbrev is_name : List NumberText → ℕ → List ℕ → Bool
+abbrev is_name : List Text → ℕ → List ℕ → Bool
 is_name all n [] = true
 is_name all n (c ∷ name) = nat_lt c 97 && (is_word (c ∷ name) && (named all (c ∷ name) == n))
 
-abbrev are_names : List NumberText → List NumberText → Bool
+abbrev are_names : List Text → List Text → Bool
 are_names all [] = true
-are_names all (r ∷ rs) = is_name all r.0 (take r.1 r.2) && are_names all rs
+are_names all (r ∷ rs) = is_name all r.0 r.1 && are_names all rs
 
-record TellsNumber (all : List NumberText) (n : ℕ) (c : ℕ) (name : List ℕ) : Type 0 where
+record TellsNumber (all : List Text) (n : ℕ) (c : ℕ) (name : List ℕ) : Type 0 where
   no_type : c < 97
   word : IsWord (c ∷ name)
   number : named all (c ∷ name) ≡ n
 
-abbrev IsName : List NumberText → ℕ → List ℕ → Type 0
+abbrev IsName : List Text → ℕ → List ℕ → Type 0
 IsName all n [] = ⊤
 IsName all n (c ∷ name) = TellsNumber all n c name
 
-is_a_name : (all : List NumberText) (n : ℕ) (name : List ℕ) → is_name all n name ≡ true → IsName all n name
+is_a_name : (all : List Text) (n : ℕ) (name : List ℕ) → is_name all n name ≡ true → IsName all n name
 is_a_name all n [] h = record {}
 is_a_name all n (c ∷ name) h =
     let p = and_parts (nat_lt c 97) (is_word (c ∷ name) && (named all (c ∷ name) == n)) h in
@@ -80,25 +75,25 @@ is_a_name all n (c ∷ name) h =
     record { no_type = ltb-true c 97 p.0; word = word_of (c ∷ name) q.0; number = eqb-true _ n q.1 }
 
 -- of a row with that number, or of the rows behind it
-picked : (all : List NumberText) (n : ℕ) (b : Bool) (a name : List ℕ) → (b ≡ true → IsName all n a) → IsName all n name → IsName all n (cond b a name)
+picked : (all : List Text) (n : ℕ) (b : Bool) (a name : List ℕ) → (b ≡ true → IsName all n a) → IsName all n name → IsName all n (cond b a name)
 picked all n true a name h k = h refl
 picked all n false a name h k = k
 
-text_is_name : (all rs : List NumberText) (n : ℕ) → are_names all rs ≡ true → IsName all n (text_in rs n)
+text_is_name : (all rs : List Text) (n : ℕ) → are_names all rs ≡ true → IsName all n (text_in rs n)
 text_is_name all [] n h = record {}
 text_is_name all (r ∷ rs) n h =
-    let p = and_parts (is_name all r.0 (take r.1 r.2)) (are_names all rs) h in
-    picked all n (n == r.0) (take r.1 r.2) (text_in rs n)
-    (λ e. subst (λ k. IsName all k (take r.1 r.2)) (sym (eqb-true n r.0 e)) (is_a_name all r.0 (take r.1 r.2) p.0)) (text_is_name all rs n p.1)
+    let p = and_parts (is_name all r.0 r.1) (are_names all rs) h in
+    picked all n (n == r.0) r.1 (text_in rs n)
+    (λ e. subst (λ k. IsName all k r.1) (sym (eqb-true n r.0 e)) (is_a_name all r.0 r.1 p.0)) (text_is_name all rs n p.1)
 
-type_names : are_names (texts_of MessageType) (texts_of MessageType) ≡ true
-unfolding texts_of
+type_names : are_names message_types message_types ≡ true
+unfolding message_types
 type_names = refl
 
 begins_otherwise : (c : ℕ) → c < 97 → 116 ≡ c → ⊥
 begins_otherwise c h e = omega arith
 
-type_by : DigitsAreTold → (all : List NumberText) (m n : ℕ) (x y s t : List ℕ) → IsName all m x → IsName all n y → m < 2 ^ 64 → n < 2 ^ 64 → Ends s → Ends t → or_number m x ++ s ≡ or_number n y ++ t → (m ≡ n) × (s ≡ t)
+type_by : DigitsAreTold → (all : List Text) (m n : ℕ) (x y s t : List ℕ) → IsName all m x → IsName all n y → m < 2 ^ 64 → n < 2 ^ 64 → Ends s → Ends t → or_number m x ++ s ≡ or_number n y ++ t → (m ≡ n) × (s ≡ t)
 type_by d all m n [] [] s t h k p q i j e = d.decimal_digits m n s t p q i j (ap (drop 5) e)
 type_by d all m n [] (c ∷ y) s t h k p q i j e = absurd (begins_otherwise c k.no_type (ap (λ l. get_or l 0 0) e))
 type_by d all m n (c ∷ x) [] s t h k p q i j e = absurd (begins_otherwise c h.no_type (sym (ap (λ l. get_or l 0 0) e)))
@@ -109,16 +104,16 @@ type_by d all m n (c ∷ x) (b ∷ y) s t h k p q i j e =
 type_told : DigitsAreTold → (m n : ℕ) (s t : List ℕ) → m < 2 ^ 64 → n < 2 ^ 64 → Ends s → Ends t → type_text m ++ s ≡ type_text n ++ t → (m ≡ n) × (s ≡ t)
 unfolding type_text
 type_told d m n s t =
-    let all = texts_of MessageType in
+    let all = message_types in
     type_by d all m n (text_in all m) (text_in all n) s t (text_is_name all all m type_names) (text_is_name all all n type_names)
 
-starts_by : (all : List NumberText) (n : ℕ) (x s : List ℕ) → IsName all n x → StartsFrame (or_number n x ++ s)
+starts_by : (all : List Text) (n : ℕ) (x s : List ℕ) → IsName all n x → StartsFrame (or_number n x ++ s)
 starts_by all n [] s h = omega arith
 starts_by all n (c ∷ x) s h = h.word.0
 
 pub type_starts : (n : ℕ) (s : List ℕ) → StartsFrame (type_text n ++ s)
 unfolding type_text
-type_starts n s = let all = texts_of MessageType in starts_by all n (text_in all n) s (text_is_name all all n type_names)
+type_starts n s = let all = message_types in starts_by all n (text_in all n) s (text_is_name all all n type_names)
 
 -- ---- numbers at places of bytes
 
@@ -207,7 +202,7 @@ abbrev number_part : List ℕ → List ℕ
 number_part f = labelled (codes " seq ") (decimal (u32_at 8 f)) ++ port_part f
 
 abbrev pub flags_part : List ℕ → List ℕ
-flags_part f = labelled (codes " flags ") (named_flags (flag_set (u16_at 4 f)) (u16_at 6 f)) ++ number_part f
+flags_part f = labelled (codes " flags ") (named_flags (flag_names (u16_at 4 f)) (u16_at 6 f)) ++ number_part f
 
 header_is : (f : List ℕ) → header_line f ≡ type_text (u16_at 4 f) ++ flags_part f
 unfolding header_line
@@ -229,9 +224,9 @@ module _ (d : DigitsAreTold) (f g : List ℕ) (a : AreBytes f) (b : AreBytes g) 
 
   header_flags_told : (s t : List ℕ) → u16_at 4 f ≡ u16_at 4 g → flags_part f ++ s ≡ flags_part g ++ t → (u16_at 6 f ≡ u16_at 6 g) × (number_part f ++ s ≡ number_part g ++ t)
   header_flags_told s t k e =
-      let m = named_flags (flag_set (u16_at 4 f)) (u16_at 6 f) in
-      let n = named_flags (flag_set (u16_at 4 g)) (u16_at 6 g) in
-      flags_told d _ _ _ _ (number_part f ++ s) (number_part g ++ t) (ap flag_set k) (u16_small 6 f a) (u16_small 6 g b) (omega arith) (omega arith)
+      let m = named_flags (flag_names (u16_at 4 f)) (u16_at 6 f) in
+      let n = named_flags (flag_names (u16_at 4 g)) (u16_at 6 g) in
+      flags_told d _ _ _ _ (number_part f ++ s) (number_part g ++ t) (ap flag_names k) (u16_small 6 f a) (u16_small 6 g b) (omega arith) (omega arith)
       (behind m (number_part f) s n (number_part g) t (ap (drop 7) e))
 
   header_type_told : (s t : List ℕ) → header_line f ++ s ≡ header_line g ++ t → (u16_at 4 f ≡ u16_at 4 g) × (flags_part f ++ s ≡ flags_part g ++ t)
@@ -265,34 +260,34 @@ abbrev index_part : List ℕ → List ℕ
 index_part b = labelled (codes " index ") (decimal (u32_at 4 b))
 
 abbrev layer_part : List ℕ → List ℕ
-layer_part b = labelled (codes " type ") (named_number LinkLayerType (u16_at 2 b)) ++ index_part b
+layer_part b = labelled (codes " type ") (named_number layer_types (u16_at 2 b)) ++ index_part b
 
 abbrev change_part : List ℕ → List ℕ
-change_part b = labelled (codes " change ") (named_flags Link (u32_at 12 b)) ++ 10 ∷ []
+change_part b = labelled (codes " change ") (named_flags link_flag_names (u32_at 12 b)) ++ 10 ∷ []
 
-numbers_are : (b : List ℕ) → link_numbers b ≡ labelled (codes "  ifinfomsg family ") (named_number AddressFamily (slice_index b 0)) ++ layer_part b
+numbers_are : (b : List ℕ) → link_numbers b ≡ labelled (codes "  ifinfomsg family ") (named_number address_families (slice_index b 0)) ++ layer_part b
 unfolding link_numbers
 numbers_are b = refl
 
-flags_are : (b : List ℕ) → link_flags b ≡ labelled (codes " flags ") (named_flags Link (u32_at 8 b)) ++ change_part b
+flags_are : (b : List ℕ) → link_flags b ≡ labelled (codes " flags ") (named_flags link_flag_names (u32_at 8 b)) ++ change_part b
 unfolding link_flags
 flags_are b = refl
 
 module _ (d : DigitsAreTold) (p q : List ℕ) (a : AreBytes p) (b : AreBytes q) where
   change_told : (s t : List ℕ) → change_part p ++ s ≡ change_part q ++ t → (u32_at 12 p ≡ u32_at 12 q) × (s ≡ t)
   change_told s t e =
-      let m = named_flags Link (u32_at 12 p) in
-      let n = named_flags Link (u32_at 12 q) in
+      let m = named_flags link_flag_names (u32_at 12 p) in
+      let n = named_flags link_flag_names (u32_at 12 q) in
       let shown : m ++ 10 ∷ s ≡ n ++ 10 ∷ t = behind m (10 ∷ []) s n (10 ∷ []) t (ap (drop 8) e) in
-      let r = flags_told d Link Link _ _ (10 ∷ s) (10 ∷ t) refl (u32_small 12 p a) (u32_small 12 q b) (omega arith) (omega arith) shown in
+      let r = flags_told d link_flag_names link_flag_names _ _ (10 ∷ s) (10 ∷ t) refl (u32_small 12 p a) (u32_small 12 q b) (omega arith) (omega arith) shown in
       (r.0, ap (drop 1) r.1)
 
   link_flags_told : (s t : List ℕ) → link_flags p ++ s ≡ link_flags q ++ t → (u32_at 8 p ≡ u32_at 8 q) × (change_part p ++ s ≡ change_part q ++ t)
   link_flags_told s t e =
-      let m = named_flags Link (u32_at 8 p) in
-      let n = named_flags Link (u32_at 8 q) in
+      let m = named_flags link_flag_names (u32_at 8 p) in
+      let n = named_flags link_flag_names (u32_at 8 q) in
       let lines = sym (ap (λ z. z ++ s) (flags_are p)) ∙ e ∙ ap (λ z. z ++ t) (flags_are q) in
-      flags_told d Link Link _ _ (change_part p ++ s) (change_part q ++ t) refl (u32_small 8 p a) (u32_small 8 q b) (omega arith) (omega arith)
+      flags_told d link_flag_names link_flag_names _ _ (change_part p ++ s) (change_part q ++ t) refl (u32_small 8 p a) (u32_small 8 q b) (omega arith) (omega arith)
       (behind m (change_part p) s n (change_part q) t (ap (drop 7) lines))
 
   index_told : (s t : List ℕ) → Ends s → Ends t → index_part p ++ s ≡ index_part q ++ t → (u32_at 4 p ≡ u32_at 4 q) × (s ≡ t)
@@ -300,17 +295,17 @@ module _ (d : DigitsAreTold) (p q : List ℕ) (a : AreBytes p) (b : AreBytes q) 
 
   layer_told : (s t : List ℕ) → layer_part p ++ s ≡ layer_part q ++ t → (u16_at 2 p ≡ u16_at 2 q) × (index_part p ++ s ≡ index_part q ++ t)
   layer_told s t e =
-      let m = named_number LinkLayerType (u16_at 2 p) in
-      let n = named_number LinkLayerType (u16_at 2 q) in
-      number_told d LinkLayerType _ _ (index_part p ++ s) (index_part q ++ t) (u16_small 2 p a) (u16_small 2 q b) (omega arith) (omega arith)
+      let m = named_number layer_types (u16_at 2 p) in
+      let n = named_number layer_types (u16_at 2 q) in
+      number_told d layer_types _ _ (index_part p ++ s) (index_part q ++ t) (u16_small 2 p a) (u16_small 2 q b) (omega arith) (omega arith)
       (behind m (index_part p) s n (index_part q) t (ap (drop 6) e))
 
   family_told : (s t : List ℕ) → link_numbers p ++ s ≡ link_numbers q ++ t → (slice_index p 0 ≡ slice_index q 0) × (layer_part p ++ s ≡ layer_part q ++ t)
   family_told s t e =
-      let m = named_number AddressFamily (slice_index p 0) in
-      let n = named_number AddressFamily (slice_index q 0) in
+      let m = named_number address_families (slice_index p 0) in
+      let n = named_number address_families (slice_index q 0) in
       let lines = sym (ap (λ z. z ++ s) (numbers_are p)) ∙ e ∙ ap (λ z. z ++ t) (numbers_are q) in
-      number_told d AddressFamily _ _ (layer_part p ++ s) (layer_part q ++ t)
+      number_told d address_families _ _ (layer_part p ++ s) (layer_part q ++ t)
       (omega (arith, byte_at p 0 a)) (omega (arith, byte_at q 0 b)) (omega arith) (omega arith)
       (behind m (layer_part p) s n (layer_part q) t (ap (drop 19) lines))
 

@@ -1,4 +1,3 @@
-pub mod Bisection
 pub mod ByteParts
 pub mod CanonicalLists
 pub mod CapturesTold
@@ -10,8 +9,8 @@ pub mod LineCuts
 pub mod LinksTold
 pub mod ListSteps
 pub mod ListsTold
+pub mod Places
 pub mod RowFacts
-pub mod RowRanges
 pub mod ShapesTold
 pub mod SomeLines
 pub mod TablesTold

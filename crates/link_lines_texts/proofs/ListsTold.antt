@@ -6,20 +6,22 @@ use Rattle.std.proofs.lemmas.Option.{same_Some}
 use Rattle.netlink_packet_core_grammar.specs.Attributes.{Attribute, first_attribute, list_text, proper_kind}
 use Rattle.netlink_packet_core_grammar.specs.Bytes.{AreBytes}
 use Rattle.netlink_packet_core_grammar.specs.Laws.{TextIsCut, WrittenIsFirst}
+use Rattle.attribute_checks.specs.declared.names.NameRow.{NameRow}
+use Rattle.attribute_checks.specs.declared.rows.Held.{Held}
+use Rattle.attribute_checks.specs.declared.rows.Held.TheVariants.{List as HeldList}
+use Rattle.attribute_checks.specs.Names.{held_by_name}
 use Rattle.attribute_tables_grammar.specs.Rules.{Rule}
+use Rattle.link_info_checks.specs.declared.rows.TheConstants.{KINDS, PORT_KINDS}
 use Rattle.attribute_tables_grammar.specs.Lists.{Context, Grammar, ListForm, Row, list_rule, nothing, row_of, written_kind}
 use Rattle.link_lines_values.specs.Bytes.{bytes_text}
 use Rattle.link_lines_values.specs.Digits.{four_digits}
 use Rattle.link_lines_values.specs.Laws.{BytesAreTold, Ends, IsLine, IsBehindASpace, ValuesStandOnALine}
 use Rattle.link_lines_values.specs.Values.{value_text}
-use Rattle.link_lines_values.specs.declared.values.Shown.TheVariants.{Bytes}
-use Rattle.link_lines_texts.specs.declared.rows.Inside.{Inside}
-use Rattle.link_lines_texts.specs.declared.rows.Inside.TheVariants.{Value, List as Nested, Data, PortData}
-use Rattle.link_lines_texts.specs.declared.rows.Title.{Title}
+use Rattle.link_lines_values.specs.declared.values.ShownBy.TheVariants.{Bytes}
 use Rattle.link_lines_texts.specs.Laws.{ListsGoBySteps}
-use Rattle.link_lines_texts.specs.Lists.{indent, inside_table, inside_text, known_inside, list_lines, nested_lines, next_in, own_line, rest_lines, table_inside, titled_table, titled_text}
+use Rattle.link_lines_texts.specs.Lists.{data_inside, indent, inside_table, inside_text, known_inside, list_lines, nested_lines, next_in, of_name, own_line, port_inside, rest_lines, table_inside, titled_table, titled_text}
 use Rattle.link_lines_texts.specs.Telling.{IsOwn, IsShallow}
-use Rattle.link_lines_texts.specs.Titles.{title_of, title_name}
+use Rattle.link_lines_texts.specs.Titles.{Inside, Inside.Value, Inside.Nested, Inside.Data, Inside.PortData, Name, is_inside_on_a_line, of_held, title_of}
 use Rattle.link_lines_texts.proofs.CanonicalLists.{AllOwn, OwnAttribute, own_list}
 use Rattle.link_lines_texts.proofs.LineCuts.{IsWord, Starts, cut_line, cut_word, line_shallow, lines_joined, shallower, starts_joined, word_line}
 
@@ -32,15 +34,16 @@ InsideTold r i = (level : ℕ) (p q s t : List ℕ) → IsOwn r p → IsOwn r q 
 abbrev pub NestedTold : Rule → ℕ → Type 0
 NestedTold r m = (level : ℕ) (p q s t : List ℕ) → IsOwn r p → IsOwn r q → IsShallow level s → IsShallow level t → list_lines level m p ++ s ≡ list_lines level m q ++ t → (p ≡ q) × (s ≡ t)
 
--- the names of a table are words, an upper case letter first, and no two are equal
+-- the names of a table are words, an upper case letter first, what stands behind them is on their line, and no two are equal
 pub record NamesTold (m : ℕ) : Type 0 where
-  pub word : (k : ℕ) (t : Title) → k < 65536 → title_of m k ≡ Some t → IsWord (title_name t)
-  pub upper : (k : ℕ) (t : Title) → k < 65536 → title_of m k ≡ Some t → Starts (title_name t) × (get_or (title_name t) 0 0 < 97)
-  pub apart : (k l : ℕ) (t u : Title) → k < 65536 → l < 65536 → title_of m k ≡ Some t → title_of m l ≡ Some u → title_name t ≡ title_name u → k ≡ l
+  pub word : (k : ℕ) (t : Name) → k < 65536 → title_of m k ≡ Some t → IsWord t.0
+  pub upper : (k : ℕ) (t : Name) → k < 65536 → title_of m k ≡ Some t → Starts t.0 × (get_or t.0 0 0 < 97)
+  pub line : (k : ℕ) (t : Name) → title_of m k ≡ Some t → is_inside_on_a_line t.1 ≡ true
+  pub apart : (k l : ℕ) (t u : Name) → k < 65536 → l < 65536 → title_of m k ≡ Some t → title_of m l ≡ Some u → t.0 ≡ u.0 → k ≡ l
 
 -- where a row has a name, what stands behind it tells what the row holds
 pub record RowsTold (g : Grammar) (m : ℕ) : Type 0 where
-  pub titled : (c : Context) (k : ℕ) (t : Title) → k < 65536 → title_of m k ≡ Some t → ((g.row c k).is_typed ≡ true) × InsideTold (g.row c k).rule (known_inside c t.4)
+  pub titled : (c : Context) (k : ℕ) (t : Name) → k < 65536 → title_of m k ≡ Some t → ((g.row c k).is_typed ≡ true) × InsideTold (g.row c k).rule (known_inside c t.1)
   pub next : (c : Context) (e : Attribute) → g.next c e ≡ next_in m c e
 
 -- ---- lines by attributes
@@ -62,12 +65,28 @@ by_attributes steps first level m c (e ∷ es) =
 
 -- ---- one line
 
+held_line : (h : Held) → is_inside_on_a_line (of_held h) ≡ true
+held_line (HeldList form table) = refl
+held_line h = refl
+
+name_line : (o : Option (List ℕ)) (kinds : List NameRow) → is_inside_on_a_line (of_name o kinds) ≡ true
+name_line None kinds = refl
+name_line (Some n) kinds = held_line (held_by_name kinds n)
+
+-- what names in force tell stands on a line
+known_line : (c : Context) (i : Inside) → is_inside_on_a_line i ≡ true → is_inside_on_a_line (known_inside c i) ≡ true
+unfolding data_inside port_inside
+known_line c (Value v) h = h
+known_line c (Nested n) h = h
+known_line c Data h = name_line c.kind KINDS
+known_line c PortData h = name_line c.port_kind PORT_KINDS
+
 module _ (values : ValuesStandOnALine) where
-  inside_line : (i : Inside) (p : List ℕ) → IsLine (inside_text i p)
-  inside_line (Value v) p = values.line v p
-  inside_line (Nested n) p = record {}
-  inside_line Data p = record {}
-  inside_line PortData p = record {}
+  inside_line : (i : Inside) (p : List ℕ) → is_inside_on_a_line i ≡ true → IsLine (inside_text i p)
+  inside_line (Value v) p h = values.line v p h
+  inside_line (Nested n) p h = record {}
+  inside_line Data p h = record {}
+  inside_line PortData p h = record {}
 
   space_ends : (s : List ℕ) → IsBehindASpace s → Ends s
   space_ends [] h = record {}
@@ -88,16 +107,16 @@ module _ (values : ValuesStandOnALine) where
 
   kind_line : (e : Attribute) → IsLine (codes "kind " ++ (four_digits e.kind ++ bytes_text e.payload))
   kind_line e =
-      let rest : IsLine (four_digits e.kind ++ bytes_text e.payload) = lines_joined (four_digits e.kind) (bytes_text e.payload) (digits_line e.kind) (values.line Bytes e.payload) in
+      let rest : IsLine (four_digits e.kind ++ bytes_text e.payload) = lines_joined (four_digits e.kind) (bytes_text e.payload) (digits_line e.kind) (values.line Bytes e.payload refl) in
       (omega arith, (omega arith, (omega arith, (omega arith, (omega arith, rest)))))
 
-  titled_line : (m : ℕ) (names : NamesTold m) (c : Context) (k : ℕ) (o : Option Title) (e : Attribute) → k < 65536 → title_of m k ≡ o → IsLine (titled_text c o e)
+  titled_line : (m : ℕ) (names : NamesTold m) (c : Context) (k : ℕ) (o : Option Name) (e : Attribute) → k < 65536 → title_of m k ≡ o → IsLine (titled_text c o e)
   titled_line m names c k None e l h = kind_line e
-  titled_line m names c k (Some t) e l h = lines_joined (title_name t) (inside_text (known_inside c t.4) e.payload) (word_line (title_name t) (names.word k t l h)) (inside_line (known_inside c t.4) e.payload)
+  titled_line m names c k (Some t) e l h = lines_joined t.0 (inside_text (known_inside c t.1) e.payload) (word_line t.0 (names.word k t l h)) (inside_line (known_inside c t.1) e.payload (known_line c t.1 (names.line k t h)))
 
-titled_starts : (m : ℕ) (names : NamesTold m) (c : Context) (k : ℕ) (o : Option Title) (e : Attribute) → k < 65536 → title_of m k ≡ o → Starts (titled_text c o e)
+titled_starts : (m : ℕ) (names : NamesTold m) (c : Context) (k : ℕ) (o : Option Name) (e : Attribute) → k < 65536 → title_of m k ≡ o → Starts (titled_text c o e)
 titled_starts m names c k None e l h = omega arith
-titled_starts m names c k (Some t) e l h = starts_joined (title_name t) (inside_text (known_inside c t.4) e.payload) (names.upper k t l h).0
+titled_starts m names c k (Some t) e l h = starts_joined t.0 (inside_text (known_inside c t.1) e.payload) (names.upper k t l h).0
 
 small_kind : (k : ℕ) → proper_kind k < 65536
 small_kind k = omega arith
@@ -164,34 +183,34 @@ module _ (values : ValuesStandOnALine) (bytes : BytesAreTold) (g : Grammar) (m :
       sym o.kind ∙ written_typed (row_of g c e) e.kind typed ∙ ap (λ n. n + cond (g.row c n).is_nested 0x8000 0) k
       ∙ sym (written_typed (row_of g c f) f.kind (ap (λ n. (g.row c n).is_typed) (sym k) ∙ typed)) ∙ u.kind
 
-  titled_told : (level : ℕ) (c : Context) (e f : Attribute) (x y : List ℕ) (t u : Title) → title_of m (proper_kind e.kind) ≡ Some t → title_of m (proper_kind f.kind) ≡ Some u →
+  titled_told : (level : ℕ) (c : Context) (e f : Attribute) (x y : List ℕ) (t u : Name) → title_of m (proper_kind e.kind) ≡ Some t → title_of m (proper_kind f.kind) ≡ Some u →
       OwnAttribute (row_of g c e) e → OwnAttribute (row_of g c f) f → IsShallow level x → IsShallow level y → titled_text c (Some t) e ≡ titled_text c (Some u) f →
       nested_lines level (titled_table c (Some t)) e.payload ++ x ≡ nested_lines level (titled_table c (Some u)) f.payload ++ y → (e ≡ f) × (x ≡ y)
   titled_told level c e f x y t u h i o v sx sy same below =
       let k = proper_kind e.kind in
       let l = proper_kind f.kind in
-      let cut = cut_word (title_name t) (title_name u) (inside_text (known_inside c t.4) e.payload) (inside_text (known_inside c u.4) f.payload) (names.word k t (small_kind e.kind) h) (names.word l u (small_kind f.kind) i)
-      (inside_ends values (known_inside c t.4) e.payload) (inside_ends values (known_inside c u.4) f.payload) same in
+      let cut = cut_word t.0 u.0 (inside_text (known_inside c t.1) e.payload) (inside_text (known_inside c u.1) f.payload) (names.word k t (small_kind e.kind) h) (names.word l u (small_kind f.kind) i)
+      (inside_ends values (known_inside c t.1) e.payload) (inside_ends values (known_inside c u.1) f.payload) same in
       let kinds : k ≡ l = names.apart k l t u (small_kind e.kind) (small_kind f.kind) h i cut.0 in
       let one : t ≡ u = same_Some t u (sym h ∙ ap (title_of m) kinds ∙ i) in
       let told = rows.titled c k t (small_kind e.kind) h in
       let own_f : IsOwn (g.row c k).rule f.payload = subst (λ n. IsOwn (g.row c n).rule f.payload) (sym kinds) v.payload in
-      let text : inside_text (known_inside c t.4) e.payload ≡ inside_text (known_inside c t.4) f.payload = cut.1 ∙ ap (λ w. inside_text (known_inside c w.4) f.payload) (sym one) in
-      let lines : nested_lines level (inside_table (known_inside c t.4)) e.payload ++ x ≡ nested_lines level (inside_table (known_inside c t.4)) f.payload ++ y =
-      below ∙ ap (λ w. nested_lines level (inside_table (known_inside c w.4)) f.payload ++ y) (sym one) in
+      let text : inside_text (known_inside c t.1) e.payload ≡ inside_text (known_inside c t.1) f.payload = cut.1 ∙ ap (λ w. inside_text (known_inside c w.1) f.payload) (sym one) in
+      let lines : nested_lines level (inside_table (known_inside c t.1)) e.payload ++ x ≡ nested_lines level (inside_table (known_inside c t.1)) f.payload ++ y =
+      below ∙ ap (λ w. nested_lines level (inside_table (known_inside c w.1)) f.payload ++ y) (sym one) in
       let r = told.1 level e.payload f.payload x y o.payload own_f sx sy text lines in
       (same_attribute e f (same_kinds c e f told.0 o v kinds) r.0, r.1)
 
-  either_told : (level : ℕ) (c : Context) (e f : Attribute) (x y : List ℕ) (a b : Option Title) → title_of m (proper_kind e.kind) ≡ a → title_of m (proper_kind f.kind) ≡ b →
+  either_told : (level : ℕ) (c : Context) (e f : Attribute) (x y : List ℕ) (a b : Option Name) → title_of m (proper_kind e.kind) ≡ a → title_of m (proper_kind f.kind) ≡ b →
       OwnAttribute (row_of g c e) e → OwnAttribute (row_of g c f) f → IsShallow level x → IsShallow level y → titled_text c a e ≡ titled_text c b f →
       nested_lines level (titled_table c a) e.payload ++ x ≡ nested_lines level (titled_table c b) f.payload ++ y → (e ≡ f) × (x ≡ y)
   either_told level c e f x y None None h i o v sx sy same below = (untitled_told bytes e f o.small v.small o.payload.bytes v.payload.bytes same, below)
   either_told level c e f x y None (Some u) h i o v sx sy same below =
       let upper = names.upper (proper_kind f.kind) u (small_kind f.kind) i in
-      absurd (not_untitled (title_name u) (inside_text (known_inside c u.4) f.payload) _ upper.0 upper.1 (sym same))
+      absurd (not_untitled u.0 (inside_text (known_inside c u.1) f.payload) _ upper.0 upper.1 (sym same))
   either_told level c e f x y (Some t) None h i o v sx sy same below =
       let upper = names.upper (proper_kind e.kind) t (small_kind e.kind) h in
-      absurd (not_untitled (title_name t) (inside_text (known_inside c t.4) e.payload) _ upper.0 upper.1 same)
+      absurd (not_untitled t.0 (inside_text (known_inside c t.1) e.payload) _ upper.0 upper.1 same)
   either_told level c e f x y (Some t) (Some u) h i o v sx sy same below = titled_told level c e f x y t u h i o v sx sy same below
 
   -- two attributes and what follows them

@@ -1,47 +1,56 @@
--- The constant rows rise, and each name lies within its bytes.
-use Rattle.std.proofs.Common.{◌≡◌, ℕ, ◌≤◌, sym, ap, ◌∙◌, Bool, true, false, cond, List, [], ◌∷◌, Option, Some, refl}
-use Rattle.std.specs.Prelude.{◌==◌, nat_le, IfSome}
-use Rattle.std.proofs.lemmas.Bool.{and_parts, eqb-true, leb-true}
-use Rattle.std.proofs.lemmas.Option.{same_Some}
-use Rattle.link_lines_texts.specs.declared.kinds.TheConstants.{KINDS, PORT_KINDS}
-use Rattle.link_lines_texts.specs.declared.titles.TheConstants.{TITLES}
-use Rattle.link_lines_texts.specs.declared.rows.Title.{Title}
-use Rattle.link_lines_texts.specs.Coverage.{all_titles}
-use Rattle.link_lines_texts.specs.Titles.{key_of, find_title, keys_rise, titles_fit, kinds_fit}
+-- Titles in code and what they say.
+use Rattle.std.proofs.Common.{◌≡◌, ℕ, zero, suc, ◌<◌, ◌≤◌, Bool, true, false, cond, List, [], ◌∷◌, length, get_or, map, Bor, Option, refl, sym, arith}
+use Rattle.std.specs.Prelude.{◌==◌, option_map}
+use Rattle.std.specs.List.{list_all}
+use Rattle.std.proofs.lemmas.Bool.{and_parts}
+use Rattle.std.proofs.lemmas.List.{get_or-map}
+use Rattle.attribute_checks.specs.Names.{names_fit}
+use Rattle.link_info_checks.specs.declared.rows.TheConstants.{KINDS, PORT_KINDS}
+use Rattle.link_lines_values.specs.declared.fields.FieldOf.{FieldOf}
+use Rattle.link_lines_values.specs.declared.values.ShownBy.{ShownBy}
+use Rattle.link_lines_texts.specs.declared.titles.BehindBy.{BehindBy}
+use Rattle.link_lines_texts.specs.Placed.{are_dense, find}
+use Rattle.link_lines_texts.specs.Titles.{Name, Title, said, viewed}
 
-pub titles_rise : keys_rise TITLES ≡ true
-titles_rise = refl
-
-pub names_fit : titles_fit TITLES ≡ true
-names_fit = refl
-
-pub kinds_within : kinds_fit KINDS ≡ true
+pub kinds_within : names_fit KINDS ≡ true
 kinds_within = refl
 
-pub port_kinds_within : kinds_fit PORT_KINDS ≡ true
+pub port_kinds_within : names_fit PORT_KINDS ≡ true
 port_kinds_within = refl
 
-picked_fits : (b : Bool) (t : Title) (o : Option Title) → t.2 ≤ 32 → IfSome o (λ u. u.2 ≤ 32) → IfSome (cond b (Some t) o) (λ u. u.2 ≤ 32)
-picked_fits true t o h k = h
-picked_fits false t o h k = k
+-- what stands behind a name, as code has it
+abbrev pub Behind : Type 0
+Behind = BehindBy (ShownBy (Bor (List (ℕ × Bor (List ℕ)))) (Bor (List (FieldOf (Bor (List ℕ))))))
 
--- a name that is found lies within its bytes
-pub found_fits : (w : ℕ) (ts : List Title) → titles_fit ts ≡ true → IfSome (find_title w ts) (λ t. t.2 ≤ 32)
-found_fits w [] h = tt
-found_fits w (t ∷ ts) h = let p = and_parts (nat_le t.2 32) (titles_fit ts) h in picked_fits (key_of t == w) t (find_title w ts) (leb-true t.2 32 p.0) (found_fits w ts p.1)
+-- a title as code has it
+abbrev pub Row : Type 0
+Row = ℕ × Option (Bor (List ℕ) × Behind)
 
-pub fits : (w : ℕ) → IfSome (find_title w TITLES) (λ t. t.2 ≤ 32)
-fits w = found_fits w TITLES names_fit
+-- and what it says
+abbrev name : Bor (List ℕ) × Behind → Name
+name n = viewed (λ x. x.now) (λ t. t.now) (λ r. r.now) n
 
--- ---- a row that is found
+abbrev titles : List Row → List Title
+titles ts = said (λ x. x.now) (λ t. t.now) (λ r. r.now) ts
 
-found_by : (f : Title → Bool) (w : ℕ) (x t : Title) (o : Option Title) (b : Bool) → (key_of x == w) ≡ b → f x ≡ true → (o ≡ Some t → (f t ≡ true) × (key_of t ≡ w)) → cond b (Some x) o ≡ Some t → (f t ≡ true) × (key_of t ≡ w)
-found_by f w x t o true h k more e = let same = same_Some x t e in (ap f (sym same) ∙ k, ap (λ z. key_of z) (sym same) ∙ eqb-true (key_of x) w h)
-found_by f w x t o false h k more e = more e
+picked : (b : Bool) (o : Option (Bor (List ℕ) × Behind)) (k : ℕ) (ts : List Row) → option_map name (find k ts) ≡ find k (titles ts) →
+    option_map name (cond b o (find k ts)) ≡ cond b (option_map name o) (find k (titles ts))
+picked true o k ts h = refl
+picked false o k ts h = h
 
--- what holds of all rows holds of it, and it has the key
-pub found : (f : Title → Bool) (w : ℕ) (ts : List Title) (t : Title) → all_titles f ts ≡ true → find_title w ts ≡ Some t → (f t ≡ true) × (key_of t ≡ w)
-found f w [] t h e = absurd cc
-found f w (x ∷ ts) t h e =
-    let parts = and_parts (f x) (all_titles f ts) h in
-    found_by f w x t (find_title w ts) (key_of x == w) refl parts.0 (found f w ts t parts.1) e
+pub said_at : (k : ℕ) (ts : List Row) → option_map name (find k ts) ≡ find k (titles ts)
+said_at k [] = refl
+said_at k (t ∷ ts) = picked (t.0 == k) t.1 k ts (said_at k ts)
+
+pub list_at : (bs : List (Bor (List Row))) (n : ℕ) (d : Bor (List Row)) → n < length bs → titles (get_or bs n d).now ≡ get_or (map (λ b. titles b.now) bs) n []
+list_at bs n d l = sym (get_or-map (λ b. titles b.now) bs n d [] l)
+
+pub list_past : (bs : List (Bor (List Row))) (n : ℕ) → length bs ≤ n → [] ≡ get_or (map (λ b. titles b.now) bs) n []
+list_past [] n l = refl
+list_past (b ∷ bs) zero l = absurd (omega arith)
+list_past (b ∷ bs) (suc n) l = list_past bs n (omega arith)
+
+pub dense_at : (bs : List (Bor (List Row))) (n : ℕ) (d : Bor (List Row)) → list_all (λ b. are_dense b.now) bs ≡ true → n < length bs → are_dense (get_or bs n d).now ≡ true
+dense_at [] n d h l = absurd (omega arith)
+dense_at (b ∷ bs) zero d h l = (and_parts (are_dense b.now) (list_all (λ b. are_dense b.now) bs) h).0
+dense_at (b ∷ bs) (suc n) d h l = dense_at bs n d (and_parts (are_dense b.now) (list_all (λ b. are_dense b.now) bs) h).1 (omega (arith, l))

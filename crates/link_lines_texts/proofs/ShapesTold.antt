@@ -8,14 +8,12 @@ use Rattle.netlink_packet_core_grammar.specs.Texts.{without_nul}
 use Rattle.netlink_packet_core_grammar.specs.Truths.{truth_of, one_of}
 use Rattle.attribute_tables_grammar.specs.Rules.{shape_rule}
 use Rattle.attribute_tables_grammar.specs.Shapes.{Shape, exact, either, at_most, nonzero_byte, one_byte, truth_of_four, presence, text, fixed_record, id_and_truth, resized, number, number_truth}
-use Rattle.link_lines_values.specs.declared.fields.Field.{Field}
 use Rattle.link_lines_values.specs.declared.fields.FieldShown.{FieldShown}
 use Rattle.link_lines_values.specs.declared.fields.FieldShown.TheVariants as F
-use Rattle.link_lines_values.specs.declared.records.Record.{Record}
-use Rattle.link_lines_values.specs.declared.values.Shown.TheVariants as V
+use Rattle.link_lines_values.specs.declared.values.ShownBy.TheVariants as V
 use Rattle.link_lines_values.specs.Bytes.{address_text, is_zero}
 use Rattle.link_lines_values.specs.Laws.{AddressSizesAreTold, AddressesAreTold, AllKnown, BytesAreTold, HoldsFields, IsKnown, NumbersAreTold, RecordsAreTold, SettingsAreTold}
-use Rattle.link_lines_values.specs.Records.{fields_of, total_size}
+use Rattle.link_lines_values.specs.Records.{Field, fields_tell, record_text, total_size}
 use Rattle.link_lines_values.specs.Values.{sized_flags_value}
 use Rattle.link_lines_texts.specs.Coverage.{own_size, is_sized, is_size, is_truth, is_presence, is_string, is_optional, is_address, is_no_truth, lacks_truths, is_setting, has_fields}
 use Rattle.link_lines_texts.specs.Telling.{IsOwn, ShapesAreTold}
@@ -130,24 +128,24 @@ never_truth F.Truth p h = absurd cc
 no_truths : (fs : List Field) (p : List ℕ) → lacks_truths fs ≡ true → AllKnown fs p
 no_truths [] p h = record {}
 no_truths (f ∷ fs) p h =
-    let both = and_parts (is_no_truth f.3) (lacks_truths fs) h in
-    (never_truth f.3 (take f.2 p) both.0, no_truths fs (drop f.2 p) both.1)
+    let both = and_parts (is_no_truth f.2) (lacks_truths fs) h in
+    (never_truth f.2 (take f.1 p) both.0, no_truths fs (drop f.1 p) both.1)
 
 zeros_are : (n : ℕ) → is_zero (zeros n) ≡ true
 zeros_are zero = refl
 zeros_are (suc n) = zeros_are n
 
 -- a payload of just the fields' size
-whole_record : (s : Shape) (held : Record) (p : List ℕ) → Own s p → length p ≡ total_size (fields_of held) → lacks_truths (fields_of held) ≡ true → HoldsFields held p
+whole_record : (s : Shape) (held : List Field) (p : List ℕ) → Own s p → length p ≡ total_size held → lacks_truths held ≡ true → HoldsFields held p
 whole_record s held p o l h = record {
   bytes = o.bytes;
   whole = omega (arith, l);
-  zeros = ap is_zero (drop_all (total_size (fields_of held)) p (omega (arith, l)));
-  known = no_truths (fields_of held) (take (total_size (fields_of held)) p) h;
+  zeros = ap is_zero (drop_all (total_size held) p (omega (arith, l)));
+  known = no_truths held (take (total_size held) p) h;
 }
 
 -- one in which zeros follow them
-filled_record : (m n : ℕ) (held : Record) (p : List ℕ) → Own (fixed_record m n) p → total_size (fields_of held) ≡ m → lacks_truths (fields_of held) ≡ true → HoldsFields held p
+filled_record : (m n : ℕ) (held : List Field) (p : List ℕ) → Own (fixed_record m n) p → total_size held ≡ m → lacks_truths held ≡ true → HoldsFields held p
 filled_record m n held p o l h =
     let long = leb-true m (length p) o.accepted in
     let front : length (take m p) ≡ m = omega (arith, length-take m p, long) in
@@ -156,14 +154,14 @@ filled_record m n held p o l h =
       bytes = o.bytes;
       whole = omega (arith, l, long);
       zeros = ap (λ k. is_zero (drop k p)) l ∙ ap is_zero rest ∙ zeros_are (n - m);
-      known = no_truths (fields_of held) (take (total_size (fields_of held)) p) h;
+      known = no_truths held (take (total_size held) p) h;
     }
 
-either_record : (m n : ℕ) (held : Record) (p : List ℕ) (t : Bool) → (total_size (fields_of held) == n) ≡ t → Own (fixed_record m n) p → m ≤ n → (t || (total_size (fields_of held) == m)) ≡ true → lacks_truths (fields_of held) ≡ true → HoldsFields held p
+either_record : (m n : ℕ) (held : List Field) (p : List ℕ) (t : Bool) → (total_size held == n) ≡ t → Own (fixed_record m n) p → m ≤ n → (t || (total_size held == m)) ≡ true → lacks_truths held ≡ true → HoldsFields held p
 either_record m n held p true e o l h k =
     let long = leb-true m (length p) o.accepted in
-    whole_record (fixed_record m n) held p o (record_length m n p l long o.canonical ∙ sym (eqb-true (total_size (fields_of held)) n e)) k
-either_record m n held p false e o l h k = filled_record m n held p o (eqb-true (total_size (fields_of held)) m h) k
+    whole_record (fixed_record m n) held p o (record_length m n p l long o.canonical ∙ sym (eqb-true (total_size held) n e)) k
+either_record m n held p false e o l h k = filled_record m n held p o (eqb-true (total_size held) m h) k
 
 known_setting : (v : FieldShown) (p : List ℕ) → number p ≤ 1 → IsKnown v p
 known_setting F.Number p h = record {}
@@ -178,42 +176,42 @@ setting_known [] p h n l = absurd cc
 setting_known (f ∷ []) p h n l = absurd cc
 setting_known (f ∷ g ∷ x ∷ fs) p h n l = absurd cc
 setting_known (f ∷ g ∷ []) p h n l =
-    let first = and_parts (f.2 == 4) (is_no_truth f.3 && (g.2 == 4)) h in
-    let second = and_parts (is_no_truth f.3) (g.2 == 4) first.1 in
-    let a = eqb-true f.2 4 first.0 in
-    let b = eqb-true g.2 4 second.1 in
+    let first = and_parts (f.1 == 4) (is_no_truth f.2 && (g.1 == 4)) h in
+    let second = and_parts (is_no_truth f.2) (g.1 == 4) first.1 in
+    let a = eqb-true f.1 4 first.0 in
+    let b = eqb-true g.1 4 second.1 in
     let back : length (drop 4 p) ≡ 4 = omega (arith, length-drop 4 p, l) in
-    let same : take g.2 (drop f.2 p) ≡ drop 4 p = (λ i. take (b i) (drop (a i) p)) ∙ take_all 4 (drop 4 p) (omega (arith, back)) in
-    let small : number (take g.2 (drop f.2 p)) ≤ 1 = subst (λ q. number q ≤ 1) (sym same) n in
-    (omega (arith, a, b), (never_truth f.3 (take f.2 p) second.0, (known_setting g.3 (take g.2 (drop f.2 p)) small, record {})))
+    let same : take g.1 (drop f.1 p) ≡ drop 4 p = (λ i. take (b i) (drop (a i) p)) ∙ take_all 4 (drop 4 p) (omega (arith, back)) in
+    let small : number (take g.1 (drop f.1 p)) ≤ 1 = subst (λ q. number q ≤ 1) (sym same) n in
+    (omega (arith, a, b), (never_truth f.2 (take f.1 p) second.0, (known_setting g.2 (take g.1 (drop f.1 p)) small, record {})))
 
-setting_record : (held : Record) (p : List ℕ) → Own id_and_truth p → is_setting (fields_of held) ≡ true → HoldsFields held p
+setting_record : (held : List Field) (p : List ℕ) → Own id_and_truth p → is_setting held ≡ true → HoldsFields held p
 setting_record held p o h =
     let long = leb-true 8 (length p) o.accepted in
     let l = setting_length p long o.canonical in
     let front : length (take 4 p) ≡ 4 = omega (arith, length-take 4 p, long) in
     let behind : drop 4 p ≡ number_truth (take 4 (drop 4 p)) = ap (drop 4) (sym o.canonical) ∙ drop_at (take 4 p) (number_truth (take 4 (drop 4 p))) 4 front in
     let small : number (drop 4 p) ≤ 1 = subst (λ q. number q ≤ 1) (sym behind) (truth_number (number (take 4 (drop 4 p)))) in
-    let known = setting_known (fields_of held) p h small l in
-    let all : length p ≡ total_size (fields_of held) = l ∙ sym known.0 in
+    let known = setting_known held p h small l in
+    let all : length p ≡ total_size held = l ∙ sym known.0 in
     record {
       bytes = o.bytes;
       whole = omega (arith, all);
-      zeros = ap is_zero (drop_all (total_size (fields_of held)) p (omega (arith, all)));
-      known = subst (AllKnown (fields_of held)) (sym (take_all (total_size (fields_of held)) p (omega (arith, all)))) known.1;
+      zeros = ap is_zero (drop_all (total_size held) p (omega (arith, all)));
+      known = subst (AllKnown held) (sym (take_all (total_size held) p (omega (arith, all)))) known.1;
     }
 
-holds : (s : Shape) (held : Record) (p : List ℕ) → has_fields s (fields_of held) ≡ true → Own s p → HoldsFields held p
+holds : (s : Shape) (held : List Field) (p : List ℕ) → has_fields s held ≡ true → Own s p → HoldsFields held p
 holds (exact n) held p h o =
-    let both = and_parts (total_size (fields_of held) == n) (lacks_truths (fields_of held)) h in
-    whole_record (exact n) held p o (eqb-true (length p) n o.accepted ∙ sym (eqb-true (total_size (fields_of held)) n both.0)) both.1
+    let both = and_parts (total_size held == n) (lacks_truths held) h in
+    whole_record (exact n) held p o (eqb-true (length p) n o.accepted ∙ sym (eqb-true (total_size held) n both.0)) both.1
 holds (resized n) held p h o =
-    let both = and_parts (total_size (fields_of held) == n) (lacks_truths (fields_of held)) h in
-    whole_record (resized n) held p o (resized_length n p o.canonical ∙ sym (eqb-true (total_size (fields_of held)) n both.0)) both.1
+    let both = and_parts (total_size held == n) (lacks_truths held) h in
+    whole_record (resized n) held p o (resized_length n p o.canonical ∙ sym (eqb-true (total_size held) n both.0)) both.1
 holds (fixed_record m n) held p h o =
-    let total = total_size (fields_of held) in
-    let both = and_parts (nat_le m n) (((total == n) || (total == m)) && lacks_truths (fields_of held)) h in
-    let more = and_parts ((total == n) || (total == m)) (lacks_truths (fields_of held)) both.1 in
+    let total = total_size held in
+    let both = and_parts (nat_le m n) (((total == n) || (total == m)) && lacks_truths held) h in
+    let more = and_parts ((total == n) || (total == m)) (lacks_truths held) both.1 in
     either_record m n held p (total == n) refl o (leb-true m n both.0) more.0 more.1
 holds id_and_truth held p h o = setting_record held p o h
 holds s held p h o = absurd cc
@@ -264,6 +262,12 @@ optional_size s p h o = absurd cc
 
 -- ---- a form that tells the shape
 
+record_told : ValueLaws → (s : Shape) (sparse : Bool) (fields : List Field) (p q : List ℕ) → (fields_tell fields && has_fields s fields) ≡ true → Own s p → Own s q → record_text sparse fields p ≡ record_text sparse fields q → p ≡ q
+record_told laws s sparse fields p q h o u e =
+    let parts = and_parts (fields_tell fields) (has_fields s fields) h in
+    let k = parts.1 in
+    laws.records sparse fields p q parts.0 (holds s fields p k o) (holds s fields q k u) (same_length s (λ n. true) p q (record_lengths s fields k) o u) e
+
 pub shapes_told : ValueLaws → ShapesAreTold
 shapes_told laws s (V.Number numbers) p q h o u e = let z = sized s is_size h in laws.numbers.little numbers p q o.bytes u.bytes (same_length s is_size p q z o u) (length_holds s is_size p z o) e
 shapes_told laws s (V.BigEndian numbers) p q h o u e = let z = sized s is_size h in laws.numbers.big numbers p q o.bytes u.bytes (same_length s is_size p q z o u) (length_holds s is_size p z o) e
@@ -283,5 +287,5 @@ shapes_told laws s V.HardwareAddress p q h o u e = laws.bytes.hardware p q o.byt
 shapes_told laws s V.Address p q h o u e = by_sizes laws s p q (length p == 4) (length q == 4) refl refl (address_size s p h o) (address_size s q h u) o u e
 shapes_told laws s V.PortRange p q h o u e = let z = sized s (λ n. n == 4) h in laws.settings.ports p q o.bytes u.bytes (length_is s 4 p z o) (length_is s 4 q z u) e
 shapes_told laws s V.FlagsAndMask p q h o u e = let z = sized s (λ n. n == 8) h in laws.settings.masked p q o.bytes u.bytes (length_is s 8 p z o) (length_is s 8 q z u) e
-shapes_told laws s (V.Record held) p q h o u e = laws.records false held p q (holds s held p h o) (holds s held q h u) (same_length s (λ n. true) p q (record_lengths s (fields_of held) h) o u) e
-shapes_told laws s (V.SparseRecord held) p q h o u e = laws.records true held p q (holds s held p h o) (holds s held q h u) (same_length s (λ n. true) p q (record_lengths s (fields_of held) h) o u) e
+shapes_told laws s (V.Record fields) p q h o u e = record_told laws s false fields p q h o u e
+shapes_told laws s (V.SparseRecord fields) p q h o u e = record_told laws s true fields p q h o u e

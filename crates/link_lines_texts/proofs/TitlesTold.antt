@@ -1,89 +1,74 @@
 -- Names tell the rows that have them.
-use Rattle.std.proofs.Common.{◌≡◌, ℕ, ◌+◌, ◌*◌, ◌/◌, ◌%◌, ◌<◌, ◌≤◌, ◌⊎◌, inl, inr, Bool, true, false, cond, List, [], ◌∷◌, Option, Some, None, refl, sym, ap, ◌∙◌, arith, eq-eqb, lt-ltb}
-use Rattle.std.specs.Prelude.{◌==◌, ◌&&◌, ◌||◌, not, nat_lt, nat_le, get_or, bytes_eq}
-use Rattle.std.specs.List.{list_any}
-use Rattle.std.proofs.lemmas.Bool.{and_from, and_parts, eqb-true, leb-true, ltb-true, not-true, or_left, or_right, true≢false}
+use Rattle.std.proofs.Common.{◌≡◌, ℕ, ◌-◌, ◌<◌, ◌≤◌, Bool, true, false, cond, List, [], ◌∷◌, Option, Some, None, refl, sym, ap, ◌∙◌, arith}
+use Rattle.std.specs.Prelude.{◌==◌, ◌&&◌, not, nat_lt, nat_le, get_or, bytes_eq}
+use Rattle.std.specs.List.{list_all}
+use Rattle.std.proofs.lemmas.Bool.{and_parts, eqb-true, leb-true, ltb-true, not-true, true≢false}
 use Rattle.std.proofs.lemmas.Option.{same_Some}
 use Rattle.std.proofs.lemmas.Slice.Eq.{bytes_eq-Decides}
-use Rattle.link_lines_texts.specs.declared.rows.Title.{Title}
-use Rattle.link_lines_texts.specs.declared.titles.TheConstants.{TITLES}
-use Rattle.link_lines_texts.specs.Coverage.{all_titles, has_name, is_beside, is_name, is_word, kind_of, names_apart, table_of, takes_name}
-use Rattle.link_lines_texts.specs.Titles.{find_title, key_of, or_else, title_of, title_name}
+use Rattle.attribute_checks.proofs.LookUps.{all_at}
+use Rattle.link_lines_texts.specs.Coverage.{all_titles, has_line, has_name, if_named, in_each, is_name, is_new, is_other, is_word, names_apart}
+use Rattle.link_lines_texts.specs.Placed.{find}
+use Rattle.link_lines_texts.specs.Titles.{Name, Title, data_titles, link_titles, nested_titles, title_of, titles_of}
 use Rattle.link_lines_texts.proofs.LineCuts.{IsWord, Starts, word_of}
 use Rattle.link_lines_texts.proofs.ListsTold.{NamesTold}
-use Rattle.link_lines_texts.proofs.RowFacts.{found}
-use Rattle.link_lines_texts.proofs.Told.{all_are_apart, all_are_named}
+use Rattle.link_lines_texts.proofs.Told.{all_are_apart, all_are_named, all_on_lines}
 
--- ---- rows of one name
+-- ---- what holds in each table
 
-any_by : (f : Title → Bool) (w : ℕ) (x t : Title) (ts : List Title) (b : Bool) → (find_title w ts ≡ Some t → list_any f ts ≡ true) → f t ≡ true → cond b (Some x) (find_title w ts) ≡ Some t → (f x || list_any f ts) ≡ true
-any_by f w x t ts true more k e = or_left (f x) (list_any f ts) (ap f (same_Some x t e) ∙ k)
-any_by f w x t ts false more k e = or_right (f x) (list_any f ts) (more e)
+chosen : (f : List Title → Bool) (b : Bool) (x y : List Title) → f x ≡ true → f y ≡ true → f (cond b x y) ≡ true
+chosen f true x y h k = h
+chosen f false x y h k = k
 
-any_found : (f : Title → Bool) (w : ℕ) (ts : List Title) (t : Title) → f t ≡ true → find_title w ts ≡ Some t → list_any f ts ≡ true
-any_found f w [] t k e = absurd cc
-any_found f w (x ∷ ts) t k e = any_by f w x t ts (key_of x == w) (any_found f w ts t k) k e
+in_table : (f : List Title → Bool) (m : ℕ) → f [] ≡ true → in_each f ≡ true → f (titles_of m) ≡ true
+unfolding titles_of
+in_table f m e h =
+    let parts = and_parts (list_all f nested_titles) (list_all f link_titles && list_all f data_titles) h in
+    let more = and_parts (list_all f link_titles) (list_all f data_titles) parts.1 in
+    chosen f (nat_lt m 15) (get_or nested_titles m []) (cond (nat_lt m 20) (get_or link_titles (m - 15) []) (get_or data_titles (m - 20) [])) (all_at f nested_titles m [] parts.0 e)
+    (chosen f (nat_lt m 20) (get_or link_titles (m - 15) []) (get_or data_titles (m - 20) []) (all_at f link_titles (m - 15) [] more.0 e) (all_at f data_titles (m - 20) [] more.1 e))
 
--- ---- two rows of one name
+-- ---- a name that is found
 
-apart_by : (w v : ℕ) (x t u : Title) (ts : List Title) (a b : Bool) → (key_of x == w) ≡ a → (key_of x == v) ≡ b → not (list_any (takes_name x) ts) ≡ true → (find_title w ts ≡ Some t → find_title v ts ≡ Some u → w ≡ v) →
-    takes_name t u ≡ true → takes_name u t ≡ true → cond a (Some x) (find_title w ts) ≡ Some t → cond b (Some x) (find_title v ts) ≡ Some u → w ≡ v
-apart_by w v x t u ts true true h k n more c d e f = sym (eqb-true (key_of x) w h) ∙ eqb-true (key_of x) v k
-apart_by w v x t u ts true false h k n more c d e f = absurd (true≢false (sym (any_found (takes_name x) v ts u (ap (λ z. takes_name z u) (same_Some x t e) ∙ c) f) ∙ not-true (list_any (takes_name x) ts) n))
-apart_by w v x t u ts false true h k n more c d e f = absurd (true≢false (sym (any_found (takes_name x) w ts t (ap (λ z. takes_name z t) (same_Some x u f) ∙ d) e) ∙ not-true (list_any (takes_name x) ts) n))
-apart_by w v x t u ts false false h k n more c d e f = more e f
+found_by : (f : ℕ → Name → Bool) (k j : ℕ) (t : Name) (o more : Option Name) (b : Bool) → (j == k) ≡ b → if_named f (j, o) ≡ true → (more ≡ Some t → f k t ≡ true) → cond b o more ≡ Some t → f k t ≡ true
+found_by f k j t None more true h i rest e = absurd cc
+found_by f k j t (Some n) more true h i rest e = ap (f k) (sym (same_Some n t e)) ∙ ap (λ l. f l n) (sym (eqb-true j k h)) ∙ i
+found_by f k j t o more false h i rest e = rest e
 
-apart_in : (w v : ℕ) (t u : Title) (ts : List Title) → names_apart ts ≡ true → takes_name t u ≡ true → takes_name u t ≡ true → find_title w ts ≡ Some t → find_title v ts ≡ Some u → w ≡ v
-apart_in w v t u [] h c d e f = absurd cc
-apart_in w v t u (x ∷ ts) h c d e f =
-    let parts = and_parts (not (list_any (takes_name x) ts)) (names_apart ts) h in
-    apart_by w v x t u ts (key_of x == w) (key_of x == v) refl refl parts.0 (apart_in w v t u ts parts.1 c d) c d e f
+found_in : (f : ℕ → Name → Bool) (k : ℕ) (ts : List Title) (t : Name) → all_titles f ts ≡ true → find k ts ≡ Some t → f k t ≡ true
+found_in f k [] t h e = absurd cc
+found_in f k (x ∷ ts) t h e =
+    let parts = and_parts (if_named f x) (all_titles f ts) h in
+    found_by f k x.0 t x.1 (find k ts) (x.0 == k) refl parts.0 (found_in f k ts t parts.1) e
 
--- ---- the row of a kind, in its table or in that of all families
-
-pub record IsTitle (m k : ℕ) (t : Title) : Type 0 where
-  pub table : ℕ
-  pub near : (table ≡ m) ⊎ ((table ≡ 4) × (m < 4))
-  pub is : find_title (table * 65536 + k) TITLES ≡ Some t
-
-is_title_by : (m k : ℕ) (t : Title) (o : Option Title) (b : Bool) → find_title (m * 65536 + k) TITLES ≡ o → nat_lt m 4 ≡ b → or_else o (cond b (find_title (4 * 65536 + k) TITLES) None) ≡ Some t → IsTitle m k t
-is_title_by m k t (Some x) b h l e = record { table = m; near = inl refl; is = h ∙ e }
-is_title_by m k t None true h l e = record { table = 4; near = inr (refl, ltb-true m 4 l); is = e }
-is_title_by m k t None false h l e = absurd cc
-
-pub is_title : (m k : ℕ) (t : Title) → title_of m k ≡ Some t → IsTitle m k t
+-- what holds of all names of a table holds of it
+pub found : (f : ℕ → Name → Bool) (m k : ℕ) (t : Name) → all_titles f (titles_of m) ≡ true → title_of m k ≡ Some t → f k t ≡ true
 unfolding title_of
-is_title m k t e = is_title_by m k t (find_title (m * 65536 + k) TITLES) (nat_lt m 4) refl refl e
+found f m k t h e = found_in f k (titles_of m) t h e
 
-table_by : (n k w : ℕ) → k < 65536 → w ≡ n * 65536 + k → w / 65536 ≡ n
-table_by n k w l e = omega arith
+-- ---- two kinds of one name
 
-kind_by : (n k w : ℕ) → k < 65536 → w ≡ n * 65536 + k → w % 65536 ≡ k
-kind_by n k w l e = omega arith
+not_other : (s : List ℕ) (n : Name) → s ≡ n.0 → not (bytes_eq s n.0) ≡ true → ⊥
+not_other s n e h = true≢false (sym ((bytes_eq-Decides s n.0).1 e) ∙ not-true (bytes_eq s n.0) h)
 
--- ---- tables that are looked up together
+taken : (l : ℕ) (n t u : Name) (ts : List Title) → n ≡ t → t.0 ≡ u.0 → all_titles (is_other n.0) ts ≡ true → find l ts ≡ Some u → ⊥
+taken l n t u ts same e h f = not_other n.0 u (ap (λ z. z.0) same ∙ e) (found_in (is_other n.0) l ts u h f)
 
-beside_by : (m n k : ℕ) → ((n ≡ m) ⊎ ((n ≡ 4) × (m < 4))) → ((k ≡ m) ⊎ ((k ≡ 4) × (m < 4))) → is_beside n k ≡ true
-beside_by m n k (inl a) (inl b) = or_left (n == k) _ (eq-eqb n k (a ∙ sym b))
-beside_by m n k (inl a) (inr b) = or_right (n == k) _ (or_left (nat_lt n 4 && (k == 4)) _ (and_from (nat_lt n 4) (k == 4) (ap (λ z. nat_lt z 4) a ∙ lt-ltb m 4 b.1) (eq-eqb k 4 b.0)))
-beside_by m n k (inr a) (inl b) = or_right (n == k) _ (or_right (nat_lt n 4 && (k == 4)) _ (and_from (nat_lt k 4) (n == 4) (ap (λ z. nat_lt z 4) b ∙ lt-ltb m 4 a.1) (eq-eqb n 4 a.0)))
-beside_by m n k (inr a) (inr b) = or_left (n == k) _ (eq-eqb n k (a.0 ∙ sym b.0))
+apart_by : (k l j : ℕ) (o : Option Name) (t u : Name) (ts : List Title) (a b : Bool) → (j == k) ≡ a → (j == l) ≡ b → is_new (j, o) ts ≡ true → t.0 ≡ u.0 → (find k ts ≡ Some t → find l ts ≡ Some u → k ≡ l) →
+    cond a o (find k ts) ≡ Some t → cond b o (find l ts) ≡ Some u → k ≡ l
+apart_by k l j o t u ts true true h i n e more f g = sym (eqb-true j k h) ∙ eqb-true j l i
+apart_by k l j None t u ts true false h i n e more f g = absurd cc
+apart_by k l j (Some x) t u ts true false h i n e more f g = absurd (taken l x t u ts (same_Some x t f) e n g)
+apart_by k l j None t u ts false true h i n e more f g = absurd cc
+apart_by k l j (Some x) t u ts false true h i n e more f g = absurd (taken k x u t ts (same_Some x u g) (sym e) n f)
+apart_by k l j o t u ts false false h i n e more f g = more f g
 
--- a row that is found, with its table and its kind
-pub record IsRow (m k : ℕ) (t : Title) : Type 0 where
-  pub beside : is_beside m (table_of t) ≡ true
-  pub kind : kind_of t ≡ k
+apart_in : (k l : ℕ) (t u : Name) (ts : List Title) → names_apart ts ≡ true → t.0 ≡ u.0 → find k ts ≡ Some t → find l ts ≡ Some u → k ≡ l
+apart_in k l t u [] h e f g = absurd cc
+apart_in k l t u (x ∷ ts) h e f g =
+    let parts = and_parts (is_new x ts) (names_apart ts) h in
+    apart_by k l x.0 x.1 t u ts (x.0 == k) (x.0 == l) refl refl parts.0 e (apart_in k l t u ts parts.1 e) f g
 
-pub is_row : (f : Title → Bool) (m k : ℕ) (t : Title) → all_titles f TITLES ≡ true → k < 65536 → title_of m k ≡ Some t → (f t ≡ true) × IsRow m k t
-is_row f m k t a l e =
-    let i = is_title m k t e in
-    let at = found f (i.table * 65536 + k) TITLES t a i.is in (
-      at.0,
-      record {
-        beside = ap (λ n. is_beside m n) (table_by i.table k (key_of t) l at.1) ∙ beside_by m m i.table (inl refl) i.near;
-        kind = kind_by i.table k (key_of t) l at.1;
-      },
-    )
+-- ---- names of a table
 
 over_digits : (c : ℕ) → 65 ≤ c → 48 ≤ c
 over_digits c h = omega arith
@@ -96,24 +81,12 @@ name_of (c ∷ s) h =
     let low = leb-true 65 c parts.0 in
     ((over_digits c low, word_of s more.1), (low, ltb-true c 97 more.0))
 
-named : (m k : ℕ) (t : Title) → k < 65536 → title_of m k ≡ Some t → IsWord (title_name t) × (Starts (title_name t) × (get_or (title_name t) 0 0 < 97))
-named m k t l e = name_of (title_name t) (is_row has_name m k t all_are_named l e).0
+named : (m k : ℕ) (t : Name) → title_of m k ≡ Some t → IsWord t.0 × (Starts t.0 × (get_or t.0 0 0 < 97))
+named m k t e = name_of t.0 (found has_name m k t (in_table (all_titles has_name) m refl all_are_named) e)
 
-one_kind : (a b k l : ℕ) → k < 65536 → l < 65536 → a * 65536 + k ≡ b * 65536 + l → k ≡ l
-one_kind a b k l h i e = omega arith
-
-takes : (m k l : ℕ) (t u : Title) → k < 65536 → l < 65536 → (i : IsTitle m k t) (j : IsTitle m l u) → title_name t ≡ title_name u → takes_name t u ≡ true
-takes m k l t u h z i j e =
-    let a = table_by i.table k (key_of t) h (found has_name (i.table * 65536 + k) TITLES t all_are_named i.is).1 in
-    let b = table_by j.table l (key_of u) z (found has_name (j.table * 65536 + l) TITLES u all_are_named j.is).1 in
-    and_from (is_beside (table_of t) (table_of u)) (bytes_eq (title_name t) (title_name u))
-    ((λ n. is_beside (a n) (b n)) ∙ beside_by m i.table j.table i.near j.near) ((bytes_eq-Decides (title_name t) (title_name u)).1 e)
-
-one_name : (m k l : ℕ) (t u : Title) → k < 65536 → l < 65536 → title_of m k ≡ Some t → title_of m l ≡ Some u → title_name t ≡ title_name u → k ≡ l
-one_name m k l t u h z e f same =
-    let i = is_title m k t e in
-    let j = is_title m l u f in
-    one_kind i.table j.table k l h z (apart_in (i.table * 65536 + k) (j.table * 65536 + l) t u TITLES all_are_apart (takes m k l t u h z i j same) (takes m l k u t z h j i (sym same)) i.is j.is)
+one_name : (m k l : ℕ) (t u : Name) → title_of m k ≡ Some t → title_of m l ≡ Some u → t.0 ≡ u.0 → k ≡ l
+unfolding title_of
+one_name m k l t u e f same = apart_in k l t u (titles_of m) (in_table names_apart m refl all_are_apart) same e f
 
 pub names_told : (m : ℕ) → NamesTold m
-names_told m = record { word = λ k t l e. (named m k t l e).0; upper = λ k t l e. (named m k t l e).1; apart = one_name m }
+names_told m = record { word = λ k t l e. (named m k t e).0; upper = λ k t l e. (named m k t e).1; line = λ k t e. found has_line m k t (in_table (all_titles has_line) m refl all_on_lines) e; apart = λ k l t u i j. one_name m k l t u }

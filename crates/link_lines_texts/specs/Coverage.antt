@@ -1,22 +1,17 @@
 -- Whether rows of names cover tables: each row has a name, behind which stands a text that tells its payload, and each name has a row.
-use Rattle.std.specs.Prelude.{ℕ, ◌/◌, ◌%◌, ◌==◌, ◌&&◌, ◌||◌, not, nat_le, nat_lt, Bool, true, false, cond, List, [], ◌∷◌, take, Option, Some, None, bytes_eq}
-use Rattle.std.specs.List.{list_any}
+use Rattle.std.specs.Prelude.{ℕ, ◌==◌, ◌&&◌, ◌||◌, not, nat_le, nat_lt, Bool, true, false, cond, List, [], ◌∷◌, take, Option, Some, None, bytes_eq}
+use Rattle.std.specs.List.{list_all}
+use Rattle.attribute_checks.specs.declared.names.NameRow.{NameRow}
+use Rattle.attribute_checks.specs.Names.{held_by_name}
 use Rattle.attribute_tables_grammar.specs.Shapes.{Shape, exact, either, at_most, nonzero_byte, one_byte, truth_of_four, presence, text, raw, never, fixed_record, id_and_truth, resized}
 use Rattle.attribute_tables_grammar.specs.Tables.{Payload, Payload.plain, Payload.peer, Payload.list, Payload.link_info, Table, Table.end, Table.row, Names, Names.others, Names.name, lacks_name}
-use Rattle.link_lines_values.specs.declared.fields.Field.{Field}
 use Rattle.link_lines_values.specs.declared.fields.FieldShown.{FieldShown}
 use Rattle.link_lines_values.specs.declared.fields.FieldShown.TheVariants as F
-use Rattle.link_lines_values.specs.declared.values.Shown.{Shown}
-use Rattle.link_lines_values.specs.declared.values.Shown.TheVariants as V
-use Rattle.link_lines_values.specs.Records.{fields_of, total_size}
-use Rattle.link_lines_texts.specs.declared.kinds.TheConstants.{KINDS, PORT_KINDS}
-use Rattle.link_lines_texts.specs.declared.rows.Inside.{Inside}
-use Rattle.link_lines_texts.specs.declared.rows.Inside.TheVariants.{Value, List as Nested}
-use Rattle.link_lines_texts.specs.declared.rows.KindTable.{KindTable}
-use Rattle.link_lines_texts.specs.declared.rows.Title.{Title}
-use Rattle.link_lines_texts.specs.declared.titles.TheConstants.{TITLES}
-use Rattle.link_lines_texts.specs.Lists.{of_table}
-use Rattle.link_lines_texts.specs.Titles.{key_of, title_of, title_name, table_named}
+use Rattle.link_lines_values.specs.declared.values.ShownBy.TheVariants as V
+use Rattle.link_lines_values.specs.Records.{Field, fields_tell, total_size}
+use Rattle.link_lines_values.specs.Values.{Shown}
+use Rattle.link_info_checks.specs.declared.rows.TheConstants.{KINDS, PORT_KINDS}
+use Rattle.link_lines_texts.specs.Titles.{Inside, Inside.Value, Inside.Nested, Name, Title, data_titles, is_inside_on_a_line, link_titles, nested_titles, of_held, title_of, titles_of}
 
 -- ---- shapes
 
@@ -76,11 +71,11 @@ is_no_truth v = true
 
 abbrev pub lacks_truths : List Field → Bool
 lacks_truths [] = true
-lacks_truths (f ∷ fs) = is_no_truth f.3 && lacks_truths fs
+lacks_truths (f ∷ fs) = is_no_truth f.2 && lacks_truths fs
 
 -- a number of 4 bytes and a truth of 4 bytes
 abbrev pub is_setting : List Field → Bool
-is_setting (f ∷ g ∷ []) = (f.2 == 4) && (is_no_truth f.3 && (g.2 == 4))
+is_setting (f ∷ g ∷ []) = (f.1 == 4) && (is_no_truth f.2 && (g.1 == 4))
 is_setting fs = false
 
 -- the shape's own payloads hold the fields, and zeros behind them
@@ -108,25 +103,27 @@ shape_tells s V.HardwareAddress = true
 shape_tells s V.Address = is_address s
 shape_tells s V.PortRange = is_sized (own_size s) (λ n. n == 4)
 shape_tells s V.FlagsAndMask = is_sized (own_size s) (λ n. n == 8)
-shape_tells s (V.Record held) = has_fields s (fields_of held)
-shape_tells s (V.SparseRecord held) = has_fields s (fields_of held)
+shape_tells s (V.Record fields) = fields_tell fields && has_fields s fields
+shape_tells s (V.SparseRecord fields) = fields_tell fields && has_fields s fields
 
-abbrev pub inside_of : Option Title → Option Inside
-inside_of None = None
-inside_of (Some t) = Some t.4
+abbrev pub behind : Option Name → Option Inside
+behind None = None
+behind (Some n) = Some n.1
 
 -- ---- names
 
-abbrev pub all_titles : (Title → Bool) → List Title → Bool
+-- what holds of a kind and its name, where it has one
+abbrev pub if_named : (ℕ → Name → Bool) → Title → Bool
+if_named f (k, None) = true
+if_named f (k, Some n) = f k n
+
+abbrev pub all_titles : (ℕ → Name → Bool) → List Title → Bool
 all_titles f [] = true
-all_titles f (t ∷ ts) = f t && all_titles f ts
+all_titles f (t ∷ ts) = if_named f t && all_titles f ts
 
--- the table and the kind of a row, by its key
-abbrev pub table_of : Title → ℕ
-table_of t = key_of t / 65536
-
-abbrev pub kind_of : Title → ℕ
-kind_of t = key_of t % 65536
+-- in each table
+abbrev pub in_each : (List Title → Bool) → Bool
+in_each f = list_all f nested_titles && (list_all f link_titles && list_all f data_titles)
 
 -- upper case letters, digits and underscores, a letter first
 abbrev pub is_word : List ℕ → Bool
@@ -137,20 +134,24 @@ abbrev pub is_name : List ℕ → Bool
 is_name [] = false
 is_name (c ∷ s) = nat_le 65 c && (nat_lt c 97 && is_word s)
 
-abbrev pub has_name : Title → Bool
-has_name t = is_name (title_name t)
+abbrev pub has_name : ℕ → Name → Bool
+has_name k n = is_name n.0
 
--- rows of both tables are looked up together: the tables below that of all families are those of one family each
-abbrev pub is_beside : ℕ → ℕ → Bool
-is_beside m n = (m == n) || ((nat_lt m 4 && (n == 4)) || (nat_lt n 4 && (m == 4)))
+-- what is shown behind it stands on one line
+abbrev pub has_line : ℕ → Name → Bool
+has_line k n = is_inside_on_a_line n.1
 
-abbrev pub takes_name : Title → Title → Bool
-takes_name t u = is_beside (table_of t) (table_of u) && bytes_eq (title_name t) (title_name u)
+abbrev pub is_other : List ℕ → ℕ → Name → Bool
+is_other s k n = not (bytes_eq s n.0)
 
--- no two rows that are looked up together have one name
+abbrev pub is_new : Title → List Title → Bool
+is_new (k, None) ts = true
+is_new (k, Some n) ts = all_titles (is_other n.0) ts
+
+-- no two titles have one name
 abbrev pub names_apart : List Title → Bool
 names_apart [] = true
-names_apart (t ∷ ts) = not (list_any (takes_name t) ts) && names_apart ts
+names_apart (t ∷ ts) = is_new t ts && names_apart ts
 
 -- ---- tables: each row has a name, behind which its payload is told, and each name has a row
 
@@ -158,32 +159,32 @@ abbrev pub has_row : Table → ℕ → Bool
 has_row end k = false
 has_row (row l n s t) k = (k == l) || has_row t k
 
--- a name is looked up in another table, or is that of a row
-abbrev pub is_in : ℕ → Table → Title → Bool
-is_in m t u = not (is_beside m (table_of u)) || has_row t (kind_of u)
+-- a name is that of a row
+abbrev pub is_in : Table → ℕ → Name → Bool
+is_in t k n = has_row t k
 
--- the names of link info are those of its five kinds
-abbrev pub is_info_kind : Title → Bool
-is_info_kind t = not (table_of t == 5) || (nat_le 1 (kind_of t) && nat_le (kind_of t) 5)
+-- the kinds of link info are five
+abbrev pub is_info_kind : ℕ → Name → Bool
+is_info_kind k n = nat_le 1 k && nat_le k 5
 
 -- each name in the table of kinds has a payload
-abbrev pub kinds_listed : List KindTable → Names → Bool
+abbrev pub kinds_listed : List NameRow → Names → Bool
 kinds_listed [] ns = true
 kinds_listed (r ∷ rs) ns = not (lacks_name (take r.0 r.1) ns) && kinds_listed rs ns
 
 abbrev mutual
-  -- what stands behind a payload's name tells the payload: a value, or the attributes of its table; link info is table 5
+  -- what stands behind a payload's name tells the payload: a value, or the attributes of its table; link info is table 19
   pub holds_shown : Payload → Option Inside → Bool
   holds_shown (plain s) (Some (Value v)) = shape_tells s v
   holds_shown peer (Some (Value v)) = shape_tells raw v
-  holds_shown (list form t) (Some (Nested n)) = not (n == 5) && (all_titles (is_in n t) TITLES && rows_shown n t)
-  holds_shown (link_info form data' ports) (Some (Nested n)) = (n == 5) && ((names_shown data' KINDS && kinds_listed KINDS data') && (names_shown ports PORT_KINDS && kinds_listed PORT_KINDS ports))
+  holds_shown (list form t) (Some (Nested n)) = not (n == 19) && (all_titles (is_in t) (titles_of n) && rows_shown n t)
+  holds_shown (link_info form data' ports) (Some (Nested n)) = (n == 19) && ((names_shown data' KINDS && kinds_listed KINDS data') && (names_shown ports PORT_KINDS && kinds_listed PORT_KINDS ports))
   holds_shown s inside = false
 
   pub rows_shown : ℕ → Table → Bool
   rows_shown m end = true
-  rows_shown m (row k nested s t) = holds_shown s (inside_of (title_of m k)) && rows_shown m t
+  rows_shown m (row k nested s t) = holds_shown s (behind (title_of m k)) && rows_shown m t
 
-  pub names_shown : Names → List KindTable → Bool
+  pub names_shown : Names → List NameRow → Bool
   names_shown others kinds = true
-  names_shown (name m s ns) kinds = holds_shown s (Some (of_table (table_named m kinds))) && names_shown ns kinds
+  names_shown (name m s ns) kinds = holds_shown s (Some (of_held (held_by_name kinds m))) && names_shown ns kinds

@@ -2,20 +2,32 @@
 use Rattle.std.specs.Prelude.{ℕ, ◌==◌, ◌||◌, nat_le, cond, List, [], ◌∷◌, ◌++◌, length, take, drop, codes, decimal, slice_index}
 use Rattle.netlink_packet_core_grammar.specs.Numbers.{u16_at, u32_at}
 use Rattle.link_capture_grammar.specs.Bodies.{is_link_type}
-use Rattle.link_lines_values.specs.declared.numbers.Numbers.TheVariants.{AddressFamily, LinkLayerType, MessageType}
-use Rattle.link_lines_values.specs.declared.flags.FlagSet.{FlagSet}
-use Rattle.link_lines_values.specs.declared.flags.FlagSet.TheVariants.{Link, Message, MessageGet, MessageCreate, MessageDelete, MessageAck}
-use Rattle.link_lines_values.specs.declared.values.Shown.TheVariants.{Signed}
+use Rattle.link_lines_values.specs.declared.flags.TheConstants.{LINK_FLAGS, MESSAGE_FLAGS, MESSAGE_GET_FLAGS, MESSAGE_CREATE_FLAGS, MESSAGE_DELETE_FLAGS, MESSAGE_ACK_FLAGS}
+use Rattle.link_lines_values.specs.declared.number_texts.TheConstants.{ADDRESS_FAMILY, LINK_LAYER_TYPE, MESSAGE_TYPE}
+use Rattle.link_lines_values.specs.declared.values.ShownBy.TheVariants.{Signed}
 use Rattle.link_lines_values.specs.Bytes.{bytes_text}
 use Rattle.link_lines_values.specs.Flags.{named_flags}
-use Rattle.link_lines_values.specs.Names.{named_number, name_or_nothing}
+use Rattle.link_lines_values.specs.Names.{Text, named_number, text_in, texts_of}
 use Rattle.link_lines_values.specs.Values.{value_text}
 use Rattle.link_lines_texts.specs.Lists.{list_lines}
 
+unfoldable pub address_families : List Text
+address_families = texts_of (λ n. n.now) ADDRESS_FAMILY.now
+
+unfoldable pub layer_types : List Text
+layer_types = texts_of (λ n. n.now) LINK_LAYER_TYPE.now
+
+unfoldable pub message_types : List Text
+message_types = texts_of (λ n. n.now) MESSAGE_TYPE.now
+
+unfoldable pub link_flag_names : List Text
+link_flag_names = texts_of (λ n. n.now) LINK_FLAGS.now
+
 -- the flags that messages of a type have
-unfoldable pub flag_set : ℕ → FlagSet
-flag_set t =
-    cond (t == 2) MessageAck (cond (t == 16 || t == 19) MessageCreate (cond (t == 17) MessageDelete (cond (t == 18) MessageGet Message)))
+unfoldable pub flag_names : ℕ → List Text
+flag_names t =
+    cond (t == 2) (texts_of (λ n. n.now) MESSAGE_ACK_FLAGS.now) (cond (t == 16 || t == 19) (texts_of (λ n. n.now) MESSAGE_CREATE_FLAGS.now)
+    (cond (t == 17) (texts_of (λ n. n.now) MESSAGE_DELETE_FLAGS.now) (cond (t == 18) (texts_of (λ n. n.now) MESSAGE_GET_FLAGS.now) (texts_of (λ n. n.now) MESSAGE_FLAGS.now))))
 
 abbrev pub or_number : ℕ → List ℕ → List ℕ
 or_number t [] = codes "type " ++ decimal t
@@ -23,7 +35,7 @@ or_number t (x ∷ name) = x ∷ name
 
 -- the name of a type of message, or its number
 unfoldable pub type_text : ℕ → List ℕ
-type_text t = or_number t (name_or_nothing MessageType t)
+type_text t = or_number t (text_in message_types t)
 
 abbrev pub labelled : List ℕ → List ℕ → List ℕ
 labelled label text = label ++ text
@@ -31,22 +43,22 @@ labelled label text = label ++ text
 -- type, flags, sequence number and port number
 unfoldable pub header_line : List ℕ → List ℕ
 header_line f =
-    type_text (u16_at 4 f) ++ (labelled (codes " flags ") (named_flags (flag_set (u16_at 4 f)) (u16_at 6 f))
+    type_text (u16_at 4 f) ++ (labelled (codes " flags ") (named_flags (flag_names (u16_at 4 f)) (u16_at 6 f))
     ++ (labelled (codes " seq ") (decimal (u32_at 8 f)) ++ (labelled (codes " port ") (decimal (u32_at 12 f)) ++ 10 ∷ [])))
 
 -- the table of the attributes of a link of an address family
 unfoldable pub family_table : ℕ → ℕ
-family_table n = cond (n == 0) 0 (cond (n == 7) 1 (cond (n == 10) 2 3))
+family_table n = cond (n == 0) 15 (cond (n == 7) 16 (cond (n == 10) 17 18))
 
 -- family, type and index
 unfoldable pub link_numbers : List ℕ → List ℕ
 link_numbers b =
-    labelled (codes "  ifinfomsg family ") (named_number AddressFamily (slice_index b 0)) ++ (labelled (codes " type ") (named_number LinkLayerType (u16_at 2 b))
+    labelled (codes "  ifinfomsg family ") (named_number address_families (slice_index b 0)) ++ (labelled (codes " type ") (named_number layer_types (u16_at 2 b))
     ++ labelled (codes " index ") (decimal (u32_at 4 b)))
 
 -- flags and the mask of their change
 unfoldable pub link_flags : List ℕ → List ℕ
-link_flags b = labelled (codes " flags ") (named_flags Link (u32_at 8 b)) ++ (labelled (codes " change ") (named_flags Link (u32_at 12 b)) ++ 10 ∷ [])
+link_flags b = labelled (codes " flags ") (named_flags link_flag_names (u32_at 8 b)) ++ (labelled (codes " change ") (named_flags link_flag_names (u32_at 12 b)) ++ 10 ∷ [])
 
 abbrev pub link_header_line : List ℕ → List ℕ
 link_header_line b = link_numbers b ++ link_flags b

@@ -8,11 +8,10 @@ use Rattle.attribute_tables_grammar.specs.Tables.{Payload}
 use Rattle.link_capture_grammar.specs.Captures.{first_frame, IsLegal, texts}
 use Rattle.link_capture_grammar.specs.Same.{SameCapture}
 use Rattle.link_message_grammar.specs.LinkMessage.{unspec, bridge, inet_6, other, link_table}
-use Rattle.link_lines_texts.specs.declared.titles.TheConstants.{TITLES}
-use Rattle.link_lines_texts.specs.declared.rows.Inside.TheVariants.{List as Nested}
-use Rattle.link_lines_texts.specs.Coverage.{all_titles, has_name, holds_shown, is_info_kind, names_apart}
+use Rattle.link_lines_texts.specs.Coverage.{all_titles, has_line, has_name, holds_shown, in_each, is_info_kind, names_apart}
 use Rattle.link_lines_texts.specs.Lists.{own_line, table_inside, next_in, list_lines, nested_lines, rest_lines}
 use Rattle.link_lines_texts.specs.Frames.{frame_lines}
+use Rattle.link_lines_texts.specs.Titles.{Inside.Nested, titles_of}
 use Rattle.link_lines_texts.specs.Captures.{is_frame, lines, text_lines}
 
 -- The lines of a list are those of its first attribute, of what it holds, and of the rest in the context that it leaves. Where no whole attribute stands,
@@ -36,15 +35,16 @@ abbrev pub AcceptedFramesHaveLines : Type 0
 AcceptedFramesHaveLines = (limit : ℕ) (c : List ℕ) → limit < 2 ^ 32 → (0 < length (lines limit c)) ↔ ((frame : ℕ × List ℕ) × (first_frame limit c ≡ Ok frame))
 
 -- Each row of the tables of link messages, and of every table inside, has a name, behind which stands what tells the row's payload; each name is that of a row;
--- and no two names that are looked up together are equal.
+-- and no two names of a table are equal.
 pub record RowsAreTold : Type 0 where
-  pub unspec_told : holds_shown (Payload.list any (link_table unspec)) (Some (Nested 0)) ≡ true
-  pub bridge_told : holds_shown (Payload.list any (link_table bridge)) (Some (Nested 1)) ≡ true
-  pub inet6_told : holds_shown (Payload.list any (link_table inet_6)) (Some (Nested 2)) ≡ true
-  pub other_told : holds_shown (Payload.list any (link_table other)) (Some (Nested 3)) ≡ true
-  pub named : all_titles has_name TITLES ≡ true
-  pub info_named : all_titles is_info_kind TITLES ≡ true
-  pub apart : names_apart TITLES ≡ true
+  pub unspec_told : holds_shown (Payload.list any (link_table unspec)) (Some (Nested 15)) ≡ true
+  pub bridge_told : holds_shown (Payload.list any (link_table bridge)) (Some (Nested 16)) ≡ true
+  pub inet6_told : holds_shown (Payload.list any (link_table inet_6)) (Some (Nested 17)) ≡ true
+  pub other_told : holds_shown (Payload.list any (link_table other)) (Some (Nested 18)) ≡ true
+  pub named : in_each (all_titles has_name) ≡ true
+  pub on_lines : in_each (all_titles has_line) ≡ true
+  pub info_named : all_titles is_info_kind (titles_of 19) ≡ true
+  pub apart : in_each names_apart ≡ true
 
 -- Two captures have the same lines exactly where they have the same texts: for legal captures, where their normal texts are equal.
 abbrev pub LinesTellTexts : Type 0

@@ -4,5 +4,6 @@ pub mod Frames
 pub mod Laws
 pub mod Lists
 pub mod Telling
+pub mod Placed
 pub mod Titles
 pub mod Views

@@ -1,35 +1,29 @@
 -- The lines of a list of attributes: one for each, and behind that of a list those of its own attributes, one level deeper.
 use Rattle.std.specs.Prelude.{ℕ, zero, suc, ◌+◌, ◌*◌, ◌==◌, cond, List, [], ◌∷◌, ◌++◌, length, replicate, codes, Option, Some, None}
 use Rattle.netlink_packet_core_grammar.specs.Attributes.{Attribute, proper_kind, first_attribute}
+use Rattle.attribute_checks.specs.declared.names.NameRow.{NameRow}
+use Rattle.attribute_checks.specs.Names.{held_by_name}
 use Rattle.attribute_tables_grammar.specs.Lists.{Context, nothing}
 use Rattle.attribute_tables_grammar.specs.Tables.{info_next}
 use Rattle.link_lines_values.specs.Bytes.{bytes_text}
 use Rattle.link_lines_values.specs.Digits.{four_digits}
 use Rattle.link_lines_values.specs.Values.{value_text}
-use Rattle.link_lines_values.specs.declared.values.Shown.TheVariants.{Bytes}
-use Rattle.link_lines_texts.specs.declared.rows.Inside.{Inside}
-use Rattle.link_lines_texts.specs.declared.rows.Inside.TheVariants.{Value, List as Nested, Data, PortData}
-use Rattle.link_lines_texts.specs.declared.rows.Title.{Title}
-use Rattle.link_lines_texts.specs.declared.rows.KindTable.{KindTable}
-use Rattle.link_lines_texts.specs.declared.kinds.TheConstants.{KINDS, PORT_KINDS}
-use Rattle.link_lines_texts.specs.Titles.{title_of, title_name, table_named}
+use Rattle.link_lines_values.specs.declared.values.ShownBy.TheVariants.{Bytes}
+use Rattle.link_info_checks.specs.declared.rows.TheConstants.{KINDS, PORT_KINDS}
+use Rattle.link_lines_texts.specs.Titles.{Inside, Inside.Value, Inside.Nested, Inside.Data, Inside.PortData, Name, of_held, title_of}
 
 -- two spaces for each level
 abbrev pub indent : ℕ → List ℕ
 indent level = replicate (2 * level) 32
 
--- what is in force after an attribute: in link info, which is table 5, its names
+-- what is in force after an attribute: in link info, which is table 19, its names
 abbrev pub next_in : ℕ → Context → Attribute → Context
-next_in table c e = cond (table == 5) (info_next c (proper_kind e.kind) e.payload) c
-
-abbrev pub of_table : Option ℕ → Inside
-of_table None = Value Bytes
-of_table (Some t) = Nested t
+next_in table c e = cond (table == 19) (info_next c (proper_kind e.kind) e.payload) c
 
 -- what a name in force tells: a table, or bytes
-abbrev pub of_name : Option (List ℕ) → List KindTable → Inside
+abbrev pub of_name : Option (List ℕ) → List NameRow → Inside
 of_name None kinds = Value Bytes
-of_name (Some n) kinds = of_table (table_named n kinds)
+of_name (Some n) kinds = of_held (held_by_name kinds n)
 
 unfoldable pub data_inside : Option (List ℕ) → Inside
 data_inside name = of_name name KINDS
@@ -52,17 +46,17 @@ inside_table (Nested t) = Some t
 inside_table inside = None
 
 -- an attribute without a row is told by its kind, flag bits and all, and its bytes
-abbrev pub titled_text : Context → Option Title → Attribute → List ℕ
+abbrev pub titled_text : Context → Option Name → Attribute → List ℕ
 titled_text c None e = codes "kind " ++ (four_digits e.kind ++ bytes_text e.payload)
-titled_text c (Some t) e = title_name t ++ inside_text (known_inside c t.4) e.payload
+titled_text c (Some t) e = t.0 ++ inside_text (known_inside c t.1) e.payload
 
 -- the line of an attribute itself
 unfoldable pub own_line : ℕ → ℕ → Context → Attribute → List ℕ
 own_line level table c e = indent level ++ (titled_text c (title_of table (proper_kind e.kind)) e ++ 10 ∷ [])
 
-abbrev pub titled_table : Context → Option Title → Option ℕ
+abbrev pub titled_table : Context → Option Name → Option ℕ
 titled_table c None = None
-titled_table c (Some t) = inside_table (known_inside c t.4)
+titled_table c (Some t) = inside_table (known_inside c t.1)
 
 -- the table of the list in it, where it holds one
 unfoldable pub table_inside : ℕ → Context → Attribute → Option ℕ

@@ -7,8 +7,7 @@ use Rattle.attribute_tables_grammar.specs.Shapes.{Shape}
 use Rattle.link_message_grammar.specs.Body.{attributes_rule}
 use Rattle.link_message_grammar.specs.LinkMessage.{family_of}
 use Rattle.link_capture_grammar.specs.Bodies.{body_text}
-use Rattle.link_lines_values.specs.declared.values.Shown.{Shown}
-use Rattle.link_lines_values.specs.Values.{value_text}
+use Rattle.link_lines_values.specs.Values.{Shown, value_text}
 use Rattle.link_lines_texts.specs.Coverage.{shape_tells}
 use Rattle.link_lines_texts.specs.Frames.{family_table, frame_lines}
 use Rattle.link_lines_texts.specs.Lists.{indent, list_lines}

@@ -3,16 +3,16 @@
 ghost use Rattle.std.specs.Prelude.{◌≡◌, ◌<◌, ◌≤◌, ◌+◌, ◌^◌, ◌++◌, ◌∷◌, [], length, replicate, option_map, IfOk, OnOk};
 ghost use Rattle.netlink_packet_core_grammar.specs.Attributes.{first_attribute, proper_kind};
 ghost use Rattle.attribute_tables_grammar.specs.Tables.{info_next};
-ghost use Rattle.link_lines_texts.specs.Titles.{title_name};
+ghost use Rattle.link_lines_texts.specs.Titles.{inside_of, of_held};
 ghost use Rattle.link_lines_texts.specs.Lists.{indent, next_in, data_inside, port_inside, known_inside, inside_text};
 ghost use Rattle.link_lines_texts.specs.Lists.{inside_table, own_line, table_inside, list_lines};
 ghost use Rattle.link_lines_texts.specs.Views.{in_force, attribute_of};
 
-use crate::kinds::{KINDS, PORT_KINDS};
 use crate::laws::lists_go_by_steps;
-use crate::rows::{Inside, KindTable, Title, table_named, title_of};
-use crate::titles::LINK_INFO;
-use link_lines_values::{Shown, push_bytes, push_four_digits, push_value};
+use crate::titles::{Behind, BehindBy, DATA, LINK_INFO, title_of};
+use attribute_checks::{Held, held_by_name};
+use link_info_checks::{KINDS, PORT_KINDS};
+use link_lines_values::{ShownBy, push_bytes, push_four_digits, push_value};
 use netlink_packet_core::{NlaBuffer, skip_first};
 use netlink_packet_core_grammar::laws::{first_attributes_are_viewed, first_attributes_are_within};
 use netlink_packet_core_numbers::without_nul;
@@ -71,7 +71,7 @@ fn next_names<'a>(force: InForce<'a>, kind: u16, payload: &'a [u8]) -> InForce<'
 }
 
 /// What is in force after an attribute of a table.
-fn next_force<'a>(table: u8, force: InForce<'a>, attribute: Attribute<'a>) -> InForce<'a>
+fn next_force<'a>(table: usize, force: InForce<'a>, attribute: Attribute<'a>) -> InForce<'a>
     ensures { in_force result.kind result.port_kind
         ≡ next_in table (in_force force.entry.kind force.entry.port_kind)
         (attribute_of attribute.entry.kind attribute.entry.payload) }
@@ -83,42 +83,50 @@ fn next_force<'a>(table: u8, force: InForce<'a>, attribute: Attribute<'a>) -> In
     }
 }
 
-/// The table of the data of a kind of link.
+/// What data hold, as it stands behind a name.
+fn of_held(held: Held) -> Behind
+    ensures { inside_of (λ b. b.now) (λ t. t.now) (λ r. r.now) result ≡ of_held held }
+{
+    match held {
+        Held::List(form, table) => BehindBy::DataList(form, table),
+        Held::Plain(_) | Held::Peer | Held::LinkInfo => BehindBy::Value(ShownBy::Bytes),
+    }
+}
+
+/// What the data of a kind of link hold.
 #[tactic(auto, unfolding(crate::specs::Lists::data_inside))]
-fn data_inside(name: Option<&[u8]>) -> Inside
-    ensures { result ≡ data_inside (option_map (λ b. b.now) name.entry) }
+fn data_behind(name: Option<&[u8]>) -> Behind
+    ensures { inside_of (λ b. b.now) (λ t. t.now) (λ r. r.now) result
+        ≡ data_inside (option_map (λ b. b.now) name.entry) }
 {
-    let Some(name) = name else {
-        return Inside::Value(Shown::Bytes);
-    };
-    match table_named(&KINDS, name) {
-        Some(table) => Inside::List(table),
-        None => Inside::Value(Shown::Bytes),
+    match name {
+        Some(name) => of_held(held_by_name(&KINDS, name)),
+        None => BehindBy::Value(ShownBy::Bytes),
     }
 }
 
-/// The table of the data of a kind of port.
+/// What the data of a kind of port hold.
 #[tactic(auto, unfolding(crate::specs::Lists::port_inside))]
-fn port_inside(name: Option<&[u8]>) -> Inside
-    ensures { result ≡ port_inside (option_map (λ b. b.now) name.entry) }
+fn port_behind(name: Option<&[u8]>) -> Behind
+    ensures { inside_of (λ b. b.now) (λ t. t.now) (λ r. r.now) result
+        ≡ port_inside (option_map (λ b. b.now) name.entry) }
 {
-    let Some(name) = name else {
-        return Inside::Value(Shown::Bytes);
-    };
-    match table_named(&PORT_KINDS, name) {
-        Some(table) => Inside::List(table),
-        None => Inside::Value(Shown::Bytes),
+    match name {
+        Some(name) => of_held(held_by_name(&PORT_KINDS, name)),
+        None => BehindBy::Value(ShownBy::Bytes),
     }
 }
 
-/// The same where names are in force.
-fn known_inside(force: InForce<'_>, inside: Inside) -> Inside
-    ensures { result ≡ known_inside (in_force force.entry.kind force.entry.port_kind) inside }
+/// What stands behind a name where names are in force.
+fn known_behind(force: InForce<'_>, behind: Behind) -> Behind
+    ensures { inside_of (λ b. b.now) (λ t. t.now) (λ r. r.now) result
+        ≡ known_inside (in_force force.entry.kind force.entry.port_kind)
+        (inside_of (λ b. b.now) (λ t. t.now) (λ r. r.now) behind.entry) }
 {
-    match inside {
-        Inside::Data => data_inside(force.kind),
-        Inside::PortData => port_inside(force.port_kind),
-        Inside::Value(_) | Inside::List(_) => inside,
+    match behind {
+        BehindBy::Data => data_behind(force.kind),
+        BehindBy::PortData => port_behind(force.port_kind),
+        _ => behind,
     }
 }
 
@@ -139,39 +147,36 @@ fn push_indent(level: usize, out: &mut Vec<u8>) -> Result<(), AllocError>
     Ok(())
 }
 
-/// Appends a name.
-fn push_name(title: Title, out: &mut Vec<u8>) -> Result<(), AllocError>
-    requires { title.2 ≤ 32 }
-    ensures ok { OnOk result (out.new.items ≡ out.old.items ++ title_name title) }
-{
-    let Title(_, _, len, name, _) = title;
-    out.extend_from_slice(&name[..len as usize])
-}
-
 /// Appends what stands behind an attribute's name. The answer is the table of the list in it, where it holds one.
-fn push_inside(inside: Inside, payload: &[u8], out: &mut Vec<u8>) -> Result<Option<u8>, AllocError>
-    ensures ok { OnOk result (out.new.items ≡ out.old.items ++ inside_text inside payload.now) }
-    ensures table { IfOk result (λ table. table ≡ inside_table inside) }
+fn push_behind(
+    behind: Behind,
+    payload: &[u8],
+    out: &mut Vec<u8>,
+) -> Result<Option<usize>, AllocError>
+    ensures ok { OnOk result (out.new.items ≡ out.old.items
+        ++ inside_text (inside_of (λ b. b.now) (λ t. t.now) (λ r. r.now) behind.entry) payload.now) }
+    ensures table { IfOk result (λ table. table ≡ inside_table (inside_of (λ b. b.now) (λ t. t.now) (λ r. r.now) behind.entry)) }
 {
-    match inside {
-        Inside::Value(shown) => {
-            push_value(shown, payload, out)?;
-            Ok(None)
-        }
-        Inside::List(table) => Ok(Some(table)),
-        Inside::Data | Inside::PortData => Ok(None),
+    match behind {
+        BehindBy::Value(shown) => push_value(shown, payload, out)?,
+        BehindBy::Peer => push_bytes(payload, out)?,
+        BehindBy::List(_, table) => return Ok(Some(usize::from(table))),
+        BehindBy::DataList(_, table) => return Ok(Some(DATA + usize::from(table))),
+        BehindBy::LinkInfo => return Ok(Some(LINK_INFO)),
+        BehindBy::Data | BehindBy::PortData => {}
     }
+    Ok(None)
 }
 
 /// Appends the line of an attribute. The answer is the table of the list in it, where it holds one.
 #[tactic(auto, unfolding(crate::specs::Lists::own_line, crate::specs::Lists::table_inside))]
 fn push_line(
     level: usize,
-    table: u8,
+    table: usize,
     force: InForce<'_>,
     attribute: Attribute<'_>,
     out: &mut Vec<u8>,
-) -> Result<Option<u8>, AllocError>
+) -> Result<Option<usize>, AllocError>
     ensures ok { OnOk result (out.new.items ≡ out.old.items
         ++ own_line level table (in_force force.entry.kind force.entry.port_kind)
         (attribute_of attribute.entry.kind attribute.entry.payload)) }
@@ -181,9 +186,9 @@ fn push_line(
 {
     push_indent(level, out)?;
     let found = match title_of(table, attribute.kind % 0x4000) {
-        Some(title) => {
-            push_name(title, out)?;
-            push_inside(known_inside(force, title.4), attribute.payload, out)?
+        Some((name, behind)) => {
+            out.extend_from_slice(name)?;
+            push_behind(known_behind(force, behind), attribute.payload, out)?
         }
         None => {
             out.extend_from_slice(b"kind ")?;
@@ -199,7 +204,7 @@ fn push_line(
 /// Appends the lines of the attributes of a table, which begin at this level.
 pub(crate) fn push_list(
     level: usize,
-    table: u8,
+    table: usize,
     bytes: &[u8],
     out: &mut Vec<u8>,
 ) -> Result<(), AllocError>

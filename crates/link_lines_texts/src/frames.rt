@@ -4,18 +4,18 @@ ghost use Rattle.std.specs.Prelude.{◌≡◌, ◌<◌, ◌≤◌, ◌^◌, ◌+
 ghost use Rattle.netlink_packet_core_grammar.specs.Attributes.{nla_align};
 ghost use Rattle.netlink_packet_core.specs.Frames.{frame_length};
 ghost use Rattle.link_lines_values.specs.Flags.{named_flags};
-ghost use Rattle.link_lines_values.specs.Names.{named_number};
-ghost use Rattle.link_lines_texts.specs.Frames.{labelled, type_text, flag_set, header_line, family_table};
+ghost use Rattle.link_lines_values.specs.Names.{named_number, texts_of};
+ghost use Rattle.link_lines_texts.specs.Frames.{labelled, type_text, flag_names, header_line, family_table, link_flag_names};
 ghost use Rattle.link_lines_texts.specs.Frames.{link_numbers, link_flags, link_lines, bytes_line, code_lines};
 ghost use Rattle.link_lines_texts.specs.Frames.{body_lines, frame_lines};
 ghost use Rattle.link_lines_texts.specs.Captures.{is_frame, text_lines};
 
 use crate::attributes::push_list;
 use crate::laws::lines_go_by_frames;
-use crate::titles::{BRIDGE, INET6_LINK, OTHER, UNSPEC};
 use link_lines_values::{
-    FlagSet, Numbers, Shown, push_bytes, push_decimal, push_flags, push_name, push_number,
-    push_value,
+    ADDRESS_FAMILY, FlagName, FlagNames, LINK_FLAGS, LINK_LAYER_TYPE, MESSAGE_ACK_FLAGS,
+    MESSAGE_CREATE_FLAGS, MESSAGE_DELETE_FLAGS, MESSAGE_FLAGS, MESSAGE_GET_FLAGS, MESSAGE_TYPE,
+    NumberText, ShownBy, push_bytes, push_decimal, push_flags, push_name, push_number, push_value,
 };
 use netlink_packet_core::{NETLINK_HEADER_LEN, NLMSG_DONE, NLMSG_ERROR, NetlinkBuffer, nla_align};
 use netlink_packet_core_attributes::view::{read_u16, read_u32};
@@ -28,26 +28,26 @@ const LINK_HEADER_LEN: usize = 16;
 const CODE_LEN: usize = 4;
 
 /// The flags that messages of a type have.
-#[tactic(auto, unfolding(crate::specs::Frames::flag_set))]
-fn flag_set(message_type: u16) -> FlagSet
-    ensures { result ≡ flag_set message_type }
+#[tactic(auto, unfolding(crate::specs::Frames::flag_names))]
+fn flag_names(message_type: u16) -> FlagNames
+    ensures { texts_of (λ b. b.now) result.now ≡ flag_names message_type }
 {
     match message_type {
-        2 => FlagSet::MessageAck,
-        16 | 19 => FlagSet::MessageCreate,
-        17 => FlagSet::MessageDelete,
-        18 => FlagSet::MessageGet,
-        _ => FlagSet::Message,
+        2 => MESSAGE_ACK_FLAGS,
+        16 | 19 => MESSAGE_CREATE_FLAGS,
+        17 => MESSAGE_DELETE_FLAGS,
+        18 => MESSAGE_GET_FLAGS,
+        _ => MESSAGE_FLAGS,
     }
 }
 
 /// Appends the name of a type of message, or its number.
-#[tactic(auto, unfolding(crate::specs::Frames::type_text))]
+#[tactic(auto, unfolding(crate::specs::Frames::type_text, crate::specs::Frames::message_types))]
 fn push_type(message_type: u16, out: &mut Vec<u8>) -> Result<(), AllocError>
     ensures ok { OnOk result (out.new.items ≡ out.old.items ++ type_text message_type) }
 {
     let size = out.len();
-    push_name(Numbers::MessageType, message_type as u64, out)?;
+    push_name(MESSAGE_TYPE, message_type as u64, out)?;
     if out.len() > size {
         return Ok(());
     }
@@ -58,15 +58,15 @@ fn push_type(message_type: u16, out: &mut Vec<u8>) -> Result<(), AllocError>
 /// Appends a label, and a number with its text.
 fn push_labelled(
     label: &[u8],
-    numbers: Numbers,
+    texts: &[NumberText],
     number: u32,
     out: &mut Vec<u8>,
 ) -> Result<(), AllocError>
     ensures ok { OnOk result (out.new.items
-        ≡ out.old.items ++ labelled label.now (named_number numbers number)) }
+        ≡ out.old.items ++ labelled label.now (named_number (texts_of (λ b. b.now) texts.now) number)) }
 {
     out.extend_from_slice(label)?;
-    push_number(numbers, number as u64, out)
+    push_number(texts, number as u64, out)
 }
 
 /// Appends a label and a number.
@@ -81,15 +81,15 @@ fn push_labelled_decimal(label: &[u8], number: u32, out: &mut Vec<u8>) -> Result
 /// Appends a label and flags.
 fn push_labelled_flags(
     label: &[u8],
-    set: FlagSet,
+    names: &[FlagName],
     flags: u32,
     out: &mut Vec<u8>,
 ) -> Result<(), AllocError>
     ensures ok { OnOk result (out.new.items
-        ≡ out.old.items ++ labelled label.now (named_flags set flags)) }
+        ≡ out.old.items ++ labelled label.now (named_flags (texts_of (λ b. b.now) names.now) flags)) }
 {
     out.extend_from_slice(label)?;
-    push_flags(set, flags as u64, out)
+    push_flags(names, flags as u64, out)
 }
 
 /// Appends the line of the header of a message (netlink.h, `struct nlmsghdr`).
@@ -103,7 +103,7 @@ fn push_header(frame: &[u8], out: &mut Vec<u8>) -> Result<(), AllocError>
     push_type(message_type, out)?;
     push_labelled_flags(
         b" flags ",
-        flag_set(message_type),
+        flag_names(message_type),
         header.flags() as u32,
         out,
     )?;
@@ -112,16 +112,16 @@ fn push_header(frame: &[u8], out: &mut Vec<u8>) -> Result<(), AllocError>
     out.extend_from_slice(b"\n")
 }
 
-/// The table of the attributes of a link of an address family.
+/// The table of the attributes of a link of an address family, by the interpreter's number.
 #[tactic(auto, unfolding(crate::specs::Frames::family_table))]
-fn family_table(family: u8) -> u8
+fn family_table(family: u8) -> usize
     ensures { result ≡ family_table family }
 {
     match family {
-        0 => UNSPEC,
-        7 => BRIDGE,
-        10 => INET6_LINK,
-        _ => OTHER,
+        0 => 15,
+        7 => 16,
+        10 => 17,
+        _ => 18,
     }
 }
 
@@ -131,19 +131,18 @@ fn push_link_numbers(body: &[u8], out: &mut Vec<u8>) -> Result<(), AllocError>
     requires { 16 ≤ length body.now }
     ensures ok { OnOk result (out.new.items ≡ out.old.items ++ link_numbers body.now) }
 {
-    push_labelled(
-        b"  ifinfomsg family ",
-        Numbers::AddressFamily,
-        body[0] as u32,
-        out,
-    )?;
-    push_labelled(
-        b" type ",
-        Numbers::LinkLayerType,
-        read_u16(body, 2) as u32,
-        out,
-    )?;
+    push_labelled(b"  ifinfomsg family ", ADDRESS_FAMILY, body[0] as u32, out)?;
+    push_labelled(b" type ", LINK_LAYER_TYPE, read_u16(body, 2) as u32, out)?;
     push_labelled_decimal(b" index ", read_u32(body, 4), out)
+}
+
+/// Appends a label and flags of a link.
+#[tactic(auto, unfolding(crate::specs::Frames::link_flag_names))]
+fn push_labelled_link_flags(label: &[u8], flags: u32, out: &mut Vec<u8>) -> Result<(), AllocError>
+    ensures ok { OnOk result (out.new.items
+        ≡ out.old.items ++ labelled label.now (named_flags link_flag_names flags)) }
+{
+    push_labelled_flags(label, LINK_FLAGS, flags, out)
 }
 
 /// Appends the flags of a link, and the mask of their change.
@@ -152,8 +151,8 @@ fn push_link_flags(body: &[u8], out: &mut Vec<u8>) -> Result<(), AllocError>
     requires { 16 ≤ length body.now }
     ensures ok { OnOk result (out.new.items ≡ out.old.items ++ link_flags body.now) }
 {
-    push_labelled_flags(b" flags ", FlagSet::Link, read_u32(body, 8), out)?;
-    push_labelled_flags(b" change ", FlagSet::Link, read_u32(body, 12), out)?;
+    push_labelled_link_flags(b" flags ", read_u32(body, 8), out)?;
+    push_labelled_link_flags(b" change ", read_u32(body, 12), out)?;
     out.extend_from_slice(b"\n")
 }
 
@@ -194,7 +193,7 @@ fn push_code(body: &[u8], out: &mut Vec<u8>) -> Result<(), AllocError>
     }
     let (code, rest) = body.split_at(CODE_LEN);
     out.extend_from_slice(b"  code")?;
-    push_value(Shown::Signed, code, out)?;
+    push_value(ShownBy::Signed, code, out)?;
     out.extend_from_slice(b"\n")?;
     push_bytes_line(b"rest", rest, out)
 }

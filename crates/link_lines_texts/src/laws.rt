@@ -49,7 +49,7 @@ pub fn accepted_frames_have_lines()
 }
 
 /// Each row of the tables of link messages, and of every table inside, has a name, behind which stands what tells the
-/// row's payload; each name is that of a row; and no two names that are looked up together are equal.
+/// row's payload; each name is that of a row; and no two names of a table are equal.
 pub fn rows_are_told()
     ensures { RowsAreTold }
 {}

@@ -2,10 +2,11 @@
 #![tactic(auto)]
 
 mod attributes;
+mod data_titles;
 mod frames;
-mod kinds;
 pub mod laws;
-mod rows;
+mod message_titles;
+mod placed;
 mod titles;
 
 pub use frames::push_lines;

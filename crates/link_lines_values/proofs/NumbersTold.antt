@@ -9,11 +9,10 @@ use Rattle.std.specs.Str.Parse.{digits_value}
 use Rattle.std.proofs.lemmas.Bool.Decides.{nat_tests}
 use Rattle.netlink_packet_core_grammar.specs.Bytes.{AreBytes}
 use Rattle.attribute_tables_grammar.specs.Shapes.{number}
-use Rattle.link_lines_values.specs.declared.numbers.Numbers.{Numbers}
 use Rattle.link_lines_values.specs.Digits.{big_endian, hex_number, is_number, signed_text}
 use Rattle.link_lines_values.specs.Laws.{DigitsAreTold, Ends, NumbersAreTold}
 use Rattle.link_lines_values.specs.Values.{number_value, big_endian_value, flags_value, signed_value}
-use Rattle.link_lines_values.specs.Names.{bracketed, named_number, name_or_nothing}
+use Rattle.link_lines_values.specs.Names.{Text, bracketed, named_number, text_in}
 
 -- ---- digits end where a smaller byte stands
 
@@ -111,11 +110,11 @@ name_ends (c ∷ name) = omega arith
 pub same_size : (p q : List ℕ) → length p ≡ length q → is_number p ≡ true → is_number q ≡ true
 same_size p q l h = ap (λ n. (n == 1) || ((n == 2) || ((n == 4) || (n == 8)))) (sym l) ∙ h
 
-little : (numbers : Numbers) (p q : List ℕ) → AreBytes p → AreBytes q → length p ≡ length q → is_number p ≡ true → number_value numbers p ≡ number_value numbers q → p ≡ q
-little numbers p q a b l h e =
+little : (texts : List Text) (p q : List ℕ) → AreBytes p → AreBytes q → length p ≡ length q → is_number p ≡ true → number_value texts p ≡ number_value texts q → p ≡ q
+little texts p q a b l h e =
     let k = same_size p q l h in
-    let same = shown_by (is_number p) (is_number q) (32 ∷ named_number numbers (number p)) (32 ∷ named_number numbers (number q)) _ _ h k e in
-    let n = decimal_told (number p) (number q) (bracketed (name_or_nothing numbers (number p))) (bracketed (name_or_nothing numbers (number q))) (small p a h) (small q b k) (name_ends _) (name_ends _) (ap (drop 1) same) in
+    let same = shown_by (is_number p) (is_number q) (32 ∷ named_number texts (number p)) (32 ∷ named_number texts (number q)) _ _ h k e in
+    let n = decimal_told (number p) (number q) (bracketed (text_in texts (number p))) (bracketed (text_in texts (number q))) (small p a h) (small q b k) (name_ends _) (name_ends _) (ap (drop 1) same) in
     number_told p q a b l n.0
 
 joined : (p q : List ℕ) → AreBytes p → AreBytes q → AreBytes (p ++ q)
@@ -133,11 +132,11 @@ pub big_told : (p q : List ℕ) → AreBytes p → AreBytes q → length p ≡ l
 big_told p q a b l e =
     sym (reverse-reverse p) ∙ ap reverse (number_told (reverse p) (reverse q) (turned p a) (turned q b) (length-reverse p ∙ l ∙ sym (length-reverse q)) e) ∙ reverse-reverse q
 
-big : (numbers : Numbers) (p q : List ℕ) → AreBytes p → AreBytes q → length p ≡ length q → is_number p ≡ true → big_endian_value numbers p ≡ big_endian_value numbers q → p ≡ q
-big numbers p q a b l h e =
+big : (texts : List Text) (p q : List ℕ) → AreBytes p → AreBytes q → length p ≡ length q → is_number p ≡ true → big_endian_value texts p ≡ big_endian_value texts q → p ≡ q
+big texts p q a b l h e =
     let k = same_size p q l h in
-    let same = shown_by (is_number p) (is_number q) (32 ∷ named_number numbers (big_endian p)) (32 ∷ named_number numbers (big_endian q)) _ _ h k e in
-    let n = decimal_told (big_endian p) (big_endian q) (bracketed (name_or_nothing numbers (big_endian p))) (bracketed (name_or_nothing numbers (big_endian q)))
+    let same = shown_by (is_number p) (is_number q) (32 ∷ named_number texts (big_endian p)) (32 ∷ named_number texts (big_endian q)) _ _ h k e in
+    let n = decimal_told (big_endian p) (big_endian q) (bracketed (text_in texts (big_endian p))) (bracketed (text_in texts (big_endian q)))
     (small (reverse p) (turned p a) (turned_size p h)) (small (reverse q) (turned q b) (turned_size q k)) (name_ends _) (name_ends _) (ap (drop 1) same) in
     big_told p q a b l n.0
 

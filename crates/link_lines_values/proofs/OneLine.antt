@@ -3,28 +3,22 @@ use Rattle.std.proofs.Common.{◌≡◌, ℕ, zero, suc, ◌+◌, ◌-◌, ◌/�
 use Rattle.std.specs.Prelude.{◌==◌, ◌&&◌, ◌||◌, codes, cond, flat_map, max, nat_le, nat_lt, slice_index}
 use Rattle.std.specs.Char.{digit_char}
 use Rattle.std.specs.Fmt.{decimal, digits}
+use Rattle.std.specs.List.{list_all}
 use Rattle.std.specs.Net.Addr.{octets_of, segments_of}
 use Rattle.std.specs.Net.Text.{compressed_text, dotted_text, groups_text, hex, hex_groups_text, ipv4_text, ipv6_text, leading_zero_digits, longest_zero_run}
 use Rattle.std.proofs.lemmas.Bool.{and_parts, leb-true}
 use Rattle.std.proofs.lemmas.Bool.Decides.{nat_tests}
 use Rattle.netlink_packet_core_grammar.specs.Texts.{without_nul}
 use Rattle.attribute_tables_grammar.specs.Shapes.{number}
-use Rattle.link_lines_values.specs.declared.fields.Field.{Field}
 use Rattle.link_lines_values.specs.declared.fields.FieldShown.{FieldShown}
 use Rattle.link_lines_values.specs.declared.fields.FieldShown.TheVariants as F
-use Rattle.link_lines_values.specs.declared.number_texts.NumberText.{NumberText}
-use Rattle.link_lines_values.specs.declared.numbers.Numbers.{Numbers}
-use Rattle.link_lines_values.specs.declared.numbers.Numbers.TheVariants as N
-use Rattle.link_lines_values.specs.declared.records.Record.{Record}
-use Rattle.link_lines_values.specs.declared.records.Record.TheVariants as R
-use Rattle.link_lines_values.specs.declared.values.Shown.{Shown}
-use Rattle.link_lines_values.specs.declared.values.Shown.TheVariants as S
+use Rattle.link_lines_values.specs.declared.values.ShownBy.TheVariants as S
 use Rattle.link_lines_values.specs.Bytes.{address_text, bytes_text, colon_byte, colons, count_without_zeros, escaped, hardware_text, hex_text, is_zero, quoted, truth_text}
 use Rattle.link_lines_values.specs.Digits.{big_endian, hex_byte, hex_number, is_number, signed_text}
 use Rattle.link_lines_values.specs.Laws.{IsBehindASpace, IsLine, ValuesStandOnALine}
-use Rattle.link_lines_values.specs.Names.{bracketed, named_number, name_or_nothing, text_in, texts_of}
-use Rattle.link_lines_values.specs.Records.{field_text, field_value, fields_of, fields_text, record_text, total_size}
-use Rattle.link_lines_values.specs.Values.{value_text}
+use Rattle.link_lines_values.specs.Names.{Text, bracketed, named_number, text_in}
+use Rattle.link_lines_values.specs.Records.{Field, field_text, field_value, fields_text, record_text, total_size}
+use Rattle.link_lines_values.specs.Values.{Shown, is_line, is_shown_on_a_line, value_text}
 use Rattle.link_lines_values.proofs.NumbersTold.{Digits, high, high_by}
 
 -- ---- lines in general
@@ -47,10 +41,6 @@ lines_mapped f each [] = record {}
 lines_mapped f each (n ∷ p) = lines_joined (f n) (flat_map f p) (each n) (lines_mapped f each p)
 
 -- the test of a text that is written out
-abbrev is_line : List ℕ → Bool
-is_line [] = true
-is_line (c ∷ s) = nat_le 32 c && is_line s
-
 tested : (s : List ℕ) → is_line s ≡ true → IsLine s
 tested [] h = record {}
 tested (c ∷ s) h =
@@ -172,49 +162,22 @@ address_line p =
 
 -- ---- numbers and their names
 
-abbrev are_lines : List NumberText → Bool
-are_lines [] = true
-are_lines (r ∷ rs) = is_line (take r.1 r.2) && are_lines rs
+abbrev are_lines : List Text → Bool
+are_lines rs = list_all (λ r. is_line r.1) rs
 
-names_tested : (numbers : Numbers) → are_lines (texts_of numbers) ≡ true
-unfolding texts_of
-names_tested N.Plain = refl
-names_tested N.AmtMode = refl
-names_tested N.GeneveDf = refl
-names_tested N.VxlanDf = refl
-names_tested N.GtpRole = refl
-names_tested N.TunnelEncapType = refl
-names_tested N.GreEncapType = refl
-names_tested N.ErSpanDir = refl
-names_tested N.IpVlanMode = refl
-names_tested N.MacVlanMode = refl
-names_tested N.NetkitMode = refl
-names_tested N.NetkitPolicy = refl
-names_tested N.NetkitScrub = refl
-names_tested N.State = refl
-names_tested N.LinkMode = refl
-names_tested N.In6AddrGenMode = refl
-names_tested N.MctpPhysBinding = refl
-names_tested N.EthernetProtocol = refl
-names_tested N.AddressFamily = refl
-names_tested N.LinkLayerType = refl
-names_tested N.MessageType = refl
-
-text_line : (rs : List NumberText) (n : ℕ) → are_lines rs ≡ true → IsLine (text_in rs n)
+text_line : (rs : List Text) (n : ℕ) → are_lines rs ≡ true → IsLine (text_in rs n)
 text_line [] n h = record {}
 text_line (r ∷ rs) n h =
-    let parts = and_parts (is_line (take r.1 r.2)) (are_lines rs) h in
-    either_line (n == r.0) (take r.1 r.2) (text_in rs n) (tested (take r.1 r.2) parts.0) (text_line rs n parts.1)
+    let parts = and_parts (is_line r.1) (are_lines rs) h in
+    either_line (n == r.0) r.1 (text_in rs n) (tested r.1 parts.0) (text_line rs n parts.1)
 
 bracketed_line : (name : List ℕ) → IsLine name → IsLine (bracketed name)
 bracketed_line [] h = record {}
 bracketed_line (c ∷ name) h =
     lines_joined (codes " (") (c ∷ name ++ codes ")") (tested (codes " (") refl) (lines_joined (c ∷ name) (codes ")") h (tested (codes ")") refl))
 
-named_line : (numbers : Numbers) (n : ℕ) → IsLine (named_number numbers n)
-named_line numbers n =
-    lines_joined (decimal n) (bracketed (name_or_nothing numbers n)) (decimal_line n)
-    (bracketed_line (name_or_nothing numbers n) (text_line (texts_of numbers) n (names_tested numbers)))
+named_line : (texts : List Text) (n : ℕ) → are_lines texts ≡ true → IsLine (named_number texts n)
+named_line texts n h = lines_joined (decimal n) (bracketed (text_in texts n)) (decimal_line n) (bracketed_line (text_in texts n) (text_line texts n h))
 
 -- ---- records
 
@@ -225,47 +188,26 @@ field_value_line F.BigEndian p = either_line (is_number p) (decimal (big_endian 
 field_value_line F.Address p = colons_line (take (max 6 (count_without_zeros p)) p)
 field_value_line F.Truth p = truth_line p
 
-field_line : (f : Field) (p : List ℕ) → is_line (take f.0 f.1) ≡ true → IsLine (field_text f p)
-field_line f p h = (omega arith, lines_joined (take f.0 f.1) (61 ∷ field_value f.3 p) (tested (take f.0 f.1) h) (omega arith, field_value_line f.3 p))
+field_line : (f : Field) (p : List ℕ) → is_line f.0 ≡ true → IsLine (field_text f p)
+field_line f p h = (omega arith, lines_joined f.0 (61 ∷ field_value f.2 p) (tested f.0 h) (omega arith, field_value_line f.2 p))
 
 abbrev names_are_lines : List Field → Bool
-names_are_lines [] = true
-names_are_lines (f ∷ fs) = is_line (take f.0 f.1) && names_are_lines fs
-
-fields_tested : (held : Record) → names_are_lines (fields_of held) ≡ true
-unfolding fields_of
-fields_tested R.Stats = refl
-fields_tested R.Stats64 = refl
-fields_tested R.Map = refl
-fields_tested R.Ipv4Devconf = refl
-fields_tested R.Ipv6Devconf = refl
-fields_tested R.Ip6Stats = refl
-fields_tested R.Icmp6Stats = refl
-fields_tested R.Cacheinfo = refl
-fields_tested R.VfMac = refl
-fields_tested R.VfBroadcast = refl
-fields_tested R.VfVlan = refl
-fields_tested R.VfVlanInfo = refl
-fields_tested R.VfTxRate = refl
-fields_tested R.VfRate = refl
-fields_tested R.VfSetting = refl
-fields_tested R.VfLinkState = refl
+names_are_lines fs = list_all (λ f. is_line f.0) fs
 
 fields_line : (sparse : Bool) (fs : List Field) (p : List ℕ) → names_are_lines fs ≡ true → IsLine (fields_text sparse fs p)
 fields_line sparse [] p h = record {}
 fields_line sparse (f ∷ fs) p h =
-    let parts = and_parts (is_line (take f.0 f.1)) (names_are_lines fs) h in
-    let first = field_text f (take f.2 p) in
-    let test = sparse && is_zero (take f.2 p) in
-    lines_joined (cond test [] first) (fields_text sparse fs (drop f.2 p))
-    (either_line test [] first (record {}) (field_line f (take f.2 p) parts.0)) (fields_line sparse fs (drop f.2 p) parts.1)
+    let parts = and_parts (is_line f.0) (names_are_lines fs) h in
+    let first = field_text f (take f.1 p) in
+    let test = sparse && is_zero (take f.1 p) in
+    lines_joined (cond test [] first) (fields_text sparse fs (drop f.1 p))
+    (either_line test [] first (record {}) (field_line f (take f.1 p) parts.0)) (fields_line sparse fs (drop f.1 p) parts.1)
 
-record_line : (sparse : Bool) (held : Record) (p : List ℕ) → IsLine (record_text sparse held p)
+record_line : (sparse : Bool) (fs : List Field) (p : List ℕ) → names_are_lines fs ≡ true → IsLine (record_text sparse fs p)
 unfolding record_text
-record_line sparse held p =
-    let n = total_size (fields_of held) in
-    either_line (nat_le n (length p) && is_zero (drop n p)) (fields_text sparse (fields_of held) (take n p)) (bytes_text p)
-    (fields_line sparse (fields_of held) (take n p) (fields_tested held)) (bytes_line p)
+record_line sparse fs p h =
+    let n = total_size fs in
+    either_line (nat_le n (length p) && is_zero (drop n p)) (fields_text sparse fs (take n p)) (bytes_text p) (fields_line sparse fs (take n p) h) (bytes_line p)
 
 -- ---- values
 
@@ -296,24 +238,24 @@ mask_line p =
     value_line (length p == 8) (flags ++ (codes " mask " ++ mask)) p
     (lines_joined flags (codes " mask " ++ mask) (hex_line _) (lines_joined (codes " mask ") mask (tested (codes " mask ") refl) (hex_line _)))
 
-line : (shown : Shown) (p : List ℕ) → IsLine (value_text shown p)
-line (S.Number numbers) p = value_line (is_number p) (named_number numbers (number p)) p (named_line numbers (number p))
-line (S.BigEndian numbers) p = value_line (is_number p) (named_number numbers (big_endian p)) p (named_line numbers (big_endian p))
-line S.Signed p = value_line (length p == 4) (signed_text (number p)) p (signed_line (number p))
-line S.Flags p = value_line (is_number p) (hex_number (number p)) p (hex_line (number p))
-line S.BigEndianFlags p = value_line (is_number p) (hex_number (big_endian p)) p (hex_line (big_endian p))
-line S.FlagsBySize p = flags_by_size_line p
-line S.Truth p = (omega arith, truth_line p)
-line S.Presence p = record {}
-line S.OptionalByte p = optional_line p
-line S.Text p = (omega arith, quoted_line p)
-line S.Bytes p = bytes_line p
-line S.HardwareAddress p = hardware_line p
-line S.Address p = address_line p
-line S.PortRange p = ports_line p
-line S.FlagsAndMask p = mask_line p
-line (S.Record held) p = record_line false held p
-line (S.SparseRecord held) p = record_line true held p
+line : (shown : Shown) (p : List ℕ) → is_shown_on_a_line shown ≡ true → IsLine (value_text shown p)
+line (S.Number texts) p h = value_line (is_number p) (named_number texts (number p)) p (named_line texts (number p) h)
+line (S.BigEndian texts) p h = value_line (is_number p) (named_number texts (big_endian p)) p (named_line texts (big_endian p) h)
+line S.Signed p h = value_line (length p == 4) (signed_text (number p)) p (signed_line (number p))
+line S.Flags p h = value_line (is_number p) (hex_number (number p)) p (hex_line (number p))
+line S.BigEndianFlags p h = value_line (is_number p) (hex_number (big_endian p)) p (hex_line (big_endian p))
+line S.FlagsBySize p h = flags_by_size_line p
+line S.Truth p h = (omega arith, truth_line p)
+line S.Presence p h = record {}
+line S.OptionalByte p h = optional_line p
+line S.Text p h = (omega arith, quoted_line p)
+line S.Bytes p h = bytes_line p
+line S.HardwareAddress p h = hardware_line p
+line S.Address p h = address_line p
+line S.PortRange p h = ports_line p
+line S.FlagsAndMask p h = mask_line p
+line (S.Record fields) p h = record_line false fields p h
+line (S.SparseRecord fields) p h = record_line true fields p h
 
 -- ---- a space in front
 
@@ -348,21 +290,21 @@ optional_space (a ∷ b ∷ p) = refl
 fields_space : (sparse : Bool) (fs : List Field) (p : List ℕ) → IsBehindASpace (fields_text sparse fs p)
 fields_space sparse [] p = record {}
 fields_space sparse (f ∷ fs) p =
-    let first = field_text f (take f.2 p) in
-    let test = sparse && is_zero (take f.2 p) in
-    spaces_joined (cond test [] first) (fields_text sparse fs (drop f.2 p))
-    (either_space test [] first (record {}) refl) (fields_space sparse fs (drop f.2 p))
+    let first = field_text f (take f.1 p) in
+    let test = sparse && is_zero (take f.1 p) in
+    spaces_joined (cond test [] first) (fields_text sparse fs (drop f.1 p))
+    (either_space test [] first (record {}) refl) (fields_space sparse fs (drop f.1 p))
 
-record_space : (sparse : Bool) (held : Record) (p : List ℕ) → IsBehindASpace (record_text sparse held p)
+record_space : (sparse : Bool) (fs : List Field) (p : List ℕ) → IsBehindASpace (record_text sparse fs p)
 unfolding record_text
-record_space sparse held p =
-    let n = total_size (fields_of held) in
-    either_space (nat_le n (length p) && is_zero (drop n p)) (fields_text sparse (fields_of held) (take n p)) (bytes_text p)
-    (fields_space sparse (fields_of held) (take n p)) (bytes_space p)
+record_space sparse fs p =
+    let n = total_size fs in
+    either_space (nat_le n (length p) && is_zero (drop n p)) (fields_text sparse fs (take n p)) (bytes_text p)
+    (fields_space sparse fs (take n p)) (bytes_space p)
 
 space : (shown : Shown) (p : List ℕ) → IsBehindASpace (value_text shown p)
-space (S.Number numbers) p = value_space (is_number p) (named_number numbers (number p)) p
-space (S.BigEndian numbers) p = value_space (is_number p) (named_number numbers (big_endian p)) p
+space (S.Number texts) p = value_space (is_number p) (named_number texts (number p)) p
+space (S.BigEndian texts) p = value_space (is_number p) (named_number texts (big_endian p)) p
 space S.Signed p = value_space (length p == 4) (signed_text (number p)) p
 space S.Flags p = value_space (is_number p) (hex_number (number p)) p
 space S.BigEndianFlags p = value_space (is_number p) (hex_number (big_endian p)) p
@@ -376,8 +318,8 @@ space S.HardwareAddress p = hardware_space p
 space S.Address p = other_space (length p == 4) (length p == 16) (ipv4_text p) (ipv6_text (segments_of p)) p
 space S.PortRange p = value_space (length p == 4) (decimal (big_endian (take 2 p)) ++ 32 ∷ decimal (big_endian (drop 2 p))) p
 space S.FlagsAndMask p = value_space (length p == 8) (hex_number (number (take 4 p)) ++ (codes " mask " ++ hex_number (number (drop 4 p)))) p
-space (S.Record held) p = record_space false held p
-space (S.SparseRecord held) p = record_space true held p
+space (S.Record fields) p = record_space false fields p
+space (S.SparseRecord fields) p = record_space true fields p
 
 pub values_stand : ValuesStandOnALine
 values_stand = record { line = line; space = space }

@@ -9,15 +9,12 @@ use Rattle.std.proofs.lemmas.List.{length-take, length-drop}
 use Rattle.std.proofs.lemmas.Slice.Eq.{bytes_eq-Decides}
 use Rattle.netlink_packet_core_grammar.specs.Bytes.{AreBytes}
 use Rattle.attribute_tables_grammar.specs.Shapes.{number}
-use Rattle.link_lines_values.specs.declared.fields.Field.{Field}
 use Rattle.link_lines_values.specs.declared.fields.FieldShown.{FieldShown}
 use Rattle.link_lines_values.specs.declared.fields.FieldShown.TheVariants as S
 use Rattle.link_lines_values.specs.Bytes.{colon_byte, colons, count_without_zeros, is_zero, padded_address}
 use Rattle.link_lines_values.specs.Digits.{big_endian, is_number}
-use Rattle.link_lines_values.specs.declared.records.Record.{Record}
-use Rattle.link_lines_values.specs.declared.records.Record.TheVariants as R
 use Rattle.link_lines_values.specs.Laws.{AllKnown, Ends, IsKnown, RecordsAreTold}
-use Rattle.link_lines_values.specs.Records.{field_text, field_value, fields_of, fields_text, record_text, total_size}
+use Rattle.link_lines_values.specs.Records.{Field, field_text, field_value, fields_tell, fields_text, has_size, lacks, names_apart, no_equals, record_text, sizes_known, total_size}
 use Rattle.link_lines_values.proofs.BytesTold.{colons_are_told}
 use Rattle.link_lines_values.proofs.NumbersTold.{Digits, cut, shown_by, bounded, small, number_told, big_told, same_size, turned, turned_size, decimal_told, signed_told, high_by}
 use Rattle.link_lines_values.proofs.ValuesTold.{bytes_front, bytes_back, both_parts, true_is_false, zero_number, truth_told}
@@ -67,17 +64,6 @@ address_told p q s t a b l h k e =
 
 -- ---- a field
 
-abbrev pub is_size : ℕ → Bool
-is_size n = (n == 1) || ((n == 2) || ((n == 4) || (n == 8)))
-
--- the bytes of the field are of a size that its form knows
-abbrev pub has_size : FieldShown → ℕ → Bool
-has_size S.Number n = is_size n
-has_size S.Signed n = n == 4
-has_size S.BigEndian n = is_size n
-has_size S.Address n = true
-has_size S.Truth n = true
-
 -- what is shown of a form that knows the size, with what follows it
 shown_then : (a b : Bool) (x y u v s t : List ℕ) → a ≡ true → b ≡ true → cond a x u ++ s ≡ cond b y v ++ t → x ++ s ≡ y ++ t
 shown_then true true x y u v s t h k e = e
@@ -107,17 +93,13 @@ field_told S.Truth p q s t a b l h i j m n e = truth_told p q s t a b l i j e
 
 -- ---- fields, one behind the other
 
-abbrev pub sizes_known : List Field → Bool
-sizes_known [] = true
-sizes_known (f ∷ fs) = has_size f.3 f.2 && sizes_known fs
-
 ends_after : (t : Bool) (f : Field) (p r : List ℕ) → Ends r → Ends (cond t [] (field_text f p) ++ r)
 ends_after true f p r h = h
 ends_after false f p r h = omega arith
 
 fields_end : (sparse : Bool) (fs : List Field) (p : List ℕ) → Ends (fields_text sparse fs p)
 fields_end sparse [] p = record {}
-fields_end sparse (f ∷ fs) p = ends_after (sparse && is_zero (take f.2 p)) f (take f.2 p) _ (fields_end sparse fs (drop f.2 p))
+fields_end sparse (f ∷ fs) p = ends_after (sparse && is_zero (take f.1 p)) f (take f.1 p) _ (fields_end sparse fs (drop f.1 p))
 
 no_items : (p q : List ℕ) → length p ≡ 0 → length q ≡ 0 → p ≡ q
 no_items [] [] h k = refl
@@ -125,14 +107,14 @@ no_items [] (y ∷ q) h k = absurd (omega arith)
 no_items (x ∷ p) q h k = absurd (omega arith)
 
 -- two texts of one field tell its value, and what follows them
-shown_field : (f : Field) (p q s t : List ℕ) → AreBytes p → AreBytes q → length p ≡ length q → has_size f.3 (length p) ≡ true → IsKnown f.3 p → IsKnown f.3 q → Ends s → Ends t →
+shown_field : (f : Field) (p q s t : List ℕ) → AreBytes p → AreBytes q → length p ≡ length q → has_size f.2 (length p) ≡ true → IsKnown f.2 p → IsKnown f.2 q → Ends s → Ends t →
     field_text f p ++ s ≡ field_text f q ++ t → (p ≡ q) × (s ≡ t)
 shown_field f p q s t a b l h i j m n e =
-    let name = take f.0 f.1 in
-    let x = 61 ∷ field_value f.3 p in
-    let y = 61 ∷ field_value f.3 q in
+    let name = f.0 in
+    let x = 61 ∷ field_value f.2 p in
+    let y = 61 ∷ field_value f.2 q in
     let behind : x ++ s ≡ y ++ t = append_cancel_left name _ _ (sym (append_assoc name x s) ∙ ap (drop 1) e ∙ append_assoc name y t) in
-    field_told f.3 p q s t a b l h i j m n (ap (drop 1) behind)
+    field_told f.2 p q s t a b l h i j m n (ap (drop 1) behind)
 
 size_of_front : (n m : ℕ) (p : List ℕ) → length p ≡ n + m → length (take n p) ≡ n
 size_of_front n m p l = omega (arith, length-take n p)
@@ -144,29 +126,16 @@ pub plain_told : (fs : List Field) (p q : List ℕ) → AreBytes p → AreBytes 
     fields_text false fs p ≡ fields_text false fs q → p ≡ q
 plain_told [] p q a b l k z i j e = no_items p q l k
 plain_told (f ∷ fs) p q a b l k z i j e =
-    let n = f.2 in
+    let n = f.1 in
     let m = total_size fs in
     let front_p = size_of_front n m p l in
     let front_q = size_of_front n m q k in
-    let sizes = and_parts (has_size f.3 n) (sizes_known fs) z in
+    let sizes = and_parts (has_size f.2 n) (sizes_known fs) z in
     let r = shown_field f (take n p) (take n q) (fields_text false fs (drop n p)) (fields_text false fs (drop n q)) (bytes_front n p a) (bytes_front n q b) (front_p ∙ sym front_q)
-    (ap (has_size f.3) front_p ∙ sizes.0) i.0 j.0 (fields_end false fs _) (fields_end false fs _) e in
+    (ap (has_size f.2) front_p ∙ sizes.0) i.0 j.0 (fields_end false fs _) (fields_end false fs _) e in
     both_parts n p q r.0 (plain_told fs (drop n p) (drop n q) (bytes_back n p a) (bytes_back n q b) (size_of_back n m p l) (size_of_back n m q k) sizes.1 i.1 j.1 r.1)
 
 -- ---- names in front of a sign of equality
-
-abbrev pub no_equals : List ℕ → Bool
-no_equals [] = true
-no_equals (c ∷ n) = not (c == 61) && no_equals n
-
-abbrev pub lacks : List ℕ → List Field → Bool
-lacks n [] = true
-lacks n (f ∷ fs) = not (bytes_eq (take f.0 f.1) n) && lacks n fs
-
--- no two fields have one name
-abbrev pub names_apart : List Field → Bool
-names_apart [] = true
-names_apart (f ∷ fs) = no_equals (take f.0 f.1) && (lacks (take f.0 f.1) fs && names_apart fs)
 
 other_than : (n y : ℕ) → n ≡ 61 → not (y == 61) ≡ true → n ≡ y → ⊥
 other_than n y is h e = grind (arith, nat_tests)
@@ -188,77 +157,53 @@ empty_text : (x : ℕ) (p : List ℕ) → [] ≡ x ∷ p → ⊥
 empty_text x p e = absurd cc
 
 -- no field that is shown has a name that stands nowhere
-absent_by : (n : List ℕ) (f : Field) (rest r : List ℕ) (p : List ℕ) (t : Bool) → no_equals n ≡ true → no_equals (take f.0 f.1) ≡ true → not (bytes_eq (take f.0 f.1) n) ≡ true → (rest ≡ 32 ∷ (n ++ 61 ∷ r) → ⊥) →
+absent_by : (n : List ℕ) (f : Field) (rest r : List ℕ) (p : List ℕ) (t : Bool) → no_equals n ≡ true → no_equals f.0 ≡ true → not (bytes_eq f.0 n) ≡ true → (rest ≡ 32 ∷ (n ++ 61 ∷ r) → ⊥) →
     cond t [] (field_text f p) ++ rest ≡ 32 ∷ (n ++ 61 ∷ r) → ⊥
 absent_by n f rest r p true h k m other e = other e
 absent_by n f rest r p false h k m other e =
-    let name = take f.0 f.1 in
-    let same : name ≡ n = cut_name name n _ r k h (sym (append_assoc name (61 ∷ field_value f.3 p) rest) ∙ ap (drop 1) e) in
+    let name = f.0 in
+    let same : name ≡ n = cut_name name n _ r k h (sym (append_assoc name (61 ∷ field_value f.2 p) rest) ∙ ap (drop 1) e) in
     not_both (bytes_eq name n) m ((bytes_eq-Decides name n).1 same)
 
 absent : (n : List ℕ) (fs : List Field) (p r : List ℕ) → no_equals n ≡ true → lacks n fs ≡ true → names_apart fs ≡ true → fields_text true fs p ≡ 32 ∷ (n ++ 61 ∷ r) → ⊥
 absent n [] p r h k m e = empty_text 32 _ e
 absent n (f ∷ fs) p r h k m e =
-    let named = and_parts (no_equals (take f.0 f.1)) _ m in
+    let named = and_parts (no_equals f.0) _ m in
     let lacking = and_parts _ (lacks n fs) k in
-    absent_by n f (fields_text true fs (drop f.2 p)) r (take f.2 p) (is_zero (take f.2 p)) h named.0 lacking.0 (absent n fs (drop f.2 p) r h lacking.1 (and_parts _ _ named.1).1) e
+    absent_by n f (fields_text true fs (drop f.1 p)) r (take f.1 p) (is_zero (take f.1 p)) h named.0 lacking.0 (absent n fs (drop f.1 p) r h lacking.1 (and_parts _ _ named.1).1) e
 
 -- ---- records of which the fields that are zero are left out
 
 -- two texts of a field that may be left out, each with what follows it
-sparse_field : (f : Field) (p q s t : List ℕ) (c d : Bool) → is_zero p ≡ c → is_zero q ≡ d → AreBytes p → AreBytes q → length p ≡ length q → has_size f.3 (length p) ≡ true → IsKnown f.3 p → IsKnown f.3 q → Ends s → Ends t →
-    ((r : List ℕ) → s ≡ 32 ∷ (take f.0 f.1 ++ 61 ∷ r) → ⊥) → ((r : List ℕ) → t ≡ 32 ∷ (take f.0 f.1 ++ 61 ∷ r) → ⊥) →
+sparse_field : (f : Field) (p q s t : List ℕ) (c d : Bool) → is_zero p ≡ c → is_zero q ≡ d → AreBytes p → AreBytes q → length p ≡ length q → has_size f.2 (length p) ≡ true → IsKnown f.2 p → IsKnown f.2 q → Ends s → Ends t →
+    ((r : List ℕ) → s ≡ 32 ∷ (f.0 ++ 61 ∷ r) → ⊥) → ((r : List ℕ) → t ≡ 32 ∷ (f.0 ++ 61 ∷ r) → ⊥) →
     cond c [] (field_text f p) ++ s ≡ cond d [] (field_text f q) ++ t → (p ≡ q) × (s ≡ t)
 sparse_field f p q s t true true h k a b l z i j m n u v e = (number_told p q a b l (zero_number p h ∙ sym (zero_number q k)), e)
-sparse_field f p q s t true false h k a b l z i j m n u v e = absurd (u (field_value f.3 q ++ t) (e ∙ ap (λ x. 32 ∷ x) (append_assoc (take f.0 f.1) (61 ∷ field_value f.3 q) t)))
-sparse_field f p q s t false true h k a b l z i j m n u v e = absurd (v (field_value f.3 p ++ s) (sym e ∙ ap (λ x. 32 ∷ x) (append_assoc (take f.0 f.1) (61 ∷ field_value f.3 p) s)))
+sparse_field f p q s t true false h k a b l z i j m n u v e = absurd (u (field_value f.2 q ++ t) (e ∙ ap (λ x. 32 ∷ x) (append_assoc f.0 (61 ∷ field_value f.2 q) t)))
+sparse_field f p q s t false true h k a b l z i j m n u v e = absurd (v (field_value f.2 p ++ s) (sym e ∙ ap (λ x. 32 ∷ x) (append_assoc f.0 (61 ∷ field_value f.2 p) s)))
 sparse_field f p q s t false false h k a b l z i j m n u v e = shown_field f p q s t a b l z i j m n e
 
 pub sparse_told : (fs : List Field) (p q : List ℕ) → AreBytes p → AreBytes q → length p ≡ total_size fs → length q ≡ total_size fs → sizes_known fs ≡ true → names_apart fs ≡ true → AllKnown fs p → AllKnown fs q →
     fields_text true fs p ≡ fields_text true fs q → p ≡ q
 sparse_told [] p q a b l k z u i j e = no_items p q l k
 sparse_told (f ∷ fs) p q a b l k z u i j e =
-    let n = f.2 in
+    let n = f.1 in
     let m = total_size fs in
     let front_p = size_of_front n m p l in
     let front_q = size_of_front n m q k in
-    let sizes = and_parts (has_size f.3 n) (sizes_known fs) z in
-    let named = and_parts (no_equals (take f.0 f.1)) _ u in
-    let others = and_parts (lacks (take f.0 f.1) fs) _ named.1 in
+    let sizes = and_parts (has_size f.2 n) (sizes_known fs) z in
+    let named = and_parts (no_equals f.0) _ u in
+    let others = and_parts (lacks f.0 fs) _ named.1 in
     let r = sparse_field f (take n p) (take n q) (fields_text true fs (drop n p)) (fields_text true fs (drop n q)) _ _ refl refl (bytes_front n p a) (bytes_front n q b) (front_p ∙ sym front_q)
-    (ap (has_size f.3) front_p ∙ sizes.0) i.0 j.0 (fields_end true fs _) (fields_end true fs _)
-    (λ r. absent (take f.0 f.1) fs (drop n p) r named.0 others.0 others.1) (λ r. absent (take f.0 f.1) fs (drop n q) r named.0 others.0 others.1) e in
+    (ap (has_size f.2) front_p ∙ sizes.0) i.0 j.0 (fields_end true fs _) (fields_end true fs _)
+    (λ r. absent f.0 fs (drop n p) r named.0 others.0 others.1) (λ r. absent f.0 fs (drop n q) r named.0 others.0 others.1) e in
     both_parts n p q r.0 (sparse_told fs (drop n p) (drop n q) (bytes_back n p a) (bytes_back n q b) (size_of_back n m p l) (size_of_back n m q k) sizes.1 others.1 i.1 j.1 r.1)
 
--- ---- the records that there are
-
-record Told (fs : List Field) : Type 0 where
-  sizes : sizes_known fs ≡ true
-  apart : names_apart fs ≡ true
-
-told : (held : Record) → Told (fields_of held)
-unfolding fields_of
-told R.Stats = record { sizes = refl; apart = refl }
-told R.Stats64 = record { sizes = refl; apart = refl }
-told R.Map = record { sizes = refl; apart = refl }
-told R.Ipv4Devconf = record { sizes = refl; apart = refl }
-told R.Ipv6Devconf = record { sizes = refl; apart = refl }
-told R.Ip6Stats = record { sizes = refl; apart = refl }
-told R.Icmp6Stats = record { sizes = refl; apart = refl }
-told R.Cacheinfo = record { sizes = refl; apart = refl }
-told R.VfMac = record { sizes = refl; apart = refl }
-told R.VfBroadcast = record { sizes = refl; apart = refl }
-told R.VfVlan = record { sizes = refl; apart = refl }
-told R.VfVlanInfo = record { sizes = refl; apart = refl }
-told R.VfTxRate = record { sizes = refl; apart = refl }
-told R.VfRate = record { sizes = refl; apart = refl }
-told R.VfSetting = record { sizes = refl; apart = refl }
-told R.VfLinkState = record { sizes = refl; apart = refl }
-
-either_told : (sparse : Bool) (fs : List Field) (p q : List ℕ) → AreBytes p → AreBytes q → length p ≡ total_size fs → length q ≡ total_size fs → Told fs → AllKnown fs p → AllKnown fs q →
+-- ---- records
+either_told : (sparse : Bool) (fs : List Field) (p q : List ℕ) → AreBytes p → AreBytes q → length p ≡ total_size fs → length q ≡ total_size fs → fields_tell fs ≡ true → AllKnown fs p → AllKnown fs q →
     fields_text sparse fs p ≡ fields_text sparse fs q → p ≡ q
-either_told true fs p q a b l k t i j e = sparse_told fs p q a b l k t.sizes t.apart i j e
-either_told false fs p q a b l k t i j e = plain_told fs p q a b l k t.sizes i j e
+either_told true fs p q a b l k t i j e = let parts = and_parts (sizes_known fs) (names_apart fs) t in sparse_told fs p q a b l k parts.0 parts.1 i j e
+either_told false fs p q a b l k t i j e = plain_told fs p q a b l k (and_parts (sizes_known fs) (names_apart fs) t).0 i j e
 
 both : (a b : Bool) → a ≡ true → b ≡ true → (a && b) ≡ true
 both true true h k = refl
@@ -267,12 +212,12 @@ both false b h k = h
 
 pub records_told : RecordsAreTold
 unfolding record_text
-records_told sparse held p q h k l e =
-    let n = total_size (fields_of held) in
-    let same = shown_by (nat_le n (length p) && is_zero (drop n p)) (nat_le n (length q) && is_zero (drop n q)) (fields_text sparse (fields_of held) (take n p)) (fields_text sparse (fields_of held) (take n q)) _ _
+records_told sparse fs p q t h k l e =
+    let n = total_size fs in
+    let same = shown_by (nat_le n (length p) && is_zero (drop n p)) (nat_le n (length q) && is_zero (drop n q)) (fields_text sparse fs (take n p)) (fields_text sparse fs (take n q)) _ _
     (both _ _ (le-leb n (length p) h.whole) h.zeros) (both _ _ (le-leb n (length q) k.whole) k.zeros) e in
     let whole_p = h.whole in
     let whole_q = k.whole in
-    let front : take n p ≡ take n q = either_told sparse (fields_of held) (take n p) (take n q) (bytes_front n p h.bytes) (bytes_front n q k.bytes) (omega (arith, length-take n p)) (omega (arith, length-take n q)) (told held) h.known k.known same in
+    let front : take n p ≡ take n q = either_told sparse fs (take n p) (take n q) (bytes_front n p h.bytes) (bytes_front n q k.bytes) (omega (arith, length-take n p)) (omega (arith, length-take n q)) t h.known k.known same in
     let back : drop n p ≡ drop n q = number_told (drop n p) (drop n q) (bytes_back n p h.bytes) (bytes_back n q k.bytes) (omega (arith, length-drop n p, length-drop n q)) (zero_number _ h.zeros ∙ sym (zero_number _ k.zeros)) in
     both_parts n p q front back

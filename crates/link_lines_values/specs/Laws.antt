@@ -5,16 +5,13 @@ use Rattle.std.specs.List.{AllByRecursion}
 use Rattle.attribute_tables_grammar.specs.Shapes.{number}
 use Rattle.netlink_packet_core_grammar.specs.Bytes.{AreBytes}
 use Rattle.netlink_packet_core_grammar.specs.Texts.{without_nul}
-use Rattle.link_lines_values.specs.declared.fields.Field.{Field}
 use Rattle.link_lines_values.specs.declared.fields.FieldShown.{FieldShown}
 use Rattle.link_lines_values.specs.declared.fields.FieldShown.TheVariants as S
-use Rattle.link_lines_values.specs.declared.numbers.Numbers.{Numbers}
-use Rattle.link_lines_values.specs.declared.records.Record.{Record}
-use Rattle.link_lines_values.specs.declared.values.Shown.{Shown}
 use Rattle.link_lines_values.specs.Bytes.{address_text, bytes_text, hardware_text, is_zero, quoted, truth_text}
 use Rattle.link_lines_values.specs.Digits.{hex_number, is_number}
-use Rattle.link_lines_values.specs.Records.{fields_of, record_text, total_size}
-use Rattle.link_lines_values.specs.Values.{value_text, number_value, big_endian_value, signed_value, flags_value, big_endian_flags_value, flags_and_mask_value, optional_byte_value, port_range_value, sized_flags_value}
+use Rattle.link_lines_values.specs.Names.{Text}
+use Rattle.link_lines_values.specs.Records.{Field, fields_tell, record_text, total_size}
+use Rattle.link_lines_values.specs.Values.{Shown, is_shown_on_a_line, value_text, number_value, big_endian_value, signed_value, flags_value, big_endian_flags_value, flags_and_mask_value, optional_byte_value, port_range_value, sized_flags_value}
 
 -- nothing, or a byte under the digits: a space, a bracket, a newline
 abbrev pub Ends : List ℕ → Type 0
@@ -35,9 +32,9 @@ abbrev pub IsBehindASpace : List ℕ → Type 0
 IsBehindASpace [] = ⊤
 IsBehindASpace (c ∷ s) = c ≡ 32
 
--- A value's text stands on one line, behind a space.
+-- A value's text stands on one line, where the texts that it may show do, and behind a space.
 pub record ValuesStandOnALine : Type 0 where
-  pub line : (shown : Shown) (p : List ℕ) → IsLine (value_text shown p)
+  pub line : (shown : Shown) (p : List ℕ) → is_shown_on_a_line shown ≡ true → IsLine (value_text shown p)
   pub space : (shown : Shown) (p : List ℕ) → IsBehindASpace (value_text shown p)
 
 -- Bytes in hex, with or without colons, are told by their text, and bytes in quotes up to a NUL at the end.
@@ -48,8 +45,8 @@ pub record BytesAreTold : Type 0 where
 
 -- Numbers of one size are told by their text, whatever names stand behind them.
 pub record NumbersAreTold : Type 0 where
-  pub little : (numbers : Numbers) (p q : List ℕ) → AreBytes p → AreBytes q → length p ≡ length q → is_number p ≡ true → number_value numbers p ≡ number_value numbers q → p ≡ q
-  pub big : (numbers : Numbers) (p q : List ℕ) → AreBytes p → AreBytes q → length p ≡ length q → is_number p ≡ true → big_endian_value numbers p ≡ big_endian_value numbers q → p ≡ q
+  pub little : (texts : List Text) (p q : List ℕ) → AreBytes p → AreBytes q → length p ≡ length q → is_number p ≡ true → number_value texts p ≡ number_value texts q → p ≡ q
+  pub big : (texts : List Text) (p q : List ℕ) → AreBytes p → AreBytes q → length p ≡ length q → is_number p ≡ true → big_endian_value texts p ≡ big_endian_value texts q → p ≡ q
   pub signed : (p q : List ℕ) → AreBytes p → AreBytes q → length p ≡ 4 → length q ≡ 4 → signed_value p ≡ signed_value q → p ≡ q
   pub flags : (p q : List ℕ) → AreBytes p → AreBytes q → length p ≡ length q → is_number p ≡ true → flags_value p ≡ flags_value q → p ≡ q
 
@@ -79,15 +76,15 @@ IsKnown v p = ⊤
 
 abbrev pub AllKnown : List Field → List ℕ → Type 0
 AllKnown [] p = ⊤
-AllKnown (f ∷ fs) p = IsKnown f.3 (take f.2 p) × AllKnown fs (drop f.2 p)
+AllKnown (f ∷ fs) p = IsKnown f.2 (take f.1 p) × AllKnown fs (drop f.1 p)
 
 -- the bytes hold the fields of the record, each truth among them 0 or 1, and zeros behind them
-pub record HoldsFields (held : Record) (p : List ℕ) : Type 0 where
+pub record HoldsFields (fs : List Field) (p : List ℕ) : Type 0 where
   pub bytes : AreBytes p
-  pub whole : total_size (fields_of held) ≤ length p
-  pub zeros : is_zero (drop (total_size (fields_of held)) p) ≡ true
-  pub known : AllKnown (fields_of held) (take (total_size (fields_of held)) p)
+  pub whole : total_size fs ≤ length p
+  pub zeros : is_zero (drop (total_size fs) p) ≡ true
+  pub known : AllKnown fs (take (total_size fs) p)
 
 -- Records of one size are told by their text, whether fields that are zero are left out or not.
 abbrev pub RecordsAreTold : Type 0
-RecordsAreTold = (sparse : Bool) (held : Record) (p q : List ℕ) → HoldsFields held p → HoldsFields held q → length p ≡ length q → record_text sparse held p ≡ record_text sparse held q → p ≡ q
+RecordsAreTold = (sparse : Bool) (fs : List Field) (p q : List ℕ) → fields_tell fs ≡ true → HoldsFields fs p → HoldsFields fs q → length p ≡ length q → record_text sparse fs p ≡ record_text sparse fs q → p ≡ q

@@ -1,44 +1,28 @@
 -- Records: fields of known sizes, one behind the other.
-use Rattle.std.specs.Prelude.{ℕ, ◌+◌, ◌==◌, ◌&&◌, nat_le, Bool, true, List, [], ◌∷◌, ◌++◌, Option, None, Some, cond, length, take, drop}
+use Rattle.std.specs.Prelude.{ℕ, ◌+◌, ◌==◌, ◌&&◌, ◌||◌, not, nat_le, Bool, true, List, [], ◌∷◌, ◌++◌, Option, None, Some, bytes_eq, cond, length, take, drop}
 use Rattle.std.specs.Fmt.{decimal}
 use Rattle.attribute_tables_grammar.specs.Shapes.{number}
-use Rattle.link_lines_values.specs.declared.records.Record.{Record}
-use Rattle.link_lines_values.specs.declared.records.Record.TheVariants as R
-use Rattle.link_lines_values.specs.declared.fields.Field.{Field}
+use Rattle.link_lines_values.specs.declared.fields.FieldOf.{FieldOf}
 use Rattle.link_lines_values.specs.declared.fields.FieldShown.{FieldShown}
 use Rattle.link_lines_values.specs.declared.fields.FieldShown.TheVariants as S
-use Rattle.link_lines_values.specs.declared.fields.TheConstants.{STATS_FIELDS, STATS64_FIELDS, MAP_FIELDS, IPV4_DEVCONF_FIELDS, IPV6_DEVCONF_FIELDS, IP6_STATS_FIELDS, ICMP6_STATS_FIELDS, CACHEINFO_FIELDS, VF_MAC_FIELDS, VF_BROADCAST_FIELDS, VF_VLAN_FIELDS, VF_VLAN_INFO_FIELDS, VF_TX_RATE_FIELDS, VF_RATE_FIELDS, VF_SETTING_FIELDS, VF_LINK_STATE_FIELDS}
 use Rattle.link_lines_values.specs.Digits.{big_endian, is_number, signed_text}
 use Rattle.link_lines_values.specs.Bytes.{bytes_text, hex_text, is_zero, padded_address, truth_text}
 
--- each length is within its row
-abbrev pub fields_fit : List Field → Bool
-fields_fit [] = true
-fields_fit (f ∷ fs) = nat_le f.0 34 && fields_fit fs
+abbrev pub Field : Type 0
+Field = FieldOf (List ℕ)
 
--- the fields of a record
-unfoldable pub fields_of : Record → List Field
-fields_of R.Stats = STATS_FIELDS
-fields_of R.Stats64 = STATS64_FIELDS
-fields_of R.Map = MAP_FIELDS
-fields_of R.Ipv4Devconf = IPV4_DEVCONF_FIELDS
-fields_of R.Ipv6Devconf = IPV6_DEVCONF_FIELDS
-fields_of R.Ip6Stats = IP6_STATS_FIELDS
-fields_of R.Icmp6Stats = ICMP6_STATS_FIELDS
-fields_of R.Cacheinfo = CACHEINFO_FIELDS
-fields_of R.VfMac = VF_MAC_FIELDS
-fields_of R.VfBroadcast = VF_BROADCAST_FIELDS
-fields_of R.VfVlan = VF_VLAN_FIELDS
-fields_of R.VfVlanInfo = VF_VLAN_INFO_FIELDS
-fields_of R.VfTxRate = VF_TX_RATE_FIELDS
-fields_of R.VfRate = VF_RATE_FIELDS
-fields_of R.VfSetting = VF_SETTING_FIELDS
-fields_of R.VfLinkState = VF_LINK_STATE_FIELDS
+-- what a field in code says
+abbrev pub field_of : {N : Type 0} → (N → List ℕ) → FieldOf N → Field
+field_of g f = (g f.0, f.1, f.2)
+
+abbrev pub fields_of : {N : Type 0} → (N → List ℕ) → List (FieldOf N) → List Field
+fields_of g [] = []
+fields_of g (f ∷ fs) = field_of g f ∷ fields_of g fs
 
 -- how many bytes the fields have
 abbrev pub total_size : List Field → ℕ
 total_size [] = 0
-total_size (f ∷ fs) = f.2 + total_size fs
+total_size (f ∷ fs) = f.1 + total_size fs
 
 -- a number in decimal; where there is none, bytes in hex
 abbrev pub number_or_hex : Option ℕ → List ℕ → List ℕ
@@ -55,16 +39,49 @@ field_value S.Truth part = truth_text part
 
 -- as ` vlan=7`
 abbrev pub field_text : Field → List ℕ → List ℕ
-field_text f part = 32 ∷ (take f.0 f.1 ++ 61 ∷ field_value f.3 part)
+field_text f part = 32 ∷ (f.0 ++ 61 ∷ field_value f.2 part)
 
 -- the fields that are shown: of a sparse record those that aren't zero
 abbrev pub fields_text : Bool → List Field → List ℕ → List ℕ
 fields_text is_sparse [] bytes = []
 fields_text is_sparse (f ∷ fs) bytes =
-    cond (is_sparse && is_zero (take f.2 bytes)) [] (field_text f (take f.2 bytes)) ++ fields_text is_sparse fs (drop f.2 bytes)
+    cond (is_sparse && is_zero (take f.1 bytes)) [] (field_text f (take f.1 bytes)) ++ fields_text is_sparse fs (drop f.1 bytes)
 
 -- a record, behind which zeros may stand; other bytes as they are
-unfoldable pub record_text : Bool → Record → List ℕ → List ℕ
-record_text is_sparse held bytes =
-    cond (nat_le (total_size (fields_of held)) (length bytes) && is_zero (drop (total_size (fields_of held)) bytes))
-    (fields_text is_sparse (fields_of held) (take (total_size (fields_of held)) bytes)) (bytes_text bytes)
+unfoldable pub record_text : Bool → List Field → List ℕ → List ℕ
+record_text is_sparse fs bytes =
+    cond (nat_le (total_size fs) (length bytes) && is_zero (drop (total_size fs) bytes)) (fields_text is_sparse fs (take (total_size fs) bytes)) (bytes_text bytes)
+
+-- ---- whether the text of a record tells it
+
+-- the sizes of numbers
+abbrev pub is_size : ℕ → Bool
+is_size n = (n == 1) || ((n == 2) || ((n == 4) || (n == 8)))
+
+-- the bytes of a field are of a size that its form knows
+abbrev pub has_size : FieldShown → ℕ → Bool
+has_size S.Number n = is_size n
+has_size S.Signed n = n == 4
+has_size S.BigEndian n = is_size n
+has_size S.Address n = true
+has_size S.Truth n = true
+
+abbrev pub sizes_known : List Field → Bool
+sizes_known [] = true
+sizes_known (f ∷ fs) = has_size f.2 f.1 && sizes_known fs
+
+abbrev pub no_equals : List ℕ → Bool
+no_equals [] = true
+no_equals (c ∷ n) = not (c == 61) && no_equals n
+
+abbrev pub lacks : List ℕ → List Field → Bool
+lacks n [] = true
+lacks n (f ∷ fs) = not (bytes_eq f.0 n) && lacks n fs
+
+-- no two fields have one name
+abbrev pub names_apart : List Field → Bool
+names_apart [] = true
+names_apart (f ∷ fs) = no_equals f.0 && (lacks f.0 fs && names_apart fs)
+
+abbrev pub fields_tell : List Field → Bool
+fields_tell fs = sizes_known fs && names_apart fs

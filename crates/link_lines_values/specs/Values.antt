@@ -1,21 +1,46 @@
 -- Payloads of attributes as text, with the space before it where there is any.
-use Rattle.std.specs.Prelude.{ℕ, ◌==◌, true, false, List, [], ◌∷◌, ◌++◌, Option, None, Some, codes, cond, length, take, drop}
+use Rattle.std.specs.Prelude.{ℕ, ◌==◌, nat_le, Bool, true, false, List, [], ◌∷◌, ◌++◌, Option, None, Some, codes, cond, length, take, drop}
 use Rattle.std.specs.Fmt.{decimal}
+use Rattle.std.specs.List.{list_all}
 use Rattle.attribute_tables_grammar.specs.Shapes.{number}
-use Rattle.link_lines_values.specs.declared.numbers.Numbers.{Numbers}
-use Rattle.link_lines_values.specs.declared.values.Shown.{Shown}
-use Rattle.link_lines_values.specs.declared.values.Shown.TheVariants as S
+use Rattle.link_lines_values.specs.declared.fields.FieldOf.{FieldOf}
+use Rattle.link_lines_values.specs.declared.values.ShownBy.{ShownBy}
+use Rattle.link_lines_values.specs.declared.values.ShownBy.TheVariants as S
 use Rattle.link_lines_values.specs.Digits.{big_endian, is_number, hex_number, signed_text}
 use Rattle.link_lines_values.specs.Bytes.{address_text, bytes_text, hardware_text, quoted, truth_text}
-use Rattle.link_lines_values.specs.Names.{named_number}
-use Rattle.link_lines_values.specs.Records.{record_text}
+use Rattle.link_lines_values.specs.Names.{Text, named_number, texts_of}
+use Rattle.link_lines_values.specs.Records.{Field, fields_of, record_text}
+
+-- how a payload is shown: numbers with their texts, records with their fields
+abbrev pub Shown : Type 0
+Shown = ShownBy (List Text) (List Field)
+
+-- what a form in code says
+abbrev pub seen : {N T R : Type 0} → (N → List ℕ) → (T → List (ℕ × N)) → (R → List (FieldOf N)) → ShownBy T R → Shown
+seen f g h (S.Number texts) = S.Number (texts_of f (g texts))
+seen f g h (S.BigEndian texts) = S.BigEndian (texts_of f (g texts))
+seen f g h S.Signed = S.Signed
+seen f g h S.Flags = S.Flags
+seen f g h S.BigEndianFlags = S.BigEndianFlags
+seen f g h S.FlagsBySize = S.FlagsBySize
+seen f g h S.Truth = S.Truth
+seen f g h S.Presence = S.Presence
+seen f g h S.OptionalByte = S.OptionalByte
+seen f g h S.Text = S.Text
+seen f g h S.Bytes = S.Bytes
+seen f g h S.HardwareAddress = S.HardwareAddress
+seen f g h S.Address = S.Address
+seen f g h S.PortRange = S.PortRange
+seen f g h S.FlagsAndMask = S.FlagsAndMask
+seen f g h (S.Record fields) = S.Record (fields_of f (h fields))
+seen f g h (S.SparseRecord fields) = S.SparseRecord (fields_of f (h fields))
 
 -- numbers of 1, 2, 4 or 8 bytes, with their names; other sizes as bytes
-abbrev pub number_value : Numbers → List ℕ → List ℕ
-number_value numbers p = cond (is_number p) (32 ∷ named_number numbers (number p)) (bytes_text p)
+abbrev pub number_value : List Text → List ℕ → List ℕ
+number_value texts p = cond (is_number p) (32 ∷ named_number texts (number p)) (bytes_text p)
 
-abbrev pub big_endian_value : Numbers → List ℕ → List ℕ
-big_endian_value numbers p = cond (is_number p) (32 ∷ named_number numbers (big_endian p)) (bytes_text p)
+abbrev pub big_endian_value : List Text → List ℕ → List ℕ
+big_endian_value texts p = cond (is_number p) (32 ∷ named_number texts (big_endian p)) (bytes_text p)
 
 -- a number of 4 bytes with its sign
 abbrev pub signed_value : List ℕ → List ℕ
@@ -57,8 +82,8 @@ flags_and_mask_value p =
 
 -- a payload as text
 abbrev pub value_text : Shown → List ℕ → List ℕ
-value_text (S.Number numbers) p = number_value numbers p
-value_text (S.BigEndian numbers) p = big_endian_value numbers p
+value_text (S.Number texts) p = number_value texts p
+value_text (S.BigEndian texts) p = big_endian_value texts p
 value_text S.Signed p = signed_value p
 value_text S.Flags p = flags_value p
 value_text S.BigEndianFlags p = big_endian_flags_value p
@@ -72,5 +97,17 @@ value_text S.HardwareAddress p = hardware_text p
 value_text S.Address p = address_text p
 value_text S.PortRange p = port_range_value p
 value_text S.FlagsAndMask p = flags_and_mask_value p
-value_text (S.Record held) p = record_text false held p
-value_text (S.SparseRecord held) p = record_text true held p
+value_text (S.Record fields) p = record_text false fields p
+value_text (S.SparseRecord fields) p = record_text true fields p
+
+-- ---- whether a value stands on a line: none of the texts and names has a byte under 32
+
+abbrev pub is_line : List ℕ → Bool
+is_line s = list_all (nat_le 32) s
+
+abbrev pub is_shown_on_a_line : Shown → Bool
+is_shown_on_a_line (S.Number texts) = list_all (λ t. is_line t.1) texts
+is_shown_on_a_line (S.BigEndian texts) = list_all (λ t. is_line t.1) texts
+is_shown_on_a_line (S.Record fields) = list_all (λ f. is_line f.0) fields
+is_shown_on_a_line (S.SparseRecord fields) = list_all (λ f. is_line f.0) fields
+is_shown_on_a_line shown = true

@@ -16,7 +16,20 @@ mod values;
 
 pub use bytes::push_bytes;
 pub use digits::{push_decimal, push_four_digits};
-pub use flags::{FlagSet, push_flags};
-pub use numbers::{Numbers, push_name, push_number};
-pub use records::Record;
-pub use values::{Shown, push_value};
+pub use fields::{
+    CACHEINFO, Field, FieldOf, FieldShown, Fields, ICMP6_STATS, IP6_STATS, IPV4_DEVCONF,
+    IPV6_DEVCONF, MAP, STATS, STATS64, VF_BROADCAST, VF_LINK_STATE, VF_MAC, VF_RATE, VF_SETTING,
+    VF_TX_RATE, VF_VLAN, VF_VLAN_INFO,
+};
+pub use flags::{
+    FlagName, FlagNames, LINK_FLAGS, MESSAGE_ACK_FLAGS, MESSAGE_CREATE_FLAGS, MESSAGE_DELETE_FLAGS,
+    MESSAGE_FLAGS, MESSAGE_GET_FLAGS, push_flags,
+};
+pub use number_texts::{
+    ADDRESS_FAMILY, AMT_MODE, ER_SPAN_DIR, ETHERNET_PROTOCOL, GENEVE_DF, GRE_ENCAP_TYPE, GTP_ROLE,
+    IN6_ADDR_GEN_MODE, IP_VLAN_MODE, LINK_LAYER_TYPE, LINK_MODE, MAC_VLAN_MODE, MCTP_PHYS_BINDING,
+    MESSAGE_TYPE, NETKIT_MODE, NETKIT_POLICY, NETKIT_SCRUB, NumberText, Numbers, PLAIN, STATE,
+    TUNNEL_ENCAP_TYPE, VXLAN_DF,
+};
+pub use numbers::{push_name, push_number};
+pub use values::{Shown, ShownBy, push_value};

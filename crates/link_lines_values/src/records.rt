@@ -1,81 +1,32 @@
 //! Records, field by field.
 
-ghost use Rattle.std.specs.Prelude.{◌≡◌, ◌≤◌, ◌++◌, true, cond, length, OnOk};
+ghost use Rattle.std.specs.Prelude.{◌≡◌, ◌<◌, ◌+◌, ◌++◌, cond, drop, length, IfNone, IfSome, OnOk};
 ghost use Rattle.link_lines_values.specs.Bytes.{is_zero};
-ghost use Rattle.link_lines_values.specs.Records.{field_text, field_value, fields_fit, fields_of, fields_text};
+ghost use Rattle.link_lines_values.specs.Records.{field_of, field_text, field_value, fields_of, fields_text};
 ghost use Rattle.link_lines_values.specs.Records.{number_or_hex, record_text, total_size};
 
 use crate::bytes::{is_zero, push_bytes, push_hex_text, push_padded_address, push_truth};
 use crate::digits::{big_endian, little_endian, push_decimal, push_signed};
-use crate::fields::{
-    CACHEINFO_FIELDS, Field, FieldShown, ICMP6_STATS_FIELDS, IP6_STATS_FIELDS, IPV4_DEVCONF_FIELDS,
-    IPV6_DEVCONF_FIELDS, MAP_FIELDS, STATS_FIELDS, STATS64_FIELDS, VF_BROADCAST_FIELDS,
-    VF_LINK_STATE_FIELDS, VF_MAC_FIELDS, VF_RATE_FIELDS, VF_SETTING_FIELDS, VF_TX_RATE_FIELDS,
-    VF_VLAN_FIELDS, VF_VLAN_INFO_FIELDS,
-};
+use crate::fields::{Field, FieldShown};
 use std::alloc::AllocError;
 
-/// Records that attributes hold.
-#[derive(Clone, Copy)]
-pub enum Record {
-    /// Statistics in 4 bytes each (if_link.h: struct rtnl_link_stats).
-    Stats,
-    /// Statistics in 8 bytes each (if_link.h: struct rtnl_link_stats64).
-    Stats64,
-    /// Addresses of a device (if_link.h: struct rtnl_link_ifmap).
-    Map,
-    /// Settings of IPv4 (ip.h: IPV4_DEVCONF_*).
-    Ipv4Devconf,
-    /// Settings of IPv6 (ipv6.h: DEVCONF_*).
-    Ipv6Devconf,
-    /// Statistics of IPv6 (snmp.h: IPSTATS_MIB_*).
-    Ip6Stats,
-    /// Statistics of ICMPv6 (snmp.h: ICMP6_MIB_*).
-    Icmp6Stats,
-    /// Times of IPv6 (if_link.h: struct ifla_cacheinfo).
-    Cacheinfo,
-    /// A virtual function's address (if_link.h: struct ifla_vf_mac).
-    VfMac,
-    /// A virtual function's broadcast address (if_link.h: struct ifla_vf_broadcast).
-    VfBroadcast,
-    /// A virtual function's VLAN (if_link.h: struct ifla_vf_vlan).
-    VfVlan,
-    /// One of a virtual function's VLANs (if_link.h: struct ifla_vf_vlan_info).
-    VfVlanInfo,
-    /// A virtual function's rate (if_link.h: struct ifla_vf_tx_rate).
-    VfTxRate,
-    /// A virtual function's lowest and highest rate (if_link.h: struct ifla_vf_rate).
-    VfRate,
-    /// A setting of a virtual function (if_link.h: struct ifla_vf_spoofchk and its like).
-    VfSetting,
-    /// A virtual function's link state (if_link.h: struct ifla_vf_link_state).
-    VfLinkState,
-}
-
-// The fields of a record, and how many bytes they have.
-fn fields(held: Record) -> (&'static [Field], usize)
-    ensures fields { result.0.now ≡ fields_of held }
-    ensures fit { fields_fit result.0.now ≡ true }
-    ensures size { result.1 ≡ total_size (fields_of held) }
+// What stands behind the fields of a record; None where the bytes end before.
+#[tactic(auto, using(crate::proofs::Listing::further_on))]
+fn behind_fields<'a>(rows: &[Field], bytes: &'a [u8]) -> Option<&'a [u8]>
+    ensures some { IfSome result (λ rest. rest.now ≡ drop (total_size (fields_of (λ b. b.now) rows.now)) bytes.now) }
+    ensures whole { IfSome result
+        (λ rest. length rest.now + total_size (fields_of (λ b. b.now) rows.now) ≡ length bytes.now) }
+    ensures none { IfNone result (length bytes.now < total_size (fields_of (λ b. b.now) rows.now)) }
 {
-    match held {
-        Record::Stats => (&STATS_FIELDS, 96),
-        Record::Stats64 => (&STATS64_FIELDS, 200),
-        Record::Map => (&MAP_FIELDS, 28),
-        Record::Ipv4Devconf => (&IPV4_DEVCONF_FIELDS, 132),
-        Record::Ipv6Devconf => (&IPV6_DEVCONF_FIELDS, 236),
-        Record::Ip6Stats => (&IP6_STATS_FIELDS, 304),
-        Record::Icmp6Stats => (&ICMP6_STATS_FIELDS, 56),
-        Record::Cacheinfo => (&CACHEINFO_FIELDS, 16),
-        Record::VfMac => (&VF_MAC_FIELDS, 36),
-        Record::VfBroadcast => (&VF_BROADCAST_FIELDS, 32),
-        Record::VfVlan => (&VF_VLAN_FIELDS, 12),
-        Record::VfVlanInfo => (&VF_VLAN_INFO_FIELDS, 14),
-        Record::VfTxRate => (&VF_TX_RATE_FIELDS, 8),
-        Record::VfRate => (&VF_RATE_FIELDS, 12),
-        Record::VfSetting => (&VF_SETTING_FIELDS, 8),
-        Record::VfLinkState => (&VF_LINK_STATE_FIELDS, 8),
+    let mut rest = bytes;
+    for row in rows {
+        let size = usize::from(row.1);
+        if rest.len() < size {
+            return None;
+        }
+        rest = &rest[size..];
     }
+    Some(rest)
 }
 
 // Appends the number of a field, or its bytes where their size is not a number's.
@@ -113,13 +64,13 @@ fn push_field_value(shown: FieldShown, part: &[u8], out: &mut Vec<u8>) -> Result
 
 // Appends a space, a field's name, `=` and its value.
 fn push_field(field: &Field, part: &[u8], out: &mut Vec<u8>) -> Result<(), AllocError>
-    requires { field.now.0 ≤ 34 }
-    ensures ok { OnOk result (out.new.items ≡ out.old.items ++ field_text field.now part.now) }
+    ensures ok { OnOk result (out.new.items
+        ≡ out.old.items ++ field_text (field_of (λ b. b.now) field.now) part.now) }
 {
     out.extend_from_slice(b" ")?;
-    out.extend_from_slice(&field.1[..usize::from(field.0)])?;
+    out.extend_from_slice(field.0)?;
     out.extend_from_slice(b"=")?;
-    push_field_value(field.3, part, out)
+    push_field_value(field.2, part, out)
 }
 
 // Whether a field is zero, by its number where it has one.
@@ -140,13 +91,13 @@ fn push_fields(
     bytes: &[u8],
     out: &mut Vec<u8>,
 ) -> Result<(), AllocError>
-    requires fit { fields_fit rows.now ≡ true }
-    requires size { length bytes.now ≡ total_size rows.now }
-    ensures ok { OnOk result (out.new.items ≡ out.old.items ++ fields_text is_sparse rows.now bytes.now) }
+    requires { length bytes.now ≡ total_size (fields_of (λ b. b.now) rows.now) }
+    ensures ok { OnOk result (out.new.items
+        ≡ out.old.items ++ fields_text is_sparse (fields_of (λ b. b.now) rows.now) bytes.now) }
 {
     let mut rest = bytes;
     for row in rows {
-        let (part, after) = rest.split_at(usize::from(row.2));
+        let (part, after) = rest.split_at(usize::from(row.1));
         if !(is_sparse && is_zero_field(part)) {
             push_field(row, part, out)?;
         }
@@ -160,15 +111,17 @@ fn push_fields(
 #[tactic(auto, unfolding(crate::specs::Records::record_text))]
 pub(crate) fn push_record(
     is_sparse: bool,
-    held: Record,
+    rows: &[Field],
     bytes: &[u8],
     out: &mut Vec<u8>,
 ) -> Result<(), AllocError>
-    ensures ok { OnOk result (out.new.items ≡ out.old.items ++ record_text is_sparse held bytes.now) }
+    ensures ok { OnOk result (out.new.items
+        ≡ out.old.items ++ record_text is_sparse (fields_of (λ b. b.now) rows.now) bytes.now) }
 {
-    let (rows, size) = fields(held);
-    if bytes.len() < size || !is_zero(&bytes[size..]) {
-        return push_bytes(bytes, out);
+    match behind_fields(rows, bytes) {
+        Some(rest) if is_zero(rest) => {
+            push_fields(is_sparse, rows, &bytes[..bytes.len() - rest.len()], out)
+        }
+        _ => push_bytes(bytes, out),
     }
-    push_fields(is_sparse, rows, &bytes[..size], out)
 }

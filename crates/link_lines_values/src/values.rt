@@ -5,22 +5,26 @@ ghost use Rattle.link_lines_values.specs.Bytes.{truth_text};
 ghost use Rattle.link_lines_values.specs.Digits.{hex_number};
 ghost use Rattle.link_lines_values.specs.Values.{big_endian_flags_value, big_endian_value, flags_and_mask_value};
 ghost use Rattle.link_lines_values.specs.Values.{flags_value, hex_or_bytes, number_value, optional_byte_value};
-ghost use Rattle.link_lines_values.specs.Values.{port_range_value, signed_value, sized_flags_value, value_text};
+ghost use Rattle.link_lines_values.specs.Names.{texts_of};
+ghost use Rattle.link_lines_values.specs.Values.{port_range_value, seen, signed_value, sized_flags_value, value_text};
 
 use crate::addresses::push_address;
 use crate::bytes::{push_bytes, push_hardware_address, push_text, push_truth};
 use crate::digits::{big_endian, little_endian, push_decimal, push_hex, push_signed};
-use crate::numbers::{Numbers, push_number};
-use crate::records::{Record, push_record};
+use crate::fields::Fields;
+use crate::number_texts::{NumberText, Numbers};
+use crate::numbers::push_number;
+use crate::records::push_record;
 use std::alloc::AllocError;
 
-/// How a payload is shown. A payload of a size that the form doesn't know is shown as its bytes.
+/// How a payload is shown, with numbers and records of those types. A payload of a size that the form doesn't know is
+/// shown as its bytes.
 #[derive(Clone, Copy)]
-pub enum Shown {
+pub enum ShownBy<N, R> {
     /// A number of 1, 2, 4 or 8 bytes, the lowest byte first, with its name.
-    Number(Numbers),
+    Number(N),
     /// The same, the highest byte first.
-    BigEndian(Numbers),
+    BigEndian(N),
     /// A number of 4 bytes with its sign, the lowest byte first.
     Signed,
     /// Flags of 1, 2, 4 or 8 bytes, the lowest byte first.
@@ -49,33 +53,42 @@ pub enum Shown {
     /// Flags and a mask of 4 bytes each, the lowest byte first (if_link.h: struct ifla_rmnet_flags).
     FlagsAndMask,
     /// The fields of a record.
-    Record(Record),
+    Record(R),
     /// The fields of a record that aren't zero.
-    SparseRecord(Record),
+    SparseRecord(R),
 }
 
-fn push_number_value(numbers: Numbers, payload: &[u8], out: &mut Vec<u8>) -> Result<(), AllocError>
-    ensures ok { OnOk result (out.new.items ≡ out.old.items ++ number_value numbers payload.now) }
+/// How a payload is shown: numbers with their texts, records with their fields.
+pub type Shown = ShownBy<Numbers, Fields>;
+
+fn push_number_value(
+    texts: &[NumberText],
+    payload: &[u8],
+    out: &mut Vec<u8>,
+) -> Result<(), AllocError>
+    ensures ok { OnOk result (out.new.items
+        ≡ out.old.items ++ number_value (texts_of (λ b. b.now) texts.now) payload.now) }
 {
     let Some(number) = little_endian(payload) else {
         return push_bytes(payload, out);
     };
     out.extend_from_slice(b" ")?;
-    push_number(numbers, number, out)
+    push_number(texts, number, out)
 }
 
 fn push_big_endian_value(
-    numbers: Numbers,
+    texts: &[NumberText],
     payload: &[u8],
     out: &mut Vec<u8>,
 ) -> Result<(), AllocError>
-    ensures ok { OnOk result (out.new.items ≡ out.old.items ++ big_endian_value numbers payload.now) }
+    ensures ok { OnOk result (out.new.items
+        ≡ out.old.items ++ big_endian_value (texts_of (λ b. b.now) texts.now) payload.now) }
 {
     let Some(number) = big_endian(payload) else {
         return push_bytes(payload, out);
     };
     out.extend_from_slice(b" ")?;
-    push_number(numbers, number, out)
+    push_number(texts, number, out)
 }
 
 fn push_signed_value(payload: &[u8], out: &mut Vec<u8>) -> Result<(), AllocError>
@@ -178,25 +191,26 @@ fn push_truth_value(payload: &[u8], out: &mut Vec<u8>) -> Result<(), AllocError>
 
 /// Appends a payload as text, with a space before it where there is anything to show.
 pub fn push_value(shown: Shown, payload: &[u8], out: &mut Vec<u8>) -> Result<(), AllocError>
-    ensures ok { OnOk result (out.new.items ≡ out.old.items ++ value_text shown payload.now) }
+    ensures ok { OnOk result (out.new.items
+        ≡ out.old.items ++ value_text (seen (λ b. b.now) (λ t. t.now) (λ r. r.now) shown.entry) payload.now) }
 {
     match shown {
-        Shown::Number(numbers) => push_number_value(numbers, payload, out),
-        Shown::BigEndian(numbers) => push_big_endian_value(numbers, payload, out),
-        Shown::Signed => push_signed_value(payload, out),
-        Shown::Flags => push_flags_or_bytes(little_endian(payload), payload, out),
-        Shown::BigEndianFlags => push_flags_or_bytes(big_endian(payload), payload, out),
-        Shown::FlagsBySize => push_sized_flags(payload, out),
-        Shown::Truth => push_truth_value(payload, out),
-        Shown::Presence => Ok(()),
-        Shown::OptionalByte => push_optional_byte(payload, out),
-        Shown::Text => push_text(payload, out),
-        Shown::Bytes => push_bytes(payload, out),
-        Shown::HardwareAddress => push_hardware_address(payload, out),
-        Shown::Address => push_address(payload, out),
-        Shown::PortRange => push_port_range(payload, out),
-        Shown::FlagsAndMask => push_flags_and_mask(payload, out),
-        Shown::Record(held) => push_record(false, held, payload, out),
-        Shown::SparseRecord(held) => push_record(true, held, payload, out),
+        ShownBy::Number(texts) => push_number_value(texts, payload, out),
+        ShownBy::BigEndian(texts) => push_big_endian_value(texts, payload, out),
+        ShownBy::Signed => push_signed_value(payload, out),
+        ShownBy::Flags => push_flags_or_bytes(little_endian(payload), payload, out),
+        ShownBy::BigEndianFlags => push_flags_or_bytes(big_endian(payload), payload, out),
+        ShownBy::FlagsBySize => push_sized_flags(payload, out),
+        ShownBy::Truth => push_truth_value(payload, out),
+        ShownBy::Presence => Ok(()),
+        ShownBy::OptionalByte => push_optional_byte(payload, out),
+        ShownBy::Text => push_text(payload, out),
+        ShownBy::Bytes => push_bytes(payload, out),
+        ShownBy::HardwareAddress => push_hardware_address(payload, out),
+        ShownBy::Address => push_address(payload, out),
+        ShownBy::PortRange => push_port_range(payload, out),
+        ShownBy::FlagsAndMask => push_flags_and_mask(payload, out),
+        ShownBy::Record(rows) => push_record(false, rows, payload, out),
+        ShownBy::SparseRecord(rows) => push_record(true, rows, payload, out),
     }
 }

@@ -4,6 +4,7 @@
 mod attributes;
 mod body;
 mod header;
+mod lists;
 mod message;
 mod peer;
 mod rows;

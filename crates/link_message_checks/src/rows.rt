@@ -5,6 +5,7 @@ use attribute_checks::Held::{LinkInfo, List, Plain};
 use attribute_checks::Row;
 use attribute_checks::Row::{Listed, Unlisted};
 use attribute_checks::Shape::{Exact, FixedRecord, IdAndTruth, Raw, Resized, Text};
+use link_info_checks::constant_rows;
 
 /// The tables, by the number that `List` has.
 pub const TABLES: [&[Row]; 19] = [
@@ -29,424 +30,44 @@ pub const TABLES: [&[Row]; 19] = [
     &LINK_OTHER,
 ];
 
-/// IFLA_XDP_* (if_link.h).
-const XDP: [Row; 8] = [
-    Listed(1, false, Plain(Exact(4))),
-    Listed(2, false, Plain(Exact(1))),
-    Listed(3, false, Plain(Exact(4))),
-    Listed(4, false, Plain(Exact(4))),
-    Listed(5, false, Plain(Exact(4))),
-    Listed(6, false, Plain(Exact(4))),
-    Listed(7, false, Plain(Exact(4))),
-    Listed(8, false, Plain(Exact(4))),
-];
+const XDP: [Row; 8] = crate::xdp!(constant_rows);
 
-/// IFLA_PROP_LIST: other names (if_link.h).
-const PROPS: [Row; 1] = [Listed(53, false, Plain(Text))];
+const PROPS: [Row; 1] = crate::props!(constant_rows);
 
-/// IFLA_PROTO_DOWN_REASON_* (if_link.h).
-const PROTOCOL_DOWN_REASON: [Row; 2] = [
-    Listed(1, false, Plain(Exact(4))),
-    Listed(2, false, Plain(Exact(4))),
-];
+const PROTOCOL_DOWN_REASON: [Row; 2] = crate::protocol_down_reason!(constant_rows);
 
-/// DEVLINK_ATTR_* (devlink.h).
-const DEVLINK_PORT: [Row; 3] = [
-    Listed(1, false, Plain(Text)),
-    Listed(2, false, Plain(Text)),
-    Listed(3, false, Plain(Exact(4))),
-];
+const DEVLINK_PORT: [Row; 3] = crate::devlink_port!(constant_rows);
 
-/// DPLL_A_PIN_* (dpll.h).
-const DPLL_PIN: [Row; 1] = [Listed(1, false, Plain(Exact(4)))];
+const DPLL_PIN: [Row; 1] = crate::dpll_pin!(constant_rows);
 
-/// IFLA_MCTP_* (if_link.h).
-const MCTP: [Row; 2] = [
-    Listed(1, false, Plain(Exact(4))),
-    Listed(2, false, Plain(Exact(1))),
-];
+const MCTP: [Row; 2] = crate::mctp!(constant_rows);
 
-/// IFLA_INET_* (if_link.h).
-const INET: [Row; 1] = [Listed(1, false, Plain(Resized(132)))];
+const INET: [Row; 1] = crate::inet!(constant_rows);
 
-/// IFLA_INET6_* (if_link.h).
-const INET6: [Row; 9] = [
-    Listed(1, false, Plain(Exact(4))),
-    Listed(2, false, Plain(Resized(236))),
-    Listed(3, false, Plain(Resized(304))),
-    Unlisted(4),
-    Listed(5, false, Plain(FixedRecord(16, 16))),
-    Listed(6, false, Plain(Resized(56))),
-    Listed(7, false, Plain(Exact(16))),
-    Listed(8, false, Plain(Exact(1))),
-    Listed(9, false, Plain(Exact(4))),
-];
+const INET6: [Row; 9] = crate::inet6!(constant_rows);
 
-/// IFLA_AF_SPEC where the family is none: what each family tells, by its number (socket.h, AF_*).
-const SPECIFIC: [Row; 44] = [
-    Listed(2, false, List(Any, 6)),
-    Unlisted(3),
-    Unlisted(4),
-    Unlisted(5),
-    Unlisted(6),
-    Unlisted(7),
-    Unlisted(8),
-    Unlisted(9),
-    Listed(10, false, List(Any, 7)),
-    Unlisted(11),
-    Unlisted(12),
-    Unlisted(13),
-    Unlisted(14),
-    Unlisted(15),
-    Unlisted(16),
-    Unlisted(17),
-    Unlisted(18),
-    Unlisted(19),
-    Unlisted(20),
-    Unlisted(21),
-    Unlisted(22),
-    Unlisted(23),
-    Unlisted(24),
-    Unlisted(25),
-    Unlisted(26),
-    Unlisted(27),
-    Unlisted(28),
-    Unlisted(29),
-    Unlisted(30),
-    Unlisted(31),
-    Unlisted(32),
-    Unlisted(33),
-    Unlisted(34),
-    Unlisted(35),
-    Unlisted(36),
-    Unlisted(37),
-    Unlisted(38),
-    Unlisted(39),
-    Unlisted(40),
-    Unlisted(41),
-    Unlisted(42),
-    Unlisted(43),
-    Unlisted(44),
-    Listed(45, false, List(Any, 5)),
-];
+const SPECIFIC: [Row; 44] = crate::specific!(constant_rows);
 
-/// IFLA_VF_STATS_* (if_link.h).
-const VF_STATS: [Row; 9] = [
-    Listed(0, false, Plain(Exact(8))),
-    Listed(1, false, Plain(Exact(8))),
-    Listed(2, false, Plain(Exact(8))),
-    Listed(3, false, Plain(Exact(8))),
-    Listed(4, false, Plain(Exact(8))),
-    Listed(5, false, Plain(Exact(8))),
-    Unlisted(6),
-    Listed(7, false, Plain(Exact(8))),
-    Listed(8, false, Plain(Exact(8))),
-];
+const VF_STATS: [Row; 9] = crate::vf_stats!(constant_rows);
 
-/// IFLA_VF_VLAN_* (if_link.h).
-const VF_VLANS: [Row; 1] = [Listed(1, false, Plain(FixedRecord(14, 16)))];
+const VF_VLANS: [Row; 1] = crate::vf_vlans!(constant_rows);
 
-/// IFLA_VF_* (if_link.h).
-const VF: [Row; 13] = [
-    Listed(1, false, Plain(FixedRecord(36, 36))),
-    Listed(2, false, Plain(FixedRecord(12, 12))),
-    Listed(3, false, Plain(FixedRecord(8, 8))),
-    Listed(4, false, Plain(IdAndTruth)),
-    Listed(5, false, Plain(FixedRecord(8, 8))),
-    Listed(6, false, Plain(FixedRecord(12, 12))),
-    Listed(7, false, Plain(IdAndTruth)),
-    Listed(8, false, List(Any, 9)),
-    Listed(9, false, Plain(IdAndTruth)),
-    Unlisted(10),
-    Unlisted(11),
-    Listed(12, false, List(Any, 10)),
-    Listed(13, false, Plain(FixedRecord(32, 32))),
-];
+const VF: [Row; 13] = crate::vf!(constant_rows);
 
-/// IFLA_VFINFO_LIST (if_link.h).
-const VF_INFOS: [Row; 1] = [Listed(1, false, List(Any, 11))];
+const VF_INFOS: [Row; 1] = crate::vf_infos!(constant_rows);
 
-/// IFLA_VF_PORTS (if_link.h).
-const VF_PORTS: [Row; 1] = [Listed(1, false, List(Any, 14))];
+const VF_PORTS: [Row; 1] = crate::vf_ports!(constant_rows);
 
 /// A list of raw attributes.
 const UNTYPED: [Row; 0] = [];
 
-/// IFLA_* under AF_UNSPEC (if_link.h).
-const LINK_UNSPEC: [Row; 65] = [
-    Listed(1, false, Plain(Raw)),
-    Listed(2, false, Plain(Raw)),
-    Listed(3, false, Plain(Text)),
-    Listed(4, false, Plain(Exact(4))),
-    Listed(5, false, Plain(Exact(4))),
-    Listed(6, false, Plain(Text)),
-    Listed(7, false, Plain(Resized(96))),
-    Unlisted(8),
-    Unlisted(9),
-    Listed(10, false, Plain(Exact(4))),
-    Unlisted(11),
-    Unlisted(12),
-    Listed(13, false, Plain(Exact(4))),
-    Listed(14, false, Plain(FixedRecord(28, 32))),
-    Unlisted(15),
-    Listed(16, false, Plain(Exact(1))),
-    Listed(17, false, Plain(Exact(1))),
-    Listed(18, false, LinkInfo),
-    Listed(19, false, Plain(Exact(4))),
-    Listed(20, false, Plain(Text)),
-    Listed(21, false, Plain(Exact(4))),
-    Listed(22, false, List(OfKindOne, 12)),
-    Listed(23, false, Plain(Resized(200))),
-    Listed(24, false, List(Ports, 13)),
-    Listed(25, false, List(Any, 14)),
-    Listed(26, false, List(Any, 8)),
-    Listed(27, false, Plain(Exact(4))),
-    Listed(28, false, Plain(Exact(4))),
-    Listed(29, false, Plain(Exact(4))),
-    Listed(30, false, Plain(Exact(4))),
-    Listed(31, false, Plain(Exact(4))),
-    Listed(32, false, Plain(Exact(4))),
-    Listed(33, false, Plain(Exact(1))),
-    Listed(34, false, Plain(Raw)),
-    Listed(35, false, Plain(Exact(4))),
-    Listed(36, false, Plain(Raw)),
-    Listed(37, false, Plain(Exact(4))),
-    Listed(38, false, Plain(Text)),
-    Listed(39, false, Plain(Exact(1))),
-    Listed(40, false, Plain(Exact(4))),
-    Listed(41, false, Plain(Exact(4))),
-    Unlisted(42),
-    Listed(43, false, List(Any, 0)),
-    Listed(44, false, Plain(Exact(4))),
-    Listed(45, false, Plain(Exact(4))),
-    Listed(46, false, Plain(Exact(4))),
-    Listed(47, false, Plain(Exact(4))),
-    Listed(48, false, Plain(Exact(4))),
-    Listed(49, false, Plain(Exact(4))),
-    Listed(50, false, Plain(Exact(4))),
-    Listed(51, false, Plain(Exact(4))),
-    Listed(52, true, List(Any, 1)),
-    Unlisted(53),
-    Listed(54, false, Plain(Raw)),
-    Listed(55, true, List(Any, 2)),
-    Listed(56, false, Plain(Text)),
-    Listed(57, false, Plain(Text)),
-    Listed(58, false, Plain(Exact(4))),
-    Listed(59, false, Plain(Exact(4))),
-    Listed(60, false, Plain(Exact(4))),
-    Listed(61, false, Plain(Exact(4))),
-    Listed(62, true, List(Any, 3)),
-    Listed(63, false, Plain(Exact(4))),
-    Listed(64, false, Plain(Exact(4))),
-    Listed(65, true, List(Any, 4)),
-];
+const LINK_UNSPEC: [Row; 65] = crate::link_unspec!(constant_rows);
 
-/// IFLA_* under AF_BRIDGE (if_link.h).
-const LINK_BRIDGE: [Row; 65] = [
-    Listed(1, false, Plain(Raw)),
-    Listed(2, false, Plain(Raw)),
-    Listed(3, false, Plain(Text)),
-    Listed(4, false, Plain(Exact(4))),
-    Listed(5, false, Plain(Exact(4))),
-    Listed(6, false, Plain(Text)),
-    Listed(7, false, Plain(Resized(96))),
-    Unlisted(8),
-    Unlisted(9),
-    Listed(10, false, Plain(Exact(4))),
-    Unlisted(11),
-    Listed(12, false, List(Any, 14)),
-    Listed(13, false, Plain(Exact(4))),
-    Listed(14, false, Plain(FixedRecord(28, 32))),
-    Unlisted(15),
-    Listed(16, false, Plain(Exact(1))),
-    Listed(17, false, Plain(Exact(1))),
-    Listed(18, false, LinkInfo),
-    Listed(19, false, Plain(Exact(4))),
-    Listed(20, false, Plain(Text)),
-    Listed(21, false, Plain(Exact(4))),
-    Listed(22, false, List(OfKindOne, 12)),
-    Listed(23, false, Plain(Resized(200))),
-    Listed(24, false, List(Ports, 13)),
-    Listed(25, false, List(Any, 14)),
-    Listed(26, false, List(Any, 14)),
-    Listed(27, false, Plain(Exact(4))),
-    Listed(28, false, Plain(Exact(4))),
-    Listed(29, false, Plain(Exact(4))),
-    Listed(30, false, Plain(Exact(4))),
-    Listed(31, false, Plain(Exact(4))),
-    Listed(32, false, Plain(Exact(4))),
-    Listed(33, false, Plain(Exact(1))),
-    Listed(34, false, Plain(Raw)),
-    Listed(35, false, Plain(Exact(4))),
-    Listed(36, false, Plain(Raw)),
-    Listed(37, false, Plain(Exact(4))),
-    Listed(38, false, Plain(Text)),
-    Listed(39, false, Plain(Exact(1))),
-    Listed(40, false, Plain(Exact(4))),
-    Listed(41, false, Plain(Exact(4))),
-    Unlisted(42),
-    Listed(43, false, List(Any, 0)),
-    Listed(44, false, Plain(Exact(4))),
-    Listed(45, false, Plain(Exact(4))),
-    Listed(46, false, Plain(Exact(4))),
-    Listed(47, false, Plain(Exact(4))),
-    Listed(48, false, Plain(Exact(4))),
-    Listed(49, false, Plain(Exact(4))),
-    Listed(50, false, Plain(Exact(4))),
-    Listed(51, false, Plain(Exact(4))),
-    Listed(52, true, List(Any, 1)),
-    Unlisted(53),
-    Listed(54, false, Plain(Raw)),
-    Listed(55, true, List(Any, 2)),
-    Listed(56, false, Plain(Text)),
-    Listed(57, false, Plain(Text)),
-    Listed(58, false, Plain(Exact(4))),
-    Listed(59, false, Plain(Exact(4))),
-    Listed(60, false, Plain(Exact(4))),
-    Listed(61, false, Plain(Exact(4))),
-    Listed(62, true, List(Any, 3)),
-    Listed(63, false, Plain(Exact(4))),
-    Listed(64, false, Plain(Exact(4))),
-    Listed(65, true, List(Any, 4)),
-];
+const LINK_BRIDGE: [Row; 65] = crate::link_bridge!(constant_rows);
 
-/// IFLA_* under AF_INET6 (if_link.h).
-const LINK_INET6: [Row; 65] = [
-    Listed(1, false, Plain(Raw)),
-    Listed(2, false, Plain(Raw)),
-    Listed(3, false, Plain(Text)),
-    Listed(4, false, Plain(Exact(4))),
-    Listed(5, false, Plain(Exact(4))),
-    Listed(6, false, Plain(Text)),
-    Listed(7, false, Plain(Resized(96))),
-    Unlisted(8),
-    Unlisted(9),
-    Listed(10, false, Plain(Exact(4))),
-    Unlisted(11),
-    Listed(12, false, List(Any, 14)),
-    Listed(13, false, Plain(Exact(4))),
-    Listed(14, false, Plain(FixedRecord(28, 32))),
-    Unlisted(15),
-    Listed(16, false, Plain(Exact(1))),
-    Listed(17, false, Plain(Exact(1))),
-    Listed(18, false, LinkInfo),
-    Listed(19, false, Plain(Exact(4))),
-    Listed(20, false, Plain(Text)),
-    Listed(21, false, Plain(Exact(4))),
-    Listed(22, false, List(OfKindOne, 12)),
-    Listed(23, false, Plain(Resized(200))),
-    Listed(24, false, List(Ports, 13)),
-    Listed(25, false, List(Any, 14)),
-    Listed(26, false, Plain(Raw)),
-    Listed(27, false, Plain(Exact(4))),
-    Listed(28, false, Plain(Exact(4))),
-    Listed(29, false, Plain(Exact(4))),
-    Listed(30, false, Plain(Exact(4))),
-    Listed(31, false, Plain(Exact(4))),
-    Listed(32, false, Plain(Exact(4))),
-    Listed(33, false, Plain(Exact(1))),
-    Listed(34, false, Plain(Raw)),
-    Listed(35, false, Plain(Exact(4))),
-    Listed(36, false, Plain(Raw)),
-    Listed(37, false, Plain(Exact(4))),
-    Listed(38, false, Plain(Text)),
-    Listed(39, false, Plain(Exact(1))),
-    Listed(40, false, Plain(Exact(4))),
-    Listed(41, false, Plain(Exact(4))),
-    Unlisted(42),
-    Listed(43, false, List(Any, 0)),
-    Listed(44, false, Plain(Exact(4))),
-    Listed(45, false, Plain(Exact(4))),
-    Listed(46, false, Plain(Exact(4))),
-    Listed(47, false, Plain(Exact(4))),
-    Listed(48, false, Plain(Exact(4))),
-    Listed(49, false, Plain(Exact(4))),
-    Listed(50, false, Plain(Exact(4))),
-    Listed(51, false, Plain(Exact(4))),
-    Listed(52, true, List(Any, 1)),
-    Unlisted(53),
-    Listed(54, false, Plain(Raw)),
-    Listed(55, true, List(Any, 2)),
-    Listed(56, false, Plain(Text)),
-    Listed(57, false, Plain(Text)),
-    Listed(58, false, Plain(Exact(4))),
-    Listed(59, false, Plain(Exact(4))),
-    Listed(60, false, Plain(Exact(4))),
-    Listed(61, false, Plain(Exact(4))),
-    Listed(62, true, List(Any, 3)),
-    Listed(63, false, Plain(Exact(4))),
-    Listed(64, false, Plain(Exact(4))),
-    Listed(65, true, List(Any, 4)),
-];
+const LINK_INET6: [Row; 65] = crate::link_inet6!(constant_rows);
 
-/// IFLA_* under every other family (if_link.h).
-const LINK_OTHER: [Row; 65] = [
-    Listed(1, false, Plain(Raw)),
-    Listed(2, false, Plain(Raw)),
-    Listed(3, false, Plain(Text)),
-    Listed(4, false, Plain(Exact(4))),
-    Listed(5, false, Plain(Exact(4))),
-    Listed(6, false, Plain(Text)),
-    Listed(7, false, Plain(Resized(96))),
-    Unlisted(8),
-    Unlisted(9),
-    Listed(10, false, Plain(Exact(4))),
-    Unlisted(11),
-    Unlisted(12),
-    Listed(13, false, Plain(Exact(4))),
-    Listed(14, false, Plain(FixedRecord(28, 32))),
-    Unlisted(15),
-    Listed(16, false, Plain(Exact(1))),
-    Listed(17, false, Plain(Exact(1))),
-    Listed(18, false, LinkInfo),
-    Listed(19, false, Plain(Exact(4))),
-    Listed(20, false, Plain(Text)),
-    Listed(21, false, Plain(Exact(4))),
-    Listed(22, false, List(OfKindOne, 12)),
-    Listed(23, false, Plain(Resized(200))),
-    Listed(24, false, List(Ports, 13)),
-    Listed(25, false, List(Any, 14)),
-    Listed(26, false, Plain(Raw)),
-    Listed(27, false, Plain(Exact(4))),
-    Listed(28, false, Plain(Exact(4))),
-    Listed(29, false, Plain(Exact(4))),
-    Listed(30, false, Plain(Exact(4))),
-    Listed(31, false, Plain(Exact(4))),
-    Listed(32, false, Plain(Exact(4))),
-    Listed(33, false, Plain(Exact(1))),
-    Listed(34, false, Plain(Raw)),
-    Listed(35, false, Plain(Exact(4))),
-    Listed(36, false, Plain(Raw)),
-    Listed(37, false, Plain(Exact(4))),
-    Listed(38, false, Plain(Text)),
-    Listed(39, false, Plain(Exact(1))),
-    Listed(40, false, Plain(Exact(4))),
-    Listed(41, false, Plain(Exact(4))),
-    Unlisted(42),
-    Listed(43, false, List(Any, 0)),
-    Listed(44, false, Plain(Exact(4))),
-    Listed(45, false, Plain(Exact(4))),
-    Listed(46, false, Plain(Exact(4))),
-    Listed(47, false, Plain(Exact(4))),
-    Listed(48, false, Plain(Exact(4))),
-    Listed(49, false, Plain(Exact(4))),
-    Listed(50, false, Plain(Exact(4))),
-    Listed(51, false, Plain(Exact(4))),
-    Listed(52, true, List(Any, 1)),
-    Unlisted(53),
-    Listed(54, false, Plain(Raw)),
-    Listed(55, true, List(Any, 2)),
-    Listed(56, false, Plain(Text)),
-    Listed(57, false, Plain(Text)),
-    Listed(58, false, Plain(Exact(4))),
-    Listed(59, false, Plain(Exact(4))),
-    Listed(60, false, Plain(Exact(4))),
-    Listed(61, false, Plain(Exact(4))),
-    Listed(62, true, List(Any, 3)),
-    Listed(63, false, Plain(Exact(4))),
-    Listed(64, false, Plain(Exact(4))),
-    Listed(65, true, List(Any, 4)),
-];
+const LINK_OTHER: [Row; 65] = crate::link_other!(constant_rows);
 
 /// The layer types that have a name (if_arp.h, ARPHRD_*); every other is written as ARPHRD_VOID.
 pub const LAYER_TYPES: [u16; 67] = [

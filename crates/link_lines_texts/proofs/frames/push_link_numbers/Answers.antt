@@ -1,9 +1,8 @@
 use Rattle.std.proofs.Common.{◌≡◌, ℕ, List, ◌++◌, Result, Ok, Err, codes, decimal, OnOk, ap, ◌∙◌, append_assoc}
 use Rattle.std.specs.Prelude.{slice_index}
 use Rattle.netlink_packet_core_grammar.specs.Numbers.{u16_at, u32_at}
-use Rattle.link_lines_values.specs.declared.numbers.Numbers.TheVariants.{AddressFamily, LinkLayerType}
 use Rattle.link_lines_values.specs.Names.{named_number}
-use Rattle.link_lines_texts.specs.Frames.{labelled, link_numbers}
+use Rattle.link_lines_texts.specs.Frames.{address_families, labelled, layer_types, link_numbers}
 use Rattle.link_lines_texts.proofs.frames.push_link_numbers.Goals as goal
 
 on_ok : {A E : Type 0} (P Q : Type 0) (r : Result A E) → (P → Q) → OnOk r P → OnOk r Q
@@ -14,15 +13,15 @@ three_parts : (o a b d x y z : List ℕ) → x ≡ o ++ a → y ≡ x ++ b → z
 three_parts o a b d x y z e f g = g ∙ ap (λ v. v ++ d) (f ∙ ap (λ v. v ++ b) e) ∙ append_assoc (o ++ a) b d ∙ append_assoc o a (b ++ d)
 
 pub returns : goal.returns
-unfolding link_numbers
+unfolding link_numbers address_families layer_types
 returns c =
     let body = c.args.body.now in
-    let family = labelled (codes "  ifinfomsg family ") (named_number AddressFamily (slice_index body 0)) in
-    let layer = labelled (codes " type ") (named_number LinkLayerType (u16_at 2 body)) in
+    let family = labelled (codes "  ifinfomsg family ") (named_number address_families (slice_index body 0)) in
+    let layer = labelled (codes " type ") (named_number layer_types (u16_at 2 body)) in
     let index = labelled (codes " index ") (decimal (u32_at 4 body)) in
     let first : c.push_labelled.new.out.items ≡ c.args.out.now.items ++ family = c.in_ok-push_labelled.ensures.ok in
     let second : c.push_labelled-2.new.out.items ≡ c.push_labelled.new.out.items ++ layer =
-    c.in_ok-push_labelled-2.ensures.ok ∙ ap (λ n. c.push_labelled.new.out.items ++ labelled (codes " type ") (named_number LinkLayerType n)) c.read_u16.ensures in
+    c.in_ok-push_labelled-2.ensures.ok ∙ ap (λ n. c.push_labelled.new.out.items ++ labelled (codes " type ") (named_number layer_types n)) c.read_u16.ensures in
     record {
       ok = on_ok _ _ c.push_labelled_decimal.result
           (λ p. three_parts c.args.out.now.items family layer index c.push_labelled.new.out.items c.push_labelled-2.new.out.items c.push_labelled_decimal.new.out.items first second

@@ -12,4 +12,4 @@ returns-clause-rule g c =
     c.held_by_name.ensures.rule p table_of (plain raw) ∙ ap (λ ns. rule_or_raw p (payload_at ns c.args.name.now)) kinds_built
 
 pub returns-clause-known : goal.returns-clause-known
-returns-clause-known g c = c.held_by_name.ensures.known 23 kinds_known
+returns-clause-known g c = c.held_by_name.ensures.known 24 kinds_known

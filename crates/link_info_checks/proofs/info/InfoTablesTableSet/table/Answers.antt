@@ -10,7 +10,7 @@ pub returns-clause-dense : goal.returns-clause-dense
 returns-clause-dense g c = ap are_dense c.table_at.ensures ∙ dense c.args.table
 
 pub returns-clause-known : goal.returns-clause-known
-returns-clause-known g c = ap (are_known 23) c.table_at.ensures ∙ known c.args.table
+returns-clause-known g c = ap (are_known 24) c.table_at.ensures ∙ known c.args.table
 
 pub returns-clause-built : goal.returns-clause-built
 returns-clause-built g c = ap (build table_of (plain raw)) c.table_at.ensures ∙ built c.args.table

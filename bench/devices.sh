@@ -65,7 +65,7 @@ for ((i = 0; i < 1400; i++)); do cat "$request"; done > "$work/long"
 head -c 10 "$request" >> "$work/long"
 run norm < "$work/long"
 wants "a fault behind the first piece" 2 "cut frame at 67200" 67200
-for words in "" "norm 15" "norm +48" "norm 48 48" "norm 4294967296" "Norm" "same a" "same a b 15"; do
+for words in "" "norm 15" "norm +48" "norm 48 48" "norm 4294967296" "Norm" "same a" "same a b 15" "same a b 48 48"; do
     # shellcheck disable=SC2086
     run $words < "$request"
     wants "wrong words: '$words'" 3 "$usage" 0

@@ -74,7 +74,20 @@ pub extern "C" fn linkcap_normalize(
         → size.new ≡ min (length (texts limit capture.now)) (2 ^ 64 - 1) }
     ensures memory { result ≡ 5 → StopsAt limit capture.now fault.new.offset }
     ensures kept { (result ≡ 3) ⊎ (result ≡ 4) ⊎ (result ≡ 5) → out.new ≡ out.old }
+    ensures place { result ≡ 2
+        → (fault.new.offset < length capture.now) × (fault.new.offset % 4 ≡ 0) }
     ensures answers { (result ≡ 0) ⊎ ((2 ≤ result) × (result ≤ 5)) }
+    // A normal text is legal, and its own normal text.
+    ensures normal { 16 ≤ limit → IsLegal limit (texts limit capture.now)
+        × (texts limit (texts limit capture.now) ≡ texts limit capture.now) }
+    // A legal capture and its normal text mean the same.
+    ensures same { 16 ≤ limit → IsLegal limit capture.now
+        → SameCapture limit capture.now (texts limit capture.now) }
+    // A normal text is at most 77 times as long.
+    ensures small { 16 ≤ limit → length (texts limit capture.now) ≤ 77 * length capture.now }
+    // What follows a legal capture whose size is a multiple of 4 is judged and written by itself.
+    ensures joined { 16 ≤ limit → IsLegal limit capture.now → length capture.now % 4 ≡ 0
+        → IsJoined limit capture.now }
 {
     if !is_limit(limit) {
         return WRONG;
@@ -115,7 +128,18 @@ pub extern "C" fn linkcap_show(
     ensures memory { result ≡ 5 → StopsAt limit capture.now fault.new.offset }
     ensures cause { result ≡ 5 → WantsMemoryAt limit capture.now fault.new.offset }
     ensures kept { (result ≡ 3) ⊎ (result ≡ 4) ⊎ (result ≡ 5) → out.new ≡ out.old }
+    ensures place { result ≡ 2
+        → (fault.new.offset < length capture.now) × (fault.new.offset % 4 ≡ 0) }
     ensures answers { (result ≡ 0) ⊎ ((2 ≤ result) × (result ≤ 5)) }
+    // A capture and its texts have the same lines, and so have captures that mean the same.
+    ensures normal { 16 ≤ limit
+        → lines limit (texts limit capture.now) ≡ lines limit capture.now }
+    ensures same { 16 ≤ limit → (other : List ℕ) → SameCapture limit capture.now other
+        → lines limit other ≡ lines limit capture.now }
+    // What follows a legal capture whose size is a multiple of 4 is shown by itself.
+    ensures joined { 16 ≤ limit → IsLegal limit capture.now → length capture.now % 4 ≡ 0
+        → (more : List ℕ)
+        → lines limit (capture.now ++ more) ≡ lines limit capture.now ++ lines limit more }
 {
     if !is_limit(limit) {
         return WRONG;

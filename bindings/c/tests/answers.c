@@ -101,7 +101,8 @@ static struct bytes write_pieces(struct bytes capture, size_t size, uint32_t lim
             fail("no memory");
         memcpy(text.at + text.length, out.at, progress.written);
         text.length += progress.written;
-        fault->offset += used;
+        if (*status == LINKCAP_FAULT)
+            fault->offset += used;
         used += progress.used;
         if (*status == LINKCAP_NO_ROOM) {
             if (progress.written == 0) {

@@ -3,7 +3,7 @@
 #
 #     bindings/check.sh
 #
-# It wants the command rt; a compiler, valgrind, Python, pytest, pyroute2, cargo and Debian's package of the crate
+# It wants the command rt; a compiler, valgrind, pkg-config, Python, pytest, pyroute2, cargo and Debian's package of the crate
 # netlink-packet-route where they are there, and says what it skipped. CC, CXX and PYTHON name others than cc, c++ and
 # python3. Builds lie in a folder of their own, which goes at the end. The last line is `N passed, M failed`.
 set -uo pipefail
@@ -78,6 +78,16 @@ page_in_c() {
     [ $? -eq 2 ] && [ "$(cat "$work/fault")" = "cut frame at 0" ] && [ ! -s "$work/text" ]
 }
 
+# The page's program over what install.sh installs, and the programs beside it.
+installed() {
+    bindings/c/install.sh "$work/prefix" || return
+    export PKG_CONFIG_PATH=$work/prefix/lib/pkgconfig
+    "$cc" -o "$work/installed" "$work/norm.c" $(pkg-config --cflags --libs linkcap) "-Wl,-rpath,$work/prefix/lib" || return
+    "$work/installed" < samples/req-veth.bin | cmp - samples/req-veth.bin || return
+    "$work/prefix/bin/linkcap" norm < samples/req-veth.bin | cmp - samples/req-veth.bin || return
+    "$work/prefix/bin/linkshow" < samples/req-veth.bin | cmp - samples/req-veth.lines
+}
+
 test_c() {
     local flags=(-std=c11 -D_GNU_SOURCE -Wall -Wextra -Werror -I "$lib")
     local wrap=(-pthread -Wl,--wrap=malloc,--wrap=realloc,--wrap=free)
@@ -113,6 +123,13 @@ test_c() {
         skip "C++: the header" "no $cxx"
     fi
     step "C: the page" page_in_c
+    if ! has pkg-config; then
+        skip "C: installed" "no pkg-config"
+    elif [ ! -x crates/linkcap/out/linkcap ] || [ ! -x crates/linkshow/out/linkshow ]; then
+        skip "C: installed" "the programs aren't built: rt run in crates/linkcap and crates/linkshow"
+    else
+        step "C: installed" installed
+    fi
 }
 
 # The first Python that has pytest, or else the first.

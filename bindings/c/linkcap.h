@@ -18,7 +18,6 @@
  * - Threads. Calls share nothing: any number may run at once in different threads, also over the same capture.
  * - Signals and forks. Nothing here is called from a signal handler, nor in the forked child of a process with threads
  *   before it runs another program (as Python's multiprocessing makes them by its method "fork").
- * - The stack. A call takes some kilobytes of it, also for attributes inside each other.
  */
 #ifndef LINKCAP_H
 #define LINKCAP_H

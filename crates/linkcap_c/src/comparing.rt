@@ -24,9 +24,9 @@ pub extern "C" fn linkcap_same(
     ensures different { result ≡ 1 → SameCapture limit first.now second.now → ⊥ }
     ensures texts { (result ≡ 0) ⊎ (result ≡ 1)
         → (result ≡ 0) ↔ (texts limit first.now ≡ texts limit second.now) }
-    ensures fault { result ≡ 2 → (fault.new.side ≡ 1)
+    ensures first_side { result ≡ 2 → (fault.new.side ≡ 1)
         → option_map (told 1) (first_fault limit first.now) ≡ Some fault.new }
-    ensures second { result ≡ 2 → (fault.new.side ≡ 2) → IsLegal limit first.now
+    ensures second_side { result ≡ 2 → (fault.new.side ≡ 2) → IsLegal limit first.now
         × (option_map (told 2) (first_fault limit second.now) ≡ Some fault.new) }
     ensures side { result ≡ 2 → (fault.new.side ≡ 1) ⊎ (fault.new.side ≡ 2) }
     ensures limit { (result ≡ 3) ↔ (limit < 16) }

@@ -50,8 +50,9 @@ pub extern "C" fn linkcap_normalize_some(
     ensures room { result ≡ 4
         → (length out.old < progress.new.written + progress.new.wanted)
         × Wants limit (drop progress.new.used piece.now) progress.new.wanted }
-    ensures memory { result ≡ 5
-        → (text : List ℕ) × HasText limit (drop progress.new.used piece.now) text }
+    ensures nothing_wanted { (result ≡ 0) ⊎ (result ≡ 2) ⊎ (result ≡ 5) → progress.new.wanted ≡ 0 }
+    ensures memory { result ≡ 5 → (fault.new.kind ≡ 8) × (fault.new.offset ≡ progress.new.used)
+        × (text : List ℕ) × HasText limit (drop progress.new.used piece.now) text }
     ensures answers { (result ≡ 0) ⊎ ((2 ≤ result) × (result ≤ 5)) }
     // What the pieces write one after the other is what the whole writes.
     ensures goes_on { result ≢ 3 → (before : List ℕ) → IsWhole limit before

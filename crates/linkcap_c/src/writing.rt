@@ -7,6 +7,7 @@ ghost use Rattle.link_capture_reader.specs.Joined.{IsJoined};
 ghost use Rattle.link_lines.specs.Outcomes.{WantsMemoryAt};
 ghost use Rattle.link_lines.specs.Captures.{lines};
 ghost use Rattle.linkcap_c.specs.Buffers.{Holds};
+ghost use Rattle.linkcap_c.specs.Pieces.{MayWantMemory};
 ghost use Rattle.linkcap_c.specs.Told.{told};
 
 use crate::room::hand_over;
@@ -72,7 +73,9 @@ pub extern "C" fn linkcap_normalize(
         → (result ≡ 4) ↔ (length out.old < length (texts limit capture.now)) }
     ensures wanted { result ≡ 4
         → size.new ≡ min (length (texts limit capture.now)) (2 ^ 64 - 1) }
-    ensures memory { result ≡ 5 → StopsAt limit capture.now fault.new.offset }
+    ensures memory { result ≡ 5 → (fault.new.kind ≡ 8) × StopsAt limit capture.now fault.new.offset }
+    // Memory is wanting only for the text of an accepted frame, or to keep the bytes of a cut one.
+    ensures cause { result ≡ 5 → MayWantMemory limit (drop fault.new.offset capture.now) }
     ensures kept { (result ≡ 3) ⊎ (result ≡ 4) ⊎ (result ≡ 5) → out.new ≡ out.old }
     ensures place { result ≡ 2
         → (fault.new.offset < length capture.now) × (fault.new.offset % 4 ≡ 0) }
@@ -125,7 +128,7 @@ pub extern "C" fn linkcap_show(
     ensures limit { (result ≡ 3) ↔ (limit < 16) }
     ensures room { result ≡ 4 → length out.old < length (lines limit capture.now) }
     ensures wanted { result ≡ 4 → size.new ≡ length (lines limit capture.now) }
-    ensures memory { result ≡ 5 → StopsAt limit capture.now fault.new.offset }
+    ensures memory { result ≡ 5 → (fault.new.kind ≡ 8) × StopsAt limit capture.now fault.new.offset }
     ensures cause { result ≡ 5 → WantsMemoryAt limit capture.now fault.new.offset }
     ensures kept { (result ≡ 3) ⊎ (result ≡ 4) ⊎ (result ≡ 5) → out.new ≡ out.old }
     ensures place { result ≡ 2

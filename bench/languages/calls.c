@@ -1,0 +1,104 @@
+/* Times calls of the library, and a walk with libmnl, over a capture from standard input, by processor time.
+ *
+ *     calls SECONDS < CAPTURE
+ *
+ * Prints a line for each call: its name, and the nanoseconds that one takes. */
+#include <libmnl/libmnl.h>
+#include <linux/rtnetlink.h>
+#include <stdio.h>
+#include <stdlib.h>
+#include <time.h>
+
+#include "../peers/capture.h"
+#include "linkcap.h"
+
+static struct capture capture;
+static uint8_t *out;
+static size_t room;
+static unsigned long attributes;
+
+static double now(void) {
+    struct timespec at;
+    clock_gettime(CLOCK_PROCESS_CPUTIME_ID, &at);
+    return at.tv_sec + at.tv_nsec / 1e9;
+}
+
+static int walk_attribute(const struct nlattr *attribute, void *unused) {
+    (void)attribute;
+    (void)unused;
+    attributes++;
+    return MNL_CB_OK;
+}
+
+static uint32_t walk(void) {
+    for (size_t at = 0; at < capture.size;) {
+        const struct nlmsghdr *header = (const struct nlmsghdr *)(capture.bytes + at);
+        if (!mnl_nlmsg_ok(header, (int)(capture.size - at)))
+            return 2;
+        if (mnl_attr_parse(header, sizeof(struct ifinfomsg), walk_attribute, NULL) < 0)
+            return 2;
+        at += MNL_ALIGN(header->nlmsg_len);
+    }
+    return 0;
+}
+
+static uint32_t check(void) {
+    struct linkcap_fault fault;
+    return linkcap_check((uint8_t *)capture.bytes, capture.size, LINKCAP_DEFAULT_LIMIT, &fault);
+}
+
+static uint32_t normalize(void) {
+    struct linkcap_fault fault;
+    uint64_t written;
+    return linkcap_normalize((uint8_t *)capture.bytes, capture.size, LINKCAP_DEFAULT_LIMIT, out, room, &written, &fault);
+}
+
+static uint32_t normalize_some(void) {
+    struct linkcap_fault fault;
+    struct linkcap_progress progress;
+    return linkcap_normalize_some((uint8_t *)capture.bytes, capture.size, true, LINKCAP_DEFAULT_LIMIT, out, room, &progress, &fault);
+}
+
+static uint32_t same(void) {
+    struct linkcap_fault fault;
+    return linkcap_same((uint8_t *)capture.bytes, capture.size, (uint8_t *)capture.bytes, capture.size, LINKCAP_DEFAULT_LIMIT, &fault);
+}
+
+static uint32_t show(void) {
+    struct linkcap_fault fault;
+    uint64_t written;
+    return linkcap_show((uint8_t *)capture.bytes, capture.size, LINKCAP_DEFAULT_LIMIT, out, room, &written, &fault);
+}
+
+static void measure(const char *name, uint32_t (*call)(void), double seconds) {
+    double best = 0;
+    for (int round = 0; round < 5; round++) {
+        long calls = 0;
+        double begin = now(), end;
+        do {
+            for (int i = 0; i < 20; i++, calls++)
+                if (call() != 0)
+                    exit(2);
+            end = now();
+        } while (end - begin < seconds / 5);
+        double one = (end - begin) / calls;
+        best = best == 0 || one < best ? one : best;
+    }
+    printf("%s %.1f\n", name, best * 1e9);
+}
+
+int main(int argc, char **argv) {
+    double seconds = argc > 1 ? atof(argv[1]) : 1;
+    capture = read_capture();
+    room = 8 * capture.size + 4096;
+    out = malloc(room);
+    if (out == NULL)
+        return 2;
+    measure("check", check, seconds);
+    measure("normalize", normalize, seconds);
+    measure("pieces", normalize_some, seconds);
+    measure("same", same, seconds);
+    measure("show", show, seconds);
+    measure("libmnl", walk, seconds);
+    return 0;
+}

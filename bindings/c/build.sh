@@ -1,0 +1,29 @@
+#!/usr/bin/env bash
+# Makes liblinkcap.a and liblinkcap.so in a folder, and linkcap.h beside them.
+#
+#     bindings/c/build.sh FOLDER
+#
+# It wants the static library of the crate linkcap_c, which `rt lib` makes in crates/linkcap_c and which is made here
+# where it isn't there, and the command rt, whose kit has the small layer between that library and malloc. Both
+# libraries have that layer inside, and show nothing but linkcap_*. CC names the compiler (cc).
+set -euo pipefail
+here=$(cd "$(dirname "$0")" && pwd)
+[ $# -eq 1 ] || { echo "usage: bindings/c/build.sh FOLDER" >&2; exit 2; }
+mkdir -p "$1"
+folder=$(cd "$1" && pwd)
+
+proved=$here/../../crates/linkcap_c/out/liblinkcap_c.a
+[ -f "$proved" ] || (cd "$here/../../crates/linkcap_c" && rt lib) >&2
+layer=$(dirname "$(rt doc)")/c/liblibc_c.a
+version=$(sed -n 's/^#define LINKCAP_VERSION //p' "$here/linkcap.h")
+
+work=$(mktemp -d)
+trap 'rm -rf "$work"' EXIT
+ld -r -o "$work/linkcap.o" --whole-archive "$proved" --no-whole-archive "$layer"
+objcopy --wildcard --keep-global-symbol='linkcap_*' "$work/linkcap.o"
+rm -f "$folder/liblinkcap.a"
+ar rcs "$folder/liblinkcap.a" "$work/linkcap.o"
+"${CC:-cc}" -shared -o "$folder/liblinkcap.so.$version" "$work/linkcap.o" -Wl,--version-script="$here/linkcap.map" \
+    -Wl,-soname,"liblinkcap.so.$version" -Wl,--no-undefined -Wl,-z,relro,-z,now -Wl,-z,noexecstack
+ln -sf "liblinkcap.so.$version" "$folder/liblinkcap.so"
+cp "$here/linkcap.h" "$folder/linkcap.h"

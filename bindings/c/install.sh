@@ -1,0 +1,29 @@
+#!/usr/bin/env bash
+# Installs liblinkcap.a, liblinkcap.so, linkcap.h, linkcap.pc and the programs linkcap and linkshow.
+#
+#     bindings/c/install.sh PREFIX
+#
+# They go to lib, include, lib/pkgconfig and bin under PREFIX. Programs that aren't built are proved and built first, by
+# `rt run` in crates/linkcap and crates/linkshow. DESTDIR may stand in front of PREFIX, as packagers use it.
+set -euo pipefail
+here=$(cd "$(dirname "$0")" && pwd)
+[ $# -eq 1 ] || { echo "usage: bindings/c/install.sh PREFIX" >&2; exit 2; }
+case $1 in /*) prefix=$1 ;; *) prefix=$PWD/$1 ;; esac
+to=${DESTDIR:-}$prefix
+
+work=$(mktemp -d)
+trap 'rm -rf "$work"' EXIT
+"$here/build.sh" "$work"
+for program in linkcap linkshow; do
+    crate=$here/../../crates/$program
+    [ -x "$crate/out/$program" ] || (cd "$crate" && rt run < /dev/null > /dev/null) || [ -x "$crate/out/$program" ]
+done
+
+install -d "$to/lib/pkgconfig" "$to/include" "$to/bin"
+install -m 644 "$work/liblinkcap.a" "$to/lib"
+install -m 755 "$work"/liblinkcap.so.* "$to/lib"
+cp -P "$work/liblinkcap.so" "$to/lib"
+install -m 644 "$work/linkcap.h" "$to/include"
+version=$(sed -n 's/^#define LINKCAP_VERSION //p' "$here/linkcap.h")
+sed -e "s|@PREFIX@|$prefix|" -e "s|@VERSION@|$version|" "$here/linkcap.pc.in" > "$to/lib/pkgconfig/linkcap.pc"
+for program in linkcap linkshow; do install -m 755 "$here/../../crates/$program/out/$program" "$to/bin"; done

@@ -1,0 +1,168 @@
+/*
+ * linkcap: captures of Linux netlink link messages, judged, measured, normalised, compared and shown.
+ *
+ * A capture is a byte string of netlink messages, each at a multiple of 4. Its normal text is what linkcap writes for
+ * it: captures that mean the same have equal ones. docs/other-languages.md is the page for callers, docs/frames.md has
+ * the faults and the limit.
+ *
+ * What holds of every function:
+ *
+ * - Pointers. Each points to what its type says, and is never null, not even beside a length of 0. A capture is
+ *   `length` bytes that nobody writes to during the call; a buffer `out` is `room` bytes that may be written, and hold
+ *   any values. What is written overlaps nothing that is read or written by the same call. Lengths are under 2^63.
+ *   Nothing is kept of a pointer after the call.
+ * - Memory. linkcap_normalize, linkcap_normalize_some and linkcap_show call malloc, realloc and free, and have freed
+ *   all when they return. The others take no memory. Where malloc or realloc answers null, the answer is
+ *   LINKCAP_NO_MEMORY, or the one that wanted no memory; no call ends the process. The three functions come from one
+ *   allocator, and align a block as C's do.
+ * - Threads. Calls share nothing: any number may run at once in different threads, also over the same capture.
+ * - Signals and forks. Nothing here is called from a signal handler, nor in the forked child of a process with threads
+ *   before it runs another program (as Python's multiprocessing makes them by its method "fork").
+ */
+#ifndef LINKCAP_H
+#define LINKCAP_H
+
+#include <stdbool.h>
+#include <stddef.h>
+#include <stdint.h>
+
+#ifdef __cplusplus
+extern "C" {
+#endif
+
+/* The version of this interface. A program that loads the library when it runs compares it with linkcap_version(). */
+#define LINKCAP_VERSION 1
+
+/* A limit is the greatest length in bytes that a message, read or written, may have: from 16 to 4294967295. */
+#define LINKCAP_MIN_LIMIT 16
+#define LINKCAP_DEFAULT_LIMIT 1048576
+
+/* Room for the words of every fault, and a null byte behind them. */
+#define LINKCAP_FAULT_TEXT 128
+
+/* What functions answer. The first four are the statuses of the program linkcap. */
+enum linkcap_status {
+    LINKCAP_OK = 0,        /* the capture is legal; of two, both are legal and mean the same */
+    LINKCAP_DIFFERENT = 1, /* both captures are legal and don't mean the same */
+    LINKCAP_FAULT = 2,     /* a fault, which is told in *fault */
+    LINKCAP_WRONG = 3,     /* a limit under 16, or a fault that is none; nothing was written */
+    LINKCAP_NO_ROOM = 4,   /* the buffer has less room than what is to be written */
+    LINKCAP_NO_MEMORY = 5  /* no memory; *fault tells where */
+};
+
+/* Kinds of faults. Captures in memory have the first eight; the last four are told by the program alone. */
+enum linkcap_kind {
+    LINKCAP_CUT = 1,         /* fewer bytes are left than a header has, or than it tells */
+    LINKCAP_SHORT_LENGTH,    /* the header's length is under 16 */
+    LINKCAP_OVER_LIMIT,      /* the header's length is over the limit */
+    LINKCAP_REFUSED,         /* the body isn't accepted */
+    LINKCAP_EMPTY_PORTS,     /* an accepted IFLA_VF_PORTS keeps no entry */
+    LINKCAP_UNFIT,           /* an attribute of the text would be longer than 65535 bytes */
+    LINKCAP_TEXT_OVER_LIMIT, /* the length of the message's text would be over the limit */
+    LINKCAP_MEMORY,          /* no memory */
+    LINKCAP_READ,            /* a read failed */
+    LINKCAP_WRITE,           /* a write failed */
+    LINKCAP_TOO_LONG,        /* more bytes than can be counted */
+    LINKCAP_FAILED           /* a fault came before */
+};
+
+/* A fault. It is written where the answer is LINKCAP_FAULT or LINKCAP_NO_MEMORY; after another one it holds any value. */
+struct linkcap_fault {
+    uint32_t kind;   /* an enum linkcap_kind */
+    uint32_t side;   /* of two captures 1 for the first and 2 for the second, else 0 */
+    uint64_t offset; /* the start of the message that has it, in bytes from the start of the capture that was given */
+};
+
+/* The numbers of a legal capture. */
+struct linkcap_measure {
+    uint64_t frames;     /* messages */
+    uint64_t attributes; /* attribute headers in the bodies of its link messages, at all depths */
+    uint64_t text_low;   /* the length of its normal text in bytes, which is text_low + 2^64 * text_high */
+    uint64_t text_high;
+};
+
+/* How far linkcap_normalize_some came. */
+struct linkcap_progress {
+    uint64_t used;    /* bytes of the piece whose texts are written */
+    uint64_t written; /* bytes of these texts */
+    uint64_t wanted;  /* on LINKCAP_NO_ROOM the length of the next message's text, else 0 */
+};
+
+/*
+ * Whether a capture is legal. LINKCAP_OK, LINKCAP_FAULT with its first fault, or LINKCAP_WRONG. It takes no memory.
+ */
+uint32_t linkcap_check(const uint8_t *capture, size_t length, uint32_t limit, struct linkcap_fault *fault);
+
+/*
+ * The numbers of a legal capture. LINKCAP_OK, and *numbers has them; LINKCAP_FAULT with its first fault; or
+ * LINKCAP_WRONG. It takes no memory.
+ */
+uint32_t linkcap_measure(const uint8_t *capture, size_t length, uint32_t limit, struct linkcap_measure *numbers,
+                         struct linkcap_fault *fault);
+
+/*
+ * Writes the normal text of a capture to the front of out, and its length to *written.
+ *
+ * LINKCAP_OK           the capture is legal, and its normal text is written.
+ * LINKCAP_FAULT        the first fault; the texts of the messages before it are written.
+ * LINKCAP_WRONG        a limit under 16.
+ * LINKCAP_NO_ROOM      out has less room than these texts want: nothing is written, and *written has the length that is
+ *                      wanted (at most 2^64 - 1). This is answered before a fault is.
+ * LINKCAP_NO_MEMORY    nothing is written. What stands before the fault's place is legal.
+ *
+ * Behind what is written, out stays as it was. A text is at most 77 times as long as its capture, mostly as long.
+ * Memory is taken for the text, and for the last message where it is cut.
+ */
+uint32_t linkcap_normalize(const uint8_t *capture, size_t length, uint32_t limit, uint8_t *out, size_t room,
+                           uint64_t *written, struct linkcap_fault *fault);
+
+/*
+ * Writes the texts of the messages that are whole in one piece of a capture, with their padding; of the last piece the
+ * last message may lack padding. Nothing is kept between calls: the caller gives the bytes that weren't used again, with
+ * more behind them. What the pieces write one after the other is what the whole writes, and the first fault is the
+ * whole's.
+ *
+ * LINKCAP_OK           all whole messages are written. Of the last piece all is used, and the whole capture is legal.
+ * LINKCAP_FAULT        the fault of the message at progress->used, which is fault->offset: counted from this piece's
+ *                      start, so add what was used before. LINKCAP_CUT is told of the last piece alone.
+ * LINKCAP_WRONG        a limit under 16.
+ * LINKCAP_NO_ROOM      the next message's text wants progress->wanted bytes, and fewer are left in out. What came before
+ *                      it is written: go on behind it with an empty buffer, or a greater one where nothing was written.
+ * LINKCAP_NO_MEMORY    there is no memory for the next message's text. What came before it is written.
+ *
+ * *progress is written in all cases but LINKCAP_WRONG. Memory is taken for one text at a time.
+ */
+uint32_t linkcap_normalize_some(const uint8_t *piece, size_t length, bool last, uint32_t limit, uint8_t *out,
+                                size_t room, struct linkcap_progress *progress, struct linkcap_fault *fault);
+
+/*
+ * Whether two captures mean the same, which is where their normal texts are equal. LINKCAP_OK or LINKCAP_DIFFERENT
+ * where both are legal; LINKCAP_FAULT with the first fault of the first one, or of the second where the first is legal;
+ * or LINKCAP_WRONG. It takes no memory.
+ */
+uint32_t linkcap_same(const uint8_t *first, size_t first_length, const uint8_t *second, size_t second_length,
+                      uint32_t limit, struct linkcap_fault *fault);
+
+/*
+ * Writes the lines of a capture for people, as the program linkshow does, to the front of out, and their length to
+ * *written. The answers are those of linkcap_normalize, but for want of memory, which may be told before want of room.
+ * Memory is taken for the normal text and, twice, for the lines.
+ */
+uint32_t linkcap_show(const uint8_t *capture, size_t length, uint32_t limit, uint8_t *out, size_t room,
+                      uint64_t *written, struct linkcap_fault *fault);
+
+/*
+ * Writes the words of a fault and its place in ASCII, as `cut frame at 48`, behind `first: ` or `second: ` where it has
+ * a side, and their length to *written. No null byte is written behind them. LINKCAP_OK; LINKCAP_NO_ROOM, and *written
+ * has the length; or LINKCAP_WRONG where the kind or the side is none. It takes no memory.
+ */
+uint32_t linkcap_fault_text(const struct linkcap_fault *fault, uint8_t *out, size_t room, uint64_t *written);
+
+/* LINKCAP_VERSION of the library. */
+uint32_t linkcap_version(void);
+
+#ifdef __cplusplus
+}
+#endif
+
+#endif

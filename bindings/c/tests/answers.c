@@ -1,0 +1,212 @@
+/*
+ * Answers stored vectors, a line each on standard input, as the programs norm_vectors, same_vectors and show_vectors do:
+ *
+ *     answers norm|pieces|same|show < crates/norm_vectors/stdin
+ *
+ * `pieces` gives each capture in pieces of 1, 7 and 100 bytes, in turn, and writes what `norm` writes.
+ */
+#include <inttypes.h>
+#include <stdio.h>
+#include <stdlib.h>
+#include <string.h>
+
+#include "linkcap.h"
+
+struct bytes {
+    uint8_t *at;
+    size_t length;
+};
+
+static void fail(const char *what)
+{
+    fprintf(stderr, "answers: %s\n", what);
+    exit(1);
+}
+
+static struct bytes room_for(size_t length)
+{
+    struct bytes bytes = {malloc(length ? length : 1), length};
+    if (!bytes.at)
+        fail("no memory");
+    return bytes;
+}
+
+static unsigned digit(char c)
+{
+    if (c >= '0' && c <= '9')
+        return c - '0';
+    if (c >= 'a' && c <= 'f')
+        return c - 'a' + 10;
+    fail("no hex digit");
+    return 0;
+}
+
+/* The bytes of a word in hex, and the end of the word. */
+static struct bytes read_hex(char **word)
+{
+    size_t digits = strspn(*word, "0123456789abcdef");
+    struct bytes bytes = room_for(digits / 2);
+    for (size_t i = 0; i < bytes.length; i++)
+        bytes.at[i] = digit((*word)[2 * i]) << 4 | digit((*word)[2 * i + 1]);
+    *word += digits;
+    return bytes;
+}
+
+static void print_hex(struct bytes bytes)
+{
+    for (size_t i = 0; i < bytes.length; i++)
+        printf("%02x", bytes.at[i]);
+}
+
+static void print_fault(const struct linkcap_fault *fault)
+{
+    uint8_t words[LINKCAP_FAULT_TEXT];
+    uint64_t length;
+    if (linkcap_fault_text(fault, words, sizeof words, &length) != LINKCAP_OK)
+        fail("a fault without words");
+    printf("%.*s", (int)length, (const char *)words);
+}
+
+typedef uint32_t writes(const uint8_t *, size_t, uint32_t, uint8_t *, size_t, uint64_t *, struct linkcap_fault *);
+
+/* A text in a buffer that has no byte to spare: its length is asked for with a buffer of none. */
+static struct bytes write_all(writes *call, struct bytes capture, uint32_t limit, uint32_t *status, struct linkcap_fault *fault)
+{
+    uint64_t length = 0;
+    struct bytes out = room_for(0);
+    *status = call(capture.at, capture.length, limit, out.at, 0, &length, fault);
+    if (*status == LINKCAP_NO_ROOM) {
+        free(out.at);
+        out = room_for(length);
+        *status = call(capture.at, capture.length, limit, out.at, out.length, &length, fault);
+    }
+    if (*status != LINKCAP_OK && *status != LINKCAP_FAULT)
+        fail("neither a text nor a fault");
+    if (length != out.length)
+        fail("a text of another length");
+    return out;
+}
+
+/* The same by pieces, of which the greatest frame and text have to find room. */
+static struct bytes write_pieces(struct bytes capture, size_t size, uint32_t limit, uint32_t *status, struct linkcap_fault *fault)
+{
+    struct bytes text = room_for(0), out = room_for(1);
+    size_t used = 0, given = 0;
+    for (;;) {
+        struct linkcap_progress progress;
+        *status = linkcap_normalize_some(capture.at + used, given - used, given == capture.length, limit, out.at, out.length,
+                                         &progress, fault);
+        text.at = realloc(text.at, text.length + progress.written + 1);
+        if (!text.at)
+            fail("no memory");
+        memcpy(text.at + text.length, out.at, progress.written);
+        text.length += progress.written;
+        if (*status == LINKCAP_FAULT)
+            fault->offset += used;
+        used += progress.used;
+        if (*status == LINKCAP_NO_ROOM) {
+            if (progress.written == 0) {
+                free(out.at);
+                out = room_for(progress.wanted);
+            }
+        } else if (*status == LINKCAP_OK && given < capture.length) {
+            given = capture.length - given < size ? capture.length : given + size;
+        } else {
+            break;
+        }
+    }
+    if (*status != LINKCAP_OK && *status != LINKCAP_FAULT)
+        fail("neither a text nor a fault");
+    free(out.at);
+    return text;
+}
+
+static void answer_norm(struct bytes capture, uint32_t limit, size_t size)
+{
+    uint32_t status;
+    struct linkcap_fault fault, again;
+    struct linkcap_measure numbers;
+    struct bytes text = size ? write_pieces(capture, size, limit, &status, &fault)
+                             : write_all(linkcap_normalize, capture, limit, &status, &fault);
+    print_hex(text);
+    if (linkcap_check(capture.at, capture.length, limit, &again) != status)
+        fail("a check with another answer");
+    if (linkcap_measure(capture.at, capture.length, limit, &numbers, &again) != status)
+        fail("a measure with another answer");
+    if (status == LINKCAP_FAULT) {
+        if (again.kind != fault.kind || again.offset != fault.offset)
+            fail("a measure with another fault");
+        printf(" ");
+        print_fault(&fault);
+        printf("\n");
+    } else {
+        if (numbers.text_high || numbers.text_low != text.length)
+            fail("a measure with another length");
+        printf(" %" PRIu64 " %" PRIu64 " %" PRIu64 "\n", numbers.frames, numbers.attributes, numbers.text_low);
+    }
+    free(text.at);
+}
+
+static void answer_same(struct bytes first, struct bytes second, uint32_t limit)
+{
+    struct linkcap_fault fault;
+    switch (linkcap_same(first.at, first.length, second.at, second.length, limit, &fault)) {
+    case LINKCAP_OK:
+        printf("same");
+        break;
+    case LINKCAP_DIFFERENT:
+        printf("different");
+        break;
+    case LINKCAP_FAULT:
+        print_fault(&fault);
+        break;
+    default:
+        fail("no answer of two captures");
+    }
+    printf("\n");
+}
+
+static void answer_show(struct bytes capture, uint32_t limit)
+{
+    uint32_t status;
+    struct linkcap_fault fault;
+    struct bytes lines = write_all(linkcap_show, capture, limit, &status, &fault);
+    fwrite(lines.at, 1, lines.length, stdout);
+    if (status == LINKCAP_FAULT)
+        print_fault(&fault);
+    else
+        printf("legal");
+    printf("\n");
+    free(lines.at);
+}
+
+int main(int argc, char **argv)
+{
+    static const size_t sizes[] = {1, 7, 100};
+    const char *what = argc == 2 ? argv[1] : "";
+    char *line = NULL;
+    size_t room = 0;
+    for (size_t cases = 0; getline(&line, &room, stdin) > 0; cases++) {
+        char *word = line;
+        uint32_t limit = strtoul(word, &word, 10);
+        word++;
+        struct bytes capture = read_hex(&word);
+        if (strcmp(what, "norm") == 0) {
+            answer_norm(capture, limit, 0);
+        } else if (strcmp(what, "pieces") == 0) {
+            answer_norm(capture, limit, sizes[cases % 3]);
+        } else if (strcmp(what, "show") == 0) {
+            answer_show(capture, limit);
+        } else if (strcmp(what, "same") == 0) {
+            word++;
+            struct bytes other = read_hex(&word);
+            answer_same(capture, other, limit);
+            free(other.at);
+        } else {
+            fail("norm, pieces, same or show?");
+        }
+        free(capture.at);
+    }
+    free(line);
+    return 0;
+}

@@ -1,0 +1,196 @@
+#!/usr/bin/env bash
+# Runs the tests of C, Python and Rust over the proved library, and the examples of docs/other-languages.md.
+#
+#     bindings/check.sh
+#
+# It wants the command rt; a compiler, valgrind, pkg-config, Python, pytest, pyroute2, cargo and Debian's package of the crate
+# netlink-packet-route where they are there, and says what it skipped. CC, CXX and PYTHON name others than cc, c++ and
+# python3. Builds lie in a folder of their own, which goes at the end. The last line is `N passed, M failed`.
+set -uo pipefail
+cd "$(dirname "$0")/.."
+top=$PWD
+page=$top/docs/other-languages.md
+work=$(mktemp -d)
+trap 'rm -rf "$work"' EXIT
+cc=${CC:-cc}
+cxx=${CXX:-c++}
+passed=0 failed=0
+
+# Runs a command quietly, and counts it; its words are shown where it fails.
+step() {
+    local name=$1
+    shift
+    if "$@" > "$work/words" 2>&1; then
+        passed=$((passed + 1))
+        echo "bindings: passed: $name"
+    else
+        failed=$((failed + 1))
+        tail -n 40 "$work/words"
+        echo "bindings: FAILED: $name"
+    fi
+}
+
+skip() {
+    echo "bindings: skipped: $1: $2"
+}
+
+has() {
+    command -v "$1" > /dev/null
+}
+
+finish() {
+    echo "$passed passed, $failed failed"
+    [ "$failed" -eq 0 ]
+    exit
+}
+
+# The first block of code of a language on the page.
+block() {
+    awk -v fence="\`\`\`$1" '$0 == fence { inside = 1; next } inside && $0 == "```" { exit } inside' "$page"
+}
+
+# Answers the vectors of a crate, and compares.
+answers() {
+    local what=$1 crate=$2
+    shift 2
+    "$@" "$what" < "crates/$crate/stdin" | cmp - "crates/$crate/stdout"
+}
+
+all_answers() {
+    local name=$1
+    shift
+    step "C, $name: norm" answers norm norm_vectors "$@"
+    step "C, $name: norm in pieces" answers pieces norm_vectors "$@"
+    step "C, $name: same" answers same same_vectors "$@"
+    step "C, $name: show" answers show show_vectors "$@"
+}
+
+shown_symbols() {
+    ! nm -D --defined-only "$lib/liblinkcap.so" | awk '$2 != "A" { print $3 }' | grep -v '^linkcap_' \
+        && ! nm --defined-only --extern-only "$lib/liblinkcap.a" | awk 'NF == 3 { print $3 }' | grep -v '^linkcap_'
+}
+
+page_in_c() {
+    block c > "$work/norm.c"
+    "$cc" -std=c11 -Wall -Wextra -Werror -I "$lib" -o "$work/norm" "$work/norm.c" "$lib/liblinkcap.a"
+    "$work/norm" < samples/req-veth.bin | cmp - samples/req-veth.bin
+    printf '\x30\0\0\0' | "$work/norm" 2> "$work/fault" > "$work/text"
+    [ $? -eq 2 ] && [ "$(cat "$work/fault")" = "cut frame at 0" ] && [ ! -s "$work/text" ]
+}
+
+# The page's program over what install.sh installs, and the programs beside it.
+installed() {
+    bindings/c/install.sh "$work/prefix" || return
+    export PKG_CONFIG_PATH=$work/prefix/lib/pkgconfig
+    "$cc" -o "$work/installed" "$work/norm.c" $(pkg-config --cflags --libs linkcap) "-Wl,-rpath,$work/prefix/lib" || return
+    "$work/installed" < samples/req-veth.bin | cmp - samples/req-veth.bin || return
+    "$work/prefix/bin/linkcap" norm < samples/req-veth.bin | cmp - samples/req-veth.bin || return
+    "$work/prefix/bin/linkshow" < samples/req-veth.bin | cmp - samples/req-veth.lines
+}
+
+test_c() {
+    local flags=(-std=c11 -D_GNU_SOURCE -Wall -Wextra -Werror -I "$lib")
+    local wrap=(-pthread -Wl,--wrap=malloc,--wrap=realloc,--wrap=free)
+    local samples=(samples/get-veth.bin samples/req-veth.bin)
+    echo "bindings: $("$cc" --version | head -n 1)"
+    step "C: build" "$cc" "${flags[@]}" -O2 -o "$work/answers" bindings/c/tests/answers.c "$lib/liblinkcap.a"
+    step "C: build, shared" "$cc" "${flags[@]}" -O2 -o "$work/shared" bindings/c/tests/answers.c -L "$lib" -llinkcap "-Wl,-rpath,$lib"
+    step "C: build of the edges" "$cc" "${flags[@]}" -O2 -o "$work/edges" bindings/c/tests/edges.c "$lib/liblinkcap.a" "${wrap[@]}"
+    step "C: linkcap_* alone is shown" shown_symbols
+    all_answers "static" "$work/answers"
+    all_answers "shared" "$work/shared"
+    step "C: edges" "$work/edges" "${samples[@]}"
+    local san=(-g -O1 -fsanitize=address,undefined -fno-sanitize-recover=all)
+    if echo 'int main(void) { return 0; }' | "$cc" "${san[@]}" -x c -o "$work/none" - 2> /dev/null && "$work/none"; then
+        step "C, sanitizers: build" "$cc" "${flags[@]}" "${san[@]}" -o "$work/sane" bindings/c/tests/answers.c "$lib/liblinkcap.a"
+        step "C, sanitizers: build of the edges" "$cc" "${flags[@]}" "${san[@]}" -o "$work/sane_edges" bindings/c/tests/edges.c "$lib/liblinkcap.a" "${wrap[@]}"
+        all_answers "sanitizers" "$work/sane"
+        step "C, sanitizers: edges" "$work/sane_edges" "${samples[@]}"
+    else
+        skip "C, sanitizers" "$cc has none here"
+    fi
+    if has valgrind; then
+        local grind=(valgrind -q --error-exitcode=9 --leak-check=full --show-leak-kinds=all --errors-for-leak-kinds=all)
+        all_answers "valgrind" "${grind[@]}" "$work/answers"
+        step "C, valgrind: edges" "${grind[@]}" "$work/edges" samples/req-veth.bin
+    else
+        skip "C, valgrind" "no valgrind"
+    fi
+    if has "$cxx"; then
+        echo '#include <linkcap.h>' > "$work/header.cc"
+        step "C++: the header" "$cxx" -std=c++11 -Wall -Wextra -Werror -fsyntax-only -I "$lib" "$work/header.cc"
+    else
+        skip "C++: the header" "no $cxx"
+    fi
+    step "C: the page" page_in_c
+    if ! has pkg-config; then
+        skip "C: installed" "no pkg-config"
+    elif [ ! -x crates/linkcap/out/linkcap ] || [ ! -x crates/linkshow/out/linkshow ]; then
+        skip "C: installed" "the programs aren't built: rt run in crates/linkcap and crates/linkshow"
+    else
+        step "C: installed" installed
+    fi
+}
+
+# The first Python that has pytest, or else the first.
+choose_python() {
+    local candidate
+    for candidate in ${PYTHON:-python3 /usr/bin/python3}; do
+        has "$candidate" && "$candidate" -c 'import pytest' 2> /dev/null && { echo "$candidate"; return; }
+    done
+    for candidate in ${PYTHON:-python3}; do has "$candidate" && { echo "$candidate"; return; }; done
+}
+
+test_python() {
+    local python
+    python=$(choose_python)
+    [ -n "$python" ] || { skip Python "no Python"; return; }
+    echo "bindings: $("$python" --version)"
+    if ! "$python" -m venv --system-site-packages "$work/venv" > "$work/words" 2>&1; then
+        skip Python "no module venv"
+        return
+    fi
+    export PYTHONDONTWRITEBYTECODE=1
+    step "Python: pip install without a network" env LINKCAP_LIB_DIR="$lib" "$work/venv/bin/pip" install --no-index "$top/bindings/python"
+    local run=("$work/venv/bin/python")
+    mkdir -p "$work/python"
+    step "Python: the calls" env -C bindings/python/tests "${run[@]}" -m unittest -q test_linkcap
+    if ! "${run[@]}" -c 'import pytest' 2> /dev/null; then
+        skip "Python: the fixture and the page" "no pytest"
+        return
+    fi
+    step "Python: the fixture" env -C "$work/python" "${run[@]}" -m pytest -q -p no:cacheprovider "$top/bindings/python/tests/test_fixture.py"
+    if "${run[@]}" -c 'import pyroute2' 2> /dev/null; then
+        block python > "$work/python/test_page.py"
+        step "Python: the page" env -C "$work/python" "${run[@]}" -m pytest -q -p no:cacheprovider test_page.py
+    else
+        skip "Python: the page" "no pyroute2"
+    fi
+}
+
+test_rust() {
+    has cargo || { skip Rust "no cargo"; return; }
+    echo "bindings: $(rustc --version)"
+    export LINKCAP_LIB_DIR=$lib CARGO_TARGET_DIR=$work/target
+    step "Rust: the calls" cargo test -q --offline --manifest-path bindings/rust/Cargo.toml
+    mkdir -p "$work/page/src"
+    block rust > "$work/page/src/main.rs"
+    printf '[package]\nname = "page"\nversion = "1.0.0"\nedition = "2021"\n\n[dependencies]\nlinkcap = { path = "%s" }\n' \
+        "$top/bindings/rust" > "$work/page/Cargo.toml"
+    step "Rust: the page" cargo run -q --offline --manifest-path "$work/page/Cargo.toml"
+    local packages=/usr/share/cargo/registry
+    if [ -d $packages/netlink-packet-route-0.12.0 ]; then
+        step "Rust: netlink-packet-route" cargo run -q --offline --manifest-path bindings/rust/route_example/Cargo.toml \
+            --config 'source.crates-io.replace-with="debian"' --config "source.debian.directory=\"$packages\""
+    else
+        skip "Rust: netlink-packet-route" "no package librust-netlink-packet-route-dev of 0.12"
+    fi
+}
+
+lib=$work/lib
+step "the library" bindings/c/build.sh "$lib"
+[ "$failed" -eq 0 ] || finish
+if has "$cc"; then test_c; else skip C "no $cc"; fi
+test_python
+test_rust
+finish

@@ -1,0 +1,30 @@
+"""The pytest fixture, as tests use it."""
+import os
+
+import pytest
+
+pytest_plugins = ["pytester"]
+
+SAMPLES = os.path.join(os.path.dirname(os.path.abspath(__file__)), "..", "..", "..", "samples")
+TEST = """
+def test_request(linkcap_golden):
+    with open({sample!r}, "rb") as file:
+        linkcap_golden(file.read(){change}, "request.lines", numbers=False)
+"""
+
+
+def run(pytester, *options, change=""):
+    pytester.makepyfile(TEST.format(sample=os.path.join(SAMPLES, "lo-request.bin"), change=change))
+    return pytester.runpytest(*options)
+
+
+def test_golden_files(pytester):
+    run(pytester).assert_outcomes(failed=1)
+    run(pytester, "--linkcap-update").assert_outcomes(passed=1)
+    shown = (pytester.path / "request.lines").read_text()
+    with open(os.path.join(SAMPLES, "lo-request.lines")) as file:
+        assert shown.splitlines()[1:] == file.read().splitlines()[1:]
+    run(pytester).assert_outcomes(passed=1)
+    result = run(pytester, change='.replace(b"lo", b"hi")')
+    result.assert_outcomes(failed=1)
+    result.stdout.fnmatch_lines(['*-  IFLA_IFNAME "lo"*', '*+  IFLA_IFNAME "hi"*'])

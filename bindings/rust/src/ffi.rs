@@ -1,0 +1,80 @@
+//! The functions of linkcap.h.
+
+pub const VERSION: u32 = 1;
+
+pub const OK: u32 = 0;
+pub const DIFFERENT: u32 = 1;
+pub const FAULT: u32 = 2;
+pub const WRONG: u32 = 3;
+pub const NO_ROOM: u32 = 4;
+
+#[repr(C)]
+#[derive(Default)]
+pub struct Fault {
+    pub kind: u32,
+    pub side: u32,
+    pub offset: u64,
+}
+
+#[repr(C)]
+#[derive(Default)]
+pub struct Measure {
+    pub frames: u64,
+    pub attributes: u64,
+    pub text_low: u64,
+    pub text_high: u64,
+}
+
+#[repr(C)]
+#[derive(Default)]
+pub struct Progress {
+    pub used: u64,
+    pub written: u64,
+    pub wanted: u64,
+}
+
+/// The shape of `linkcap_normalize` and `linkcap_show`.
+pub type Writes = unsafe extern "C" fn(*const u8, usize, u32, *mut u8, usize, &mut u64, &mut Fault) -> u32;
+
+extern "C" {
+    pub fn linkcap_version() -> u32;
+    pub fn linkcap_check(capture: *const u8, length: usize, limit: u32, fault: &mut Fault) -> u32;
+    pub fn linkcap_measure(capture: *const u8, length: usize, limit: u32, numbers: &mut Measure, fault: &mut Fault) -> u32;
+    pub fn linkcap_normalize(
+        capture: *const u8,
+        length: usize,
+        limit: u32,
+        out: *mut u8,
+        room: usize,
+        written: &mut u64,
+        fault: &mut Fault,
+    ) -> u32;
+    pub fn linkcap_normalize_some(
+        piece: *const u8,
+        length: usize,
+        last: bool,
+        limit: u32,
+        out: *mut u8,
+        room: usize,
+        progress: &mut Progress,
+        fault: &mut Fault,
+    ) -> u32;
+    pub fn linkcap_same(
+        first: *const u8,
+        first_length: usize,
+        second: *const u8,
+        second_length: usize,
+        limit: u32,
+        fault: &mut Fault,
+    ) -> u32;
+    pub fn linkcap_show(
+        capture: *const u8,
+        length: usize,
+        limit: u32,
+        out: *mut u8,
+        room: usize,
+        written: &mut u64,
+        fault: &mut Fault,
+    ) -> u32;
+    pub fn linkcap_fault_text(fault: &Fault, out: *mut u8, room: usize, written: &mut u64) -> u32;
+}

@@ -1,0 +1,169 @@
+//! The calls over the stored vectors, and at the edges.
+
+use linkcap::{Error, Kind, Reader, Side, DEFAULT_LIMIT};
+use std::fs;
+use std::path::Path;
+
+fn read(name: &str) -> Vec<u8> {
+    fs::read(Path::new(env!("CARGO_MANIFEST_DIR")).join("../..").join(name)).expect(name)
+}
+
+fn text(name: &str) -> String {
+    String::from_utf8(read(name)).expect("a text")
+}
+
+fn unhex(word: &str) -> Vec<u8> {
+    (0..word.len() / 2).map(|i| u8::from_str_radix(&word[2 * i..2 * i + 2], 16).expect("hex")).collect()
+}
+
+fn hex(bytes: &[u8]) -> String {
+    bytes.iter().map(|byte| format!("{byte:02x}")).collect()
+}
+
+/// The limit and the captures of each case of a crate.
+fn cases(vectors: &str) -> Vec<(u32, Vec<Vec<u8>>)> {
+    text(&format!("crates/{vectors}/stdin"))
+        .lines()
+        .map(|line| {
+            let mut words = line.split(' ');
+            (words.next().expect("a limit").parse().expect("a limit"), words.map(unhex).collect())
+        })
+        .collect()
+}
+
+type Written = (Vec<u8>, Option<Error>);
+
+fn whole(capture: &[u8], limit: u32) -> Written {
+    match linkcap::normalize(capture, limit) {
+        Ok(text) => (text, None),
+        Err(error) => (error.fault().expect("a fault").written.clone(), Some(error)),
+    }
+}
+
+fn pieces(capture: &[u8], limit: u32, size: usize) -> Written {
+    let mut reader = Reader::new(limit).expect("a limit");
+    let mut out = Vec::new();
+    for piece in capture.chunks(size) {
+        if let Err(error) = reader.feed(piece, &mut out) {
+            assert_eq!(reader.feed(piece, &mut out), Err(Error::Failed));
+            return (out, Some(error));
+        }
+    }
+    let error = reader.finish(&mut out).err();
+    (out, error)
+}
+
+fn norm_line(capture: &[u8], limit: u32, (text, error): Written) -> String {
+    let again = linkcap::measure(capture, limit);
+    assert_eq!(linkcap::check(capture, limit).err(), again.clone().err());
+    match (error, again) {
+        (None, Ok(numbers)) => format!("{} {} {} {}", hex(&text), numbers.frames, numbers.attributes, numbers.text_len),
+        (Some(error), Err(again)) => {
+            let (told, other) = (error.fault().expect("a fault"), again.fault().expect("a fault"));
+            assert_eq!((told.kind, told.offset, told.side), (other.kind, other.offset, None));
+            format!("{} {error}", hex(&text))
+        }
+        _ => panic!("a measure with another answer"),
+    }
+}
+
+#[test]
+fn norm_vectors() {
+    let stored = text("crates/norm_vectors/stdout");
+    let cases = cases("norm_vectors");
+    assert_eq!(stored.lines().count(), cases.len());
+    for (i, ((limit, captures), line)) in cases.iter().zip(stored.lines()).enumerate() {
+        assert_eq!(norm_line(&captures[0], *limit, whole(&captures[0], *limit)), line);
+        assert_eq!(norm_line(&captures[0], *limit, pieces(&captures[0], *limit, [1, 7, 100][i % 3])), line);
+    }
+}
+
+#[test]
+fn same_vectors() {
+    let stored = text("crates/same_vectors/stdout");
+    let cases = cases("same_vectors");
+    assert_eq!(stored.lines().count(), cases.len());
+    for ((limit, captures), line) in cases.iter().zip(stored.lines()) {
+        let answer = match linkcap::same(&captures[0], &captures[1], *limit) {
+            Ok(true) => "same".to_string(),
+            Ok(false) => "different".to_string(),
+            Err(error) => error.to_string(),
+        };
+        assert_eq!(answer, line);
+    }
+}
+
+#[test]
+fn show_vectors() {
+    let mut answers = String::new();
+    for (limit, captures) in cases("show_vectors") {
+        match linkcap::lines(&captures[0], limit) {
+            Ok(lines) => answers += &(lines + "legal\n"),
+            Err(error) => {
+                answers += std::str::from_utf8(&error.fault().expect("a fault").written).expect("lines");
+                answers += &format!("{error}\n");
+            }
+        }
+    }
+    assert!(answers == text("crates/show_vectors/stdout"));
+}
+
+#[test]
+fn edges() {
+    assert!(linkcap::is_known_version());
+    assert_eq!(linkcap::normalize(&[], 16), Ok(Vec::new()));
+    assert_eq!(linkcap::lines(&[], 16), Ok(String::new()));
+    assert_eq!(linkcap::same(&[], &[], 16), Ok(true));
+    assert_eq!(linkcap::measure(&[], 16), Ok(linkcap::Measure { frames: 0, attributes: 0, text_len: 0 }));
+    for limit in [0, 15] {
+        assert_eq!(linkcap::check(&[], limit), Err(Error::Limit));
+        assert_eq!(linkcap::measure(&[], limit), Err(Error::Limit));
+        assert_eq!(linkcap::normalize(&[], limit), Err(Error::Limit));
+        assert_eq!(linkcap::lines(&[], limit), Err(Error::Limit));
+        assert_eq!(linkcap::same(&[], &[], limit), Err(Error::Limit));
+        assert!(matches!(Reader::new(limit), Err(Error::Limit)));
+    }
+    let capture = read("samples/lo-request.bin");
+    let error = linkcap::same(&capture, &capture[..47], DEFAULT_LIMIT).expect_err("a cut frame");
+    let fault = error.fault().expect("a fault");
+    assert_eq!((fault.kind, fault.side, fault.offset), (Kind::Cut, Some(Side::Second), 0));
+    let boxed: Box<dyn std::error::Error + Send + Sync> = Box::new(error);
+    assert_eq!(boxed.to_string(), "second: cut frame at 0");
+}
+
+#[test]
+fn a_capture_cut_at_each_byte() {
+    let capture = read("samples/req-veth.bin");
+    let mut at = 0;
+    while at < capture.len() {
+        let length = u32::from_le_bytes(capture[at..at + 4].try_into().expect("four bytes")) as usize;
+        for cut in at..(at + (length + 3) / 4 * 4).min(capture.len()) {
+            let (text, error) = whole(&capture[..cut], DEFAULT_LIMIT);
+            if at < cut && cut < at + length {
+                let error = error.expect("a cut frame");
+                let fault = error.fault().expect("a fault");
+                assert_eq!((fault.kind, fault.offset), (Kind::Cut, at as u64));
+                assert_eq!(text, &capture[..at]);
+            } else {
+                assert_eq!((text.as_slice(), error), (&capture[..(cut + 3) / 4 * 4], None));
+            }
+        }
+        at += (length + 3) / 4 * 4;
+    }
+}
+
+#[test]
+fn eight_threads() {
+    let capture = read("samples/get-veth.bin");
+    let text = linkcap::normalize(&capture, DEFAULT_LIMIT).expect("a legal capture");
+    std::thread::scope(|scope| {
+        for _ in 0..8 {
+            scope.spawn(|| {
+                for _ in 0..50 {
+                    assert_eq!(linkcap::normalize(&capture, DEFAULT_LIMIT).as_ref(), Ok(&text));
+                    assert_eq!(linkcap::same(&capture, &text, DEFAULT_LIMIT), Ok(true));
+                }
+            });
+        }
+    });
+}

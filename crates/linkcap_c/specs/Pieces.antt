@@ -1,0 +1,65 @@
+-- What a call writes of one piece of a capture.
+use Rattle.std.specs.Prelude.{◌≡◌, ◌≢◌, ℕ, ◌+◌, ◌%◌, ◌<◌, ◌≤◌, ◌⊎◌, Bool, true, false, List, [], ◌++◌, length, take, Some, Ok, Err}
+use Rattle.netlink_packet_core_grammar.specs.Attributes.{nla_align}
+use Rattle.link_capture_grammar.specs.declared.fault.FaultKind.{FaultKind}
+use Rattle.link_capture_grammar.specs.declared.fault.FaultKind.TheVariants.{Cut}
+use Rattle.link_capture_grammar.specs.Captures.{first_frame, first_fault, texts, IsLegal}
+use Rattle.linkcap_c.specs.declared.pieces.Stop.{Stop}
+use Rattle.linkcap_c.specs.declared.pieces.Stop.TheVariants.{Ended, Fault, Room, Memory}
+
+-- of c's front so many bytes were used, whose texts have this length
+pub record IsUsed (limit : ℕ) (last : Bool) (c : List ℕ) (used size : ℕ) : Type 0 where
+  pub inside : used ≤ length c
+  pub legal : IsLegal limit (take used c)
+  pub padded : (used % 4 ≡ 0) ⊎ ((last ≡ true) × (used ≡ length c))
+  pub written : size ≡ length (texts limit (take used c))
+
+-- the frame in front is accepted, and has this text
+abbrev pub HasText : ℕ → List ℕ → List ℕ → Type 0
+HasText limit rest text = (n : ℕ) × (first_frame limit rest ≡ Ok (n, text))
+
+-- why memory may be wanting: the frame in front is accepted, or it is cut, and its bytes had to be kept
+abbrev pub MayWantMemory : ℕ → List ℕ → Type 0
+MayWantMemory limit rest = ((text : List ℕ) × HasText limit rest text) ⊎ (first_frame limit rest ≡ Err Cut)
+
+-- the frame in front is accepted, and its padding isn't all there
+abbrev pub LacksPadding : ℕ → List ℕ → Type 0
+LacksPadding limit rest = (n : ℕ) × (text : List ℕ) × (first_frame limit rest ≡ Ok (n, text)) × (length rest < nla_align n)
+
+-- nothing is left of the last piece; or no frame in front is whole with its padding
+abbrev pub IsEnded : ℕ → Bool → List ℕ → Type 0
+IsEnded limit true rest = rest ≡ []
+IsEnded limit false rest = (first_frame limit rest ≡ Err Cut) ⊎ LacksPadding limit rest
+
+-- the frame in front has this fault, and it isn't that more bytes are to come
+pub record IsFaulty (limit : ℕ) (last : Bool) (rest : List ℕ) (kind : FaultKind) : Type 0 where
+  pub more : 0 < length rest
+  pub is : first_frame limit rest ≡ Err kind
+  pub for_good : last ≡ false → kind ≢ Cut
+
+-- the text in front wants so much room
+abbrev pub Wants : ℕ → List ℕ → ℕ → Type 0
+Wants limit rest wanted = (text : List ℕ) × HasText limit rest text × (wanted ≡ length text)
+
+-- why writing stopped in front of these bytes, where so much room was left
+abbrev pub Stops : ℕ → Bool → List ℕ → ℕ → Stop → Type 0
+Stops limit last rest room Ended = IsEnded limit last rest
+Stops limit last rest room (Fault kind) = IsFaulty limit last rest kind
+Stops limit last rest room (Room wanted) = (room < wanted) × Wants limit rest wanted
+Stops limit last rest room Memory = (text : List ℕ) × HasText limit rest text
+
+-- a legal capture whose frames all have their padding
+pub record IsWhole (limit : ℕ) (s : List ℕ) : Type 0 where
+  pub legal : IsLegal limit s
+  pub padded : length s % 4 ≡ 0
+
+-- Behind each whole capture, what was used of the piece is legal, has these texts, and is whole where more is to come.
+pub record GoesOn (limit : ℕ) (last : Bool) (used text before : List ℕ) : Type 0 where
+  pub legal : IsLegal limit (before ++ used)
+  pub written : texts limit (before ++ used) ≡ texts limit before ++ text
+  pub whole : last ≡ false → IsWhole limit (before ++ used)
+
+-- the capture's first fault, where so much of a piece was used, and its texts
+pub record Fails (limit : ℕ) (kind : FaultKind) (used : ℕ) (text : List ℕ) (before all : List ℕ) : Type 0 where
+  pub fault : first_fault limit all ≡ Some (record { kind = kind; offset = length before + used })
+  pub written : texts limit all ≡ texts limit before ++ text

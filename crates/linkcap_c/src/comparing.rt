@@ -1,0 +1,46 @@
+//! Two captures compared.
+
+ghost use Rattle.std.specs.Prelude.{◌≡◌, ◌<◌, ◌≤◌, ◌↔◌, ◌⊎◌, true, false, cond, Some, option_map};
+ghost use Rattle.link_capture_grammar.specs.Captures.{first_fault, texts, IsLegal};
+ghost use Rattle.link_capture_grammar.specs.Same.{SameCapture};
+ghost use Rattle.linkcap_c.specs.Told.{told};
+
+use crate::statuses::{DIFFERENT, FAULT, OK, WRONG, is_limit};
+use crate::told::{LinkcapFault, of_two};
+use link_capture_checks::same;
+
+/// Whether two captures mean the same under a limit; else the first fault of the first one, or of the second where the
+/// first is legal. It takes no memory.
+#[unsafe(no_mangle)]
+pub extern "C" fn linkcap_same(
+    first: &[u8],
+    second: &[u8],
+    limit: u32,
+    fault: &mut LinkcapFault,
+) -> u32
+    ensures legal { (result ≡ 0) ⊎ (result ≡ 1)
+        → IsLegal limit first.now × IsLegal limit second.now }
+    ensures same { result ≡ 0 → SameCapture limit first.now second.now }
+    ensures different { result ≡ 1 → SameCapture limit first.now second.now → ⊥ }
+    ensures texts { (result ≡ 0) ⊎ (result ≡ 1)
+        → (result ≡ 0) ↔ (texts limit first.now ≡ texts limit second.now) }
+    ensures first_side { result ≡ 2 → (fault.new.side ≡ 1)
+        → option_map (told 1) (first_fault limit first.now) ≡ Some fault.new }
+    ensures second_side { result ≡ 2 → (fault.new.side ≡ 2) → IsLegal limit first.now
+        × (option_map (told 2) (first_fault limit second.now) ≡ Some fault.new) }
+    ensures side { result ≡ 2 → (fault.new.side ≡ 1) ⊎ (fault.new.side ≡ 2) }
+    ensures limit { (result ≡ 3) ↔ (limit < 16) }
+    ensures answers { result ≤ 3 }
+{
+    if !is_limit(limit) {
+        return WRONG;
+    }
+    match same(first, second, limit) {
+        Ok(true) => OK,
+        Ok(false) => DIFFERENT,
+        Err(found) => {
+            *fault = of_two(found);
+            FAULT
+        }
+    }
+}

@@ -1,0 +1,84 @@
+//! One capture judged and measured.
+
+ghost use Rattle.std.specs.Prelude.{◌≡◌, ◌+◌, ◌*◌, ◌^◌, ◌<◌, ◌≤◌, ◌↔◌, ◌⊎◌, length, Some, option_map};
+ghost use Rattle.link_capture_grammar.specs.Captures.{first_fault, texts, IsLegal};
+ghost use Rattle.link_capture_grammar.specs.Numbers.{attributes, frames};
+ghost use Rattle.linkcap_c.specs.Told.{told};
+
+use crate::statuses::{FAULT, OK, WRONG, is_limit};
+use crate::told::{LinkcapFault, of_one};
+use link_capture_checks::{check, measure};
+
+/// The numbers of a legal capture.
+#[repr(C)]
+#[derive(Drop)]
+pub struct LinkcapMeasure {
+    /// Its frames.
+    pub frames: u64,
+    /// The attribute headers in the bodies of its link messages, at all depths.
+    pub attributes: u64,
+    /// The length of its normal text in bytes, but for multiples of 2^64.
+    pub text_low: u64,
+    /// How many multiples of 2^64 there are.
+    pub text_high: u64,
+}
+
+/// Whether a capture is legal under a limit on the bytes of a message and of its text, or its first fault. It takes no
+/// memory.
+#[unsafe(no_mangle)]
+pub extern "C" fn linkcap_check(capture: &[u8], limit: u32, fault: &mut LinkcapFault) -> u32
+    ensures legal { result ≡ 0 → IsLegal limit capture.now }
+    ensures fault { result ≡ 2
+        → option_map (told 0) (first_fault limit capture.now) ≡ Some fault.new }
+    ensures limit { (result ≡ 3) ↔ (limit < 16) }
+    ensures answers { (result ≡ 0) ⊎ (result ≡ 2) ⊎ (result ≡ 3) }
+{
+    if !is_limit(limit) {
+        return WRONG;
+    }
+    match check(capture, limit) {
+        Ok(()) => OK,
+        Err(found) => {
+            *fault = of_one(found);
+            FAULT
+        }
+    }
+}
+
+/// The numbers of a legal capture, or its first fault. It takes no memory.
+#[unsafe(no_mangle)]
+pub extern "C" fn linkcap_measure(
+    capture: &[u8],
+    limit: u32,
+    numbers: &mut LinkcapMeasure,
+    fault: &mut LinkcapFault,
+) -> u32
+    ensures legal { result ≡ 0 → IsLegal limit capture.now }
+    ensures frames { result ≡ 0 → numbers.new.frames ≡ frames limit capture.now }
+    ensures attributes { result ≡ 0 → numbers.new.attributes ≡ attributes limit capture.now }
+    ensures text { result ≡ 0 → numbers.new.text_low + 2 ^ 64 * numbers.new.text_high
+        ≡ length (texts limit capture.now) }
+    ensures fault { result ≡ 2
+        → option_map (told 0) (first_fault limit capture.now) ≡ Some fault.new }
+    ensures limit { (result ≡ 3) ↔ (limit < 16) }
+    ensures answers { (result ≡ 0) ⊎ (result ≡ 2) ⊎ (result ≡ 3) }
+{
+    if !is_limit(limit) {
+        return WRONG;
+    }
+    match measure(capture, limit) {
+        Ok(found) => {
+            *numbers = LinkcapMeasure {
+                frames: found.frames,
+                attributes: found.attributes,
+                text_low: (found.text_len & u64::MAX as u128) as u64,
+                text_high: (found.text_len >> 64) as u64,
+            };
+            OK
+        }
+        Err(found) => {
+            *fault = of_one(found);
+            FAULT
+        }
+    }
+}

@@ -1,0 +1,19 @@
+//! Texts handed over in a caller's buffer.
+
+ghost use Rattle.std.specs.Prelude.{◌≡◌};
+ghost use Rattle.linkcap_c.specs.Buffers.{HandsOver};
+
+use crate::statuses::NO_ROOM;
+
+/// Copies a text to the front of a buffer, and answers with this status; or leaves the buffer alone where it lacks room.
+/// The text's length goes to `size`.
+pub(crate) fn hand_over(text: &[u8], status: u32, out: &mut [u8], size: &mut u64) -> u32
+    ensures { HandsOver status text.now result size.new out.old out.new }
+{
+    *size = text.len() as u64;
+    if text.len() > out.len() {
+        return NO_ROOM;
+    }
+    out[..text.len()].copy_from_slice(text);
+    status
+}

@@ -1,0 +1,28 @@
+//! What calls answer: those of the program `linkcap`, and two more. `linkcap.h` has the same numbers.
+
+ghost use Rattle.std.specs.Prelude.{◌≡◌, ◌≤◌, ◌↔◌, IsTrue};
+
+/// The capture is legal; of two, both are legal and mean the same.
+pub const OK: u32 = 0;
+
+/// Both captures are legal and don't mean the same.
+pub const DIFFERENT: u32 = 1;
+
+/// A fault, which is told with its place.
+pub const FAULT: u32 = 2;
+
+/// A limit under 16, or a fault that is none.
+pub const WRONG: u32 = 3;
+
+/// The buffer has less room than what is to be written.
+pub const NO_ROOM: u32 = 4;
+
+/// No memory.
+pub const NO_MEMORY: u32 = 5;
+
+/// Whether a run can have this limit.
+pub(crate) fn is_limit(limit: u32) -> bool
+    ensures { IsTrue result ↔ (16 ≤ limit) }
+{
+    limit >= 16
+}

@@ -1,0 +1,60 @@
+//! The words of faults, and the version, for C.
+
+ghost use Rattle.std.specs.Prelude.{◌≡◌, ◌≤◌, ◌↔◌, ◌⊎◌, true, false};
+ghost use Rattle.link_capture_grammar.specs.declared.fault.CaptureFault.{CaptureFault};
+ghost use Rattle.link_capture_grammar.specs.Faults.{fault_text};
+ghost use Rattle.link_capture_checks.specs.Sides.{side_text};
+ghost use Rattle.linkcap_c.specs.Buffers.{HandsOver};
+ghost use Rattle.linkcap_c.specs.Told.{told};
+
+use crate::room::hand_over;
+use crate::statuses::{OK, WRONG};
+use crate::told::{LinkcapFault, kind_of};
+use link_capture_checks::SideFault;
+use link_capture_grammar::fault::CaptureFault;
+
+/// The version of the interface.
+const VERSION: u32 = 1;
+
+/// Writes the words of a fault and its place to the front of `out`, behind the word of its side where it has one.
+#[unsafe(no_mangle)]
+pub extern "C" fn linkcap_fault_text(fault: &LinkcapFault, out: &mut [u8], size: &mut u64) -> u32
+    ensures alone { (found : CaptureFault) → fault.now ≡ told 0 found
+        → HandsOver 0 (fault_text found) result size.new out.old out.new }
+    ensures first { (found : CaptureFault) → fault.now ≡ told 1 found
+        → HandsOver 0 (side_text (record { second = false; fault = found })) result size.new
+        out.old out.new }
+    ensures second { (found : CaptureFault) → fault.now ≡ told 2 found
+        → HandsOver 0 (side_text (record { second = true; fault = found })) result size.new
+        out.old out.new }
+    ensures wrong { result ≡ 3 → (found : CaptureFault) → (fault.now ≡ told 0 found)
+        ⊎ (fault.now ≡ told 1 found) ⊎ (fault.now ≡ told 2 found) → ⊥ }
+    ensures kept { result ≡ 3 → out.new ≡ out.old }
+{
+    let Some(kind) = kind_of(fault.kind) else {
+        return WRONG;
+    };
+    let found = CaptureFault {
+        kind,
+        offset: fault.offset,
+    };
+    match fault.side {
+        0 => hand_over(found.text().as_str().as_bytes(), OK, out, size),
+        1 | 2 => {
+            let found = SideFault {
+                second: fault.side == 2,
+                fault: found,
+            };
+            hand_over(found.text().as_str().as_bytes(), OK, out, size)
+        }
+        _ => WRONG,
+    }
+}
+
+/// The version of the interface, which `linkcap.h` has as `LINKCAP_VERSION`.
+#[unsafe(no_mangle)]
+pub extern "C" fn linkcap_version() -> u32
+    ensures { result ≡ 1 }
+{
+    VERSION
+}

@@ -1,0 +1,162 @@
+//! Texts and lines written to a caller's buffer.
+
+ghost use Rattle.std.specs.Prelude.{◌≡◌, ◌+◌, ◌-◌, ◌*◌, ◌^◌, ◌%◌, ◌<◌, ◌≤◌, ◌↔◌, ◌⊎◌, ℕ, List, ◌++◌, length, take, drop, min, Some, Ok, Err, option_map};
+ghost use Rattle.link_capture_grammar.specs.Captures.{first_fault, texts, IsLegal, StopsAt};
+ghost use Rattle.link_capture_grammar.specs.Same.{SameCapture};
+ghost use Rattle.link_capture_reader.specs.Joined.{IsJoined};
+ghost use Rattle.link_lines.specs.Outcomes.{WantsMemoryAt};
+ghost use Rattle.link_lines.specs.Captures.{lines};
+ghost use Rattle.linkcap_c.specs.Buffers.{Holds};
+ghost use Rattle.linkcap_c.specs.Pieces.{MayWantMemory};
+ghost use Rattle.linkcap_c.specs.Told.{told};
+
+use crate::room::hand_over;
+use crate::statuses::{FAULT, NO_MEMORY, NO_ROOM, OK, WRONG, is_limit};
+use crate::told::{LinkcapFault, of_one};
+use link_capture_checks::{measure, normal_len};
+use link_capture_grammar::fault::FaultKind;
+use link_capture_grammar::laws::{captures_go_by_frames, faults_stand_at_frames};
+use link_capture_reader::normalize_bytes;
+use link_lines::show_bytes;
+use std::alloc::Global;
+
+/// The length of a capture's texts, up to its first fault.
+fn texts_len(bytes: &[u8], limit: u32) -> u128
+    ensures { result ≡ length (texts limit bytes.now) }
+{
+    captures_go_by_frames();
+    faults_stand_at_frames();
+    match measure(bytes, limit) {
+        Ok(found) => found.text_len,
+        Err(fault) => match normal_len(&bytes[..fault.offset as usize], limit) {
+            Ok(length) => length,
+            Err(_) => 0,
+        },
+    }
+}
+
+/// What is answered where there was no memory for a text: that the buffer has less room than the text wants, where it
+/// has, else want of memory. The length that is wanted goes to `size`, no more than 2^64 - 1.
+fn lacking_memory(bytes: &[u8], limit: u32, room: usize, size: &mut u64) -> u32
+    ensures room { (result ≡ 4) ↔ (room < length (texts limit bytes.now)) }
+    ensures memory { (result ≡ 4) ⊎ (result ≡ 5) }
+    ensures size { size.new ≡ min (length (texts limit bytes.now)) (2 ^ 64 - 1) }
+{
+    let wanted = texts_len(bytes, limit);
+    *size = wanted.min(u64::MAX as u128) as u64;
+    if wanted > room as u128 {
+        NO_ROOM
+    } else {
+        NO_MEMORY
+    }
+}
+
+/// Writes the normal text of a capture to the front of `out`, or the texts before its first fault. Where there is less
+/// room than for these, `out` stays as it was, and their length is told; so it does where memory is wanting.
+#[unsafe(no_mangle)]
+pub extern "C" fn linkcap_normalize(
+    alloc: Global,
+    capture: &[u8],
+    limit: u32,
+    out: &mut [u8],
+    size: &mut u64,
+    fault: &mut LinkcapFault,
+) -> u32
+    ensures legal { result ≡ 0 → IsLegal limit capture.now
+        × Holds (texts limit capture.now) size.new out.old out.new }
+    ensures fault { result ≡ 2
+        → (option_map (told 0) (first_fault limit capture.now) ≡ Some fault.new)
+        × Holds (texts limit capture.now) size.new out.old out.new }
+    ensures limit { (result ≡ 3) ↔ (limit < 16) }
+    // Room is answered first.
+    ensures room { 16 ≤ limit
+        → (result ≡ 4) ↔ (length out.old < length (texts limit capture.now)) }
+    ensures wanted { result ≡ 4
+        → size.new ≡ min (length (texts limit capture.now)) (2 ^ 64 - 1) }
+    ensures memory { result ≡ 5 → (fault.new.kind ≡ 8) × StopsAt limit capture.now fault.new.offset }
+    // Memory is wanting only for the text of an accepted frame, or to keep the bytes of a cut one.
+    ensures cause { result ≡ 5 → MayWantMemory limit (drop fault.new.offset capture.now) }
+    ensures kept { (result ≡ 3) ⊎ (result ≡ 4) ⊎ (result ≡ 5) → out.new ≡ out.old }
+    ensures place { result ≡ 2
+        → (fault.new.offset < length capture.now) × (fault.new.offset % 4 ≡ 0) }
+    ensures answers { (result ≡ 0) ⊎ ((2 ≤ result) × (result ≤ 5)) }
+    // A normal text is legal, and its own normal text.
+    ensures normal { 16 ≤ limit → IsLegal limit (texts limit capture.now)
+        × (texts limit (texts limit capture.now) ≡ texts limit capture.now) }
+    // A legal capture and its normal text mean the same.
+    ensures same { 16 ≤ limit → IsLegal limit capture.now
+        → SameCapture limit capture.now (texts limit capture.now) }
+    // A normal text is at most 77 times as long.
+    ensures small { 16 ≤ limit → length (texts limit capture.now) ≤ 77 * length capture.now }
+    // What follows a legal capture whose size is a multiple of 4 is judged and written by itself.
+    ensures joined { 16 ≤ limit → IsLegal limit capture.now → length capture.now % 4 ≡ 0
+        → IsJoined limit capture.now }
+{
+    if !is_limit(limit) {
+        return WRONG;
+    }
+    let mut text = Vec::new(alloc);
+    match normalize_bytes(alloc, capture, limit, &mut text) {
+        Ok(()) => hand_over(text.as_slice(), OK, out, size),
+        Err(found) => {
+            *fault = of_one(found);
+            if found.kind == FaultKind::Memory {
+                lacking_memory(capture, limit, out.len(), size)
+            } else {
+                hand_over(text.as_slice(), FAULT, out, size)
+            }
+        }
+    }
+}
+
+/// Writes the lines of a capture to the front of `out`, or those before its first fault. Where there is less room than
+/// for these, `out` stays as it was, and their length is told; it stays, too, where memory is wanting.
+#[unsafe(no_mangle)]
+pub extern "C" fn linkcap_show(
+    alloc: Global,
+    capture: &[u8],
+    limit: u32,
+    out: &mut [u8],
+    size: &mut u64,
+    fault: &mut LinkcapFault,
+) -> u32
+    ensures legal { result ≡ 0 → IsLegal limit capture.now
+        × Holds (lines limit capture.now) size.new out.old out.new }
+    ensures fault { result ≡ 2
+        → (option_map (told 0) (first_fault limit capture.now) ≡ Some fault.new)
+        × Holds (lines limit capture.now) size.new out.old out.new }
+    ensures limit { (result ≡ 3) ↔ (limit < 16) }
+    ensures room { result ≡ 4 → length out.old < length (lines limit capture.now) }
+    ensures wanted { result ≡ 4 → size.new ≡ length (lines limit capture.now) }
+    ensures memory { result ≡ 5 → (fault.new.kind ≡ 8) × StopsAt limit capture.now fault.new.offset }
+    ensures cause { result ≡ 5 → WantsMemoryAt limit capture.now fault.new.offset }
+    ensures kept { (result ≡ 3) ⊎ (result ≡ 4) ⊎ (result ≡ 5) → out.new ≡ out.old }
+    ensures place { result ≡ 2
+        → (fault.new.offset < length capture.now) × (fault.new.offset % 4 ≡ 0) }
+    ensures answers { (result ≡ 0) ⊎ ((2 ≤ result) × (result ≤ 5)) }
+    // A capture and its texts have the same lines, and so have captures that mean the same.
+    ensures normal { 16 ≤ limit
+        → lines limit (texts limit capture.now) ≡ lines limit capture.now }
+    ensures same { 16 ≤ limit → (other : List ℕ) → SameCapture limit capture.now other
+        → lines limit other ≡ lines limit capture.now }
+    // What follows a legal capture whose size is a multiple of 4 is shown by itself.
+    ensures joined { 16 ≤ limit → IsLegal limit capture.now → length capture.now % 4 ≡ 0
+        → (more : List ℕ)
+        → lines limit (capture.now ++ more) ≡ lines limit capture.now ++ lines limit more }
+{
+    if !is_limit(limit) {
+        return WRONG;
+    }
+    let mut shown = Vec::new(alloc);
+    match show_bytes(alloc, capture, limit, &mut shown) {
+        Ok(()) => hand_over(shown.as_slice(), OK, out, size),
+        Err(found) => {
+            *fault = of_one(found);
+            if found.kind == FaultKind::Memory {
+                NO_MEMORY
+            } else {
+                hand_over(shown.as_slice(), FAULT, out, size)
+            }
+        }
+    }
+}

@@ -113,9 +113,8 @@ def rows_of(name, lists):
 def tables_of(crate):
     """The names of lists by the number of their table, and None for the table without rows."""
     text = open(os.path.join(TOP, "crates", crate, "src", "rows.rt"), encoding="utf-8").read()
-    array = re.search(r"pub const TABLES.*?= \[(.*?)\];", text, re.S)[1]
-    lists = dict(re.findall(r"const (\w+): \[Row; \d+\] = crate::(\w+)!", text))
-    return [lists.get(name) for name in re.findall(r"&(\w+)", array)]
+    array = re.search(r"pub const TABLES.*?= \[(.*?)\n\];", text, re.S)[1]
+    return [name or None for name in re.findall(r"&(?:crate::(\w+)!|\[\])", array)]
 
 
 def page():

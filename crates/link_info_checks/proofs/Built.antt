@@ -1,5 +1,5 @@
 -- The constant rows are the tables, and the constant names those of kinds and port kinds.
-use Rattle.std.proofs.Common.{◌≡◌, ℕ, true, List, [], ◌∷◌, get_or, refl}
+use Rattle.std.proofs.Common.{◌≡◌, ℕ, true, List, [], ◌∷◌, get_or, map, refl}
 use Rattle.attribute_tables_grammar.specs.Shapes.{raw}
 use Rattle.attribute_tables_grammar.specs.Tables.{Payload.plain, Table.end, rows_bounded}
 use Rattle.attribute_checks.specs.declared.rows.Row.{Row}
@@ -7,12 +7,12 @@ use Rattle.attribute_checks.specs.Rows.{build, are_dense, are_known}
 use Rattle.attribute_checks.proofs.LookUps.{all_at, built_at}
 use Rattle.attribute_checks.specs.Names.{names_of, names_known}
 use Rattle.link_info_grammar.specs.Families.{kinds, port_kinds}
-use Rattle.link_info_checks.specs.declared.rows.TheConstants.{AMT, BAREUDP, BATADV, GENEVE, GRE, GRE6, GTP, IPOIB, IPVLAN, IP_TUNNEL, IP6_TUNNEL, MACVLAN, MACVLAN_ADDRESS, MACSEC, NETKIT, VETH, RMNET, VRF, WWAN, XFRM, VTI, VXLAN, VXCAN, UNTYPED, KINDS, PORT_KINDS}
+use Rattle.link_info_checks.specs.declared.rows.TheConstants.{TABLES, KINDS, PORT_KINDS}
 use Rattle.link_info_checks.specs.Tables.{all_tables, table_of}
 
 -- the constant rows, in the order of the tables
 abbrev pub lists : List (List Row)
-lists = AMT ∷ BAREUDP ∷ BATADV ∷ GENEVE ∷ GRE ∷ GRE6 ∷ GTP ∷ IPOIB ∷ IPVLAN ∷ IP_TUNNEL ∷ IP6_TUNNEL ∷ MACVLAN ∷ MACVLAN_ADDRESS ∷ MACSEC ∷ NETKIT ∷ VETH ∷ RMNET ∷ VRF ∷ WWAN ∷ XFRM ∷ VTI ∷ VXLAN ∷ VXCAN ∷ UNTYPED ∷ []
+lists = map (λ b. b.now) TABLES
 
 pub dense : (t : ℕ) → are_dense (get_or lists t []) ≡ true
 dense t = all_at are_dense lists t [] refl refl

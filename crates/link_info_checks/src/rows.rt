@@ -11,80 +11,31 @@ use attribute_checks::{NameRow, Row};
 
 /// The tables, by the number that `List` has.
 pub const TABLES: [&[Row]; 24] = [
-    &AMT,
-    &BAREUDP,
-    &BATADV,
-    &GENEVE,
-    &GRE,
-    &GRE6,
-    &GTP,
-    &IPOIB,
-    &IPVLAN,
-    &IP_TUNNEL,
-    &IP6_TUNNEL,
-    &MACVLAN,
-    &MACVLAN_ADDRESS,
-    &MACSEC,
-    &NETKIT,
-    &VETH,
-    &RMNET,
-    &VRF,
-    &WWAN,
-    &XFRM,
-    &VTI,
-    &VXLAN,
-    &VXCAN,
-    &UNTYPED,
+    &crate::amt!(constant_rows),
+    &crate::bareudp!(constant_rows),
+    &crate::batadv!(constant_rows),
+    &crate::geneve!(constant_rows),
+    &crate::gre!(constant_rows),
+    &crate::gre6!(constant_rows),
+    &crate::gtp!(constant_rows),
+    &crate::ipoib!(constant_rows),
+    &crate::ipvlan!(constant_rows),
+    &crate::ip4_tunnel!(constant_rows),
+    &crate::ip6_tunnel!(constant_rows),
+    &crate::macvlan!(constant_rows),
+    &crate::macvlan_address!(constant_rows),
+    &crate::macsec!(constant_rows),
+    &crate::netkit!(constant_rows),
+    &crate::veth!(constant_rows),
+    &crate::rmnet!(constant_rows),
+    &crate::vrf!(constant_rows),
+    &crate::wwan!(constant_rows),
+    &crate::xfrm!(constant_rows),
+    &crate::vti!(constant_rows),
+    &crate::vxlan!(constant_rows),
+    &crate::vxcan!(constant_rows),
+    &[],
 ];
-
-const AMT: [Row; 8] = crate::amt!(constant_rows);
-
-const BAREUDP: [Row; 4] = crate::bareudp!(constant_rows);
-
-const BATADV: [Row; 1] = crate::batadv!(constant_rows);
-
-const GENEVE: [Row; 18] = crate::geneve!(constant_rows);
-
-const GRE: [Row; 24] = crate::gre!(constant_rows);
-
-const GRE6: [Row; 24] = crate::gre6!(constant_rows);
-
-const GTP: [Row; 8] = crate::gtp!(constant_rows);
-
-const IPOIB: [Row; 3] = crate::ipoib!(constant_rows);
-
-const IPVLAN: [Row; 2] = crate::ipvlan!(constant_rows);
-
-const IP_TUNNEL: [Row; 20] = crate::ip4_tunnel!(constant_rows);
-
-const IP6_TUNNEL: [Row; 20] = crate::ip6_tunnel!(constant_rows);
-
-const MACVLAN: [Row; 9] = crate::macvlan!(constant_rows);
-
-const MACVLAN_ADDRESS: [Row; 9] = crate::macvlan_address!(constant_rows);
-
-const MACSEC: [Row; 15] = crate::macsec!(constant_rows);
-
-const NETKIT: [Row; 9] = crate::netkit!(constant_rows);
-
-const VETH: [Row; 1] = crate::veth!(constant_rows);
-
-const RMNET: [Row; 2] = crate::rmnet!(constant_rows);
-
-const VRF: [Row; 1] = crate::vrf!(constant_rows);
-
-const WWAN: [Row; 1] = crate::wwan!(constant_rows);
-
-const XFRM: [Row; 2] = crate::xfrm!(constant_rows);
-
-const VTI: [Row; 6] = crate::vti!(constant_rows);
-
-const VXLAN: [Row; 34] = crate::vxlan!(constant_rows);
-
-const VXCAN: [Row; 1] = crate::vxcan!(constant_rows);
-
-/// A list of raw attributes.
-const UNTYPED: [Row; 0] = [];
 
 /// What data hold, by the name of the kind.
 pub const KINDS: [NameRow; 38] = [

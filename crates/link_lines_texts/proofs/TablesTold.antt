@@ -25,11 +25,6 @@ use Rattle.link_lines_texts.proofs.ListsTold.{InsideTold, ListLaws, NestedTold, 
 use Rattle.link_lines_texts.proofs.TitlesTold.{found, names_told}
 use Rattle.link_lines_texts.proofs.Told.{info_is_named}
 
--- what stands behind a name, if there is one, tells the payload
-abbrev TitleTold : Rule → Option Inside → Type 0
-TitleTold r None = ⊤
-TitleTold r (Some i) = InsideTold r i
-
 -- ---- payloads of shapes
 
 pub plain_told : ShapesAreTold → (s : Shape) (v : Shown) → shape_tells s v ≡ true → InsideTold (shape_rule s) (Value v)

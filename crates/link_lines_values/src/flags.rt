@@ -36,66 +36,44 @@ pub const LINK_FLAGS: FlagNames = &[
     (0x40000, b"Echo"),
 ];
 
+/// The flags of any message, and behind them those of some.
+macro_rules! message_flags {
+    ($($flag:expr),*) => {
+        &[
+            (0x1, b"REQUEST"),
+            (0x2, b"MULTI"),
+            (0x4, b"ACK"),
+            (0x8, b"ECHO"),
+            (0x10, b"DUMP_INTR"),
+            (0x20, b"DUMP_FILTERED"),
+            $($flag),*
+        ]
+    };
+}
+
 /// Flags of any message (netlink.h: NLM_F_*).
-pub const MESSAGE_FLAGS: FlagNames = &[
-    (0x1, b"REQUEST"),
-    (0x2, b"MULTI"),
-    (0x4, b"ACK"),
-    (0x8, b"ECHO"),
-    (0x10, b"DUMP_INTR"),
-    (0x20, b"DUMP_FILTERED"),
-];
+pub const MESSAGE_FLAGS: FlagNames = message_flags!();
 
 /// Flags of requests to get (netlink.h: NLM_F_*).
-pub const MESSAGE_GET_FLAGS: FlagNames = &[
-    (0x1, b"REQUEST"),
-    (0x2, b"MULTI"),
-    (0x4, b"ACK"),
-    (0x8, b"ECHO"),
-    (0x10, b"DUMP_INTR"),
-    (0x20, b"DUMP_FILTERED"),
+pub const MESSAGE_GET_FLAGS: FlagNames = message_flags!(
     (0x100, b"ROOT"),
     (0x200, b"MATCH"),
-    (0x400, b"ATOMIC"),
-];
+    (0x400, b"ATOMIC")
+);
 
 /// Flags of requests to create or set (netlink.h: NLM_F_*).
-pub const MESSAGE_CREATE_FLAGS: FlagNames = &[
-    (0x1, b"REQUEST"),
-    (0x2, b"MULTI"),
-    (0x4, b"ACK"),
-    (0x8, b"ECHO"),
-    (0x10, b"DUMP_INTR"),
-    (0x20, b"DUMP_FILTERED"),
+pub const MESSAGE_CREATE_FLAGS: FlagNames = message_flags!(
     (0x100, b"REPLACE"),
     (0x200, b"EXCL"),
     (0x400, b"CREATE"),
-    (0x800, b"APPEND"),
-];
+    (0x800, b"APPEND")
+);
 
 /// Flags of requests to delete (netlink.h: NLM_F_*).
-pub const MESSAGE_DELETE_FLAGS: FlagNames = &[
-    (0x1, b"REQUEST"),
-    (0x2, b"MULTI"),
-    (0x4, b"ACK"),
-    (0x8, b"ECHO"),
-    (0x10, b"DUMP_INTR"),
-    (0x20, b"DUMP_FILTERED"),
-    (0x100, b"NONREC"),
-    (0x200, b"BULK"),
-];
+pub const MESSAGE_DELETE_FLAGS: FlagNames = message_flags!((0x100, b"NONREC"), (0x200, b"BULK"));
 
 /// Flags of acknowledgements (netlink.h: NLM_F_*).
-pub const MESSAGE_ACK_FLAGS: FlagNames = &[
-    (0x1, b"REQUEST"),
-    (0x2, b"MULTI"),
-    (0x4, b"ACK"),
-    (0x8, b"ECHO"),
-    (0x10, b"DUMP_INTR"),
-    (0x20, b"DUMP_FILTERED"),
-    (0x100, b"CAPPED"),
-    (0x200, b"ACK_TLVS"),
-];
+pub const MESSAGE_ACK_FLAGS: FlagNames = message_flags!((0x100, b"CAPPED"), (0x200, b"ACK_TLVS"));
 
 // The bits without a name.
 #[tactic(auto, using(std::proofs::lemmas::Nat::and_le_l))]

@@ -1,17 +1,17 @@
 -- The constant rows are the tables.
-use Rattle.std.proofs.Common.{◌≡◌, ℕ, true, List, [], ◌∷◌, get_or, refl}
+use Rattle.std.proofs.Common.{◌≡◌, ℕ, true, List, [], ◌∷◌, get_or, map, refl}
 use Rattle.attribute_tables_grammar.specs.Tables.{Table.end, rows_bounded}
 use Rattle.attribute_checks.specs.declared.rows.Row.{Row}
 use Rattle.attribute_checks.specs.Rows.{build, are_dense, are_known}
 use Rattle.attribute_checks.proofs.LookUps.{all_at, built_at}
 use Rattle.link_message_grammar.specs.NestedTables.{settings}
 use Rattle.link_message_grammar.specs.LinkMessage.{info}
-use Rattle.link_message_checks.specs.declared.rows.TheConstants.{XDP, PROPS, PROTOCOL_DOWN_REASON, DEVLINK_PORT, DPLL_PIN, MCTP, INET, INET6, SPECIFIC, VF_STATS, VF_VLANS, VF, VF_INFOS, VF_PORTS, UNTYPED, LINK_UNSPEC, LINK_BRIDGE, LINK_INET6, LINK_OTHER}
+use Rattle.link_message_checks.specs.declared.rows.TheConstants.{TABLES}
 use Rattle.link_message_checks.specs.Tables.{all_tables, table_of}
 
 -- the constant rows, in the order of the tables
 abbrev pub lists : List (List Row)
-lists = XDP ∷ PROPS ∷ PROTOCOL_DOWN_REASON ∷ DEVLINK_PORT ∷ DPLL_PIN ∷ MCTP ∷ INET ∷ INET6 ∷ SPECIFIC ∷ VF_STATS ∷ VF_VLANS ∷ VF ∷ VF_INFOS ∷ VF_PORTS ∷ UNTYPED ∷ LINK_UNSPEC ∷ LINK_BRIDGE ∷ LINK_INET6 ∷ LINK_OTHER ∷ []
+lists = map (λ b. b.now) TABLES
 
 pub dense : (t : ℕ) → are_dense (get_or lists t []) ≡ true
 dense t = all_at are_dense lists t [] refl refl

@@ -94,7 +94,7 @@ def measure(capture: Capture, limit: int = DEFAULT_LIMIT) -> Measure:
 
 def _write_from(call, at, length: int, limit: int) -> bytes:
     scratch = _scratch
-    room, free, text = scratch.room if length < 3840 else scratch.of_room(length + 256)
+    room, free, text = scratch.of_room(4 * length if call is _show else length + 256)
     status = call(at, length, limit, room, free, scratch.size_at, scratch.fault_at)
     if status == _native.NO_ROOM:
         room, free, text = scratch.of_room(scratch.size.value)

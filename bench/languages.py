@@ -4,7 +4,7 @@ processor time, in one run pinned to one core.
 
     bench/languages.py [SECONDS]
 
-SECONDS is how long each call is timed for, 1 where none is given; of five parts the best counts. It wants what
+SECONDS is how long each call is timed for, 1 where none is given; of five rounds in which all take turns the best counts. It wants what
 bindings/check.sh does, Debian's package libmnl-dev, and crates/linkcap/out/linkcap; PYTHON names the Python that has
 pyroute2. `norm` is the program's processor time, user and system, over 50 MB of the same messages from file to file, less
 that of `cat`: its reading and writing. It builds nothing in the repository, and no gate runs it: speed is measured here,
@@ -18,6 +18,7 @@ import tempfile
 
 TOP = os.path.join(os.path.dirname(os.path.abspath(__file__)), "..")
 NORM = os.path.join(TOP, "crates/linkcap/out/linkcap")
+ROUNDS = 5
 PYTHON = os.environ.get("PYTHON", "/usr/bin/python3" if os.path.exists("/usr/bin/python3") else sys.executable)
 
 
@@ -31,24 +32,25 @@ def samples():
 
 
 def processor_time(words, source):
-    """The least processor time of five runs from file to file."""
-    best = None
-    for _ in range(5):
-        with open(source, "rb") as given, tempfile.TemporaryFile() as taken:
-            child = subprocess.Popen(words, stdin=given, stdout=taken)
-            _, status, used = os.wait4(child.pid, 0)
-            assert status == 0, words
-        took = used.ru_utime + used.ru_stime
-        best = took if best is None else min(best, took)
-    return best
+    """The processor time of a run from file to file."""
+    with open(source, "rb") as given, tempfile.TemporaryFile() as taken:
+        child = subprocess.Popen(words, stdin=given, stdout=taken)
+        _, status, used = os.wait4(child.pid, 0)
+    assert status == 0, words
+    return used.ru_utime + used.ru_stime
 
 
-def norm_nanoseconds(capture, work):
-    """What `norm` takes for a capture of this size, without reading and writing."""
-    source, times = os.path.join(work, "input"), 50000000 // len(capture)
-    with open(source, "wb") as file:
-        file.write(capture * times)
-    return (processor_time([NORM, "norm"], source) - processor_time(["cat"], source)) * 1e9 / times
+def run_round(capture, work, programs, environment, seconds):
+    """Nanoseconds of one call each; those of `norm` and `cat` for as many bytes."""
+    source = os.path.join(work, "input")
+    times = os.path.getsize(source) // len(capture)
+    took = {"norm": processor_time([NORM, "norm"], source) * 1e9 / times, "cat": processor_time(["cat"], source) * 1e9 / times}
+    for language, words in programs.items():
+        ran = subprocess.run([*words, seconds], input=capture, stdout=subprocess.PIPE, env=environment, check=True)
+        for line in ran.stdout.decode().splitlines():
+            call, nanoseconds = line.split()
+            took[f"{language} {call}"] = float(nanoseconds)
+    return took
 
 
 def build(work):
@@ -73,19 +75,19 @@ def build(work):
 
 
 def main():
-    seconds = sys.argv[1] if len(sys.argv) > 1 else "1"
+    seconds = str((float(sys.argv[1]) if len(sys.argv) > 1 else 1) / ROUNDS)
     os.sched_setaffinity(0, {max(os.sched_getaffinity(0))})
     with tempfile.TemporaryDirectory() as work:
         programs, environment = build(work)
         for name, capture in [("82 bytes", one_message(82)), ("1000 bytes", one_message(1000)), ("samples", samples())]:
+            with open(os.path.join(work, "input"), "wb") as file:
+                file.write(capture * (50000000 // len(capture)))
+            rounds = [run_round(capture, work, programs, environment, seconds) for _ in range(ROUNDS)]
+            best = {label: min(took[label] for took in rounds) for label in rounds[0]}
+            best = {"norm, less reading and writing": best.pop("norm") - best.pop("cat"), **best}
             print(f"{name}: {len(capture)} bytes a call")
-            norm = norm_nanoseconds(capture, work)
-            rows = [("norm, less reading and writing", norm)]
-            for language, words in programs.items():
-                ran = subprocess.run([*words, seconds], input=capture, stdout=subprocess.PIPE, env=environment, check=True)
-                rows += [(f"{language} {call}", float(took)) for call, took in (line.split() for line in ran.stdout.decode().splitlines())]
-            for label, took in rows:
-                print(f"  {label:32} {1e9 / took:12.0f} calls a second {len(capture) * 1e3 / took:9.0f} MB/s")
+            for label, took in best.items():
+                print(f"  {label:32} {1e9 / took:12.0f} calls a second {len(capture) * 1e3 / took:9.0f} MB/s", flush=True)
 
 
 main()

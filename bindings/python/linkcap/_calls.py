@@ -2,7 +2,7 @@
 import ctypes
 import re
 import threading
-from typing import NamedTuple, Union
+from typing import NamedTuple, Tuple, Union
 
 from . import _native
 from ._fault import Fault
@@ -27,76 +27,98 @@ class Measure(NamedTuple):
 
 
 class _Scratch(threading.local):
-    """What calls of one thread write to."""
+    """What calls of one thread write to, and where it is."""
 
     def __init__(self) -> None:
-        self.fault = _native.FaultStruct()
-        self.size = ctypes.c_uint64()
-        self.room = ctypes.create_string_buffer(4096)
+        self.fault, self.size = _native.FaultStruct(), ctypes.c_uint64()
+        self.fault_at, self.size_at = ctypes.addressof(self.fault), ctypes.addressof(self.size)
+        self.room = _room(4096)
 
-    def of_room(self, wanted: int):
-        """A buffer with at least so much room."""
-        if wanted <= len(self.room):
-            return self.room
-        room = (ctypes.c_char * (wanted + wanted // 8))()
-        if len(room) <= _KEPT:
-            self.room = room
+    def of_room(self, wanted: int) -> "Tuple[int, int, memoryview]":
+        """The address, the length and the bytes of a buffer with at least so much room."""
+        room = self.room
+        if wanted > room[1]:
+            room = _room(wanted + wanted // 8)
+            if room[1] <= _KEPT:
+                self.room = room
         return room
 
 
+def _room(length: int) -> "Tuple[int, int, memoryview]":
+    buffer = (ctypes.c_char * length)()
+    return ctypes.addressof(buffer), length, memoryview(buffer).cast("B")
+
+
 _scratch = _Scratch()
+_check, _same = _native.library.linkcap_check, _native.library.linkcap_same
 
 
-def _refuse(status: int, fault: "_native.FaultStruct", written: bytes = b"") -> Exception:
+def _refuse(status: int, scratch: _Scratch, written: bytes = b"") -> Exception:
     if status == _native.FAULT:
+        fault = scratch.fault
         return Fault(fault.kind, fault.offset, fault.side or None, written)
     if status == _native.NO_MEMORY:
         return MemoryError("no memory for the capture's text")
+    return _no_limit()
+
+
+def _no_limit() -> Exception:
     return ValueError("a limit is a number from 16 to 4294967295")
-
-
-def _limit(limit: int) -> int:
-    if not 0 <= limit < 1 << 32:
-        raise ValueError("a limit is a number from 16 to 4294967295")
-    return limit
 
 
 def check(capture: Capture, limit: int = DEFAULT_LIMIT) -> None:
     """Returns where a capture is legal; else raises its first `Fault`."""
-    fault = _scratch.fault
-    with _native.borrow(capture) as (at, length):
-        status = _native.library.linkcap_check(at, length, _limit(limit), fault)
-    if status != _native.OK:
-        raise _refuse(status, fault)
+    if not 0 <= limit < 1 << 32:
+        raise _no_limit()
+    scratch = _scratch
+    if type(capture) is bytes:
+        status = _check(capture, len(capture), limit, scratch.fault_at)
+    else:
+        with _native.Borrowed(capture) as given:
+            status = _check(given.at, given.length, limit, scratch.fault_at)
+    if status:
+        raise _refuse(status, scratch)
 
 
 def measure(capture: Capture, limit: int = DEFAULT_LIMIT) -> Measure:
     """The numbers of a legal capture; else raises its first `Fault`."""
-    fault, numbers = _scratch.fault, _native.MeasureStruct()
-    with _native.borrow(capture) as (at, length):
-        status = _native.library.linkcap_measure(at, length, _limit(limit), numbers, fault)
-    if status != _native.OK:
-        raise _refuse(status, fault)
+    if not 0 <= limit < 1 << 32:
+        raise _no_limit()
+    scratch, numbers = _scratch, _native.MeasureStruct()
+    with _native.Borrowed(capture) as given:
+        status = _native.library.linkcap_measure(given.at, given.length, limit, ctypes.addressof(numbers), scratch.fault_at)
+    if status:
+        raise _refuse(status, scratch)
     return Measure(numbers.frames, numbers.attributes, numbers.text_low + (numbers.text_high << 64))
 
 
-def _write(call, capture: Capture, limit: int) -> bytes:
+def _write_from(call, at, length: int, limit: int) -> bytes:
     scratch = _scratch
-    fault, size = scratch.fault, scratch.size
-    with _native.borrow(capture) as (at, length):
-        room = scratch.of_room(length + 256)
-        status = call(at, length, _limit(limit), room, len(room), size, fault)
-        if status == _native.NO_ROOM:
-            room = scratch.of_room(size.value)
-            status = call(at, length, limit, room, len(room), size, fault)
+    room, free, text = scratch.of_room(4 * length if call is _show else length + 256)
+    status = call(at, length, limit, room, free, scratch.size_at, scratch.fault_at)
+    if status == _native.NO_ROOM:
+        room, free, text = scratch.of_room(scratch.size.value)
+        status = call(at, length, limit, room, free, scratch.size_at, scratch.fault_at)
     if status == _native.OK:
-        return ctypes.string_at(room, size.value)
-    raise _refuse(status, fault, ctypes.string_at(room, size.value) if status == _native.FAULT else b"")
+        return text[:scratch.size.value].tobytes()
+    raise _refuse(status, scratch, text[:scratch.size.value].tobytes() if status == _native.FAULT else b"")
+
+
+def _write(call, capture: Capture, limit: int) -> bytes:
+    if not 0 <= limit < 1 << 32:
+        raise _no_limit()
+    if type(capture) is bytes:
+        return _write_from(call, capture, len(capture), limit)
+    with _native.Borrowed(capture) as given:
+        return _write_from(call, given.at, given.length, limit)
+
+
+_normalize, _show = _native.library.linkcap_normalize, _native.library.linkcap_show
 
 
 def normalize(capture: Capture, limit: int = DEFAULT_LIMIT) -> bytes:
     """The normal text of a legal capture; else raises its first `Fault`, whose `written` are the texts before it."""
-    return _write(_native.library.linkcap_normalize, capture, limit)
+    return _write(_normalize, capture, limit)
 
 
 def same(first: Capture, second: Capture, limit: int = DEFAULT_LIMIT) -> bool:
@@ -104,12 +126,17 @@ def same(first: Capture, second: Capture, limit: int = DEFAULT_LIMIT) -> bool:
 
     Else raises the first `Fault` of the first one, or of the second where the first is legal; its `side` is 1 or 2.
     """
-    fault = _scratch.fault
-    with _native.borrow(first) as one, _native.borrow(second) as other:
-        status = _native.library.linkcap_same(*one, *other, _limit(limit), fault)
-    if status in (_native.OK, _native.DIFFERENT):
-        return status == _native.OK
-    raise _refuse(status, fault)
+    if not 0 <= limit < 1 << 32:
+        raise _no_limit()
+    scratch = _scratch
+    if type(first) is bytes and type(second) is bytes:
+        status = _same(first, len(first), second, len(second), limit, scratch.fault_at)
+    else:
+        with _native.Borrowed(first) as one, _native.Borrowed(second) as other:
+            status = _same(one.at, one.length, other.at, other.length, limit, scratch.fault_at)
+    if status > _native.DIFFERENT:
+        raise _refuse(status, scratch)
+    return status == _native.OK
 
 
 def lines(capture: Capture, limit: int = DEFAULT_LIMIT, *, numbers: bool = True) -> str:
@@ -117,7 +144,7 @@ def lines(capture: Capture, limit: int = DEFAULT_LIMIT, *, numbers: bool = True)
 
     Without `numbers` the lines of messages lack their sequence and port numbers, which change from run to run.
     """
-    shown = _write(_native.library.linkcap_show, capture, limit).decode("ascii")
+    shown = _write(_show, capture, limit).decode("ascii")
     return shown if numbers else re.sub(r"(?m)^([^ \n].*) seq [0-9]+ port [0-9]+$", r"\1", shown)
 
 
@@ -125,8 +152,8 @@ class Reader:
     """Reads a capture that comes in pieces of any sizes. Between pieces it keeps the bytes of the message that is cut."""
 
     def __init__(self, limit: int = DEFAULT_LIMIT) -> None:
-        if _limit(limit) < 16:
-            raise ValueError("a limit is a number from 16 to 4294967295")
+        if not 16 <= limit < 1 << 32:
+            raise _no_limit()
         self._limit = limit
         self._rest = b""
         self._place = 0  # of the rest, from the capture's start
@@ -148,23 +175,22 @@ class Reader:
             raise ValueError("the reader has ended, or has raised a fault")
         self._failed = last
         given = b"".join((self._rest, piece)) if self._rest else piece
-        progress, fault, call = _native.ProgressStruct(), _scratch.fault, _native.library.linkcap_normalize_some
+        scratch, progress, call = _scratch, _native.ProgressStruct(), _native.library.linkcap_normalize_some
         texts, used = [], 0
-        with _native.borrow(given) as (at, length):
-            room = _scratch.of_room(length + 256)
-            first = ctypes.cast(at, ctypes.c_void_p).value if isinstance(at, bytes) else at
+        with _native.Borrowed(given) as whole:
+            room, free, text = scratch.of_room(whole.length + 256)
             while True:
-                status = call(first + used, length - used, last, self._limit, room, len(room), progress, fault)
-                texts.append(ctypes.string_at(room, progress.written))
+                status = call(whole.at + used, whole.length - used, last, self._limit, room, free, ctypes.addressof(progress), scratch.fault_at)
+                texts.append(text[:progress.written].tobytes())
                 used += progress.used
                 if status != _native.NO_ROOM:
                     break
-                room = _scratch.of_room(max(progress.wanted, len(room)))
+                room, free, text = scratch.of_room(max(progress.wanted, free))
         written = b"".join(texts)
-        if status != _native.OK:
+        if status:
             self._failed = True
-            fault.offset += self._place + used - progress.used
-            raise _refuse(status, fault, written)
-        self._rest = bytes(memoryview(given)[used:])
+            scratch.fault.offset = self._place + used
+            raise _refuse(status, scratch, written)
+        self._rest = bytes(memoryview(given).cast("B")[used:])
         self._place += used
         return written

@@ -46,8 +46,8 @@ class Fault(Exception):
 
 
 def _words(kind: int, offset: int, side: int) -> str:
-    room = ctypes.create_string_buffer(128)
-    size = ctypes.c_uint64()
-    if _native.library.linkcap_fault_text(_native.FaultStruct(kind, side, offset), room, len(room), size) != _native.OK:
+    room, size = ctypes.create_string_buffer(128), ctypes.c_uint64()
+    told = _native.FaultStruct(kind, side, offset)
+    if _native.library.linkcap_fault_text(ctypes.addressof(told), ctypes.addressof(room), len(room), ctypes.addressof(size)) != _native.OK:
         raise ValueError("no fault of a capture")
     return room.raw[:size.value].decode("ascii")

@@ -1,8 +1,6 @@
 """The library by ctypes."""
-import contextlib
 import ctypes
 import os
-from typing import Iterator, Tuple
 
 VERSION = 1
 OK, DIFFERENT, FAULT, WRONG, NO_ROOM, NO_MEMORY = range(6)
@@ -35,34 +33,21 @@ _SOME = ctypes.create_string_buffer(1)
 _SOMEWHERE = ctypes.addressof(_SOME)
 
 
-@contextlib.contextmanager
-def _borrowed(capture) -> Iterator[Tuple[int, int]]:
-    view = _View()
-    _get(capture, view, 0)
-    try:
-        yield view.buf or _SOMEWHERE, view.len
-    finally:
-        _release(view)
+class Borrowed:
+    """The bytes of a bytes-like object, which aren't copied: their address and length, until `give_back`."""
 
+    __slots__ = ("at", "length", "_view")
 
-class _Bytes:
-    """`bytes` are where they are for as long as they live."""
-
-    __slots__ = ("pair",)
-
-    def __init__(self, capture: bytes) -> None:
-        self.pair = (capture, len(capture))
+    def __init__(self, capture) -> None:
+        self._view = _View()
+        _get(capture, self._view, 0)
+        self.at, self.length = self._view.buf or _SOMEWHERE, self._view.len
 
     def __enter__(self):
-        return self.pair
+        return self
 
     def __exit__(self, *_) -> None:
-        pass
-
-
-def borrow(capture):
-    """A context with the address and the length of a bytes-like object's bytes, which aren't copied."""
-    return _Bytes(capture) if type(capture) is bytes else _borrowed(capture)
+        _release(self._view)
 
 
 def _load() -> ctypes.CDLL:
@@ -75,17 +60,17 @@ def _load() -> ctypes.CDLL:
     else:
         name = f"liblinkcap.so.{VERSION}"
     library = ctypes.CDLL(name)
-    capture, number, fault = [ctypes.c_void_p, ctypes.c_size_t], ctypes.c_uint32, ctypes.POINTER(FaultStruct)
-    room, size = [ctypes.c_void_p, ctypes.c_size_t], ctypes.POINTER(ctypes.c_uint64)
+    # Addresses are taken as they are: bytes, or the numbers of `ctypes.addressof`.
+    capture, number, address = [ctypes.c_void_p, ctypes.c_size_t], ctypes.c_uint32, ctypes.c_void_p
     for call, arguments in {
         "linkcap_version": [],
-        "linkcap_check": [*capture, number, fault],
-        "linkcap_measure": [*capture, number, ctypes.POINTER(MeasureStruct), fault],
-        "linkcap_normalize": [*capture, number, *room, size, fault],
-        "linkcap_normalize_some": [*capture, ctypes.c_bool, number, *room, ctypes.POINTER(ProgressStruct), fault],
-        "linkcap_same": [*capture, *capture, number, fault],
-        "linkcap_show": [*capture, number, *room, size, fault],
-        "linkcap_fault_text": [fault, *room, size],
+        "linkcap_check": [*capture, number, address],
+        "linkcap_measure": [*capture, number, address, address],
+        "linkcap_normalize": [*capture, number, *capture, address, address],
+        "linkcap_normalize_some": [*capture, ctypes.c_bool, number, *capture, address, address],
+        "linkcap_same": [*capture, *capture, number, address],
+        "linkcap_show": [*capture, number, *capture, address, address],
+        "linkcap_fault_text": [address, *capture, address],
     }.items():
         getattr(library, call).argtypes = arguments
         getattr(library, call).restype = number

@@ -149,6 +149,10 @@ class Edges(unittest.TestCase):
                 self.assertEqual(linkcap.normalize(mapped), text)
         for other in (bytearray(capture), memoryview(capture), array.array("I", capture)):
             self.assertEqual(linkcap.normalize(other), text)
+            reader = linkcap.Reader()
+            self.assertEqual(reader.feed(other) + reader.feed(b"") + reader.finish(), text)
+        reader = linkcap.Reader()
+        self.assertEqual(reader.feed(array.array("I", capture[:1000])) + reader.feed(capture[1000:]) + reader.finish(), text)
         with self.assertRaises(BufferError):
             linkcap.normalize(memoryview(capture)[::2])
         with self.assertRaises(TypeError):

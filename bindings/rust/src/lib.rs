@@ -62,10 +62,10 @@ pub fn measure(capture: &[u8], limit: u32) -> Result<Measure, Error> {
     }
 }
 
-/// What a call writes, with room for as many bytes as the capture has at first.
-fn write(call: ffi::Writes, capture: &[u8], limit: u32) -> Result<Vec<u8>, Error> {
+/// What a call writes, with so much room at first.
+fn write(call: ffi::Writes, capture: &[u8], limit: u32, first: usize) -> Result<Vec<u8>, Error> {
     let mut out: Vec<u8> = Vec::new();
-    let mut wanted = capture.len();
+    let mut wanted = first;
     loop {
         let (mut written, mut fault) = (0, ffi::Fault::default());
         room(&mut out, wanted)?;
@@ -88,12 +88,12 @@ fn write(call: ffi::Writes, capture: &[u8], limit: u32) -> Result<Vec<u8>, Error
 
 /// The normal text of a legal capture, else its first fault, whose `written` are the texts before it.
 pub fn normalize(capture: &[u8], limit: u32) -> Result<Vec<u8>, Error> {
-    write(ffi::linkcap_normalize, capture, limit)
+    write(ffi::linkcap_normalize, capture, limit, capture.len() + 16)
 }
 
 /// The lines of a legal capture, as `linkshow` writes them, else its first fault, whose `written` are the lines before it.
 pub fn lines(capture: &[u8], limit: u32) -> Result<String, Error> {
-    let shown = write(ffi::linkcap_show, capture, limit)?;
+    let shown = write(ffi::linkcap_show, capture, limit, capture.len().saturating_mul(4))?;
     // Lines are ASCII.
     Ok(String::from_utf8(shown).unwrap_or_default())
 }

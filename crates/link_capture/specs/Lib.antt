@@ -18,3 +18,4 @@ pub use Rattle.link_capture_messages.specs.Routes
 pub use Rattle.link_capture_messages.specs.Texts
 pub use Rattle.link_capture_messages.specs.Messages
 pub use Rattle.link_capture_reader.specs.Joined
+pub use Rattle.link_capture_spellings.specs.Words

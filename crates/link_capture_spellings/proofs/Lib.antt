@@ -1,0 +1,5 @@
+pub mod ListSteps
+pub mod CaptureSteps
+pub mod Stacks
+pub mod Going
+pub mod Entering

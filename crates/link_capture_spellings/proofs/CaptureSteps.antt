@@ -5,8 +5,8 @@ use Rattle.link_message_grammar.specs.Body.{link_body}
 use Rattle.link_capture_grammar.specs.declared.fault.FaultKind.{FaultKind}
 use Rattle.link_capture_grammar.specs.Captures.{first_frame}
 use Rattle.link_capture_grammar.specs.Laws.{FramesStandAlone}
-use Rattle.link_capture_spellings.specs.Captures.{frame_told, next_spellings, told_after}
-use Rattle.link_capture_spellings.specs.Laws.{SpellingsGoByFrames}
+use Rattle.link_capture_spellings.specs.Spellings.{frame_told, next_spellings, told_after}
+use Rattle.link_capture_spellings.specs.SpellingLaws.{SpellingsGoByFrames}
 
 skipped : (limit place skip : ℕ) (c : List ℕ) → told_after limit place skip c ≡ told_after limit (place + skip) 0 (drop skip c)
 unfolding told_after

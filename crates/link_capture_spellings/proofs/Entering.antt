@@ -7,11 +7,11 @@ use Rattle.link_capture_grammar.specs.Bodies.{is_link_type}
 use Rattle.link_capture_grammar.specs.Captures.{first_frame}
 use Rattle.link_capture_spellings.specs.declared.placed.PlacedSpelling.{PlacedSpelling}
 use Rattle.link_capture_spellings.specs.declared.walk.Level.{Level}
-use Rattle.link_capture_spellings.specs.Rows.{header_spelling}
-use Rattle.link_capture_spellings.specs.Lists.{told_at, list_told}
-use Rattle.link_capture_spellings.specs.Captures.{body_list, link_told, frame_told, told_after}
-use Rattle.link_capture_spellings.specs.Walks.{one_told, level_told, walk_told, rest_told}
-use Rattle.link_capture_spellings.specs.Laws.{SpellingsGoByFrames}
+use Rattle.link_capture_spellings.specs.SpellingRows.{header_spelling}
+use Rattle.link_capture_spellings.specs.SpellingLists.{told_at, list_told}
+use Rattle.link_capture_spellings.specs.Spellings.{body_list, link_told, frame_told, told_after}
+use Rattle.link_capture_spellings.specs.SpellingWalks.{one_told, level_told, walk_told, rest_told}
+use Rattle.link_capture_spellings.specs.SpellingLaws.{SpellingsGoByFrames}
 
 pub not-entered : (place : ℕ) (c : List ℕ) → is_link_type (frame_type c) ≡ false → [] ≡ frame_told place c
 unfolding frame_told

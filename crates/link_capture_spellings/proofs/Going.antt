@@ -4,11 +4,11 @@ use Rattle.netlink_packet_core_grammar.specs.Attributes.{Attribute, nla_align, a
 use Rattle.netlink_packet_core_grammar.specs.Laws.{FirstIsWithin}
 use Rattle.link_capture_spellings.specs.declared.placed.PlacedSpelling.{PlacedSpelling}
 use Rattle.link_capture_spellings.specs.declared.walk.Level.{Level}
-use Rattle.link_capture_spellings.specs.Tables.{depth}
-use Rattle.link_capture_spellings.specs.Rows.{bit_spelling, payload_spelling}
-use Rattle.link_capture_spellings.specs.Lists.{told_at, own_told, inside_of, list_behind, inside_told, list_told}
-use Rattle.link_capture_spellings.specs.Walks.{one_told, level_told, levels_told, walk_told, IsWithin, AreWithin, weight}
-use Rattle.link_capture_spellings.specs.Laws.{ListsGoBySteps}
+use Rattle.link_capture_spellings.specs.SpellingTables.{depth}
+use Rattle.link_capture_spellings.specs.SpellingRows.{bit_spelling, payload_spelling}
+use Rattle.link_capture_spellings.specs.SpellingLists.{told_at, own_told, inside_of, list_behind, inside_told, list_told}
+use Rattle.link_capture_spellings.specs.SpellingWalks.{one_told, level_told, levels_told, walk_told, IsWithin, AreWithin, weight}
+use Rattle.link_capture_spellings.specs.SpellingLaws.{ListsGoBySteps}
 use Rattle.link_capture_spellings.proofs.Stacks.{told-push, weight-push, within-push, within-front, within-last}
 
 glue : (a b i n t : List PlacedSpelling) → ((a ++ b) ++ (i ++ n)) ++ t ≡ a ++ (b ++ (i ++ (n ++ t)))

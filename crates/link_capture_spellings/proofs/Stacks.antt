@@ -1,7 +1,7 @@
 -- Lists that stand inside one another, with one more at their end.
 use Rattle.std.proofs.Common.{◌≡◌, ℕ, suc, ◌+◌, List, [], ◌∷◌, ◌++◌, length, refl, sym, ap, subst, ◌∙◌, append_assoc, append-nil, arith}
 use Rattle.link_capture_spellings.specs.declared.walk.Level.{Level}
-use Rattle.link_capture_spellings.specs.Walks.{level_told, levels_told, IsWithin, AreWithin, weight}
+use Rattle.link_capture_spellings.specs.SpellingWalks.{level_told, levels_told, IsWithin, AreWithin, weight}
 
 pub told-push : (ls : List Level) (l : Level) → levels_told (ls ++ l ∷ []) ≡ level_told l ++ levels_told ls
 told-push [] l = sym (append-nil (level_told l))

@@ -1,7 +1,7 @@
-pub mod Words
-pub mod Rows
-pub mod Tables
-pub mod Lists
-pub mod Captures
-pub mod Walks
-pub mod Laws
+pub mod SpellingWords
+pub mod SpellingRows
+pub mod SpellingTables
+pub mod SpellingLists
+pub mod Spellings
+pub mod SpellingWalks
+pub mod SpellingLaws

@@ -3,8 +3,8 @@
 ghost use Rattle.std.specs.Prelude.{◌≡◌, ◌≤◌, ◌<◌, ◌+◌, ◌^◌, ◌∷◌, ◌++◌, [], ℕ, drop, length, Some, None, Ok, Err, MatchOption, MatchResult};
 ghost use Rattle.std.specs.Iterator.{YieldsFirst, item_count};
 ghost use Rattle.link_capture_grammar.specs.Captures.{first_fault};
-ghost use Rattle.link_capture_spellings.specs.Captures.{spellings, SpellingsLeft, answers_left};
-ghost use Rattle.link_capture_spellings.specs.Walks.{walk_told, AreWithin, rest_told, rest_fault, Left};
+ghost use Rattle.link_capture_spellings.specs.Spellings.{spellings, SpellingsLeft, answers_left};
+ghost use Rattle.link_capture_spellings.specs.SpellingWalks.{walk_told, AreWithin, rest_told, rest_fault, Left};
 
 use crate::laws::spellings_go_by_frames;
 use crate::placed::PlacedSpelling;

@@ -1,6 +1,6 @@
 //! Facts of the definitions. A function here calls nothing but laws of the crates below.
 
-ghost use Rattle.link_capture_spellings.specs.Laws.{ListsGoBySteps, SpellingsGoByFrames};
+ghost use Rattle.link_capture_spellings.specs.SpellingLaws.{ListsGoBySteps, SpellingsGoByFrames};
 
 use link_capture_grammar::laws::frames_stand_alone;
 use netlink_packet_core_grammar::laws::first_attributes_are_within;

@@ -1,9 +1,9 @@
 //! Which spelling an attribute has, by its list, its kind and its payload.
 
 ghost use Rattle.std.specs.Prelude.{◌≡◌, ◌≤◌, length};
-ghost use Rattle.link_capture_spellings.specs.Rows.{told_if, over_one_byte, over_one_word, has_nul, is_long_alias};
-ghost use Rattle.link_capture_spellings.specs.Rows.{link_spelling, is_flag, value_spelling, data_spelling};
-ghost use Rattle.link_capture_spellings.specs.Rows.{payload_spelling, is_strict, nested_spelling, bit_spelling, header_spelling};
+ghost use Rattle.link_capture_spellings.specs.SpellingRows.{told_if, over_one_byte, over_one_word, has_nul, is_long_alias};
+ghost use Rattle.link_capture_spellings.specs.SpellingRows.{link_spelling, is_flag, value_spelling, data_spelling};
+ghost use Rattle.link_capture_spellings.specs.SpellingRows.{payload_spelling, is_strict, nested_spelling, bit_spelling, header_spelling};
 
 use crate::placed::Spelling;
 use crate::tables::{Data, Table};
@@ -45,7 +45,7 @@ fn is_long_alias(payload: &[u8]) -> bool
 }
 
 /// The spelling of a payload of a link's attribute.
-#[tactic(auto, unfolding(crate::specs::Rows::link_spelling))]
+#[tactic(auto, unfolding(crate::specs::SpellingRows::link_spelling))]
 fn link_spelling(kind: u16, payload: &[u8]) -> Option<Spelling>
     ensures { result ≡ link_spelling kind payload.now }
 {

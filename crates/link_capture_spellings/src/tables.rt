@@ -1,8 +1,8 @@
 //! The lists in which such spellings stand, as far as they are told apart.
 
 ghost use Rattle.std.specs.Prelude.{◌≡◌, ◌≤◌, ◌<◌, length, IfSome};
-ghost use Rattle.link_capture_spellings.specs.Tables.{is_gre, is_gre6, is_ip_tunnel, is_pair, data_named};
-ghost use Rattle.link_capture_spellings.specs.Tables.{family_table, next_table, next_list, inside_table, has_peer, inside, table_depth, depth};
+ghost use Rattle.link_capture_spellings.specs.SpellingTables.{is_gre, is_gre6, is_ip_tunnel, is_pair, data_named};
+ghost use Rattle.link_capture_spellings.specs.SpellingTables.{family_table, next_table, next_list, inside_table, has_peer, inside, table_depth, depth};
 
 use netlink_packet_core_numbers::without_nul;
 
@@ -85,7 +85,7 @@ fn is_pair(name: &[u8]) -> bool
 }
 
 /// The data of the kind of link that has a name.
-#[tactic(auto, unfolding(crate::specs::Tables::data_named))]
+#[tactic(auto, unfolding(crate::specs::SpellingTables::data_named))]
 fn data_named(name: &[u8]) -> Data
     ensures { result ≡ data_named name.now }
 {
@@ -179,7 +179,7 @@ fn has_peer(table: Table) -> bool
 }
 
 /// The list in an attribute, and the bytes in front of it: 16 of a peer's header, which is a link's.
-#[tactic(auto, unfolding(crate::specs::Tables::inside))]
+#[tactic(auto, unfolding(crate::specs::SpellingTables::inside))]
 pub(crate) fn inside(list: Listed, kind: u16, payload: &[u8]) -> Option<(Listed, usize)>
     ensures inside { result ≡ inside list kind payload.now }
     ensures front { IfSome result (λ x. x.1 ≤ length payload.now) }

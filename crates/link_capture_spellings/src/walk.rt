@@ -3,9 +3,9 @@
 ghost use Rattle.std.specs.Prelude.{◌≡◌, ◌≤◌, ◌<◌, ◌+◌, ◌^◌, ◌∷◌, ◌++◌, [], true, drop, length, IfSome, IfNone};
 ghost use Rattle.netlink_packet_core.specs.Frames.{IsFrame, frame_type, frame_body};
 ghost use Rattle.link_capture_grammar.specs.Bodies.{is_link_type};
-ghost use Rattle.link_capture_spellings.specs.Lists.{told_at};
-ghost use Rattle.link_capture_spellings.specs.Captures.{frame_told};
-ghost use Rattle.link_capture_spellings.specs.Walks.{one_told, levels_told, walk_told, AreWithin, weight};
+ghost use Rattle.link_capture_spellings.specs.SpellingLists.{told_at};
+ghost use Rattle.link_capture_spellings.specs.Spellings.{frame_told};
+ghost use Rattle.link_capture_spellings.specs.SpellingWalks.{one_told, levels_told, walk_told, AreWithin, weight};
 
 use crate::attribute::first_attribute;
 use crate::laws::lists_go_by_steps;

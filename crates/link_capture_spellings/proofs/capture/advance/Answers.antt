@@ -2,8 +2,8 @@ use Rattle.std.proofs.Common.{◌≡◌, ◌+◌, ◌-◌, ◌≤◌, ◌++◌, 
 use Rattle.std.proofs.lemmas.List.{drop-drop, take_rest}
 use Rattle.netlink_packet_core_grammar.specs.Attributes.{nla_align}
 use Rattle.link_capture_grammar.specs.Captures.{first_fault, first_frame, raised}
-use Rattle.link_capture_spellings.specs.Captures.{frame_told}
-use Rattle.link_capture_spellings.specs.Walks.{walk_told, rest_told, rest_fault}
+use Rattle.link_capture_spellings.specs.Spellings.{frame_told}
+use Rattle.link_capture_spellings.specs.SpellingWalks.{walk_told, rest_told, rest_fault}
 use Rattle.link_capture_spellings.proofs.Entering.{told-behind}
 use Rattle.link_capture_spellings.proofs.capture.advance.Goals as goal
 

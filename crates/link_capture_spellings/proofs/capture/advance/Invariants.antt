@@ -1,5 +1,5 @@
 use Rattle.std.proofs.Common.{◌≡◌, ◌≤◌, ◌+◌, ◌-◌, ◌++◌, length}
-use Rattle.link_capture_spellings.specs.Walks.{walk_told, AreWithin, rest_told, rest_fault}
+use Rattle.link_capture_spellings.specs.SpellingWalks.{walk_told, AreWithin, rest_told, rest_fault}
 use Rattle.link_capture_spellings.proofs.capture.advance.Given as goal
 
 abbrev pub invariant-frames : goal.invariant-frames

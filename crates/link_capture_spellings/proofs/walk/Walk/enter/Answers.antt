@@ -2,7 +2,7 @@ use Rattle.std.proofs.Common.{◌≡◌, ◌+◌, ◌++◌, ◌∷◌, [], true,
 use Rattle.netlink_packet_core_grammar.specs.Frames.{frame_type}
 use Rattle.link_capture_grammar.specs.Bodies.{is_link_type}
 use Rattle.link_capture_spellings.specs.declared.walk.Level.{Level}
-use Rattle.link_capture_spellings.specs.Lists.{told_at, list_told}
+use Rattle.link_capture_spellings.specs.SpellingLists.{told_at, list_told}
 use Rattle.link_capture_spellings.proofs.Entering.{not-entered, entered}
 use Rattle.link_capture_spellings.proofs.walk.Walk.enter.Goals as goal
 

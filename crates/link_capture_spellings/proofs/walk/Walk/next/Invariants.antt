@@ -1,5 +1,5 @@
 use Rattle.std.proofs.Common.{◌≡◌}
-use Rattle.link_capture_spellings.specs.Walks.{walk_told, AreWithin, weight}
+use Rattle.link_capture_spellings.specs.SpellingWalks.{walk_told, AreWithin, weight}
 use Rattle.link_capture_spellings.proofs.walk.Walk.next.Given as goal
 
 abbrev pub invariant-lists : goal.invariant-lists

@@ -1,8 +1,8 @@
 use Rattle.std.proofs.Common.{◌≡◌, ◌+◌, ◌++◌, ◌∷◌, [], length, None, sym, ap, subst, ◌∙◌, refl, arith, rules, length-drop}
 use Rattle.netlink_packet_core_grammar.specs.Attributes.{Attribute}
 use Rattle.link_capture_spellings.specs.declared.walk.Level.{Level}
-use Rattle.link_capture_spellings.specs.Lists.{told_at, list_told}
-use Rattle.link_capture_spellings.specs.Walks.{AreWithin, walk_told, weight}
+use Rattle.link_capture_spellings.specs.SpellingLists.{told_at, list_told}
+use Rattle.link_capture_spellings.specs.SpellingWalks.{AreWithin, walk_told, weight}
 use Rattle.link_capture_spellings.proofs.Stacks.{within-front}
 use Rattle.link_capture_spellings.proofs.Going.{Next, Inner, Found, fits, holds, room, within-next, less-next, room-inside, within-inside, less-inside, told-next, told-inside, told-end, less-end}
 use Rattle.link_capture_spellings.proofs.walk.Walk.step.Goals as goal

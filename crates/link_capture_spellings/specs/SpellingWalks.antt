@@ -4,9 +4,9 @@ use Rattle.link_capture_grammar.specs.declared.fault.CaptureFault.{CaptureFault}
 use Rattle.link_capture_grammar.specs.Captures.{first_fault, raised}
 use Rattle.link_capture_spellings.specs.declared.placed.PlacedSpelling.{PlacedSpelling}
 use Rattle.link_capture_spellings.specs.declared.walk.Level.{Level}
-use Rattle.link_capture_spellings.specs.Tables.{depth}
-use Rattle.link_capture_spellings.specs.Lists.{list_told}
-use Rattle.link_capture_spellings.specs.Captures.{told_after}
+use Rattle.link_capture_spellings.specs.SpellingTables.{depth}
+use Rattle.link_capture_spellings.specs.SpellingLists.{list_told}
+use Rattle.link_capture_spellings.specs.Spellings.{told_after}
 
 -- of one list
 abbrev pub level_told : Level → List PlacedSpelling

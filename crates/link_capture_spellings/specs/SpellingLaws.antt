@@ -4,8 +4,8 @@ use Rattle.netlink_packet_core_grammar.specs.Attributes.{Attribute, nla_align, a
 use Rattle.link_capture_grammar.specs.declared.fault.FaultKind.{FaultKind}
 use Rattle.link_capture_grammar.specs.Captures.{first_frame}
 use Rattle.link_capture_spellings.specs.declared.tables.Listed.{Listed}
-use Rattle.link_capture_spellings.specs.Lists.{own_told, inside_of, list_behind, inside_told, list_told}
-use Rattle.link_capture_spellings.specs.Captures.{frame_told, told_after}
+use Rattle.link_capture_spellings.specs.SpellingLists.{own_told, inside_of, list_behind, inside_told, list_told}
+use Rattle.link_capture_spellings.specs.Spellings.{frame_told, told_after}
 
 -- The spellings of a list are those of its first attribute, of what it holds, and of the rest. Where no whole attribute stands, there are none.
 pub record ListsGoBySteps : Type 0 where

@@ -7,9 +7,9 @@ use Rattle.link_capture_grammar.specs.Bodies.{is_link_type}
 use Rattle.link_capture_grammar.specs.Captures.{Judged, first_frame}
 use Rattle.link_capture_spellings.specs.declared.placed.PlacedSpelling.{PlacedSpelling}
 use Rattle.link_capture_spellings.specs.declared.tables.Listed.{Listed}
-use Rattle.link_capture_spellings.specs.Tables.{family_table}
-use Rattle.link_capture_spellings.specs.Rows.{header_spelling}
-use Rattle.link_capture_spellings.specs.Lists.{told_at, list_told}
+use Rattle.link_capture_spellings.specs.SpellingTables.{family_table}
+use Rattle.link_capture_spellings.specs.SpellingRows.{header_spelling}
+use Rattle.link_capture_spellings.specs.SpellingLists.{told_at, list_told}
 
 -- the attributes of a link's body; peers inside are judged
 abbrev pub body_list : List ℕ → Listed

@@ -4,8 +4,8 @@ use Rattle.netlink_packet_core_grammar.specs.Attributes.{Attribute, nla_align, p
 use Rattle.link_capture_spellings.specs.declared.placed.Spelling.{Spelling}
 use Rattle.link_capture_spellings.specs.declared.placed.PlacedSpelling.{PlacedSpelling}
 use Rattle.link_capture_spellings.specs.declared.tables.Listed.{Listed}
-use Rattle.link_capture_spellings.specs.Tables.{inside, next_list}
-use Rattle.link_capture_spellings.specs.Rows.{bit_spelling, payload_spelling}
+use Rattle.link_capture_spellings.specs.SpellingTables.{inside, next_list}
+use Rattle.link_capture_spellings.specs.SpellingRows.{bit_spelling, payload_spelling}
 
 abbrev pub told_at : ℕ → Option Spelling → List PlacedSpelling
 told_at place None = []

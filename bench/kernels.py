@@ -22,9 +22,11 @@ HERE = os.path.dirname(os.path.abspath(__file__))
 CLONE_NEWNET = 0x40000000
 SOL_NETLINK, EXT_ACK, STRICT_CHECK = 270, 11, 12
 ERROR, DONE, GETLINK = 2, 3, 18
-# statistics, states, changes of the carrier, and what is random: addresses, times
+# statistics, states, changes of the carrier; of IPv6 flags of the state, statistics and times
 MASKED = {7, 16, 23, 33, 35, 47, 48}
-TIMED = {3, 5, 6}
+TIMED = {1, 3, 5, 6}
+# timers of a bridge, and of its ports
+BRIDGE_TIMERS, PORT_TIMERS = {16, 17, 18, 19}, {21, 22, 23}
 LINKS = """link add t50 index 50 address 02:00:00:00:00:50 type veth peer name p50 address 02:00:00:00:01:50
 link add l60 index 60 address 02:00:00:00:00:60 type veth peer name p60 address 02:00:00:00:01:60
 link set l60 up
@@ -46,10 +48,25 @@ def attributes(body):
         body = body[(size + 3) & ~3:]
 
 
+def parted(kind, payload):
+    """The attributes of link info, or of a port of a bridge, without timers."""
+    held = list(attributes(payload))
+    if kind == 12:
+        yield "12", "".join(f"{k:x}={v.hex()} " for k, v in held if k not in PORT_TIMERS)
+        return
+    for inner, value in held:
+        timers = BRIDGE_TIMERS if inner == 2 and (1, b"bridge\0") in held else PORT_TIMERS if inner == 5 else set()
+        shown = "".join(f"{k:x}={v.hex()} " for k, v in attributes(value) if k not in timers) if timers else value.hex()
+        yield f"18/{inner}", shown
+
+
 def flattened(body):
     """The attributes of a link by their kinds; those of address families one by one."""
     for kind, payload in attributes(body[16:]):
         if kind in MASKED:
+            continue
+        if kind in (12, 18):
+            yield from parted(kind, payload)
             continue
         if kind != 26:
             yield str(kind), payload.hex()
@@ -220,17 +237,17 @@ def main(words):
         sys.exit("kernels.py: root is wanted, for network namespaces")
     program = words[1] if len(words) > 1 else os.path.join(HERE, "../crates/linkcap/out/linkcap")
     cases = of_capture(words[0], program) if words else pairs()
-    parted, lacking = {}, {}
+    met, lacking = {}, {}
     print(f"Linux {os.uname().release}")
     for joining, name, page, request, text in cases:
         verdict, codes, line = compare(request, text)
         if page and verdict != "not here" and not is_told(page, verdict, codes):
             line += " | not as on the page"
         print(f"{joining:>2}  {verdict:8}  {name}: {line}", flush=True)
-        (lacking if verdict == "not here" else parted).setdefault(joining, set()).add(verdict)
-    seen = sorted((j for j in parted if j not in "0-" and "parted" in parted[j]), key=int)
-    whole = sorted((j for j in parted if j not in "0-" and "parted" not in parted[j]), key=int)
-    unseen = sorted((j for j in lacking if j not in "0-" and j not in parted), key=int)
+        (lacking if verdict == "not here" else met).setdefault(joining, set()).add(verdict)
+    seen = sorted((j for j in met if j not in "0-" and "parted" in met[j]), key=int)
+    whole = sorted((j for j in met if j not in "0-" and "parted" not in met[j]), key=int)
+    unseen = sorted((j for j in lacking if j not in "0-" and j not in met), key=int)
     if not words:
         print(f"parted here: {' '.join(seen) or 'none'}; alike here: {' '.join(whole) or 'none'}; not here: {' '.join(unseen) or 'none'}")
 

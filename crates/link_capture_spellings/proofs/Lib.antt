@@ -3,3 +3,4 @@ pub mod CaptureSteps
 pub mod Stacks
 pub mod Going
 pub mod Entering
+pub mod Canonical

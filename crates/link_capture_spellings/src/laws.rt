@@ -1,6 +1,6 @@
 //! Facts of the definitions. A function here calls nothing but laws of the crates below.
 
-ghost use Rattle.link_capture_spellings.specs.SpellingLaws.{ListsGoBySteps, SpellingsGoByFrames};
+ghost use Rattle.link_capture_spellings.specs.SpellingLaws.{ListsGoBySteps, SpellingsGoByFrames, WrittenAttributesHaveNone};
 
 use link_capture_grammar::laws::frames_stand_alone;
 use netlink_packet_core_grammar::laws::first_attributes_are_within;
@@ -20,3 +20,11 @@ pub fn spellings_go_by_frames()
 {
     frames_stand_alone();
 }
+
+/// An accepted attribute of a link, of the data of a kind of link, of the settings of IPv4 or of programs, as its row writes
+/// it, has no spelling of its own, nor has a link's header as it is written. Peers, foreign entries and lists inside aren't
+/// spoken of.
+#[tactic(auto, using(crate::proofs::Canonical::written))]
+pub fn written_attributes_have_none()
+    ensures { WrittenAttributesHaveNone }
+{}

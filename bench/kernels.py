@@ -96,7 +96,10 @@ def outcome(body, own_size):
 
 
 def ask(sock, request):
-    """Sends a request. The answer is its code, the words, and what links were told of."""
+    """Sends a request, and asks for an answer. The answer is its code, the words, and what links were told of."""
+    kind, flags = struct.unpack_from("<HH", request, 4)
+    if kind != GETLINK or not flags & 0x300:
+        request = request[:6] + struct.pack("<H", flags | 4) + request[8:]
     sock.send(request)
     code, words, replies = None, "", []
     while code is None:

@@ -58,10 +58,10 @@ abbrev pub NotesAnswer : Option (List ℕ) → Option (List ℕ) → Type 0 → 
     → Option (List ℕ) → Option (List ℕ) → ℕ → ℕ → ℕ → ℕ → Type 0
 NotesAnswer from left ended read_failed held holds write_failed unwritten told tells old new limit status =
     (s : List ℕ) × Consumes from left s × (
-      (ended × ((outcome : Result ⊤ CaptureFault) × ShowsWhole s held holds write_failed limit outcome
-      × TellsBoth told tells old new (notes_text (spellings limit s)) (fault_line outcome) × (status ≡ status_of outcome)))
-      ⊎ ((fault : CaptureFault) × ReadFault read_failed s fault.kind × (fault.offset ≡ length s) × unwritten
-      × Tells told tells (Rises old new) (fault_line (Err fault)) × (status ≡ 2))
+    (ended × ((outcome : Result ⊤ CaptureFault) × ShowsWhole s held holds write_failed limit outcome
+    × TellsBoth told tells old new (notes_text (spellings limit s)) (fault_line outcome) × (status ≡ status_of outcome)))
+    ⊎ ((fault : CaptureFault) × ReadFault read_failed s fault.kind × (fault.offset ≡ length s) × unwritten
+    × Tells told tells (Rises old new) (fault_line (Err fault)) × (status ≡ 2))
     )
 
 -- ---- the words

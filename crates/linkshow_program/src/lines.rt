@@ -1,6 +1,6 @@
 //! Lines, and where they are told.
 
-ghost use Rattle.std.specs.Prelude.{◌≡◌, ◌≤◌, ◌++◌, ◌∷◌, [], length};
+ghost use Rattle.std.specs.Prelude.{◌≡◌, ◌≤◌, ◌++◌, ◌∷◌, [], codes, length};
 ghost use Rattle.link_capture_engine.specs.Devices.{Rises};
 ghost use Rattle.link_capture_engine.specs.Known.{sink_writer, sink_failures};
 ghost use Rattle.linkshow_program.specs.Runs.{Tells};
@@ -15,6 +15,18 @@ pub(crate) fn line(text: &str) -> ArrayString<129>
     ensures { result.bytes ≡ text.now ++ 10 ∷ [] }
 {
     let mut line = ArrayString::new();
+    line.push_str(text);
+    line.push_str("\n");
+    line
+}
+
+/// A text as the line of a note.
+pub(crate) fn note(text: &str) -> ArrayString<135>
+    requires { length text.now ≤ 128 }
+    ensures { result.bytes ≡ codes "note: " ++ (text.now ++ 10 ∷ []) }
+{
+    let mut line = ArrayString::new();
+    line.push_str("note: ");
     line.push_str(text);
     line.push_str("\n");
     line

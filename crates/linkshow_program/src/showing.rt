@@ -38,7 +38,10 @@ pub fn show_source<R: Read, W: Write>(
 }
 
 /// Tells in one line what went wrong, and nothing where nothing did. The answer is the program's status.
-fn report<E: Write>(errors: &mut WriteSink<E>, outcome: Result<(), CaptureFault>) -> ExitCode
+pub(crate) fn report<E: Write>(
+    errors: &mut WriteSink<E>,
+    outcome: Result<(), CaptureFault>,
+) -> ExitCode
     ensures status { exit_status result ≡ status_of outcome }
     ensures told { Tells
         (E.contents (sink_writer errors.old)) (E.contents (sink_writer errors.new))

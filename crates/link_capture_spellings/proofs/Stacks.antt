@@ -1,0 +1,27 @@
+-- Lists that stand inside one another, with one more at their end.
+use Rattle.std.proofs.Common.{◌≡◌, ℕ, suc, ◌+◌, List, [], ◌∷◌, ◌++◌, length, refl, sym, ap, subst, ◌∙◌, append_assoc, append-nil, arith}
+use Rattle.link_capture_spellings.specs.declared.walk.Level.{Level}
+use Rattle.link_capture_spellings.specs.SpellingWalks.{level_told, levels_told, IsWithin, AreWithin, weight}
+
+pub told-push : (ls : List Level) (l : Level) → levels_told (ls ++ l ∷ []) ≡ level_told l ++ levels_told ls
+told-push [] l = sym (append-nil (level_told l))
+told-push (k ∷ ls) l = ap (λ t. t ++ level_told k) (told-push ls l) ∙ append_assoc (level_told l) (levels_told ls) (level_told k)
+
+pub weight-push : (ls : List Level) (l : Level) → weight (ls ++ l ∷ []) ≡ weight ls + (length l.rest.now + 1)
+weight-push [] l = refl
+weight-push (k ∷ ls) l = let e = weight-push ls l in omega (arith, e)
+
+moved : (m n : ℕ) (l : Level) → m ≡ n → IsWithin m l → IsWithin n l
+moved m n l e i = subst (λ k. IsWithin k l) e i
+
+pub within-push : (n : ℕ) (ls : List Level) (l : Level) → AreWithin n ls → IsWithin (n + length ls) l → AreWithin n (ls ++ l ∷ [])
+within-push n [] l h i = (moved (n + 0) n l (omega arith) i, tt)
+within-push n (k ∷ ls) l h i = (h.0, within-push (suc n) ls l h.1 (moved (n + suc (length ls)) (suc n + length ls) l (omega arith) i))
+
+pub within-front : (n : ℕ) (ls : List Level) (l : Level) → AreWithin n (ls ++ l ∷ []) → AreWithin n ls
+within-front n [] l h = tt
+within-front n (k ∷ ls) l h = (h.0, within-front (suc n) ls l h.1)
+
+pub within-last : (n : ℕ) (ls : List Level) (l : Level) → AreWithin n (ls ++ l ∷ []) → IsWithin (n + length ls) l
+within-last n [] l h = moved n (n + 0) l (omega arith) h.0
+within-last n (k ∷ ls) l h = moved (suc n + length ls) (n + suc (length ls)) l (omega arith) (within-last (suc n) ls l h.1)

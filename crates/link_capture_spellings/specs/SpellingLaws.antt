@@ -1,0 +1,69 @@
+-- The laws of spellings, as the functions of `laws` state them.
+use Rattle.std.specs.Prelude.{◌≡◌, ℕ, Bool, true, ◌+◌, List, [], ◌++◌, drop, Some, None, Ok, Err}
+use Rattle.netlink_packet_core_grammar.specs.Attributes.{Attribute, proper_kind, nla_align, attribute_length, first_attribute}
+use Rattle.link_capture_grammar.specs.declared.fault.FaultKind.{FaultKind}
+use Rattle.link_capture_grammar.specs.Captures.{first_frame}
+use Rattle.attribute_tables_grammar.specs.Shapes.{Shape}
+use Rattle.attribute_tables_grammar.specs.Lists.{rewrite}
+use Rattle.attribute_tables_grammar.specs.LookUps.{table_row}
+use Rattle.attribute_tables_grammar.specs.Peers.{Peer}
+use Rattle.attribute_tables_grammar.specs.Tables.{Table as Rows}
+use Rattle.link_info_grammar.specs.Families.{vxlan, geneve, gre, gre6, ip_tunnel, bareudp, batadv, netkit}
+use Rattle.link_message_grammar.specs.Body.{attribute_row_under, header_text}
+use Rattle.link_message_grammar.specs.LinkMessage.{Family, unspec, bridge, inet_6, other}
+use Rattle.link_message_grammar.specs.NestedTables.{inet, xdp}
+use Rattle.link_capture_spellings.specs.declared.tables.Data.{Data}
+use Rattle.link_capture_spellings.specs.declared.tables.Data.TheVariants.{Vxlan, Geneve, Gre, Gre6, IpTunnel, BareUdp, Batadv, Netkit}
+use Rattle.link_capture_spellings.specs.declared.tables.Table.{Table}
+use Rattle.link_capture_spellings.specs.declared.tables.Table.TheVariants.{Unspec, Bridge, Link, Inet, Programs, OfKind}
+use Rattle.link_capture_spellings.specs.SpellingRows.{header_spelling}
+use Rattle.link_capture_spellings.specs.declared.tables.Listed.{Listed}
+use Rattle.link_capture_spellings.specs.SpellingLists.{own_told, inside_of, list_behind, inside_told, list_told}
+use Rattle.link_capture_spellings.specs.Spellings.{frame_told, told_after}
+
+-- The spellings of a list are those of its first attribute, of what it holds, and of the rest. Where no whole attribute stands, there are none.
+pub record ListsGoBySteps : Type 0 where
+  pub next : (l : Listed) (place : ℕ) (bytes : List ℕ) (e : Attribute) (after : List ℕ) → first_attribute bytes ≡ Some (e, after) →
+      list_told l place bytes ≡ own_told l place e ++ (inside_told list_told (place + 4) (inside_of l e) e.payload ++ list_told (list_behind l e) (place + nla_align (attribute_length e)) after)
+  pub none : (l : Listed) (place : ℕ) (bytes : List ℕ) → first_attribute bytes ≡ None → list_told l place bytes ≡ []
+
+-- The spellings of a capture are those of the frame in front, and of what follows it and its padding. A faulty frame has none, and nothing behind it has.
+pub record SpellingsGoByFrames : Type 0 where
+  pub next : (limit place : ℕ) (c : List ℕ) (frame : ℕ × List ℕ) → first_frame limit c ≡ Ok frame →
+      told_after limit place 0 c ≡ frame_told place c ++ told_after limit (place + nla_align frame.0) 0 (drop (nla_align frame.0) c)
+  pub fault : (limit place : ℕ) (c : List ℕ) (kind : FaultKind) → first_frame limit c ≡ Err kind → told_after limit place 0 c ≡ []
+  pub none : (limit place : ℕ) → told_after limit place 0 [] ≡ []
+
+-- ---- what is written
+
+-- the list of a family's attributes
+abbrev pub link_list : Family → Table
+link_list unspec = Unspec
+link_list bridge = Bridge
+link_list inet_6 = Link
+link_list other = Link
+
+-- the tables of the data in which spellings stand
+abbrev pub IsDataTable : Data → Rows → Type 0
+IsDataTable Vxlan t = t ≡ vxlan
+IsDataTable Geneve t = t ≡ geneve
+IsDataTable Gre t = t ≡ gre
+IsDataTable Gre6 t = t ≡ gre6
+IsDataTable IpTunnel t = (flags : Shape) × (t ≡ ip_tunnel flags)
+IsDataTable BareUdp t = t ≡ bareudp
+IsDataTable Batadv t = t ≡ batadv
+IsDataTable Netkit t = t ≡ netkit
+IsDataTable _ t = ⊥
+
+-- An accepted attribute, as its row writes it, has no spelling of its own, nor has a header as it is written, under every rule of peers.
+pub record WrittenAttributesHaveNone : Type 0 where
+  -- of a link
+  pub link : (p : Peer) (f : Family) (judged : Bool) (place : ℕ) (e : Attribute) → (attribute_row_under p f (proper_kind e.kind)).rule.accepted e.payload ≡ true →
+      own_told (record { table = link_list f; judged = judged }) place (rewrite (attribute_row_under p f (proper_kind e.kind)) e) ≡ []
+  -- of the data of a kind of link
+  pub of_kind : (p : Peer) (d : Data) (t : Rows) (judged : Bool) (place : ℕ) (e : Attribute) → IsDataTable d t →
+      own_told (record { table = OfKind d; judged = judged }) place (rewrite (table_row p t (proper_kind e.kind)) e) ≡ []
+  -- of the settings of IPv4, and of programs
+  pub settings : (p : Peer) (judged : Bool) (place : ℕ) (e : Attribute) → own_told (record { table = Inet; judged = judged }) place (rewrite (table_row p inet (proper_kind e.kind)) e) ≡ []
+  pub programs : (p : Peer) (judged : Bool) (place : ℕ) (e : Attribute) → own_told (record { table = Programs; judged = judged }) place (rewrite (table_row p xdp (proper_kind e.kind)) e) ≡ []
+  pub header : (t : ℕ) (b : List ℕ) → header_spelling t (header_text b) ≡ None

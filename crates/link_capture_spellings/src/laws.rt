@@ -1,0 +1,30 @@
+//! Facts of the definitions. A function here calls nothing but laws of the crates below.
+
+ghost use Rattle.link_capture_spellings.specs.SpellingLaws.{ListsGoBySteps, SpellingsGoByFrames, WrittenAttributesHaveNone};
+
+use link_capture_grammar::laws::frames_stand_alone;
+use netlink_packet_core_grammar::laws::first_attributes_are_within;
+
+/// The spellings of a list are those of its first attribute, of what that holds, and of the rest.
+#[tactic(auto, using(crate::proofs::ListSteps::steps))]
+pub fn lists_go_by_steps()
+    ensures { ListsGoBySteps }
+{
+    first_attributes_are_within();
+}
+
+/// The spellings of a capture are those of the frame in front, and of what follows it. A faulty frame has none.
+#[tactic(auto, using(crate::proofs::CaptureSteps::steps))]
+pub fn spellings_go_by_frames()
+    ensures { SpellingsGoByFrames }
+{
+    frames_stand_alone();
+}
+
+/// An accepted attribute of a link, of the data of a kind of link, of the settings of IPv4 or of programs, as its row writes
+/// it, has no spelling of its own, nor has a link's header as it is written. Peers, foreign entries and lists inside aren't
+/// spoken of.
+#[tactic(auto, using(crate::proofs::Canonical::written))]
+pub fn written_attributes_have_none()
+    ensures { WrittenAttributesHaveNone }
+{}

@@ -3,8 +3,8 @@
 ghost use Rattle.std.specs.Prelude.{◌≡◌, true, [], get_or, map, option_map};
 ghost use Rattle.std.specs.List.{list_all};
 ghost use Rattle.link_lines_texts.specs.Placed.{are_dense};
-ghost use Rattle.link_lines_texts.specs.Titles.{bridge_titles, data_titles, inet6_titles, info_titles, link_titles, nested_titles, other_titles, said};
-ghost use Rattle.link_lines_texts.specs.Titles.{title_of, titles_of, unspec_titles, viewed};
+ghost use Rattle.link_lines_texts.specs.Titles.{bridge_titles, data_titles, inet6_titles, info_titles, link_titles};
+ghost use Rattle.link_lines_texts.specs.Titles.{nested_titles, other_titles, said, title_of, titles_of, unspec_titles, viewed};
 
 use crate::data_titles::DATA_TITLES;
 use crate::message_titles::{

@@ -1,7 +1,7 @@
 -- Records are told by their text.
 use Rattle.std.proofs.Common.{◌≡◌, ℕ, zero, suc, ◌+◌, ◌*◌, ◌/◌, ◌%◌, ◌<◌, ◌≤◌, Bool, true, false, List, [], ◌∷◌, ◌++◌, length, take, drop, refl, sym, ap, ◌∙◌, arith, append_assoc}
 use Rattle.std.proofs.lemmas.List.{append_cancel_left}
-use Rattle.std.specs.Prelude.{◌==◌, ◌&&◌, ◌||◌, cond, flat_map, get_or, bytes_eq, max, nat_le, not, nat_lt}
+use Rattle.std.specs.Prelude.{◌==◌, ◌&&◌, cond, flat_map, get_or, bytes_eq, max, nat_le, not, nat_lt}
 use Rattle.std.specs.Fmt.{digit_glyph}
 use Rattle.std.proofs.lemmas.Bool.{and_parts, eqb-true, le-leb}
 use Rattle.std.proofs.lemmas.Bool.Decides.{nat_tests}

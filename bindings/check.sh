@@ -189,10 +189,13 @@ test_rust() {
     fi
 }
 
+for tool in "$cc" ld objcopy ar; do
+    has "$tool" || { skip "all" "no $tool, which makes the library"; finish; }
+done
 lib=$work/lib
 step "the library" bindings/c/build.sh "$lib"
 [ "$failed" -eq 0 ] || finish
-if has "$cc"; then test_c; else skip C "no $cc"; fi
+test_c
 test_python
 test_rust
 finish

@@ -60,7 +60,8 @@ def build(work):
     here = os.path.join(TOP, "bench/languages")
     subprocess.run(["cc", "-O2", "-I", lib, "-o", os.path.join(work, "calls"), os.path.join(here, "calls.c"),
                     os.path.join(lib, "liblinkcap.a"), *flags], check=True)
-    environment = {**os.environ, "LINKCAP_LIB_DIR": lib, "PYTHONPATH": os.path.join(TOP, "bindings/python"), "PYTHONDONTWRITEBYTECODE": "1"}
+    package = os.path.join(TOP, "bindings/python")
+    environment = {**os.environ, "LINKCAP_LIB_DIR": lib, "PYTHONPATH": package, "PYTHONDONTWRITEBYTECODE": "1"}
     shutil.copytree(os.path.join(here, "rust"), os.path.join(work, "rust"))
     manifest = os.path.join(work, "rust/Cargo.toml")
     text = open(manifest).read().replace("../../../bindings/rust", os.path.abspath(os.path.join(TOP, "bindings/rust")))

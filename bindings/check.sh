@@ -103,7 +103,8 @@ test_c() {
     local san=(-g -O1 -fsanitize=address,undefined -fno-sanitize-recover=all)
     if echo 'int main(void) { return 0; }' | "$cc" "${san[@]}" -x c -o "$work/none" - 2> /dev/null && "$work/none"; then
         step "C, sanitizers: build" "$cc" "${flags[@]}" "${san[@]}" -o "$work/sane" bindings/c/tests/answers.c "$lib/liblinkcap.a"
-        step "C, sanitizers: build of the edges" "$cc" "${flags[@]}" "${san[@]}" -o "$work/sane_edges" bindings/c/tests/edges.c "$lib/liblinkcap.a" "${wrap[@]}"
+        step "C, sanitizers: build of the edges" "$cc" "${flags[@]}" "${san[@]}" -o "$work/sane_edges" \
+            bindings/c/tests/edges.c "$lib/liblinkcap.a" "${wrap[@]}"
         all_answers "sanitizers" "$work/sane"
         step "C, sanitizers: edges" "$work/sane_edges" "${samples[@]}"
     else
@@ -159,7 +160,8 @@ test_python() {
         skip "Python: the fixture and the page" "no pytest"
         return
     fi
-    step "Python: the fixture" env -C "$work/python" "${run[@]}" -m pytest -q -p no:cacheprovider "$top/bindings/python/tests/test_fixture.py"
+    step "Python: the fixture" env -C "$work/python" "${run[@]}" -m pytest -q -p no:cacheprovider \
+        "$top/bindings/python/tests/test_fixture.py"
     if "${run[@]}" -c 'import pyroute2' 2> /dev/null; then
         block python > "$work/python/test_page.py"
         step "Python: the page" env -C "$work/python" "${run[@]}" -m pytest -q -p no:cacheprovider test_page.py
@@ -187,10 +189,13 @@ test_rust() {
     fi
 }
 
+for tool in "$cc" ld objcopy ar; do
+    has "$tool" || { skip "all" "no $tool, which makes the library"; finish; }
+done
 lib=$work/lib
 step "the library" bindings/c/build.sh "$lib"
 [ "$failed" -eq 0 ] || finish
-if has "$cc"; then test_c; else skip C "no $cc"; fi
+test_c
 test_python
 test_rust
 finish

@@ -228,7 +228,8 @@ static long test_refused(writes *call, struct bytes capture, size_t cut)
     return lacking;
 }
 
-static uint32_t by_some(const uint8_t *capture, size_t length, uint32_t most, uint8_t *out, size_t room, uint64_t *written, struct linkcap_fault *fault)
+static uint32_t by_some(const uint8_t *capture, size_t length, uint32_t most, uint8_t *out, size_t room,
+                        uint64_t *written, struct linkcap_fault *fault)
 {
     struct linkcap_progress progress;
     uint32_t status = linkcap_normalize_some(capture, length, true, most, out, room, &progress, fault);

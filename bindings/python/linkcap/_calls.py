@@ -180,7 +180,8 @@ class Reader:
         with _native.Borrowed(given) as whole:
             room, free, text = scratch.of_room(whole.length + 256)
             while True:
-                status = call(whole.at + used, whole.length - used, last, self._limit, room, free, ctypes.addressof(progress), scratch.fault_at)
+                rest = whole.at + used, whole.length - used
+                status = call(*rest, last, self._limit, room, free, ctypes.addressof(progress), scratch.fault_at)
                 texts.append(text[:progress.written].tobytes())
                 used += progress.used
                 if status != _native.NO_ROOM:

@@ -1,6 +1,6 @@
 //! Two captures compared.
 
-ghost use Rattle.std.specs.Prelude.{◌≡◌, ◌<◌, ◌≤◌, ◌↔◌, ◌⊎◌, true, false, cond, Some, option_map};
+ghost use Rattle.std.specs.Prelude.{◌≡◌, ◌<◌, ◌≤◌, ◌↔◌, ◌⊎◌, Some, option_map};
 ghost use Rattle.link_capture_grammar.specs.Captures.{first_fault, texts, IsLegal};
 ghost use Rattle.link_capture_grammar.specs.Same.{SameCapture};
 ghost use Rattle.linkcap_c.specs.Told.{told};

@@ -1,6 +1,6 @@
 //! One capture judged and measured.
 
-ghost use Rattle.std.specs.Prelude.{◌≡◌, ◌+◌, ◌*◌, ◌^◌, ◌<◌, ◌≤◌, ◌↔◌, ◌⊎◌, length, Some, option_map};
+ghost use Rattle.std.specs.Prelude.{◌≡◌, ◌+◌, ◌*◌, ◌^◌, ◌<◌, ◌↔◌, ◌⊎◌, length, Some, option_map};
 ghost use Rattle.link_capture_grammar.specs.Captures.{first_fault, texts, IsLegal};
 ghost use Rattle.link_capture_grammar.specs.Numbers.{attributes, frames};
 ghost use Rattle.linkcap_c.specs.Told.{told};

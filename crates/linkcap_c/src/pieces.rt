@@ -1,6 +1,7 @@
 //! Captures that come in pieces, without a state between them.
 
-ghost use Rattle.std.specs.Prelude.{◌≡◌, ◌≤◌, ◌<◌, ◌-◌, ◌++◌, ℕ, List, [], true, false, length, take, drop, min, Ok, IfOk, IfErr, OnErr};
+ghost use Rattle.std.specs.Prelude.{◌≡◌, ◌≤◌, ◌<◌, ◌-◌, ◌++◌, ℕ, List, [], true, false, length, take, drop, min};
+ghost use Rattle.std.specs.Prelude.{Ok, IfOk, IfErr, OnErr};
 ghost use Rattle.netlink_packet_core_grammar.specs.Attributes.{nla_align};
 ghost use Rattle.link_capture_grammar.specs.declared.fault.FaultKind.{FaultKind};
 ghost use Rattle.link_capture_grammar.specs.Captures.{first_frame, texts};

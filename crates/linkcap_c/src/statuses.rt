@@ -1,6 +1,6 @@
 //! What calls answer: those of the program `linkcap`, and two more. `linkcap.h` has the same numbers.
 
-ghost use Rattle.std.specs.Prelude.{◌≡◌, ◌≤◌, ◌↔◌, IsTrue};
+ghost use Rattle.std.specs.Prelude.{◌≤◌, ◌↔◌, IsTrue};
 
 /// The capture is legal; of two, both are legal and mean the same.
 pub const OK: u32 = 0;

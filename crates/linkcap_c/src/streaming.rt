@@ -1,8 +1,8 @@
 //! Captures in pieces, for C.
 
-ghost use Rattle.std.specs.Prelude.{◌≡◌, ◌≢◌, ◌+◌, ◌<◌, ◌≤◌, ◌↔◌, ◌⊎◌, ℕ, List, [], ◌++◌, true, length, take, drop, Some};
+ghost use Rattle.std.specs.Prelude.{◌≡◌, ◌≢◌, ◌+◌, ◌<◌, ◌≤◌, ◌↔◌, ◌⊎◌, ◌++◌, ℕ, List, [], true, length, take, drop};
 ghost use Rattle.link_capture_grammar.specs.declared.fault.FaultKind.{FaultKind};
-ghost use Rattle.link_capture_grammar.specs.Captures.{first_frame, texts};
+ghost use Rattle.link_capture_grammar.specs.Captures.{texts};
 ghost use Rattle.linkcap_c.specs.Buffers.{Holds};
 ghost use Rattle.linkcap_c.specs.Pieces.{IsUsed, IsEnded, IsFaulty, HasText, Wants, IsWhole, GoesOn, Fails};
 ghost use Rattle.linkcap_c.specs.Told.{kind_number, told};

@@ -1,6 +1,6 @@
 //! The words of faults, and the version, for C.
 
-ghost use Rattle.std.specs.Prelude.{◌≡◌, ◌≤◌, ◌↔◌, ◌⊎◌, true, false};
+ghost use Rattle.std.specs.Prelude.{◌≡◌, ◌⊎◌, true, false};
 ghost use Rattle.link_capture_grammar.specs.declared.fault.CaptureFault.{CaptureFault};
 ghost use Rattle.link_capture_grammar.specs.Faults.{fault_text};
 ghost use Rattle.link_capture_checks.specs.Sides.{side_text};

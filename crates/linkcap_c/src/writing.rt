@@ -1,6 +1,7 @@
 //! Texts and lines written to a caller's buffer.
 
-ghost use Rattle.std.specs.Prelude.{◌≡◌, ◌+◌, ◌-◌, ◌*◌, ◌^◌, ◌%◌, ◌<◌, ◌≤◌, ◌↔◌, ◌⊎◌, ℕ, List, ◌++◌, length, take, drop, min, Some, Ok, Err, option_map};
+ghost use Rattle.std.specs.Prelude.{◌≡◌, ◌-◌, ◌*◌, ◌^◌, ◌%◌, ◌<◌, ◌≤◌, ◌↔◌, ◌⊎◌, ◌++◌, ℕ, List, length, drop, min};
+ghost use Rattle.std.specs.Prelude.{Some, option_map};
 ghost use Rattle.link_capture_grammar.specs.Captures.{first_fault, texts, IsLegal, StopsAt};
 ghost use Rattle.link_capture_grammar.specs.Same.{SameCapture};
 ghost use Rattle.link_capture_reader.specs.Joined.{IsJoined};

@@ -14,4 +14,3 @@ pub use link_capture_messages::{
     ReadableLink, RouteFault, RouteLink, read_message,
 };
 pub use link_capture_reader::{CaptureReader, normalize_bytes};
-pub use link_capture_spellings::{PlacedSpelling, Spelling, Spellings, spelling};

@@ -1,34 +1,36 @@
 -- An attribute as it is written has no spelling of its own.
-use Rattle.std.proofs.Common.{◌≡◌, ℕ, zero, suc, ◌+◌, ◌-◌, ◌≤◌, Bool, true, false, cond, eqb, ltb, leb, List, [], ◌∷◌, ◌++◌, length, take, map, Option, Some, None, refl, sym, ap, subst, ◌∙◌, arith, length-append}
+use Rattle.std.proofs.Common.{◌≡◌, ℕ, zero, suc, ◌+◌, ◌-◌, ◌≤◌, Bool, true, false, cond, eqb, ltb, leb, List, [], ◌∷◌, ◌++◌, length, take, map, Option, option_map, Some, None, refl, sym, ap, subst, ◌∙◌, arith, length-append}
 use Rattle.std.specs.Prelude.{◌&&◌, ◌||◌, not, slice_index}
 use Rattle.std.proofs.Math.Seq.{get_or-append_right}
 use Rattle.std.proofs.lemmas.Bool.{eqb-true, eqb-false, leb-true, ne_eqb, false≢true}
 use Rattle.std.proofs.lemmas.Bool.Decides.{nat_tests}
 use Rattle.std.proofs.lemmas.List.{length-take-le}
 use Rattle.std.proofs.lemmas.List.Folds.{list_any-append}
-use Rattle.netlink_packet_core_grammar.specs.Attributes.{Attribute, proper_kind, zeros}
+use Rattle.netlink_packet_core_grammar.specs.Attributes.{Attribute, proper_kind, zeros, nla_align, attribute_length, list_text, first_attribute}
+use Rattle.netlink_packet_core_grammar.specs.Laws.{WrittenIsFirst}
 use Rattle.netlink_packet_core_grammar.specs.Numbers.{u32_at}
 use Rattle.netlink_packet_core_grammar.specs.Texts.{without_nul}
 use Rattle.netlink_packet_core_grammar.specs.Truths.{truth_of, one_of}
 use Rattle.attribute_tables_grammar.specs.Shapes.{number, number_truth}
-use Rattle.attribute_tables_grammar.specs.Lists.{Row, rewrite, written_kind}
+use Rattle.attribute_tables_grammar.specs.Lists.{Row, nothing, rewrite, rewritten, written_kind, row_of, first_alone, kept, if_read, all_accepted, list_rule}
 use Rattle.attribute_tables_grammar.specs.LookUps.{table_row}
 use Rattle.attribute_tables_grammar.specs.Peers.{Peer}
-use Rattle.attribute_tables_grammar.specs.Tables.{Table as Rows}
+use Rattle.attribute_tables_grammar.specs.Tables.{Table as Rows, grammar}
 use Rattle.attribute_tables_grammar.proofs.Attributes.{proper_kind-written}
-use Rattle.link_info_grammar.specs.Families.{vxlan, geneve, gre, gre6, ip_tunnel, bareudp, batadv, netkit}
+use Rattle.link_info_grammar.specs.Families.{vxlan, geneve, gre, gre6, ip_tunnel, bareudp, batadv, netkit, pair}
 use Rattle.link_message_grammar.specs.Body.{attribute_row_under, header_text}
 use Rattle.link_message_grammar.specs.LinkMessage.{Family, unspec, bridge, inet_6, other}
-use Rattle.link_message_grammar.specs.NestedTables.{inet, xdp, settings}
+use Rattle.link_message_grammar.specs.NestedTables.{inet, xdp, settings, vf_infos}
 use Rattle.link_capture_spellings.specs.declared.placed.Spelling.{Spelling}
 use Rattle.link_capture_spellings.specs.declared.placed.Spelling.TheVariants.{NestedPortSettings, PathDiscoveryOverOne, LongAlias, NameWithoutNul, FlagWithPayload, TruthOverOne, StrayNestedBit, ShortMap}
 use Rattle.link_capture_spellings.specs.declared.tables.Data.{Data}
-use Rattle.link_capture_spellings.specs.declared.tables.Data.TheVariants.{Vxlan, Geneve, Gre, Gre6, IpTunnel, BareUdp, Batadv, Netkit}
-use Rattle.link_capture_spellings.specs.declared.tables.Table.TheVariants.{Inet, Programs, OfKind}
+use Rattle.link_capture_spellings.specs.declared.tables.Data.TheVariants.{Vxlan, Geneve, Gre, Gre6, IpTunnel, BareUdp, Batadv, Netkit, Pair}
+use Rattle.link_capture_spellings.specs.declared.tables.Table.TheVariants.{Inet, Programs, Functions, OfKind}
 use Rattle.link_capture_spellings.specs.declared.tables.Listed.{Listed}
 use Rattle.link_capture_spellings.specs.SpellingRows.{told_if, over_one_byte, over_one_word, has_nul, is_long_alias, link_spelling, data_spelling, is_flag, is_strict, bit_spelling, payload_spelling, header_spelling}
-use Rattle.link_capture_spellings.specs.SpellingLists.{told_at, own_told}
-use Rattle.link_capture_spellings.specs.SpellingLaws.{link_list, IsDataTable, WrittenAttributesHaveNone}
+use Rattle.link_capture_spellings.specs.SpellingLists.{told_at, own_told, inside_of, list_behind, inside_told, list_told}
+use Rattle.link_capture_spellings.specs.SpellingTables.{family_table, inside}
+use Rattle.link_capture_spellings.specs.SpellingLaws.{ListsGoBySteps, link_list, IsDataTable, WrittenAttributesHaveNone}
 
 -- a choice that holds in both ways
 pub split : (P : Option Spelling → Type 0) (b : Bool) (x y : Option Spelling) → (b ≡ true → P x) → P y → P (cond b x y)
@@ -246,11 +248,46 @@ header-none t (f ∷ x ∷ []) = no _ _ (and-no _ _ (λ h. refl))
 header-none t (f ∷ x ∷ a ∷ []) = no _ _ (and-no _ _ (λ h. refl))
 header-none t (f ∷ x ∷ a ∷ b ∷ rest) = no _ _ (and-no _ _ (λ h. refl))
 
-pub written : WrittenAttributesHaveNone
-written = record {
+functions-own : (p : Peer) (judged : Bool) (place : ℕ) (e : Attribute) → eqb (proper_kind e.kind) 1 ≡ true → own_told (record { table = Functions; judged = judged }) place (rewrite (table_row p vf_infos (proper_kind e.kind)) e) ≡ []
+functions-own p judged place e h = own-none (record { table = Functions; judged = judged }) place (table_row p vf_infos (proper_kind e.kind)) e (both-none _) (no _ _ (ap not h))
+
+-- ---- a pair
+
+abbrev Twin : Listed
+Twin = record { table = OfKind Pair; judged = false }
+
+pair-inside : (e : Attribute) → inside_of Twin e ≡ None
+unfolding inside
+pair-inside e = ap (λ b. cond b (Some (record { table = family_table (slice_index e.payload 0); judged = false }, 16)) None) (and-no (eqb (proper_kind e.kind) 1) false (λ h. refl))
+
+pair-own : (p : Peer) (place : ℕ) (e : Attribute) (r : Row) → own_told Twin place (rewrite r e) ≡ []
+pair-own p place e r = own-none Twin place r e (both-none _) refl
+
+one-told : ListsGoBySteps → WrittenIsFirst → (place : ℕ) (e : Attribute) → ((place : ℕ) → own_told Twin place e ≡ []) → list_told Twin place (list_text (e ∷ [])) ≡ []
+unfolding list_text first_attribute
+one-told s w place e own =
+    s.next Twin place (list_text (e ∷ [])) e [] (w e [])
+    ∙ ap (λ z. z ++ (inside_told list_told (place + 4) (inside_of Twin e) e.payload ++ list_told (list_behind Twin e) (place + nla_align (attribute_length e)) [])) (own place)
+    ∙ ap (λ o. inside_told list_told (place + 4) o e.payload ++ list_told (list_behind Twin e) (place + nla_align (attribute_length e)) []) (pair-inside e)
+    ∙ s.none (list_behind Twin e) (place + nla_align (attribute_length e)) [] refl
+
+pair-told : ListsGoBySteps → WrittenIsFirst → (p : Peer) (place : ℕ) (b : List ℕ) → (list_rule first_alone (grammar p pair)).accepted b ≡ true → list_told Twin place ((list_rule first_alone (grammar p pair)).canonical b) ≡ []
+unfolding rewritten
+pair-told s w p place b h =
+    elim (first_attribute b) as (λ o.
+    if_read false (λ es. all_accepted (grammar p pair) nothing (kept first_alone es)) (option_map (λ (x : Attribute × List ℕ). x.0 ∷ []) o) ≡ true
+    → list_told Twin place (if_read [] (λ es. list_text (rewritten (grammar p pair) nothing (kept first_alone es))) (option_map (λ (x : Attribute × List ℕ). x.0 ∷ []) o)) ≡ []) [
+      | None ↦ λ h. absurd (false≢true h)
+      | Some x ↦ λ h. let r = row_of (grammar p pair) nothing x.0 in one-told s w place (rewrite r x.0) (λ q. pair-own p q x.0 r)
+    ] h
+
+pub written : ListsGoBySteps → WrittenIsFirst → WrittenAttributesHaveNone
+written s w = record {
   link = λ p f judged place e h. own-none (record { table = link_list f; judged = judged }) place (attribute_row_under p f (proper_kind e.kind)) e (link-bit p f e.kind) (link-own p f (proper_kind e.kind) e.payload h);
   of_kind = λ p d t judged place e i. own-none (record { table = OfKind d; judged = judged }) place (table_row p t (proper_kind e.kind)) e (data-bit p d t e.kind i) (data-payload p d t (proper_kind e.kind) e.payload i);
   settings = λ p judged place e. own-none (record { table = Inet; judged = judged }) place (table_row p inet (proper_kind e.kind)) e (both-none _) (inet-payload p (proper_kind e.kind) e.payload);
   programs = λ p judged place e. own-none (record { table = Programs; judged = judged }) place (table_row p xdp (proper_kind e.kind)) e (programs-bit p e.kind) refl;
+  functions = functions-own;
+  pair = pair-told s w;
   header = header-none;
 }

@@ -1,21 +1,21 @@
 -- The laws of spellings, as the functions of `laws` state them.
-use Rattle.std.specs.Prelude.{◌≡◌, ℕ, Bool, true, ◌+◌, List, [], ◌++◌, drop, Some, None, Ok, Err}
+use Rattle.std.specs.Prelude.{◌≡◌, ℕ, Bool, true, false, ◌+◌, List, [], ◌++◌, drop, Some, None, Ok, Err}
 use Rattle.netlink_packet_core_grammar.specs.Attributes.{Attribute, proper_kind, nla_align, attribute_length, first_attribute}
 use Rattle.link_capture_grammar.specs.declared.fault.FaultKind.{FaultKind}
 use Rattle.link_capture_grammar.specs.Captures.{first_frame}
 use Rattle.attribute_tables_grammar.specs.Shapes.{Shape}
-use Rattle.attribute_tables_grammar.specs.Lists.{rewrite}
+use Rattle.attribute_tables_grammar.specs.Lists.{rewrite, is_kept, of_kind_one, first_alone, list_rule}
 use Rattle.attribute_tables_grammar.specs.LookUps.{table_row}
 use Rattle.attribute_tables_grammar.specs.Peers.{Peer}
-use Rattle.attribute_tables_grammar.specs.Tables.{Table as Rows}
-use Rattle.link_info_grammar.specs.Families.{vxlan, geneve, gre, gre6, ip_tunnel, bareudp, batadv, netkit}
+use Rattle.attribute_tables_grammar.specs.Tables.{Table as Rows, grammar}
+use Rattle.link_info_grammar.specs.Families.{vxlan, geneve, gre, gre6, ip_tunnel, bareudp, batadv, netkit, pair}
 use Rattle.link_message_grammar.specs.Body.{attribute_row_under, header_text}
 use Rattle.link_message_grammar.specs.LinkMessage.{Family, unspec, bridge, inet_6, other}
-use Rattle.link_message_grammar.specs.NestedTables.{inet, xdp}
+use Rattle.link_message_grammar.specs.NestedTables.{inet, xdp, vf_infos}
 use Rattle.link_capture_spellings.specs.declared.tables.Data.{Data}
-use Rattle.link_capture_spellings.specs.declared.tables.Data.TheVariants.{Vxlan, Geneve, Gre, Gre6, IpTunnel, BareUdp, Batadv, Netkit}
+use Rattle.link_capture_spellings.specs.declared.tables.Data.TheVariants.{Vxlan, Geneve, Gre, Gre6, IpTunnel, BareUdp, Batadv, Netkit, Pair}
 use Rattle.link_capture_spellings.specs.declared.tables.Table.{Table}
-use Rattle.link_capture_spellings.specs.declared.tables.Table.TheVariants.{Unspec, Bridge, Link, Inet, Programs, OfKind}
+use Rattle.link_capture_spellings.specs.declared.tables.Table.TheVariants.{Unspec, Bridge, Link, Inet, Programs, Functions, OfKind}
 use Rattle.link_capture_spellings.specs.SpellingRows.{header_spelling}
 use Rattle.link_capture_spellings.specs.declared.tables.Listed.{Listed}
 use Rattle.link_capture_spellings.specs.SpellingLists.{own_told, inside_of, list_behind, inside_told, list_told}
@@ -66,4 +66,10 @@ pub record WrittenAttributesHaveNone : Type 0 where
   -- of the settings of IPv4, and of programs
   pub settings : (p : Peer) (judged : Bool) (place : ℕ) (e : Attribute) → own_told (record { table = Inet; judged = judged }) place (rewrite (table_row p inet (proper_kind e.kind)) e) ≡ []
   pub programs : (p : Peer) (judged : Bool) (place : ℕ) (e : Attribute) → own_told (record { table = Programs; judged = judged }) place (rewrite (table_row p xdp (proper_kind e.kind)) e) ≡ []
+  -- of the virtual functions, as far as they are kept
+  pub functions : (p : Peer) (judged : Bool) (place : ℕ) (e : Attribute) → is_kept of_kind_one e ≡ true →
+      own_told (record { table = Functions; judged = judged }) place (rewrite (table_row p vf_infos (proper_kind e.kind)) e) ≡ []
+  -- and in the data of a pair nothing stands behind the first attribute
+  pub pair : (p : Peer) (place : ℕ) (b : List ℕ) → (list_rule first_alone (grammar p pair)).accepted b ≡ true →
+      list_told (record { table = OfKind Pair; judged = false }) place ((list_rule first_alone (grammar p pair)).canonical b) ≡ []
   pub header : (t : ℕ) (b : List ℕ) → header_spelling t (header_text b) ≡ None

@@ -3,7 +3,9 @@
 ghost use Rattle.link_capture_spellings.specs.SpellingLaws.{ListsGoBySteps, SpellingsGoByFrames, WrittenAttributesHaveNone};
 
 use link_capture_grammar::laws::frames_stand_alone;
-use netlink_packet_core_grammar::laws::first_attributes_are_within;
+use netlink_packet_core_grammar::laws::{
+    first_attributes_are_within, written_attributes_come_first,
+};
 
 /// The spellings of a list are those of its first attribute, of what that holds, and of the rest.
 #[tactic(auto, using(crate::proofs::ListSteps::steps))]
@@ -21,10 +23,13 @@ pub fn spellings_go_by_frames()
     frames_stand_alone();
 }
 
-/// An accepted attribute of a link, of the data of a kind of link, of the settings of IPv4 or of programs, as its row writes
-/// it, has no spelling of its own, nor has a link's header as it is written. Peers, foreign entries and lists inside aren't
-/// spoken of.
+/// An accepted attribute of a link, of the data of a kind of link, of the settings of IPv4, of programs or of virtual
+/// functions, as its row writes it, has no spelling of its own, nor has a link's header as it is written; and in the data
+/// of a pair nothing stands behind the first attribute. Lists inside lists, and so whole texts, aren't spoken of.
 #[tactic(auto, using(crate::proofs::Canonical::written))]
 pub fn written_attributes_have_none()
     ensures { WrittenAttributesHaveNone }
-{}
+{
+    lists_go_by_steps();
+    written_attributes_come_first();
+}

@@ -3,17 +3,23 @@
 #
 #     bindings/c/build.sh FOLDER
 #
-# It wants the static library of the crate linkcap_c, which `rt lib` makes in crates/linkcap_c and which is made here
-# where it isn't there, and the command rt, whose kit has the small layer between that library and malloc. Both
-# libraries have that layer inside, and show nothing but linkcap_*. CC names the compiler (cc).
+# It wants the static library of the crate linkcap_c, which `rt lib` makes in crates/linkcap_c, and which is made here
+# where it isn't there or a source is newer; and the command rt, whose kit has the small layer between that library and
+# malloc. Both libraries have that layer inside, and show nothing but linkcap_*. CC names the compiler (cc).
 set -euo pipefail
 here=$(cd "$(dirname "$0")" && pwd)
 [ $# -eq 1 ] || { echo "usage: bindings/c/build.sh FOLDER" >&2; exit 2; }
 mkdir -p "$1"
 folder=$(cd "$1" && pwd)
 
-proved=$here/../../crates/linkcap_c/out/liblinkcap_c.a
-[ -f "$proved" ] || (cd "$here/../../crates/linkcap_c" && rt lib) >&2
+top=$here/../..
+proved=$top/crates/linkcap_c/out/liblinkcap_c.a
+# Any source that is newer than the library.
+newer() {
+    find "$top/crates" "$top/crates.txt" -name out -prune -o \
+        \( -name '*.rt' -o -name '*.antt' -o -name crates.txt \) -newer "$proved" -print -quit
+}
+if [ ! -f "$proved" ] || [ -n "$(newer)" ]; then (cd "$top/crates/linkcap_c" && rt lib) >&2; fi
 layer=$(dirname "$(rt doc)")/c/liblibc_c.a
 version=$(sed -n 's/^#define LINKCAP_VERSION //p' "$here/linkcap.h")
 

@@ -2,7 +2,8 @@
 
 ghost use Rattle.std.specs.Prelude.{◌≡◌, ◌≤◌, ◌<◌, length, IfSome};
 ghost use Rattle.link_capture_spellings.specs.SpellingTables.{is_gre, is_gre6, is_ip_tunnel, is_pair, data_named};
-ghost use Rattle.link_capture_spellings.specs.SpellingTables.{family_table, next_table, next_list, inside_table, has_peer, inside, table_depth, depth};
+ghost use Rattle.link_capture_spellings.specs.SpellingTables.{family_table, next_table, next_list, inside_table};
+ghost use Rattle.link_capture_spellings.specs.SpellingTables.{has_peer, inside, table_depth, depth};
 
 use netlink_packet_core_numbers::without_nul;
 

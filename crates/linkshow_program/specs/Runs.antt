@@ -51,16 +51,16 @@ abbrev pub ShowsWhole : List ℕ → Option (List ℕ) → Option (List ℕ) →
 ShowsWhole s held holds write_failed limit outcome =
     (left : Option (List ℕ)) × (old new : ℕ) × Shows (Some s) left held holds (TellsItsEnd old new left) (Rises 0 0) write_failed limit outcome
 
--- All was read, noted and then shown; or the read failed, which alone is told. The first four tell of the source, the next four of the sink, and the
+-- All was read, noted and then shown; or the read failed, which alone is told. The first five tell of the source, the next four of the sink, and the
 -- next four of the error writer.
-abbrev pub NotesAnswer : Option (List ℕ) → Option (List ℕ) → Type 0 → Type 0
+abbrev pub NotesAnswer : Option (List ℕ) → Option (List ℕ) → Type 0 → ℕ → ℕ
     → Option (List ℕ) → Option (List ℕ) → Type 0 → Type 0
     → Option (List ℕ) → Option (List ℕ) → ℕ → ℕ → ℕ → ℕ → Type 0
-NotesAnswer from left ended read_failed held holds write_failed unwritten told tells old new limit status =
+NotesAnswer from left ended read_before read_after held holds write_failed unwritten told tells old new limit status =
     (s : List ℕ) × Consumes from left s × (
     (ended × ((outcome : Result ⊤ CaptureFault) × ShowsWhole s held holds write_failed limit outcome
     × TellsBoth told tells old new (notes_text (spellings limit s)) (fault_line outcome) × (status ≡ status_of outcome)))
-    ⊎ ((fault : CaptureFault) × ReadFault read_failed s fault.kind × (fault.offset ≡ length s) × unwritten
+    ⊎ ((fault : CaptureFault) × ReadFault read_before read_after s fault.kind × (fault.offset ≡ length s) × unwritten
     × Tells told tells (Rises old new) (fault_line (Err fault)) × (status ≡ 2))
     )
 

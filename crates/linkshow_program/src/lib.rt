@@ -66,7 +66,7 @@ pub fn answer<R: Read, W: Write, E: Write>(
         (R.remaining (source_reader source.old)) (R.remaining (source_reader source.new))
         (TellsItsEnd (source_ends_told source.old) (source_ends_told source.new)
         (R.remaining (source_reader source.new)))
-        (Rises (source_failures source.old) (source_failures source.new))
+        (source_failures source.old) (source_failures source.new)
         (W.contents (sink_writer sink.old)) (W.contents (sink_writer sink.new))
         (Rises (sink_failures sink.old) (sink_failures sink.new)) (sink.new ≡ sink.old)
         (E.contents (sink_writer errors.old)) (E.contents (sink_writer errors.new))

@@ -9,7 +9,7 @@ use Rattle.linkshow_program.proofs.notes.answer_notes.Goals as goal
 pub returns-in-Ok : goal.returns-in-Ok
 returns-in-Ok g c =
     let read = c.in-Ok.ensures in
-    let whole : c.new-whole.result.rest.now ≡ read.0 = c.new-whole.ensures ∙ c.as_slice-in-Ok.ensures.value ∙ read.2.0 in
+    let whole : c.new-whole.result.rest.now ≡ read.0 = c.new-whole.ensures.rest ∙ c.as_slice-in-Ok.ensures.value ∙ read.2.0 in
     let noted : c.as_slice.result.now ≡ read.0 = c.as_slice.ensures.value ∙ read.2.0 in
     let Lined : List ℕ → Type 0 = λ x. Shows (Some x) (Some c.show-outcome.new.source.rest.now) (g.W.Write.contents (sink_writer c.args.sink.now)) (g.W.Write.contents (sink_writer c.show-outcome.new.sink))
     (TellsItsEnd c.new-whole.result.ends_told c.show-outcome.new.source.ends_told (Some c.show-outcome.new.source.rest.now)) (Rises 0 0) (Rises (sink_failures c.args.sink.now) (sink_failures c.show-outcome.new.sink)) c.args.limit c.show-outcome.result in
@@ -17,7 +17,7 @@ returns-in-Ok g c =
       read.0,
       read.1,
       inl (
-        read.2.1,
+        read.2.2,
         (
           c.show-outcome.result,
           (

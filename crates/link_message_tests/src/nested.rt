@@ -10,9 +10,7 @@ use link_message_types::{
     Flags, In6AddrGenMode, Inet6IfaceFlags, MctpPhysBinding, VlanProtocol, XdpAttached,
 };
 use link_message_virtual_functions::{LinkVfInfo, LinkVfPort, VfInfo, VfPort, VfVlan};
-use netlink_packet_core::{
-    DecodeError, DefaultNla, Family, Nla, NlaBuffer, Parseable, emit_all, fits_all, len_all,
-};
+use netlink_packet_core::{DefaultNla, Family, Nla, emit_all, fits_all, len_all};
 use std::alloc::Global;
 use std::net::Ipv6Addr;
 use std::test::Fail;
@@ -26,45 +24,6 @@ fn are_written_as<N: Nla>(values: &[N], bytes: &[u8]) -> bool {
     }
     emit_all(values, &mut text);
     &text[..size] == bytes
-}
-
-/// The value of one attribute.
-fn read_alone<'a, V>(alloc: Global, bytes: &'a [u8]) -> Result<V, DecodeError>
-where
-    V: Parseable<NlaBuffer<&'a [u8]>>,
-{
-    V::parse(alloc, &NlaBuffer::new_checked(bytes)?)
-}
-
-/// Whether an attribute is read alone as a value that is written as it.
-fn is_kept_alone<'a, V>(alloc: Global, bytes: &'a [u8]) -> Result<bool, DecodeError>
-where
-    V: Parseable<NlaBuffer<&'a [u8]>> + Nla + Drop,
-{
-    Ok(are_written_as(&[read_alone::<V>(alloc, bytes)?], bytes))
-}
-
-/// Each attribute by its own reader, beside those of lists.
-#[test]
-fn attributes_are_read_alone(rt: HostRuntime) -> Result<(), Fail> {
-    let alloc = rt.alloc();
-    let vlans = &[
-        24, 0, 12, 0, 20, 0, 1, 0, 0, 0, 0, 0, 100, 0, 0, 0, 0, 0, 0, 0, 129, 0, 0, 0,
-    ];
-    assert!(rt; is_kept_alone::<VfInfo>(alloc, vlans)?);
-    let function = &[16, 0, 1, 0, 12, 0, 4, 0, 1, 0, 0, 0, 1, 0, 0, 0];
-    assert!(rt; is_kept_alone::<LinkVfInfo>(alloc, function)?);
-    assert!(rt; read_alone::<LinkVfInfo>(alloc, &[4, 0, 2, 0]).is_err());
-    let port = &[12, 0, 1, 0, 8, 0, 1, 0, 5, 0, 0, 0];
-    assert!(rt; is_kept_alone::<LinkVfPort>(alloc, port)?);
-    assert!(rt; read_alone::<LinkVfPort>(alloc, &[4, 0, 2, 0]).is_err());
-    let unlisted = &[5, 0, 99, 0, 7, 0, 0, 0];
-    assert!(rt; is_kept_alone::<VfVlan>(alloc, unlisted)?);
-    assert!(rt; is_kept_alone::<AfSpecInet>(alloc, unlisted)?);
-    assert!(rt; is_kept_alone::<AfSpecInet6>(alloc, unlisted)?);
-    let mctp = &[12, 0, 45, 0, 5, 0, 2, 0, 3, 0, 0, 0];
-    assert!(rt; is_kept_alone::<AfSpecUnspec>(alloc, mctp)?);
-    Ok(())
 }
 
 /// Whether a list is read as these values, and written from them again.

@@ -195,10 +195,10 @@ wants "lines: a fault behind the first piece" 2 "cut frame at 67200" $((1400 * l
 for words in "15" "+48" "48 48" "4294967296" "norm"; do
     # shellcheck disable=SC2086
     run $words < "$request"
-    wants "lines: wrong words: '$words'" 3 "usage: linkshow [LIMIT]" 0
+    wants "lines: wrong words: '$words'" 3 "usage: linkshow [--kernels] [LIMIT]" 0
 done
 run $'\xff' < "$request"
-wants "lines: a word that is no text" 3 "usage: linkshow [LIMIT]" 0
+wants "lines: a word that is no text" 3 "usage: linkshow [--kernels] [LIMIT]" 0
 run < "$work"
 wants "lines: a directory can't be read" 2 "read failed at 0" 0
 : > "$work/text"

@@ -4,7 +4,7 @@ use Rattle.std.proofs.lemmas.List.{take-append-drop}
 use Rattle.std.proofs.KnownBytes.{Appends-nil, Appends-trans}
 use Rattle.std.specs.Io.KnownBytes.{Appends}
 use Rattle.link_capture_grammar.specs.declared.fault.CaptureFault.{CaptureFault}
-use Rattle.link_capture_spellings.specs.declared.placed.PlacedSpelling.{PlacedSpelling}
+use Rattle.link_capture_spelling_rows.specs.declared.placed.PlacedSpelling.{PlacedSpelling}
 use Rattle.link_capture_spellings.specs.Spellings.{told_then}
 use Rattle.linkshow_program.specs.Runs.{Tells, note_text, notes_text}
 

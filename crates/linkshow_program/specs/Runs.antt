@@ -6,8 +6,8 @@ use Rattle.link_capture_grammar.specs.Faults.{fault_text}
 use Rattle.link_capture_commands.specs.Commands.{IsLimit, status_of}
 use Rattle.link_capture_engine.specs.Devices.{Rises, TellsItsEnd}
 use Rattle.link_capture_engine.specs.Outcomes.{IsPrefix, ReadFault}
-use Rattle.link_capture_spellings.specs.declared.placed.PlacedSpelling.{PlacedSpelling}
-use Rattle.link_capture_spellings.specs.SpellingWords.{placed_text}
+use Rattle.link_capture_spelling_rows.specs.declared.placed.PlacedSpelling.{PlacedSpelling}
+use Rattle.link_capture_spelling_rows.specs.SpellingWords.{placed_text}
 use Rattle.link_capture_spellings.specs.Spellings.{spellings}
 use Rattle.link_lines.specs.Outcomes.{Shows}
 use Rattle.linkshow_program.specs.declared.words.Asked.{Asked}

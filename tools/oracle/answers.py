@@ -155,8 +155,11 @@ def write(crate):
 def main():
     parser = argparse.ArgumentParser(description=__doc__, formatter_class=argparse.RawDescriptionHelpFormatter)
     parser.add_argument("--check", action="store_true", help="compare, and write nothing")
-    parser.add_argument("crate", nargs="*", choices=[[], *ANSWERS], metavar="CRATE")
+    parser.add_argument("crate", nargs="*", metavar="CRATE", help=", ".join(ANSWERS))
     words = parser.parse_args()
+    for crate in words.crate:
+        if crate not in ANSWERS:
+            parser.error("no crate of cases: %s" % crate)
     try:
         done = [(check if words.check else write)(crate) for crate in words.crate or ANSWERS]
     except ValueError as error:

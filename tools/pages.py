@@ -3,6 +3,7 @@
 
     tools/pages.py                 checks, in a second
     tools/pages.py --run PREFIX    runs the pages' commands too, over what ./install PREFIX installed
+        --have root,strace         those too that want nothing else
     tools/pages.py --words         tells each page's words
 
 A mark is a comment on a line by itself above a block. Blocks of `sh` are commands, each run by `bash -eu -o pipefail` in a
@@ -294,7 +295,13 @@ def give(block, folder):
             shutil.copy(TOP / source, folder / name)
 
 
-def run_page(page, prefix):
+def wants(block, have):
+    """What a block wants that isn't there; None where it can be run."""
+    wanted = re.split(r",\s*(?:and\s+)?|\s+and\s+", block.mark("wants") or "")
+    return ", ".join(word for word in wanted if word and word not in have) or None
+
+
+def run_page(page, prefix, have):
     """What is wrong with a page's commands; and a word on each block."""
     with tempfile.TemporaryDirectory() as made:
         folder = Path(made)
@@ -305,8 +312,8 @@ def run_page(page, prefix):
             if block.language != "sh":
                 continue
             where = "%s:%d" % (page.name, block.line)
-            if block.mark("wants") is not None:
-                print("pages: not run: %s wants %s" % (where, block.mark("wants")))
+            if wants(block, have):
+                print("pages: not run: %s wants %s" % (where, wants(block, have)))
                 continue
             give(block, folder)
             status, out, err = run(block, folder, prefix)
@@ -326,10 +333,10 @@ def changes():
     return subprocess.run(["git", "status", "--porcelain"], cwd=TOP, capture_output=True, text=True, check=False).stdout
 
 
-def run_all(pages, prefix):
+def run_all(pages, prefix, have):
     before = changes()
     for page in pages:
-        yield from run_page(page, prefix)
+        yield from run_page(page, prefix, have)
     if changes() != before:
         yield "commands changed the repository: %s" % changes()
 
@@ -341,6 +348,7 @@ def names_of(pattern):
 def main():
     parser = argparse.ArgumentParser(description=__doc__, formatter_class=argparse.RawDescriptionHelpFormatter)
     parser.add_argument("--run", metavar="PREFIX", type=Path, help="run the commands too")
+    parser.add_argument("--have", metavar="WORD,..", default="", help="run what wants these, too")
     parser.add_argument("--words", action="store_true", help="tell each page's words")
     parser.add_argument("page", nargs="*", help="these pages alone, by their paths from the top")
     words = parser.parse_args()
@@ -354,7 +362,7 @@ def main():
         faults += [*page.faults, *check_links(page, by_name), *check_paths(page), *check_indented(page),
                    *check_marks(page), *check_snippets(page)]
     if words.run is not None:
-        faults += run_all(chosen, words.run.resolve())
+        faults += run_all(chosen, words.run.resolve(), words.have.split(","))
     for fault in faults:
         print("pages: " + fault)
     print("pages: %d pages, %d faults" % (len(chosen), len(faults)))

@@ -7,9 +7,10 @@
     tools/pages.py --words         tells each page's words
 
 A mark is a comment on a line by itself above a block. Blocks of `sh` are commands, each run by `bash -eu -o pipefail` in a
-folder of its page with links to all that stands at the repository's top, and with PREFIX/bin first on PATH. Of these
+folder of its page with links to all that stands at the repository's top, and with PREFIX/bin first on PATH. pip installs
+into that folder, and what wants root has a network namespace of its own. Of these blocks, one marked by
 
-    <!-- wants root -->                            isn't run, as it wants that
+    <!-- wants root and strace -->                 isn't run, as it wants these
     <!-- status 2 -->                              has to end with that status
     <!-- given made.bin = samples/req-veth.bin -->  gets a copy under that name first
 
@@ -266,18 +267,20 @@ def check_snippets(page):
 # --------------------------------------------------------------------------
 # Commands
 
-def environment(prefix):
-    values = dict(os.environ, PREFIX=str(prefix), PYTHONDONTWRITEBYTECODE="1")
+def environment(prefix, folder):
+    values = dict(os.environ, PREFIX=str(prefix), PYTHONDONTWRITEBYTECODE="1", PIP_TARGET=str(folder / "packages"))
     values["PATH"] = "%s:%s" % (prefix / "bin", values["PATH"])
     values["PKG_CONFIG_PATH"] = str(prefix / "lib" / "pkgconfig")
     return values
 
 
 def run(block, folder, prefix):
-    """(status, standard output, standard error) of a block; the status is None where it took too long."""
-    shell = subprocess.Popen(["bash", "-eu", "-o", "pipefail", "-c", block.text()], cwd=folder, env=environment(prefix),
-                             stdin=subprocess.DEVNULL, stdout=subprocess.PIPE, stderr=subprocess.PIPE,
-                             start_new_session=True)
+    """(status, standard output, standard error) of a block; the status is None where it took too long. What wants root has
+    a network namespace of its own, so that it changes no link of the machine."""
+    alone = ["unshare", "-n"] if "root" in (block.mark("wants") or "") else []
+    shell = subprocess.Popen([*alone, "bash", "-eu", "-o", "pipefail", "-c", block.text()], cwd=folder,
+                             env=environment(prefix, folder), stdin=subprocess.DEVNULL, stdout=subprocess.PIPE,
+                             stderr=subprocess.PIPE, start_new_session=True)
     try:
         out, err = shell.communicate(timeout=SECONDS)
     except subprocess.TimeoutExpired:

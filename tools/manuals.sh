@@ -20,9 +20,9 @@ synopsis() {
         | sed -E 's/^ +//; s/ +$//' | paste -sd '|' | sed 's/|/ or /g' | tr '[:upper:]' '[:lower:]'
 }
 
-# The usage line of a program's source.
+# The usage line of a program's source, without what follows a semicolon.
 usage() {
-    sed -nE 's/^const USAGE: &str = "usage: (.*)\\n";$/\1/p' "crates/$1_program/src/lib.rt" | tr '[:upper:]' '[:lower:]'
+    grep -rhoE "usage: $1 [^\";\\\\]*" crates/*/src | sed -E 's/^usage: //; s/ +$//' | sort -u | tr '[:upper:]' '[:lower:]'
 }
 
 # What completion offers behind some words.

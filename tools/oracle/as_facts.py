@@ -6,7 +6,8 @@
 writes COUNT bodies (200), chosen from the stored captures and mutated by a
 generator from SEED (1), into CLONE, a throw-away copy of the repository: as
 lemmas proved by `refl` in crates/link_message_grammar/proofs/Made0.antt, .., which
-proofs/Lib.antt then names. `rt check` in that crate's folder computes them; a lemma that fails names a body on which definition and implementation differ. Do so
+proofs/Lib.antt then names. `rt check` in that crate's folder computes them; a
+lemma that fails names a body on which definition and implementation differ. Do so
 whenever a table or a definition moves. Nothing of it is committed.
 """
 import os

@@ -18,10 +18,10 @@ HEAD = """# The rows of all tables
 
 `tools/rows.py` writes this page from the source: kinds, names and payloads from `src/lists.rt` of `link_info_checks` and `link_message_checks`, the variants of a table's type from its `enum`. A kind that a table doesn't list is a raw attribute, `Other(DefaultNla)`: any payload is accepted, and all 16 bits of the kind are kept. A name stands behind the prefix of its table. Numbers are little-endian unless told. [shapes.md](shapes.md) has what the payloads mean, [attributes.md](attributes.md) what a list, ports and a peer are; *written nested* is a kind that is written with the nested bit. A record is a struct of its name, whose docstring has its bytes.
 """
-COLUMNS = "| table | kinds | variants | type and payload |\n|---|---|---|---|"
+COLUMNS = "| table | kinds and variants | type and payload |\n|---|---|---|"
 # The payload behind its type, where the type doesn't say it.
 SHAPES = {
-    "NonzeroByte": "1 byte, not 0",
+    "NonzeroByte": "a truth of 1 byte",
     "OneByte": "1 byte, of which 1 alone is true",
     "TruthOfFour": "a truth of 4 bytes",
     "Presence": "presence",
@@ -218,9 +218,8 @@ def lines_of(name, called, comment, rows, tables, of_all):
     offered = PAIRS.get(name) or OFFERED.get(type_name, type_name)
     first = f"{called}: `{offered}`, {prefix}" + (f" ({header[1]})" if header else "")
     for payload, group in groups.items():
-        names = ", ".join(f"{row[0]} {row[1][len(prefix):]}" for row, _ in group)
-        variants = ", ".join(f"`{variant}`" for _, kinds in group for variant, _ in kinds)
-        yield f"| {first} | {names} | {variants} | {payload} |"
+        names = ", ".join(" ".join([row[0], row[1][len(prefix) :]] + [f"`{variant}`" for variant, _ in kinds]) for row, kinds in group)
+        yield f"| {first} | {names} | {payload} |"
         first = ""
 
 
@@ -236,12 +235,12 @@ def page():
             other = list(rows_of(AS_OF[name], lists)) if name in AS_OF else []
             own = [row for row in rows if row not in other]
             called = ", ".join(kinds.get(number, [f"`{name}`"]))
-            out += lines_of(name, called, lists[name][0], own, tables, of_all) if own else [f"| `{name}` | | | |"]
+            out += lines_of(name, called, lists[name][0], own, tables, of_all) if own else [f"| `{name}` | | |"]
             if other:
                 without = [row[0] for row in other if row[0] not in [each[0] for each in rows]]
                 but = f", without {', '.join(without)}" if without else ""
                 called = ", ".join(kinds.get(tables.index(AS_OF[name]), [f"`{AS_OF[name]}`"]))
-                out.append(f"| | all others as {called}{but} | | |")
+                out.append(f"| | all others as {called}{but} | |")
         out.append("")
     return "\n".join(out)
 

@@ -5,7 +5,8 @@
     tools/rows.py --check    ends with 1 where the page isn't what the lists say
 
 The lists are src/lists.rt of link_info_checks and link_message_checks, and the numbers of tables the order of TABLES in
-src/rows.rt beside them. Only Python is needed.
+src/rows.rt beside them, which has the names of kinds too. A row's variant is that of its type's enum whose docstring begins
+with the row's name, or that `field` gives its constant. Only Python is needed.
 """
 import glob
 import os
@@ -16,9 +17,8 @@ TOP = os.path.join(os.path.dirname(os.path.abspath(__file__)), "..")
 PAGE = os.path.join(TOP, "docs", "rows.md")
 HEAD = """# The rows of all tables
 
-`tools/rows.py` writes this page from the source: kinds, names and payloads from `src/lists.rt` of `link_info_checks` and `link_message_checks`, the variants of a table's type from its `enum`. A kind that a table doesn't list is a raw attribute, `Other(DefaultNla)`: any payload is accepted, and all 16 bits of the kind are kept. A name stands behind the prefix of its table. Numbers are little-endian unless told. [shapes.md](shapes.md) has what the payloads mean, [attributes.md](attributes.md) what a list, ports and a peer are; *written nested* is a kind that is written with the nested bit. A record is a struct of its name, whose docstring has its bytes.
+`tools/rows.py` writes this page from the source: kinds, names and payloads from `src/lists.rt` of `link_info_checks` and `link_message_checks`, the variants of a table's type from its `enum`. A kind that a table doesn't list is a raw attribute, `Other(DefaultNla)`: any payload is accepted, and all 16 bits of the kind are kept. A table has its type, the prefix of its names and their header, then its kinds, each with name and variant, and behind a colon type and payload. Numbers are little-endian unless told. [shapes.md](shapes.md) has what the payloads mean, [attributes.md](attributes.md) what a list, ports and a peer are; *written nested* is a kind that is written with the nested bit. A record is a struct of its name, whose docstring has its bytes.
 """
-COLUMNS = "| table | kinds and variants | type and payload |\n|---|---|---|"
 # The payload behind its type, where the type doesn't say it.
 SHAPES = {
     "NonzeroByte": "a truth of 1 byte",
@@ -213,21 +213,21 @@ def lines_of(name, called, comment, rows, tables, of_all):
     groups = {}
     for row in rows:
         kinds = variants_of(name, row[1], of_type)
+        assert kinds or not of_type, f"no variant of {type_name} names {row[1]}"
         groups.setdefault(payload_of(row, kinds, tables), []).append((row, kinds))
     header = re.search(r"\(([\w/]+\.h)", comment)
     offered = PAIRS.get(name) or OFFERED.get(type_name, type_name)
-    first = f"{called}: `{offered}`, {prefix}" + (f" ({header[1]})" if header else "")
+    yield f"- {called}: `{offered}`, {prefix}" + (f" ({header[1]})" if header else "")
     for payload, group in groups.items():
         names = ", ".join(" ".join([row[0], row[1][len(prefix) :]] + [f"`{variant}`" for variant, _ in kinds]) for row, kinds in group)
-        yield f"| {first} | {names} | {payload} |"
-        first = ""
+        yield f"  - {names}: {payload}"
 
 
 def page():
     out, of_all = [HEAD], enums()
     for title, crate in (("Link messages", "link_message_checks"), ("Data of links and of ports", "link_info_checks")):
         lists, tables, kinds = lists_of(crate), tables_of(crate), kinds_of(crate)
-        out.append(f"## {title}\n\n{COLUMNS}")
+        out.append(f"## {title}\n")
         for number, name in enumerate(tables):
             if not name:
                 continue
@@ -235,12 +235,12 @@ def page():
             other = list(rows_of(AS_OF[name], lists)) if name in AS_OF else []
             own = [row for row in rows if row not in other]
             called = ", ".join(kinds.get(number, [f"`{name}`"]))
-            out += lines_of(name, called, lists[name][0], own, tables, of_all) if own else [f"| `{name}` | | |"]
+            out += lines_of(name, called, lists[name][0], own, tables, of_all) if own else [f"- `{name}`"]
             if other:
                 without = [row[0] for row in other if row[0] not in [each[0] for each in rows]]
                 but = f", without {', '.join(without)}" if without else ""
                 called = ", ".join(kinds.get(tables.index(AS_OF[name]), [f"`{AS_OF[name]}`"]))
-                out.append(f"| | all others as {called}{but} | |")
+                out.append(f"  - all others as {called}{but}")
         out.append("")
     return "\n".join(out)
 

@@ -4,12 +4,12 @@ ghost use Rattle.std.specs.Prelude.{◌≤◌};
 ghost use Rattle.link_capture_engine.specs.Devices.{Rises, TellsItsEnd};
 ghost use Rattle.link_lines.specs.Outcomes.{Shows};
 
+use crate::lines::push_lines;
 use link_capture_engine::{Sink, Source, write_all};
 use link_capture_grammar::fault::{CaptureFault, FaultKind};
 use link_capture_grammar::laws::texts_of_a_prefix_stay;
 use link_capture_reader::CaptureReader;
 use link_lines_texts::laws::lines_are_joined;
-use link_lines_texts::push_lines;
 use std::alloc::Global;
 
 /// Reads a capture to its end, in pieces of at most 65,536 bytes, and writes its lines as the frames come.

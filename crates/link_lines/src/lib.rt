@@ -2,14 +2,16 @@
 #![tactic(auto)]
 
 mod engine;
+mod lines;
 mod whole;
 
 pub use engine::show;
+pub use lines::push_lines;
 pub use link_capture_commands::DEFAULT_LIMIT;
 pub use link_capture_engine::{
     DeviceFailed, ReadSource, Sink, SliceSource, Source, VecSink, WriteSink, read_all, write_all,
 };
 pub use link_capture_grammar::fault::{CaptureFault, FaultKind};
 pub use link_capture_reader::{CaptureReader, normalize_bytes};
-pub use link_lines_texts::{laws, push_lines};
+pub use link_lines_texts::laws;
 pub use whole::show_bytes;

@@ -6,6 +6,7 @@ ghost use Rattle.link_capture_grammar.specs.Same.{SameCapture};
 ghost use Rattle.link_lines.specs.Outcomes.{WantsMemoryAt};
 ghost use Rattle.link_lines_texts.specs.Captures.{lines, text_lines};
 
+use crate::lines::push_lines;
 use link_capture_grammar::fault::{CaptureFault, FaultKind};
 use link_capture_grammar::laws::{
     captures_go_by_frames, frames_stand_alone, joined_captures_have_joined_texts, texts_are_normal,
@@ -13,7 +14,6 @@ use link_capture_grammar::laws::{
 };
 use link_capture_reader::normalize_bytes;
 use link_lines_texts::laws::{accepted_frames_have_lines, lines_are_joined};
-use link_lines_texts::push_lines;
 use std::alloc::{AllocError, Global};
 
 /// Appends the lines of these texts, or nothing where memory is wanting. For no texts none is wanted.

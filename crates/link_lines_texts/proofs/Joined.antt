@@ -2,7 +2,7 @@
 use Rattle.std.proofs.Common.{◌≡◌, ℕ, zero, suc, ◌-◌, ◌<◌, ◌≤◌, Bool, true, false, cond, List, [], ◌∷◌, get_or, Option, refl, sym, ap, ◌∙◌, arith}
 use Rattle.std.specs.Prelude.{◌==◌, ◌&&◌, nat_lt}
 use Rattle.std.proofs.lemmas.Bool.{and_parts, eqb-true, le-ltb, lt-ltb}
-use Rattle.link_lines_texts.specs.Placed.{find}
+use Rattle.link_lines_values.specs.Placed.{find}
 use Rattle.link_lines_texts.specs.Titles.{Name, Title, data_titles, first_name, info_titles, joined, link_rows, link_titles, nested_titles, own_titles, titles_of}
 
 abbrev alike : List Title → List Title → Bool

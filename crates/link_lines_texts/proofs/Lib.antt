@@ -4,12 +4,10 @@ pub mod CapturesTold
 pub mod FrameSteps
 pub mod FramesTold
 pub mod HeadersTold
-pub mod Indents
 pub mod LineCuts
 pub mod LinksTold
 pub mod ListSteps
 pub mod ListsTold
-pub mod Places
 pub mod RowFacts
 pub mod Joined
 pub mod ShapesTold

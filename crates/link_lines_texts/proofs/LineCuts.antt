@@ -6,9 +6,9 @@ use Rattle.std.proofs.lemmas.Bool.{and_parts, leb-true}
 use Rattle.std.proofs.lemmas.List.{append_cancel_left}
 use Rattle.link_lines_values.specs.Laws.{Ends, IsLine}
 use Rattle.link_lines_texts.specs.Coverage.{is_word}
-use Rattle.link_lines_texts.specs.Lists.{indent}
+use Rattle.link_lines_values.specs.Indents.{indent}
 use Rattle.link_lines_texts.specs.Telling.{IsShallow}
-use Rattle.link_lines_texts.proofs.Indents.{one_deeper}
+use Rattle.link_lines_values.proofs.Deeper.{one_deeper}
 
 -- what stands behind a first part
 pub behind : (a x s b y t : List ℕ) → (a ++ x) ++ s ≡ (b ++ y) ++ t → a ++ (x ++ s) ≡ b ++ (y ++ t)

@@ -19,7 +19,8 @@ use Rattle.link_lines_values.specs.Laws.{BytesAreTold, Ends, IsLine, IsBehindASp
 use Rattle.link_lines_values.specs.Values.{value_text}
 use Rattle.link_lines_values.specs.declared.values.ShownBy.TheVariants.{Bytes}
 use Rattle.link_lines_texts.specs.Laws.{ListsGoBySteps}
-use Rattle.link_lines_texts.specs.Lists.{data_inside, indent, inside_table, inside_text, known_inside, list_lines, nested_lines, next_in, of_name, own_line, port_inside, rest_lines, table_inside, titled_table, titled_text}
+use Rattle.link_lines_values.specs.Indents.{indent}
+use Rattle.link_lines_texts.specs.Lists.{data_inside, inside_table, inside_text, known_inside, list_lines, nested_lines, next_in, of_name, own_line, port_inside, rest_lines, table_inside, titled_table, titled_text}
 use Rattle.link_lines_texts.specs.Telling.{IsOwn, IsShallow}
 use Rattle.link_lines_texts.specs.Titles.{Inside, Inside.Value, Inside.Nested, Inside.Data, Inside.PortData, Name, is_inside_on_a_line, of_held, title_of}
 use Rattle.link_lines_texts.proofs.CanonicalLists.{AllOwn, OwnAttribute, own_list}

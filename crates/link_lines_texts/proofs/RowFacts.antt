@@ -1,15 +1,12 @@
 -- Titles in code and what they say.
-use Rattle.std.proofs.Common.{◌≡◌, ℕ, zero, suc, ◌<◌, ◌≤◌, Bool, true, false, cond, List, [], ◌∷◌, length, get_or, map, Bor, Option, refl, ap, ◌∙◌}
+use Rattle.std.proofs.Common.{◌≡◌, ℕ, Bool, true, false, cond, List, [], ◌∷◌, Bor, Option, refl, ap, ◌∙◌}
 use Rattle.std.specs.Prelude.{◌==◌, option_map}
-use Rattle.std.specs.List.{list_all}
-use Rattle.std.proofs.lemmas.Bool.{and_parts}
-use Rattle.std.proofs.lemmas.List.{get_or-map}
 use Rattle.attribute_checks.specs.Names.{names_fit}
 use Rattle.link_info_checks.specs.declared.rows.TheConstants.{KINDS, PORT_KINDS}
 use Rattle.link_lines_values.specs.declared.fields.FieldOf.{FieldOf}
 use Rattle.link_lines_values.specs.declared.values.ShownBy.{ShownBy}
 use Rattle.link_lines_texts.specs.declared.titles.BehindBy.{BehindBy}
-use Rattle.link_lines_texts.specs.Placed.{are_dense, find}
+use Rattle.link_lines_values.specs.Placed.{find}
 use Rattle.link_lines_texts.specs.Titles.{Name, Title, said, viewed}
 
 pub kinds_within : names_fit KINDS ≡ true

@@ -7,7 +7,7 @@ use Rattle.std.proofs.lemmas.Option.{same_Some}
 use Rattle.std.proofs.lemmas.Slice.Eq.{bytes_eq-Decides}
 use Rattle.attribute_checks.proofs.LookUps.{all_at}
 use Rattle.link_lines_texts.specs.Coverage.{all_titles, has_line, has_name, if_named, in_each, is_name, is_new, is_other, is_word, names_apart}
-use Rattle.link_lines_texts.specs.Placed.{find}
+use Rattle.link_lines_values.specs.Placed.{find}
 use Rattle.link_lines_texts.specs.Titles.{Name, Title, data_titles, link_titles, nested_titles, title_of, titles_of}
 use Rattle.link_lines_texts.proofs.LineCuts.{IsWord, Starts, word_of}
 use Rattle.link_lines_texts.proofs.ListsTold.{NamesTold}

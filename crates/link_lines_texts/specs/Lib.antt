@@ -4,6 +4,5 @@ pub mod Frames
 pub mod Laws
 pub mod Lists
 pub mod Telling
-pub mod Placed
 pub mod Titles
 pub mod Views

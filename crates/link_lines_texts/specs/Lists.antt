@@ -1,20 +1,17 @@
 -- The lines of a list of attributes: one for each, and behind that of a list those of its own attributes, one level deeper.
-use Rattle.std.specs.Prelude.{ℕ, zero, suc, ◌+◌, ◌*◌, ◌==◌, cond, List, [], ◌∷◌, ◌++◌, length, replicate, codes, Option, Some, None}
+use Rattle.std.specs.Prelude.{ℕ, zero, suc, ◌+◌, ◌==◌, cond, List, [], ◌∷◌, ◌++◌, length, codes, Option, Some, None}
 use Rattle.netlink_packet_core_grammar.specs.Attributes.{Attribute, proper_kind, first_attribute}
 use Rattle.attribute_checks.specs.declared.names.NameRow.{NameRow}
 use Rattle.attribute_checks.specs.Names.{held_by_name}
 use Rattle.attribute_tables_grammar.specs.Lists.{Context, nothing}
 use Rattle.attribute_tables_grammar.specs.Tables.{info_next}
 use Rattle.link_lines_values.specs.Bytes.{bytes_text}
+use Rattle.link_lines_values.specs.Indents.{indent}
 use Rattle.link_lines_values.specs.Digits.{four_digits}
 use Rattle.link_lines_values.specs.Values.{value_text}
 use Rattle.link_lines_values.specs.declared.values.ShownBy.TheVariants.{Bytes}
 use Rattle.link_info_checks.specs.declared.rows.TheConstants.{KINDS, PORT_KINDS}
 use Rattle.link_lines_texts.specs.Titles.{Inside, Inside.Value, Inside.Nested, Inside.Data, Inside.PortData, Name, of_held, title_of}
-
--- two spaces for each level
-abbrev pub indent : ℕ → List ℕ
-indent level = replicate (2 * level) 32
 
 -- what is in force after an attribute: in link info, which is table 19, its names
 abbrev pub next_in : ℕ → Context → Attribute → Context

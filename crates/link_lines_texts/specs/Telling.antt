@@ -10,7 +10,8 @@ use Rattle.link_capture_grammar.specs.Bodies.{body_text}
 use Rattle.link_lines_values.specs.Values.{Shown, value_text}
 use Rattle.link_lines_texts.specs.Coverage.{shape_tells}
 use Rattle.link_lines_texts.specs.Frames.{family_table, frame_lines}
-use Rattle.link_lines_texts.specs.Lists.{indent, list_lines}
+use Rattle.link_lines_values.specs.Indents.{indent}
+use Rattle.link_lines_texts.specs.Lists.{list_lines}
 
 -- bytes that a rule accepts and leaves as they are
 pub record IsOwn (r : Rule) (p : List ℕ) : Type 0 where

@@ -10,7 +10,7 @@ use Rattle.link_lines_texts.specs.declared.titles.BehindBy.{BehindBy}
 use Rattle.link_lines_texts.specs.declared.titles.BehindBy.TheVariants as B
 use Rattle.link_lines_texts.specs.declared.data_titles.TheConstants.{AMT_TITLES, BAREUDP_TITLES, BATADV_TITLES, GENEVE_TITLES, GRE_TITLES, GRE6_TITLES, GTP_TITLES, IPOIB_TITLES, IPVLAN_TITLES, IP4_TUNNEL_TITLES, IP6_TUNNEL_TITLES, MACVLAN_TITLES, MACVLAN_ADDRESS_TITLES, MACSEC_TITLES, NETKIT_TITLES, VETH_TITLES, RMNET_TITLES, VRF_TITLES, WWAN_TITLES, XFRM_TITLES, VTI_TITLES, VXLAN_TITLES, VXCAN_TITLES}
 use Rattle.link_lines_texts.specs.declared.message_titles.TheConstants.{XDP_TITLES, PROPS_TITLES, PROTOCOL_DOWN_REASON_TITLES, DEVLINK_PORT_TITLES, DPLL_PIN_TITLES, MCTP_TITLES, AF_INET_TITLES, AF_INET6_TITLES, SPECIFIC_TITLES, VF_STATS_TITLES, VF_VLANS_TITLES, VF_TITLES, VF_INFOS_TITLES, VF_PORTS_TITLES, LINK_TITLES, UNSPEC_OWN, BRIDGE_OWN, INET6_OWN, OTHER_OWN, INFO_TITLES}
-use Rattle.link_lines_texts.specs.Placed.{find}
+use Rattle.link_lines_values.specs.Placed.{find}
 
 -- what stands behind an attribute's name: the value of the payload, or, below it, the attributes of a table, or of the one that a name in force tells
 pub data Inside : Type 0 where

@@ -4,7 +4,8 @@ ghost use Rattle.std.specs.Prelude.{◌≡◌, ◌<◌, ◌≤◌, ◌+◌, ◌^
 ghost use Rattle.netlink_packet_core_grammar.specs.Attributes.{first_attribute, proper_kind};
 ghost use Rattle.attribute_tables_grammar.specs.Tables.{info_next};
 ghost use Rattle.link_lines_texts.specs.Titles.{inside_of, of_held};
-ghost use Rattle.link_lines_texts.specs.Lists.{indent, next_in, data_inside, port_inside, known_inside, inside_text};
+ghost use Rattle.link_lines_values.specs.Indents.{indent};
+ghost use Rattle.link_lines_texts.specs.Lists.{next_in, data_inside, port_inside, known_inside, inside_text};
 ghost use Rattle.link_lines_texts.specs.Lists.{inside_table, own_line, table_inside, list_lines};
 ghost use Rattle.link_lines_texts.specs.Views.{in_force, attribute_of};
 
@@ -12,7 +13,7 @@ use crate::laws::lists_go_by_steps;
 use crate::titles::{Behind, BehindBy, DATA, LINK_INFO, title_of};
 use attribute_checks::{Held, held_by_name};
 use link_info_checks::{KINDS, PORT_KINDS};
-use link_lines_values::{ShownBy, push_bytes, push_four_digits, push_value};
+use link_lines_values::{ShownBy, push_bytes, push_four_digits, push_indent, push_value};
 use netlink_packet_core::{NlaBuffer, skip_first};
 use netlink_packet_core_grammar::laws::{first_attributes_are_viewed, first_attributes_are_within};
 use netlink_packet_core_numbers::without_nul;
@@ -128,23 +129,6 @@ fn known_behind(force: InForce<'_>, behind: Behind) -> Behind
         BehindBy::PortData => port_behind(force.port_kind),
         _ => behind,
     }
-}
-
-/// What lines of the first levels begin with.
-const SPACES: [u8; 16] = [b' '; 16];
-
-/// Appends so many levels of two spaces.
-#[tactic(auto, using(crate::proofs::Indents::spaces))]
-fn push_indent(level: usize, out: &mut Vec<u8>) -> Result<(), AllocError>
-    ensures ok { OnOk result (out.new.items ≡ out.old.items ++ indent level) }
-{
-    if level <= 8 {
-        return out.extend_from_slice(&SPACES[..2 * level]);
-    }
-    for _ in 0..level {
-        out.extend_from_slice(b"  ")?;
-    }
-    Ok(())
 }
 
 /// Appends what stands behind an attribute's name. The answer is the table of the list in it, where it holds one.

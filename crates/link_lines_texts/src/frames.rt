@@ -8,10 +8,8 @@ ghost use Rattle.link_lines_values.specs.Names.{named_number, texts_of};
 ghost use Rattle.link_lines_texts.specs.Frames.{labelled, type_text, flag_names, header_line, family_table, link_flag_names};
 ghost use Rattle.link_lines_texts.specs.Frames.{link_numbers, link_flags, link_lines, bytes_line, code_lines};
 ghost use Rattle.link_lines_texts.specs.Frames.{body_lines, frame_lines};
-ghost use Rattle.link_lines_texts.specs.Captures.{is_frame, text_lines};
 
 use crate::attributes::push_list;
-use crate::laws::lines_go_by_frames;
 use link_lines_values::{
     ADDRESS_FAMILY, FlagName, FlagNames, LINK_FLAGS, LINK_LAYER_TYPE, MESSAGE_ACK_FLAGS,
     MESSAGE_CREATE_FLAGS, MESSAGE_DELETE_FLAGS, MESSAGE_FLAGS, MESSAGE_GET_FLAGS, MESSAGE_TYPE,
@@ -213,53 +211,11 @@ fn push_body(message_type: u16, body: &[u8], out: &mut Vec<u8>) -> Result<(), Al
 
 /// Appends the lines of a frame, of which these are all bytes without the padding.
 #[tactic(auto, unfolding(crate::specs::Frames::frame_lines))]
-fn push_frame(frame: &[u8], out: &mut Vec<u8>) -> Result<(), AllocError>
+pub fn push_frame(frame: &[u8], out: &mut Vec<u8>) -> Result<(), AllocError>
     requires { 16 ≤ length frame.now }
     ensures ok { OnOk result (out.new.items ≡ out.old.items ++ frame_lines frame.now) }
 {
     push_header(frame, out)?;
     let message_type = NetlinkBuffer::new(frame).message_type();
     push_body(message_type, &frame[NETLINK_HEADER_LEN..], out)
-}
-
-/// The length of the frame in front of some bytes, where they hold a whole one.
-fn frame_len(bytes: &[u8]) -> Option<usize>
-    ensures some { IfSome result (λ n. (is_frame bytes.now ≡ true) × (n ≡ frame_length bytes.now)) }
-    ensures none { IfNone result (is_frame bytes.now ≡ false) }
-    ensures bounds { IfSome result (λ n. (16 ≤ n) × (n ≤ length bytes.now) × (n < 2 ^ 32)) }
-{
-    if bytes.len() < NETLINK_HEADER_LEN {
-        return None;
-    }
-    let size = NetlinkBuffer::new(bytes).length() as usize;
-    if size < NETLINK_HEADER_LEN || size > bytes.len() {
-        return None;
-    }
-    Some(size)
-}
-
-/// What follows a frame of this length, and its padding.
-fn behind(bytes: &[u8], size: usize) -> &[u8]
-    requires { size < 2 ^ 32 }
-    ensures { result.now ≡ drop (nla_align size) bytes.now }
-{
-    let end = nla_align(size);
-    if end < bytes.len() {
-        &bytes[end..]
-    } else {
-        &[]
-    }
-}
-
-/// Appends the lines of these bytes, which are read as normal text, up to where no whole frame stands.
-pub fn push_lines(texts: &[u8], out: &mut Vec<u8>) -> Result<(), AllocError>
-    ensures ok { OnOk result (out.new.items ≡ out.old.items ++ text_lines texts.now) }
-{
-    lines_go_by_frames();
-    let mut rest = texts;
-    while let Some(size) = frame_len(rest) {
-        push_frame(&rest[..size], out)?;
-        rest = behind(rest, size);
-    }
-    Ok(())
 }

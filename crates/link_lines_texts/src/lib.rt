@@ -1,4 +1,4 @@
-// The lines of normal texts.
+// The lines of messages as normal texts have them.
 #![tactic(auto)]
 
 mod attributes;
@@ -6,7 +6,6 @@ mod data_titles;
 mod frames;
 pub mod laws;
 mod message_titles;
-mod placed;
 mod titles;
 
-pub use frames::push_lines;
+pub use frames::push_frame;

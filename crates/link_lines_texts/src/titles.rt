@@ -1,14 +1,13 @@
 //! What attributes are called, and what stands behind their names, by table and kind.
 
 ghost use Rattle.std.specs.Prelude.{◌≡◌, ◌<◌, ◌≤◌, ◌⊎◌, true, [], get_or, option_map};
-ghost use Rattle.link_lines_texts.specs.Placed.{are_dense, find};
+ghost use Rattle.link_lines_values.specs.Placed.{are_dense, find};
 ghost use Rattle.link_lines_texts.specs.Titles.{data_titles, info_titles, link_rows, link_titles, nested_titles, own_titles};
 ghost use Rattle.link_lines_texts.specs.Titles.{said, title_of, titles_of, viewed};
 
-use crate::placed::look_up;
 use crate::{data_titles, message_titles};
 use attribute_checks::Form;
-use link_lines_values::Shown;
+use link_lines_values::{Shown, look_up};
 
 /// What stands behind an attribute's name, with forms of that type.
 #[derive(Clone, Copy)]

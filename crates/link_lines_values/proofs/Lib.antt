@@ -8,3 +8,5 @@ mod ValuesTold
 mod RecordsTold
 mod OneLine
 mod SizesTold
+pub mod Deeper
+pub mod Places

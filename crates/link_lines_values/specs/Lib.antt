@@ -5,3 +5,5 @@ pub mod Flags
 pub mod Records
 pub mod Values
 pub mod Laws
+pub mod Indents
+pub mod Placed

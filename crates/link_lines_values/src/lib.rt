@@ -6,9 +6,11 @@ mod bytes;
 mod digits;
 mod fields;
 mod flags;
+mod indents;
 pub mod laws;
 mod number_texts;
 mod numbers;
+mod placed;
 mod records;
 #[cfg(test)]
 mod tests;
@@ -25,6 +27,7 @@ pub use flags::{
     FlagName, FlagNames, LINK_FLAGS, MESSAGE_ACK_FLAGS, MESSAGE_CREATE_FLAGS, MESSAGE_DELETE_FLAGS,
     MESSAGE_FLAGS, MESSAGE_GET_FLAGS, push_flags,
 };
+pub use indents::push_indent;
 pub use number_texts::{
     ADDRESS_FAMILY, AMT_MODE, ER_SPAN_DIR, ETHERNET_PROTOCOL, GENEVE_DF, GRE_ENCAP_TYPE, GTP_ROLE,
     IN6_ADDR_GEN_MODE, IP_VLAN_MODE, LINK_LAYER_TYPE, LINK_MODE, MAC_VLAN_MODE, MCTP_PHYS_BINDING,
@@ -32,4 +35,5 @@ pub use number_texts::{
     TUNNEL_ENCAP_TYPE, VXLAN_DF,
 };
 pub use numbers::{push_name, push_number};
+pub use placed::look_up;
 pub use values::{Shown, ShownBy, push_value};

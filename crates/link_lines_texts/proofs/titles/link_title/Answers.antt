@@ -1,5 +1,5 @@
 use Rattle.std.proofs.Common.{[], get_or, None, Some, sym, ap, ◌∙◌}
-use Rattle.link_lines_texts.specs.Placed.{find}
+use Rattle.link_lines_values.specs.Placed.{find}
 use Rattle.link_lines_texts.specs.Titles.{first_name, link_rows, own_titles}
 use Rattle.link_lines_texts.proofs.Joined.{link_found}
 use Rattle.link_lines_texts.proofs.RowFacts.{at_kind}

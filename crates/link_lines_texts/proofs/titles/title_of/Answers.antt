@@ -1,6 +1,6 @@
-use Rattle.std.proofs.Common.{[], get_or, ◌-◌, sym, ap, ◌∙◌}
-use Rattle.link_lines_texts.specs.Placed.{find}
-use Rattle.link_lines_texts.specs.Titles.{link_titles, title_of, titles_of}
+use Rattle.std.proofs.Common.{sym, ap, ◌∙◌}
+use Rattle.link_lines_values.specs.Placed.{find}
+use Rattle.link_lines_texts.specs.Titles.{title_of, titles_of}
 use Rattle.link_lines_texts.proofs.Joined.{of_family}
 use Rattle.link_lines_texts.proofs.RowFacts.{at_kind}
 use Rattle.link_lines_texts.proofs.titles.title_of.Goals as goal

@@ -1,8 +1,8 @@
 -- One level more.
 use Rattle.std.proofs.Common.{◌≤◌, take, ◌≡◌, ℕ, zero, suc, ◌+◌, ◌*◌, [], ◌∷◌, ◌++◌, refl, ap, ◌∙◌, arith}
 use Rattle.std.specs.Prelude.{replicate}
-use Rattle.link_lines_texts.specs.declared.attributes.TheConstants.{SPACES}
-use Rattle.link_lines_texts.specs.Lists.{indent}
+use Rattle.link_lines_values.specs.declared.indents.TheConstants.{SPACES}
+use Rattle.link_lines_values.specs.Indents.{indent}
 
 two_more : (n : ℕ) → ◌++◌ {A = ℕ} (replicate n 32) (32 ∷ 32 ∷ []) ≡ 32 ∷ 32 ∷ replicate n 32
 two_more zero = refl

@@ -1,6 +1,6 @@
 use Rattle.std.proofs.Common.{refl}
-use Rattle.link_lines_texts.proofs.Places.{none_below, found_at, none_past}
-use Rattle.link_lines_texts.proofs.placed.look_up.Goals as goal
+use Rattle.link_lines_values.proofs.Places.{none_below, found_at, none_past}
+use Rattle.link_lines_values.proofs.placed.look_up.Goals as goal
 
 pub returns-then-kind-first : goal.returns-then-kind-first
 returns-then-kind-first g c = none_below c.args.rows.now _ _ c.args.kind refl c.requires c.if-kind-first.true

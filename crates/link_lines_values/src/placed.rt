@@ -1,7 +1,7 @@
 //! The look-up of a kind in rows that stand by place.
 
 ghost use Rattle.std.specs.Prelude.{◌≡◌, true};
-ghost use Rattle.link_lines_texts.specs.Placed.{are_dense, find};
+ghost use Rattle.link_lines_values.specs.Placed.{are_dense, find};
 
 /// What stands behind a kind, where its row has anything: each row stands as far behind the first as its kind is above
 /// the first one's.

@@ -1,6 +1,6 @@
 use Rattle.std.proofs.Common.{◌≡◌, ◌++◌, ◌≤◌}
-use Rattle.link_lines_texts.specs.Lists.{indent}
-use Rattle.link_lines_texts.proofs.attributes.push_indent.Given as goal
+use Rattle.link_lines_values.specs.Indents.{indent}
+use Rattle.link_lines_values.proofs.indents.push_indent.Given as goal
 
 abbrev pub invariant-loop : goal.invariant-loop
 invariant-loop l = record {

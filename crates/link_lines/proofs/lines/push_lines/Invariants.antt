@@ -1,6 +1,6 @@
 use Rattle.std.proofs.Common.{◌≡◌, ◌++◌, length}
 use Rattle.link_lines_texts.specs.Captures.{text_lines}
-use Rattle.link_lines_texts.proofs.frames.push_lines.Given as goal
+use Rattle.link_lines.proofs.lines.push_lines.Given as goal
 
 abbrev pub invariant-loop-size : goal.invariant-loop-size
 invariant-loop-size l = l.out.items ++ text_lines l.rest ≡ l.fn.out.items ++ text_lines l.fn.texts

@@ -2,7 +2,7 @@
 use Rattle.std.proofs.Common.{◌≡◌, ℕ, zero, suc, ◌+◌, ◌-◌, ◌<◌, ◌≤◌, true, cond, List, [], ◌∷◌, length, get_or, None, Option, refl, sym, ap, ◌∙◌, arith}
 use Rattle.std.specs.Prelude.{◌&&◌, ◌==◌}
 use Rattle.std.proofs.lemmas.Bool.{and_parts, eqb-true, eq-eqb, ne_eqb}
-use Rattle.link_lines_texts.specs.Placed.{are_dense, find, stand_from}
+use Rattle.link_lines_values.specs.Placed.{are_dense, find, stand_from}
 
 module _ {A : Type 0} where
   other : (t : ℕ × Option A) (ts : List (ℕ × Option A)) (k : ℕ) → (t.0 ≡ k → ⊥) → find k ts ≡ find k (t ∷ ts)

@@ -1,7 +1,7 @@
 use Rattle.std.proofs.Common.{◌≡◌, ◌∷◌, [], ◌++◌, ap, ◌∙◌, append_assoc, arith, rules}
-use Rattle.link_lines_texts.specs.Lists.{indent}
-use Rattle.link_lines_texts.proofs.Indents.{one_deeper}
-use Rattle.link_lines_texts.proofs.attributes.push_indent.Goals as goal
+use Rattle.link_lines_values.specs.Indents.{indent}
+use Rattle.link_lines_values.proofs.Deeper.{one_deeper}
+use Rattle.link_lines_values.proofs.indents.push_indent.Goals as goal
 
 pub loop-preserved : goal.loop-preserved
 loop-preserved c =

@@ -2,7 +2,7 @@ use Rattle.std.proofs.Common.{◌≡◌, ◌++◌, take, drop, ap, sym, ◌∙�
 use Rattle.netlink_packet_core_grammar.specs.Attributes.{nla_align}
 use Rattle.link_lines_texts.specs.Frames.{frame_lines}
 use Rattle.link_lines_texts.specs.Captures.{text_lines}
-use Rattle.link_lines_texts.proofs.frames.push_lines.Goals as goal
+use Rattle.link_lines.proofs.lines.push_lines.Goals as goal
 
 pub loop-size-preserved : goal.loop-size-preserved
 loop-size-preserved c =

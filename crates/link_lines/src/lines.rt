@@ -1,0 +1,53 @@
+//! The lines of normal texts.
+
+ghost use Rattle.std.specs.Prelude.{◌≡◌, ◌<◌, ◌≤◌, ◌^◌, ◌++◌, true, false, length, drop, OnOk, IfSome, IfNone};
+ghost use Rattle.netlink_packet_core_grammar.specs.Attributes.{nla_align};
+ghost use Rattle.netlink_packet_core.specs.Frames.{frame_length};
+ghost use Rattle.link_lines_texts.specs.Captures.{is_frame, text_lines};
+
+use link_lines_texts::laws::lines_go_by_frames;
+use link_lines_texts::push_frame;
+use netlink_packet_core::{NETLINK_HEADER_LEN, NetlinkBuffer, nla_align};
+use std::alloc::AllocError;
+
+/// The length of the frame in front of some bytes, where they hold a whole one.
+fn frame_len(bytes: &[u8]) -> Option<usize>
+    ensures some { IfSome result (λ n. (is_frame bytes.now ≡ true) × (n ≡ frame_length bytes.now)) }
+    ensures none { IfNone result (is_frame bytes.now ≡ false) }
+    ensures bounds { IfSome result (λ n. (16 ≤ n) × (n ≤ length bytes.now) × (n < 2 ^ 32)) }
+{
+    if bytes.len() < NETLINK_HEADER_LEN {
+        return None;
+    }
+    let size = NetlinkBuffer::new(bytes).length() as usize;
+    if size < NETLINK_HEADER_LEN || size > bytes.len() {
+        return None;
+    }
+    Some(size)
+}
+
+/// What follows a frame of this length, and its padding.
+fn behind(bytes: &[u8], size: usize) -> &[u8]
+    requires { size < 2 ^ 32 }
+    ensures { result.now ≡ drop (nla_align size) bytes.now }
+{
+    let end = nla_align(size);
+    if end < bytes.len() {
+        &bytes[end..]
+    } else {
+        &[]
+    }
+}
+
+/// Appends the lines of these bytes, which are read as normal text, up to where no whole frame stands.
+pub fn push_lines(texts: &[u8], out: &mut Vec<u8>) -> Result<(), AllocError>
+    ensures ok { OnOk result (out.new.items ≡ out.old.items ++ text_lines texts.now) }
+{
+    lines_go_by_frames();
+    let mut rest = texts;
+    while let Some(size) = frame_len(rest) {
+        push_frame(&rest[..size], out)?;
+        rest = behind(rest, size);
+    }
+    Ok(())
+}

@@ -12,6 +12,8 @@ mod nested;
 #[cfg(test)]
 mod records;
 #[cfg(test)]
+mod single_attributes;
+#[cfg(test)]
 mod types;
 #[cfg(test)]
 mod virtual_functions;

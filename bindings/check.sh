@@ -78,14 +78,16 @@ page_in_c() {
     [ $? -eq 2 ] && [ "$(cat "$work/fault")" = "cut frame at 0" ] && [ ! -s "$work/text" ]
 }
 
-# The page's program over what install.sh installs, and the programs beside it.
+# What ./install installs: the page's program over the library, the programs, manuals and completion.
 installed() {
-    bindings/c/install.sh "$work/prefix" || return
+    ./install "$work/prefix" || return
     export PKG_CONFIG_PATH=$work/prefix/lib/pkgconfig
     "$cc" -o "$work/installed" "$work/norm.c" $(pkg-config --cflags --libs linkcap) "-Wl,-rpath,$work/prefix/lib" || return
     "$work/installed" < samples/req-veth.bin | cmp - samples/req-veth.bin || return
     "$work/prefix/bin/linkcap" norm < samples/req-veth.bin | cmp - samples/req-veth.bin || return
-    "$work/prefix/bin/linkshow" < samples/req-veth.bin | cmp - samples/req-veth.lines
+    "$work/prefix/bin/linkshow" < samples/req-veth.bin | cmp - samples/req-veth.lines || return
+    cmp man/linkshow.1 "$work/prefix/share/man/man1/linkshow.1" || return
+    bash -c '. "$1"; complete -p linkcap linkshow' - "$work/prefix/share/bash-completion/completions/linkcap"
 }
 
 test_c() {

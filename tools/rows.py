@@ -5,8 +5,10 @@
     tools/rows.py --check    ends with 1 where the page isn't what the lists say
 
 The lists are src/lists.rt of link_info_checks and link_message_checks, and the numbers of tables the order of TABLES in
-src/rows.rt beside them. Only Python is needed.
+src/rows.rt beside them, which has the names of kinds too. A row's variant is that of its type's enum whose docstring begins
+with the row's name, or that `field` gives its constant. Only Python is needed.
 """
+import glob
 import os
 import re
 import sys
@@ -15,35 +17,63 @@ TOP = os.path.join(os.path.dirname(os.path.abspath(__file__)), "..")
 PAGE = os.path.join(TOP, "docs", "rows.md")
 HEAD = """# The rows of all tables
 
-`tools/rows.py` writes this page from the lists of `link_info_checks` and `link_message_checks` (`src/lists.rt`). A kind that a table doesn't list is raw. What the words mean stands in [shapes.md](shapes.md) and [attributes.md](attributes.md), and how values look in [showing.md](showing.md).
+`tools/rows.py` writes this page from the source: kinds, names and payloads from `src/lists.rt` of `link_info_checks` and `link_message_checks`, the variants of a table's type from its `enum`. A kind that a table doesn't list is a raw attribute, `Other(DefaultNla)`: any payload is accepted, and all 16 bits of the kind are kept. A table has its type, the prefix of its names and their header, then its kinds, each with name and variant, and behind a colon type and payload. Numbers are little-endian unless told. [shapes.md](shapes.md) has what the payloads mean, [attributes.md](attributes.md) what a list, ports and a peer are; *written nested* is a kind that is written with the nested bit. A record is a struct of its name, whose docstring has its bytes.
 """
+# The payload behind its type, where the type doesn't say it.
 SHAPES = {
     "NonzeroByte": "a truth of 1 byte",
-    "OneByte": "a truth of 1 byte, of which 1 alone is true",
+    "OneByte": "1 byte, of which 1 alone is true",
     "TruthOfFour": "a truth of 4 bytes",
     "Presence": "presence",
     "Text": "text",
-    "Raw": "bytes",
-    "IdAndTruth": "4 bytes and a truth of 4 bytes",
+    "Raw": "any bytes",
+    "IdAndTruth": "4 bytes and a truth of 4",
     "Peer": "a peer",
-    "LinkInfo": "link info",
+    "LinkInfo": "[link info](link_info.md), not empty",
 }
 FORMS = {"Any": "a list", "OfKindOne": "a list of kind 1", "Ports": "ports", "NonEmpty": "a list with an attribute"}
-SHOWN = {
-    "Signed": "number with its sign",
-    "Flags": "flags",
-    "BigEndianFlags": "flags, big-endian",
-    "FlagsBySize": "flags, of 2 bytes big-endian",
-    "FlagsAndMask": "flags and mask",
-    "Truth": "truth",
-    "Presence": "nothing",
-    "OptionalByte": "number, or nothing",
-    "Text": "text",
-    "Bytes": "bytes",
-    "HardwareAddress": "hardware address",
-    "Address": "address",
-    "PortRange": "two port numbers",
+# The types whose values tell the size of the payload themselves.
+SIZED = {
+    "u8": "1 byte",
+    "u16": "2 bytes",
+    "u32": "4 bytes",
+    "i32": "4 bytes",
+    "u64": "8 bytes",
+    "[u8; 6]": "6 bytes",
+    "Ipv4Addr": "4 bytes",
+    "Ipv6Addr": "16 bytes",
+    "IpAddr": "4 or 16 bytes",
+    "String": "text",
+    "Vec<u8>": "any bytes",
 }
+# The types of tables whose lists have another name.
+TYPES = {
+    "ip4_tunnel": "InfoIpTunnel",
+    "ip6_tunnel": "InfoIpTunnel",
+    "ipvlan": "IpVlanData",
+    "link_bridge": "LinkAttribute",
+    "link_inet6": "LinkAttribute",
+    "link_other": "LinkAttribute",
+    "link_unspec": "LinkAttribute",
+    "macvlan_address": "InfoMacVlan",
+    "props": "Prop",
+    "protocol_down_reason": "LinkProtocolDownReason",
+    "specific": "AfSpecUnspec",
+    "veth": "PairData",
+    "vf": "VfInfo",
+    "vf_infos": "LinkVfInfo",
+    "vf_ports": "LinkVfPort",
+    "vf_vlans": "VfVlan",
+    "vrf": "InfoVrf",
+    "vxcan": "PairData",
+}
+# The names under which a type is offered, where its own is another.
+OFFERED = {"IpVlanData": "InfoIpVlan`, `InfoIpVtap", "InfoMacVlan": "InfoMacVlan`, `InfoMacVtap", "InfoVrf": "InfoVrf`, `InfoVrfPort"}
+PAIRS = {"veth": "InfoVeth", "vxcan": "InfoVxcan"}
+# The families of the tables whose variants go by them.
+FAMILY = {"link_unspec": "Unspec", "link_bridge": "Bridge", "link_inet6": "Inet6"}
+# Tables of which another one has most rows.
+AS_OF = {"ip6_tunnel": "ip4_tunnel", "macvlan_address": "macvlan", "link_bridge": "link_unspec", "link_inet6": "link_unspec", "link_other": "link_unspec"}
 
 
 def words(held, tables):
@@ -53,7 +83,7 @@ def words(held, tables):
     name, numbers = shape[1], shape[2].split(", ")
     if name == "List":
         inside = tables[int(numbers[1])]
-        return FORMS[numbers[0]] + (f" of [{inside}](#{inside})" if inside else " of raw attributes")
+        return FORMS[numbers[0]] + (f" of `{inside}`" if inside else " of raw attributes")
     if name == "Exact":
         return "1 byte" if numbers == ["1"] else f"{numbers[0]} bytes"
     return {
@@ -64,15 +94,56 @@ def words(held, tables):
     }[name].format(*numbers)
 
 
-def shown_as(form):
-    texts = re.fullmatch(r"(\w+)\((\w+)\)", form)
-    if not texts:
-        return SHOWN[form]
-    kind, of = texts[1], texts[2]
-    if kind in ("Number", "BigEndian"):
-        order = ", big-endian" if kind == "BigEndian" else ""
-        return "number" + order + ("" if of.lower() == "plain" else f", with the names of `{of}`")
-    return f"fields of `{of}`" + (" that aren't 0" if kind == "SparseRecord" else "")
+def enums():
+    """Each enum of attributes by its name: the variants of each constant, each with its type or None."""
+    found = {}
+    for path in sorted(glob.glob(os.path.join(TOP, "crates", "link_*", "src", "*.rt"))):
+        text = open(path, encoding="utf-8").read()
+        for name, body in re.findall(r"pub enum (\w+)[^{\n]*\{\n(.*?)\n\}", text, re.S):
+            of = found.setdefault(name, {})
+            for doc, variant, kind in re.findall(r"((?:    /// [^\n]*\n)+)    (\w+)(?:\(([^\n]*)\))?,\n", body + "\n"):
+                told = re.match(r"(?:`[A-Z0-9_]+`(?:, | or | and )?)+", doc.replace("    /// ", ""))
+                constants = re.findall(r"`(\w+)`", told[0]) if told else re.findall(rf"Self::{variant}\(\w+\) => \((\w+)", text)
+                for constant in constants:
+                    of.setdefault(constant, []).append((variant, kind or None))
+    return found
+
+
+def type_of(name, of_all):
+    if name in TYPES:
+        return TYPES[name]
+    camel = "".join(word.capitalize() for word in name.split("_"))
+    candidates = [camel, "Info" + camel, "Link" + camel, "AfSpec" + camel]
+    known = {each.lower(): each for each in of_all}
+    return next(known[each.lower()] for each in candidates if each.lower() in known)
+
+
+def variants_of(table, constant, of_type):
+    """The variants that a kind is read as under a table: those that are written and never read are left out."""
+    variants = [each for each in of_type.get(constant, []) if not each[0].endswith("Request")]
+    by_family = [each for each in variants if each[0].endswith(FAMILY.get(table, "Unknown"))]
+    if table.startswith("link_") and len(variants) > 1:
+        return by_family or [each for each in variants if each[0].endswith("Unknown")]
+    if table.startswith("ip") and table.endswith("_tunnel") and len(variants) > 1:
+        return [each for each in variants if (each[0] == "Ipv6Flags") == (table == "ip6_tunnel")]
+    return variants
+
+
+def payload_of(row, kinds, tables):
+    """The type and the payload of a row, in words."""
+    held, shown, nested = row[2], row[3] or "", row[4]
+    told = words(held, tables)
+    types = dict.fromkeys(kind for _, kind in kinds)
+    out = " or ".join(f"`{kind}`" if kind else "none" for kind in types)
+    if out == "none":
+        out = told
+    elif not types or not all(SIZED.get(kind) == told for kind in types):
+        out = ", ".join(part for part in (out, told) if part)
+    if re.match("BigEndian|PortRange", shown) or (shown == "FlagsBySize" and held == "Exact(2)"):
+        out += ", big-endian"
+    if shown == "FlagsAndMask":
+        out += ": flags, then their mask"
+    return out + (", written nested" if nested else "")
 
 
 def lists_of(crate):
@@ -117,23 +188,60 @@ def tables_of(crate):
     return [name or None for name in re.findall(r"&(?:crate::(\w+)!|\[\])", array)]
 
 
+def kinds_of(crate):
+    """The names of kinds, and of kinds of ports, by the number of their table."""
+    text = open(os.path.join(TOP, "crates", crate, "src", "rows.rt"), encoding="utf-8").read()
+    found = {}
+    for array, ports in re.findall(r"pub const (PORT_)?KINDS: .*?= \[(.*?)\n\];", text, re.S):
+        for name, number in re.findall(r'NameRow\(\d+, \*b"([a-z0-9_]+).*?List\(\w+, (\d+)\)', ports):
+            found.setdefault(int(number), []).append(f"`{name}`" + (" (port)" if array else ""))
+    return found
+
+
+def prefix_of(comment, rows):
+    """What all names of a table begin with, and the table's comment tells."""
+    told = re.search(r"([A-Z0-9_]+_)\*", comment)
+    if told and all(row[1].startswith(told[1]) for row in rows):
+        return told[1]
+    return rows[0][1].split("_")[0] + "_"
+
+
+def lines_of(name, called, comment, rows, tables, of_all):
+    """The rows of a table, those with one type and payload in one line."""
+    type_name = type_of(name, of_all)
+    of_type, prefix = of_all.get(type_name, {}), prefix_of(comment, rows)
+    groups = {}
+    for row in rows:
+        kinds = variants_of(name, row[1], of_type)
+        assert kinds or not of_type, f"no variant of {type_name} names {row[1]}"
+        groups.setdefault(payload_of(row, kinds, tables), []).append((row, kinds))
+    header = re.search(r"\(([\w/]+\.h)", comment)
+    offered = PAIRS.get(name) or OFFERED.get(type_name, type_name)
+    yield f"- {called}: `{offered}`, {prefix}" + (f" ({header[1]})" if header else "")
+    for payload, group in groups.items():
+        names = ", ".join(" ".join([row[0], row[1][len(prefix) :]] + [f"`{variant}`" for variant, _ in kinds]) for row, kinds in group)
+        yield f"  - {names}: {payload}"
+
+
 def page():
-    out = [HEAD]
+    out, of_all = [HEAD], enums()
     for title, crate in (("Link messages", "link_message_checks"), ("Data of links and of ports", "link_info_checks")):
-        lists, tables = lists_of(crate), tables_of(crate)
+        lists, tables, kinds = lists_of(crate), tables_of(crate), kinds_of(crate)
         out.append(f"## {title}\n")
-        for name in tables:
-            if name is None:
+        for number, name in enumerate(tables):
+            if not name:
                 continue
-            rows, as_of = list(rows_of(name, lists)), ""
-            if name.startswith("link_") and name != "link_unspec":
-                others = list(rows_of("link_unspec", lists))
-                rows, as_of = [row for row in rows if row not in others], " The other rows are as of [link_unspec](#link_unspec)."
-            out.append(f"### {name}\n\n{lists[name][0]}{as_of}\n\n| kind | name | payload | shown |\n|---|---|---|---|")
-            for kind, called, held, shown, nested in rows:
-                bit = ", written with the nested bit" if nested else ""
-                out.append(f"| {kind} | {called} | {words(held, tables)}{bit} | {shown_as(shown) if shown else ''} |")
-            out.append("")
+            rows = list(rows_of(name, lists))
+            other = list(rows_of(AS_OF[name], lists)) if name in AS_OF else []
+            own = [row for row in rows if row not in other]
+            called = ", ".join(kinds.get(number, [f"`{name}`"]))
+            out += lines_of(name, called, lists[name][0], own, tables, of_all) if own else [f"- `{name}`"]
+            if other:
+                without = [row[0] for row in other if row[0] not in [each[0] for each in rows]]
+                but = f", without {', '.join(without)}" if without else ""
+                called = ", ".join(kinds.get(tables.index(AS_OF[name]), [f"`{AS_OF[name]}`"]))
+                out.append(f"  - all others as {called}{but}")
+        out.append("")
     return "\n".join(out)
 
 

@@ -14,12 +14,8 @@ folder=$(cd "$1" && pwd)
 
 top=$here/../..
 proved=$top/crates/linkcap_c/out/liblinkcap_c.a
-# Any source that is newer than the library.
-newer() {
-    find "$top/crates" "$top/crates.txt" -name out -prune -o \
-        \( -name '*.rt' -o -name '*.antt' -o -name crates.txt \) -newer "$proved" -print -quit
-}
-if [ ! -f "$proved" ] || [ -n "$(newer)" ]; then (cd "$top/crates/linkcap_c" && rt lib) >&2; fi
+. "$here/newer.sh"
+if ! is_built "$proved"; then (cd "$top/crates/linkcap_c" && rt lib) >&2; fi
 layer=$(dirname "$(rt doc)")/c/liblibc_c.a
 version=$(sed -n 's/^#define LINKCAP_VERSION //p' "$here/linkcap.h")
 

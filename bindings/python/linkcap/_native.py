@@ -59,7 +59,10 @@ def _load() -> ctypes.CDLL:
         name = beside
     else:
         name = f"liblinkcap.so.{VERSION}"
-    library = ctypes.CDLL(name)
+    try:
+        library = ctypes.CDLL(name)
+    except OSError as error:
+        raise ImportError(f"{error}: name the library's folder in LINKCAP_LIB_DIR, here or at pip install") from None
     # Addresses are taken as they are: bytes, or the numbers of `ctypes.addressof`.
     capture, number, address = [ctypes.c_void_p, ctypes.c_size_t], ctypes.c_uint32, ctypes.c_void_p
     for call, arguments in {

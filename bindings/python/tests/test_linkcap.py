@@ -3,6 +3,8 @@ import array
 import mmap
 import os
 import pickle
+import subprocess
+import sys
 import tempfile
 import threading
 import unittest
@@ -218,6 +220,15 @@ class Golden(unittest.TestCase):
                 linkcap.golden(other, path, numbers=False)
             with self.assertRaises(linkcap.Fault):
                 linkcap.golden(capture[:-1], path)
+
+
+class Loading(unittest.TestCase):
+    def test_no_library(self):
+        """An import without the library says what to do."""
+        with tempfile.TemporaryDirectory() as folder:
+            tried = subprocess.run([sys.executable, "-c", "import linkcap"], env={**os.environ, "LINKCAP_LIB_DIR": folder},
+                                   capture_output=True, text=True, check=False)
+        self.assertRegex(tried.stderr.splitlines()[-1], "ImportError: .*liblinkcap.so.*: name the library's folder in LINKCAP_LIB_DIR")
 
 
 if __name__ == "__main__":

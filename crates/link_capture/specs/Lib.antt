@@ -18,9 +18,9 @@ pub use Rattle.link_capture_messages.specs.Routes
 pub use Rattle.link_capture_messages.specs.Texts
 pub use Rattle.link_capture_messages.specs.Messages
 pub use Rattle.link_capture_reader.specs.Joined
-pub use Rattle.link_capture_spellings.specs.SpellingWords
-pub use Rattle.link_capture_spellings.specs.SpellingRows
-pub use Rattle.link_capture_spellings.specs.SpellingTables
+pub use Rattle.link_capture_spelling_rows.specs.SpellingWords
+pub use Rattle.link_capture_spelling_rows.specs.SpellingRows
+pub use Rattle.link_capture_spelling_rows.specs.SpellingTables
 pub use Rattle.link_capture_spellings.specs.SpellingLists
 pub use Rattle.link_capture_spellings.specs.Spellings
 pub use Rattle.link_capture_spellings.specs.SpellingLaws

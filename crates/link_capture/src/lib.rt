@@ -14,4 +14,5 @@ pub use link_capture_messages::{
     ReadableLink, RouteFault, RouteLink, read_message,
 };
 pub use link_capture_reader::{CaptureReader, normalize_bytes};
-pub use link_capture_spellings::{PlacedSpelling, Spelling, Spellings, spelling};
+pub use link_capture_spelling_rows::{PlacedSpelling, Spelling};
+pub use link_capture_spellings::{Spellings, spelling};

@@ -7,7 +7,7 @@ use Rattle.netlink_packet_core_grammar.proofs.Attributes.{first_attribute_text}
 use Rattle.attribute_tables_grammar.specs.Rules.{Rule}
 use Rattle.attribute_tables_grammar.specs.Lists.{Context, nothing, Grammar, row_of, all_accepted, rewrite, rewritten, ListForm, any, non_empty, of_kind_one, ports, first_alone, is_of_kind_one, is_kept, kept, list_rule}
 use Rattle.attribute_tables_grammar.proofs.Lists.{accepted_list}
-use Rattle.link_capture_spellings.specs.declared.tables.Listed.{Listed}
+use Rattle.link_capture_spelling_rows.specs.declared.tables.Listed.{Listed}
 use Rattle.link_capture_spellings.specs.SpellingLists.{own_told, inside_of, list_behind, inside_told, list_told}
 use Rattle.link_capture_spellings.specs.SpellingLaws.{ListsGoBySteps}
 

@@ -1,6 +1,3 @@
-pub mod SpellingWords
-pub mod SpellingRows
-pub mod SpellingTables
 pub mod SpellingLists
 pub mod Spellings
 pub mod SpellingWalks

@@ -4,10 +4,6 @@
 mod attribute;
 mod capture;
 pub mod laws;
-mod placed;
-mod rows;
-mod tables;
 mod walk;
 
 pub use capture::{Spellings, spelling};
-pub use placed::{PlacedSpelling, Spelling};

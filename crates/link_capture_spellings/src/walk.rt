@@ -9,10 +9,11 @@ ghost use Rattle.link_capture_spellings.specs.SpellingWalks.{one_told, levels_to
 
 use crate::attribute::first_attribute;
 use crate::laws::lists_go_by_steps;
-use crate::placed::{PlacedSpelling, Spelling};
-use crate::rows::{bit_spelling, header_spelling, payload_spelling};
-use crate::tables::{Listed, Table, family_table, inside, next_list};
 use arrayvec::ArrayVec;
+use link_capture_spelling_rows::{
+    Listed, PlacedSpelling, Spelling, Table, attribute_spellings, family_table, header_spelling,
+    inside, next_list,
+};
 use netlink_packet_core::{NETLINK_HEADER_LEN, NetlinkBuffer, nla_align};
 use netlink_packet_core_grammar::laws::first_attributes_are_within;
 use std::default::Default;
@@ -147,11 +148,13 @@ impl<'a> Walk<'a> {
             return;
         };
         let kind = attribute.kind % 0x4000;
-        self.first = placed(level.place, bit_spelling(level.list.table, attribute.kind));
-        self.second = placed(
-            level.place,
-            payload_spelling(level.list.table, kind, attribute.payload),
+        let (nested, held) = attribute_spellings(
+            level.list.table,
+            attribute.kind,
+            attribute.payload,
         );
+        self.first = placed(level.place, nested);
+        self.second = placed(level.place, held);
         self.levels.push(Level {
             list: next_list(level.list, kind, attribute.payload),
             place: level.place + nla_align(4 + attribute.payload.len()),

@@ -11,6 +11,7 @@ pub mod ListSteps
 pub mod ListsTold
 pub mod Places
 pub mod RowFacts
+pub mod Joined
 pub mod ShapesTold
 pub mod SomeLines
 pub mod TablesTold

@@ -1,5 +1,5 @@
 -- Titles in code and what they say.
-use Rattle.std.proofs.Common.{◌≡◌, ℕ, zero, suc, ◌<◌, ◌≤◌, Bool, true, false, cond, List, [], ◌∷◌, length, get_or, map, Bor, Option, refl, sym, arith}
+use Rattle.std.proofs.Common.{◌≡◌, ℕ, zero, suc, ◌<◌, ◌≤◌, Bool, true, false, cond, List, [], ◌∷◌, length, get_or, map, Bor, Option, refl, ap, ◌∙◌}
 use Rattle.std.specs.Prelude.{◌==◌, option_map}
 use Rattle.std.specs.List.{list_all}
 use Rattle.std.proofs.lemmas.Bool.{and_parts}
@@ -27,7 +27,7 @@ abbrev pub Row : Type 0
 Row = ℕ × Option (Bor (List ℕ) × Behind)
 
 -- and what it says
-abbrev name : Bor (List ℕ) × Behind → Name
+abbrev pub name : Bor (List ℕ) × Behind → Name
 name n = viewed (λ x. x.now) (λ t. t.now) (λ r. r.now) n
 
 abbrev titles : List Row → List Title
@@ -42,15 +42,6 @@ pub said_at : (k : ℕ) (ts : List Row) → option_map name (find k ts) ≡ find
 said_at k [] = refl
 said_at k (t ∷ ts) = picked (t.0 == k) t.1 k ts (said_at k ts)
 
-pub list_at : (bs : List (Bor (List Row))) (n : ℕ) (d : Bor (List Row)) → n < length bs → titles (get_or bs n d).now ≡ get_or (map (λ b. titles b.now) bs) n []
-list_at bs n d l = sym (get_or-map (λ b. titles b.now) bs n d [] l)
-
-pub list_past : (bs : List (Bor (List Row))) (n : ℕ) → length bs ≤ n → [] ≡ get_or (map (λ b. titles b.now) bs) n []
-list_past [] n l = refl
-list_past (b ∷ bs) zero l = absurd (omega arith)
-list_past (b ∷ bs) (suc n) l = list_past bs n (omega arith)
-
-pub dense_at : (bs : List (Bor (List Row))) (n : ℕ) (d : Bor (List Row)) → list_all (λ b. are_dense b.now) bs ≡ true → n < length bs → are_dense (get_or bs n d).now ≡ true
-dense_at [] n d h l = absurd (omega arith)
-dense_at (b ∷ bs) zero d h l = (and_parts (are_dense b.now) (list_all (λ b. are_dense b.now) bs) h).0
-dense_at (b ∷ bs) (suc n) d h l = dense_at bs n d (and_parts (are_dense b.now) (list_all (λ b. are_dense b.now) bs) h).1 (omega (arith, l))
+-- a look-up in code, as the titles say it
+pub at_kind : (k : ℕ) (r : Option (Bor (List ℕ) × Behind)) (ts : List Row) (us : List Title) → r ≡ find k ts → titles ts ≡ us → option_map name r ≡ find k us
+at_kind k r ts us h e = ap (option_map name) h ∙ said_at k ts ∙ ap (find k) e

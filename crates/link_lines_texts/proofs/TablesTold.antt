@@ -20,7 +20,7 @@ use Rattle.link_info_checks.specs.declared.rows.TheConstants.{KINDS, PORT_KINDS}
 use Rattle.link_lines_texts.specs.Coverage.{all_titles, behind, has_row, holds_shown, is_in, is_info_kind, kinds_listed, names_shown, rows_shown, shape_tells}
 use Rattle.link_lines_texts.specs.Lists.{data_inside, known_inside, of_name, port_inside}
 use Rattle.link_lines_texts.specs.Telling.{IsOwn, ShapesAreTold}
-use Rattle.link_lines_texts.specs.Titles.{Inside, Inside.Value, Inside.Nested, Name, info_titles, link_titles, of_held, title_of, titles_of}
+use Rattle.link_lines_texts.specs.Titles.{Inside, Inside.Value, Inside.Nested, Name, info_titles, link_titles, of_held, own_titles, title_of, titles_of}
 use Rattle.link_lines_texts.proofs.ListsTold.{InsideTold, ListLaws, NestedTold, RowsTold, lists_told}
 use Rattle.link_lines_texts.proofs.TitlesTold.{found, names_told}
 use Rattle.link_lines_texts.proofs.Told.{info_is_named}
@@ -149,7 +149,7 @@ module _ (shapes : ShapesAreTold) (data' ports : Names) (data_told : AllNamesTol
   info c k = info_row (named link_peer data') (named link_peer ports) c k
 
   info_told : (c : Context) (k : ℕ) → 1 ≤ k → k ≤ 5 → ((info c k).is_typed ≡ true) × KnownTold (info c k).rule c (behind (title_of 19 k))
-  unfolding title_of titles_of link_titles info_titles data_inside port_inside
+  unfolding title_of titles_of link_titles own_titles info_titles data_inside port_inside
   info_told c zero h l = absurd (omega arith)
   info_told c (suc zero) h l = (refl, plain_told shapes text V.Text refl)
   info_told c (suc (suc zero)) h l = (force_typed c.kind (named link_peer data'), force_told data' KINDS c.kind data_told)

@@ -6,38 +6,38 @@ use Rattle.link_message_grammar.specs.LinkMessage.{unspec, bridge, inet_6, other
 use Rattle.link_message_grammar.specs.NestedTables.{settings}
 use Rattle.link_lines_texts.specs.Coverage.{all_titles, has_line, has_name, holds_shown, in_each, is_info_kind, names_apart}
 use Rattle.link_lines_texts.specs.Laws.{RowsAreTold}
-use Rattle.link_lines_texts.specs.Titles.{Inside.Nested, bridge_titles, data_titles, inet6_titles, info_titles, link_titles, nested_titles, other_titles, title_of, titles_of, unspec_titles}
+use Rattle.link_lines_texts.specs.Titles.{Inside.Nested, data_titles, info_titles, link_rows, link_titles, nested_titles, own_titles, title_of, titles_of}
 
 unspec_is_told : holds_shown (Payload.list any (link_table unspec)) (Some (Nested 15)) ≡ true
-unfolding title_of titles_of nested_titles link_titles unspec_titles bridge_titles inet6_titles other_titles info_titles data_titles settings
+unfolding title_of titles_of nested_titles link_titles own_titles link_rows info_titles data_titles settings
 unspec_is_told = refl
 
 bridge_is_told : holds_shown (Payload.list any (link_table bridge)) (Some (Nested 16)) ≡ true
-unfolding title_of titles_of nested_titles link_titles unspec_titles bridge_titles inet6_titles other_titles info_titles data_titles settings
+unfolding title_of titles_of nested_titles link_titles own_titles link_rows info_titles data_titles settings
 bridge_is_told = refl
 
 inet6_is_told : holds_shown (Payload.list any (link_table inet_6)) (Some (Nested 17)) ≡ true
-unfolding title_of titles_of nested_titles link_titles unspec_titles bridge_titles inet6_titles other_titles info_titles data_titles settings
+unfolding title_of titles_of nested_titles link_titles own_titles link_rows info_titles data_titles settings
 inet6_is_told = refl
 
 other_is_told : holds_shown (Payload.list any (link_table other)) (Some (Nested 18)) ≡ true
-unfolding title_of titles_of nested_titles link_titles unspec_titles bridge_titles inet6_titles other_titles info_titles data_titles settings
+unfolding title_of titles_of nested_titles link_titles own_titles link_rows info_titles data_titles settings
 other_is_told = refl
 
 pub all_are_named : in_each (all_titles has_name) ≡ true
-unfolding nested_titles link_titles unspec_titles bridge_titles inet6_titles other_titles info_titles data_titles
+unfolding nested_titles link_titles own_titles link_rows info_titles data_titles
 all_are_named = refl
 
 pub all_on_lines : in_each (all_titles has_line) ≡ true
-unfolding nested_titles link_titles unspec_titles bridge_titles inet6_titles other_titles info_titles data_titles
+unfolding nested_titles link_titles own_titles link_rows info_titles data_titles
 all_on_lines = refl
 
 pub info_is_named : all_titles is_info_kind (titles_of 19) ≡ true
-unfolding titles_of link_titles info_titles
+unfolding titles_of link_titles own_titles info_titles
 info_is_named = refl
 
 pub all_are_apart : in_each names_apart ≡ true
-unfolding nested_titles link_titles unspec_titles bridge_titles inet6_titles other_titles info_titles data_titles
+unfolding nested_titles link_titles own_titles link_rows info_titles data_titles
 all_are_apart = refl
 
 pub told : RowsAreTold

@@ -1,5 +1,5 @@
 -- What the titles say.
-use Rattle.std.specs.Prelude.{ℕ, ◌+◌, ◌-◌, nat_lt, Bool, true, cond, List, [], ◌∷◌, Option, get_or, map, option_map}
+use Rattle.std.specs.Prelude.{ℕ, ◌+◌, ◌-◌, nat_lt, Bool, true, cond, List, [], ◌∷◌, ◌++◌, Option, Some, None, get_or, map, option_map}
 use Rattle.attribute_checks.specs.declared.rows.Held.{Held}
 use Rattle.attribute_checks.specs.declared.rows.Held.TheVariants.{List as HeldList}
 use Rattle.link_lines_values.specs.declared.fields.FieldOf.{FieldOf}
@@ -8,8 +8,8 @@ use Rattle.link_lines_values.specs.declared.values.ShownBy.TheVariants.{Bytes}
 use Rattle.link_lines_values.specs.Values.{Shown, is_shown_on_a_line, seen}
 use Rattle.link_lines_texts.specs.declared.titles.BehindBy.{BehindBy}
 use Rattle.link_lines_texts.specs.declared.titles.BehindBy.TheVariants as B
-use Rattle.link_lines_texts.specs.declared.data_titles.TheConstants.{DATA_TITLES}
-use Rattle.link_lines_texts.specs.declared.message_titles.TheConstants.{BRIDGE_TITLES, INET6_TITLES, INFO_TITLES, NESTED_TITLES, OTHER_TITLES, UNSPEC_TITLES}
+use Rattle.link_lines_texts.specs.declared.data_titles.TheConstants.{AMT_TITLES, BAREUDP_TITLES, BATADV_TITLES, GENEVE_TITLES, GRE_TITLES, GRE6_TITLES, GTP_TITLES, IPOIB_TITLES, IPVLAN_TITLES, IP4_TUNNEL_TITLES, IP6_TUNNEL_TITLES, MACVLAN_TITLES, MACVLAN_ADDRESS_TITLES, MACSEC_TITLES, NETKIT_TITLES, VETH_TITLES, RMNET_TITLES, VRF_TITLES, WWAN_TITLES, XFRM_TITLES, VTI_TITLES, VXLAN_TITLES, VXCAN_TITLES}
+use Rattle.link_lines_texts.specs.declared.message_titles.TheConstants.{XDP_TITLES, PROPS_TITLES, PROTOCOL_DOWN_REASON_TITLES, DEVLINK_PORT_TITLES, DPLL_PIN_TITLES, MCTP_TITLES, AF_INET_TITLES, AF_INET6_TITLES, SPECIFIC_TITLES, VF_STATS_TITLES, VF_VLANS_TITLES, VF_TITLES, VF_INFOS_TITLES, VF_PORTS_TITLES, LINK_TITLES, UNSPEC_OWN, BRIDGE_OWN, INET6_OWN, OTHER_OWN, INFO_TITLES}
 use Rattle.link_lines_texts.specs.Placed.{find}
 
 -- what stands behind an attribute's name: the value of the payload, or, below it, the attributes of a table, or of the one that a name in force tells
@@ -51,30 +51,46 @@ abbrev pub said : {N T R : Type 0} → (N → List ℕ) → (T → List (ℕ × 
 said f g h [] = []
 said f g h (t ∷ ts) = (t.0, option_map (viewed f g h) t.1) ∷ said f g h ts
 
+-- by the number that the interpreter's `List` has
 unfoldable pub nested_titles : List (List Title)
-nested_titles = map (λ b. said (λ n. n.now) (λ t. t.now) (λ r. r.now) b.now) NESTED_TITLES
+nested_titles =
+    map (λ b. said (λ n. n.now) (λ t. t.now) (λ r. r.now) b.now)
+    (XDP_TITLES ∷ PROPS_TITLES ∷ PROTOCOL_DOWN_REASON_TITLES ∷ DEVLINK_PORT_TITLES ∷ DPLL_PIN_TITLES ∷
+    MCTP_TITLES ∷ AF_INET_TITLES ∷ AF_INET6_TITLES ∷ SPECIFIC_TITLES ∷ VF_STATS_TITLES ∷
+    VF_VLANS_TITLES ∷ VF_TITLES ∷ VF_INFOS_TITLES ∷ VF_PORTS_TITLES ∷ [])
 
-unfoldable pub unspec_titles : List Title
-unspec_titles = said (λ n. n.now) (λ t. t.now) (λ r. r.now) UNSPEC_TITLES.now
-
-unfoldable pub bridge_titles : List Title
-bridge_titles = said (λ n. n.now) (λ t. t.now) (λ r. r.now) BRIDGE_TITLES.now
-
-unfoldable pub inet6_titles : List Title
-inet6_titles = said (λ n. n.now) (λ t. t.now) (λ r. r.now) INET6_TITLES.now
-
-unfoldable pub other_titles : List Title
-other_titles = said (λ n. n.now) (λ t. t.now) (λ r. r.now) OTHER_TITLES.now
+unfoldable pub data_titles : List (List Title)
+data_titles =
+    map (λ b. said (λ n. n.now) (λ t. t.now) (λ r. r.now) b.now)
+    (AMT_TITLES ∷ BAREUDP_TITLES ∷ BATADV_TITLES ∷ GENEVE_TITLES ∷ GRE_TITLES ∷ GRE6_TITLES ∷
+    GTP_TITLES ∷ IPOIB_TITLES ∷ IPVLAN_TITLES ∷ IP4_TUNNEL_TITLES ∷ IP6_TUNNEL_TITLES ∷ MACVLAN_TITLES ∷
+    MACVLAN_ADDRESS_TITLES ∷ MACSEC_TITLES ∷ NETKIT_TITLES ∷ VETH_TITLES ∷ RMNET_TITLES ∷
+    VRF_TITLES ∷ WWAN_TITLES ∷ XFRM_TITLES ∷ VTI_TITLES ∷ VXLAN_TITLES ∷ VXCAN_TITLES ∷ [])
 
 unfoldable pub info_titles : List Title
 info_titles = said (λ n. n.now) (λ t. t.now) (λ r. r.now) INFO_TITLES.now
 
--- those of a link of each family, and of link info
-unfoldable pub link_titles : List (List Title)
-link_titles = unspec_titles ∷ bridge_titles ∷ inet6_titles ∷ other_titles ∷ info_titles ∷ []
+-- ---- links: the rows that go by the family, and the others
 
-unfoldable pub data_titles : List (List Title)
-data_titles = map (λ b. said (λ n. n.now) (λ t. t.now) (λ r. r.now) b.now) DATA_TITLES
+unfoldable pub own_titles : List (List Title)
+own_titles = map (λ b. said (λ n. n.now) (λ t. t.now) (λ r. r.now) b.now) (UNSPEC_OWN ∷ BRIDGE_OWN ∷ INET6_OWN ∷ OTHER_OWN ∷ [])
+
+unfoldable pub link_rows : List Title
+link_rows = said (λ n. n.now) (λ t. t.now) (λ r. r.now) LINK_TITLES.now
+
+abbrev pub first_name : Option Name → Option Name → Option Name
+first_name None o = o
+first_name (Some n) o = Some n
+
+-- two lists of the same kinds as one
+abbrev pub joined : List Title → List Title → List Title
+joined [] us = us
+joined (t ∷ ts) [] = t ∷ ts
+joined (t ∷ ts) (u ∷ us) = (t.0, first_name t.1 u.1) ∷ joined ts us
+
+-- of no family, of bridges, of IPv6, of every other family, and of link info
+unfoldable pub link_titles : List (List Title)
+link_titles = map (λ own. joined own link_rows) own_titles ++ info_titles ∷ []
 
 -- the titles of a table
 unfoldable pub titles_of : ℕ → List Title

@@ -17,30 +17,49 @@ use link_lines_values::{
     MAC_VLAN_MODE, NETKIT_MODE, NETKIT_POLICY, NETKIT_SCRUB, PLAIN, TUNNEL_ENCAP_TYPE, VXLAN_DF,
 };
 
-/// The tables, by the number that the interpreter's `List` has.
-pub const DATA_TITLES: [&[Title]; 24] = [
-    &amt!(list_titles),
-    &bareudp!(list_titles),
-    &batadv!(list_titles),
-    &geneve!(list_titles),
-    &gre!(list_titles),
-    &gre6!(list_titles),
-    &gtp!(list_titles),
-    &ipoib!(list_titles),
-    &ipvlan!(list_titles),
-    &ip4_tunnel!(list_titles),
-    &ip6_tunnel!(list_titles),
-    &macvlan!(list_titles),
-    &macvlan_address!(list_titles),
-    &macsec!(list_titles),
-    &netkit!(list_titles),
-    &veth!(list_titles),
-    &rmnet!(list_titles),
-    &vrf!(list_titles),
-    &wwan!(list_titles),
-    &xfrm!(list_titles),
-    &vti!(list_titles),
-    &vxlan!(list_titles),
-    &vxcan!(list_titles),
-    &[],
-];
+// By the number that the interpreter's `List` has.
+pub const AMT_TITLES: &[Title] = &amt!(list_titles);
+
+pub const BAREUDP_TITLES: &[Title] = &bareudp!(list_titles);
+
+pub const BATADV_TITLES: &[Title] = &batadv!(list_titles);
+
+pub const GENEVE_TITLES: &[Title] = &geneve!(list_titles);
+
+pub const GRE_TITLES: &[Title] = &gre!(list_titles);
+
+pub const GRE6_TITLES: &[Title] = &gre6!(list_titles);
+
+pub const GTP_TITLES: &[Title] = &gtp!(list_titles);
+
+pub const IPOIB_TITLES: &[Title] = &ipoib!(list_titles);
+
+pub const IPVLAN_TITLES: &[Title] = &ipvlan!(list_titles);
+
+pub const IP4_TUNNEL_TITLES: &[Title] = &ip4_tunnel!(list_titles);
+
+pub const IP6_TUNNEL_TITLES: &[Title] = &ip6_tunnel!(list_titles);
+
+pub const MACVLAN_TITLES: &[Title] = &macvlan!(list_titles);
+
+pub const MACVLAN_ADDRESS_TITLES: &[Title] = &macvlan_address!(list_titles);
+
+pub const MACSEC_TITLES: &[Title] = &macsec!(list_titles);
+
+pub const NETKIT_TITLES: &[Title] = &netkit!(list_titles);
+
+pub const VETH_TITLES: &[Title] = &veth!(list_titles);
+
+pub const RMNET_TITLES: &[Title] = &rmnet!(list_titles);
+
+pub const VRF_TITLES: &[Title] = &vrf!(list_titles);
+
+pub const WWAN_TITLES: &[Title] = &wwan!(list_titles);
+
+pub const XFRM_TITLES: &[Title] = &xfrm!(list_titles);
+
+pub const VTI_TITLES: &[Title] = &vti!(list_titles);
+
+pub const VXLAN_TITLES: &[Title] = &vxlan!(list_titles);
+
+pub const VXCAN_TITLES: &[Title] = &vxcan!(list_titles);

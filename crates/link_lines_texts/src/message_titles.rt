@@ -1,8 +1,8 @@
 //! The titles of link messages and of link info.
 
-use crate::list_titles;
 use crate::titles::BehindBy::{Data, LinkInfo, List, PortData, Value};
 use crate::titles::Title;
+use crate::{list_titles, own_titles};
 use attribute_checks::Form::{Any, OfKindOne, Ports};
 use link_lines_values::ShownBy::{
     Address, Bytes, Flags, HardwareAddress, Number, Record as Fields, Signed, SparseRecord, Text,
@@ -13,40 +13,58 @@ use link_lines_values::{
     VF_RATE, VF_SETTING, VF_TX_RATE, VF_VLAN, VF_VLAN_INFO,
 };
 use link_message_checks::{
-    devlink_port, dpll_pin, inet, inet6, link_bridge, link_inet6, link_other, link_unspec, mctp,
-    props, protocol_down_reason, specific, vf, vf_infos, vf_ports, vf_stats, vf_vlans, xdp,
+    devlink_port, dpll_pin, inet, inet6, link, link_bridge, link_inet6, link_other, link_unspec,
+    mctp, props, protocol_down_reason, specific, vf, vf_infos, vf_ports, vf_stats, vf_vlans, xdp,
 };
 
-/// The tables of what attributes of links hold, by the number that the interpreter's `List` has.
-pub const NESTED_TITLES: [&[Title]; 15] = [
-    &xdp!(list_titles),
-    &props!(list_titles),
-    &protocol_down_reason!(list_titles),
-    &devlink_port!(list_titles),
-    &dpll_pin!(list_titles),
-    &mctp!(list_titles),
-    &inet!(list_titles),
-    &inet6!(list_titles),
-    &specific!(list_titles),
-    &vf_stats!(list_titles),
-    &vf_vlans!(list_titles),
-    &vf!(list_titles),
-    &vf_infos!(list_titles),
-    &vf_ports!(list_titles),
-    &[],
-];
+// What attributes of links hold.
+pub const XDP_TITLES: &[Title] = &xdp!(list_titles);
 
-/// Links of no family.
-pub const UNSPEC_TITLES: &[Title] = &link_unspec!(list_titles);
+pub const PROPS_TITLES: &[Title] = &props!(list_titles);
 
-/// Links of bridges.
-pub const BRIDGE_TITLES: &[Title] = &link_bridge!(list_titles);
+pub const PROTOCOL_DOWN_REASON_TITLES: &[Title] = &protocol_down_reason!(list_titles);
 
-/// Links of IPv6.
-pub const INET6_TITLES: &[Title] = &link_inet6!(list_titles);
+pub const DEVLINK_PORT_TITLES: &[Title] = &devlink_port!(list_titles);
 
-/// Links of every other family.
-pub const OTHER_TITLES: &[Title] = &link_other!(list_titles);
+pub const DPLL_PIN_TITLES: &[Title] = &dpll_pin!(list_titles);
+
+pub const MCTP_TITLES: &[Title] = &mctp!(list_titles);
+
+pub const AF_INET_TITLES: &[Title] = &inet!(list_titles);
+
+pub const AF_INET6_TITLES: &[Title] = &inet6!(list_titles);
+
+pub const SPECIFIC_TITLES: &[Title] = &specific!(list_titles);
+
+pub const VF_STATS_TITLES: &[Title] = &vf_stats!(list_titles);
+
+pub const VF_VLANS_TITLES: &[Title] = &vf_vlans!(list_titles);
+
+pub const VF_TITLES: &[Title] = &vf!(list_titles);
+
+pub const VF_INFOS_TITLES: &[Title] = &vf_infos!(list_titles);
+
+pub const VF_PORTS_TITLES: &[Title] = &vf_ports!(list_titles);
+
+/// Links of any family, without the rows that go by the family.
+pub const LINK_TITLES: &[Title] = &link!(
+    list_titles,
+    {
+        12;
+    },
+    {
+        26;
+    }
+);
+
+// Those rows: of links of no family, of bridges, of IPv6, and of every other family.
+pub const UNSPEC_OWN: &[Title] = &link_unspec!(own_titles);
+
+pub const BRIDGE_OWN: &[Title] = &link_bridge!(own_titles);
+
+pub const INET6_OWN: &[Title] = &link_inet6!(own_titles);
+
+pub const OTHER_OWN: &[Title] = &link_other!(own_titles);
 
 /// IFLA_INFO_* (if_link.h).
 pub const INFO_TITLES: &[Title] = &[

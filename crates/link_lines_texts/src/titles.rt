@@ -1,16 +1,12 @@
 //! What attributes are called, and what stands behind their names, by table and kind.
 
-ghost use Rattle.std.specs.Prelude.{◌≡◌, true, [], get_or, map, option_map};
-ghost use Rattle.std.specs.List.{list_all};
-ghost use Rattle.link_lines_texts.specs.Placed.{are_dense};
-ghost use Rattle.link_lines_texts.specs.Titles.{bridge_titles, data_titles, inet6_titles, info_titles, link_titles};
-ghost use Rattle.link_lines_texts.specs.Titles.{nested_titles, other_titles, said, title_of, titles_of, unspec_titles, viewed};
+ghost use Rattle.std.specs.Prelude.{◌≡◌, ◌<◌, ◌≤◌, ◌⊎◌, true, [], get_or, option_map};
+ghost use Rattle.link_lines_texts.specs.Placed.{are_dense, find};
+ghost use Rattle.link_lines_texts.specs.Titles.{data_titles, info_titles, link_rows, link_titles, nested_titles, own_titles};
+ghost use Rattle.link_lines_texts.specs.Titles.{said, title_of, titles_of, viewed};
 
-use crate::data_titles::DATA_TITLES;
-use crate::message_titles::{
-    BRIDGE_TITLES, INET6_TITLES, INFO_TITLES, NESTED_TITLES, OTHER_TITLES, UNSPEC_TITLES,
-};
 use crate::placed::look_up;
+use crate::{data_titles, message_titles};
 use attribute_checks::Form;
 use link_lines_values::Shown;
 
@@ -69,6 +65,33 @@ macro_rules! list_titles {
     };
 }
 
+/// The titles of a list that go by the family of a link, which are those of IFLA_PROTINFO and IFLA_AF_SPEC.
+#[macro_export]
+macro_rules! own_titles {
+    ($(
+        $kind:tt
+        $(-> $held_name:literal, $held:expr)?
+        $(=> $nested_name:literal, $nested:expr)?
+        $(, $name:literal $(, $shape:expr, $shown:expr)?)?;
+    )*) => {
+        [$($crate::own_title!($kind $(-> $held_name, $held)? $(-> $nested_name, $nested)? $($(, $name, $shown)?)?),)*]
+    };
+}
+
+/// The title of a kind, where it goes by the family.
+#[macro_export]
+macro_rules! own_title {
+    (12 $($said:tt)*) => {
+        $crate::title!(12 $($said)*)
+    };
+    (26 $($said:tt)*) => {
+        $crate::title!(26 $($said)*)
+    };
+    ($kind:tt $($said:tt)*) => {
+        ($kind, None)
+    };
+}
+
 /// The first table of links, which stand behind those of what attributes hold.
 pub const LINK: usize = 15;
 
@@ -78,81 +101,27 @@ pub const LINK_INFO: usize = 19;
 /// The first table of the data of links.
 pub const DATA: usize = 20;
 
-/// The titles of one of these tables; none where no table has that number.
-fn table_at(tables: &[&'static [Title]], table: usize) -> &'static [Title]
-    requires { list_all (λ b. are_dense b.now) tables.now ≡ true }
-    ensures titles { said (λ b. b.now) (λ t. t.now) (λ r. r.now) result.now
-        ≡ get_or (map (λ b. said (λ n. n.now) (λ t. t.now) (λ r. r.now) b.now) tables.now) table [] }
-    ensures dense { are_dense result.now ≡ true }
-{
-    if table < tables.len() {
-        tables[table]
-    } else {
-        &[]
-    }
-}
-
 /// The titles of one of the tables of what attributes of links hold.
 #[tactic(auto, unfolding(crate::specs::Titles::nested_titles))]
 fn nested_table(table: usize) -> &'static [Title]
     ensures titles { said (λ b. b.now) (λ t. t.now) (λ r. r.now) result.now ≡ get_or nested_titles table [] }
     ensures dense { are_dense result.now ≡ true }
 {
-    table_at(&NESTED_TITLES, table)
-}
-
-#[tactic(auto, unfolding(crate::specs::Titles::unspec_titles))]
-fn unspec_titles() -> &'static [Title]
-    ensures titles { said (λ b. b.now) (λ t. t.now) (λ r. r.now) result.now ≡ unspec_titles }
-    ensures dense { are_dense result.now ≡ true }
-{
-    UNSPEC_TITLES
-}
-
-#[tactic(auto, unfolding(crate::specs::Titles::bridge_titles))]
-fn bridge_titles() -> &'static [Title]
-    ensures titles { said (λ b. b.now) (λ t. t.now) (λ r. r.now) result.now ≡ bridge_titles }
-    ensures dense { are_dense result.now ≡ true }
-{
-    BRIDGE_TITLES
-}
-
-#[tactic(auto, unfolding(crate::specs::Titles::inet6_titles))]
-fn inet6_titles() -> &'static [Title]
-    ensures titles { said (λ b. b.now) (λ t. t.now) (λ r. r.now) result.now ≡ inet6_titles }
-    ensures dense { are_dense result.now ≡ true }
-{
-    INET6_TITLES
-}
-
-#[tactic(auto, unfolding(crate::specs::Titles::other_titles))]
-fn other_titles() -> &'static [Title]
-    ensures titles { said (λ b. b.now) (λ t. t.now) (λ r. r.now) result.now ≡ other_titles }
-    ensures dense { are_dense result.now ≡ true }
-{
-    OTHER_TITLES
-}
-
-#[tactic(auto, unfolding(crate::specs::Titles::info_titles))]
-fn info_titles() -> &'static [Title]
-    ensures titles { said (λ b. b.now) (λ t. t.now) (λ r. r.now) result.now ≡ info_titles }
-    ensures dense { are_dense result.now ≡ true }
-{
-    INFO_TITLES
-}
-
-/// The titles of one of the tables of links, or of link info.
-#[tactic(auto, unfolding(crate::specs::Titles::link_titles))]
-fn link_table(table: usize) -> &'static [Title]
-    ensures titles { said (λ b. b.now) (λ t. t.now) (λ r. r.now) result.now ≡ get_or link_titles table [] }
-    ensures dense { are_dense result.now ≡ true }
-{
     match table {
-        0 => unspec_titles(),
-        1 => bridge_titles(),
-        2 => inet6_titles(),
-        3 => other_titles(),
-        4 => info_titles(),
+        0 => message_titles::XDP_TITLES,
+        1 => message_titles::PROPS_TITLES,
+        2 => message_titles::PROTOCOL_DOWN_REASON_TITLES,
+        3 => message_titles::DEVLINK_PORT_TITLES,
+        4 => message_titles::DPLL_PIN_TITLES,
+        5 => message_titles::MCTP_TITLES,
+        6 => message_titles::AF_INET_TITLES,
+        7 => message_titles::AF_INET6_TITLES,
+        8 => message_titles::SPECIFIC_TITLES,
+        9 => message_titles::VF_STATS_TITLES,
+        10 => message_titles::VF_VLANS_TITLES,
+        11 => message_titles::VF_TITLES,
+        12 => message_titles::VF_INFOS_TITLES,
+        13 => message_titles::VF_PORTS_TITLES,
         _ => &[],
     }
 }
@@ -163,19 +132,88 @@ fn data_table(table: usize) -> &'static [Title]
     ensures titles { said (λ b. b.now) (λ t. t.now) (λ r. r.now) result.now ≡ get_or data_titles table [] }
     ensures dense { are_dense result.now ≡ true }
 {
-    table_at(&DATA_TITLES, table)
+    match table {
+        0 => data_titles::AMT_TITLES,
+        1 => data_titles::BAREUDP_TITLES,
+        2 => data_titles::BATADV_TITLES,
+        3 => data_titles::GENEVE_TITLES,
+        4 => data_titles::GRE_TITLES,
+        5 => data_titles::GRE6_TITLES,
+        6 => data_titles::GTP_TITLES,
+        7 => data_titles::IPOIB_TITLES,
+        8 => data_titles::IPVLAN_TITLES,
+        9 => data_titles::IP4_TUNNEL_TITLES,
+        10 => data_titles::IP6_TUNNEL_TITLES,
+        11 => data_titles::MACVLAN_TITLES,
+        12 => data_titles::MACVLAN_ADDRESS_TITLES,
+        13 => data_titles::MACSEC_TITLES,
+        14 => data_titles::NETKIT_TITLES,
+        15 => data_titles::VETH_TITLES,
+        16 => data_titles::RMNET_TITLES,
+        17 => data_titles::VRF_TITLES,
+        18 => data_titles::WWAN_TITLES,
+        19 => data_titles::XFRM_TITLES,
+        20 => data_titles::VTI_TITLES,
+        21 => data_titles::VXLAN_TITLES,
+        22 => data_titles::VXCAN_TITLES,
+        _ => &[],
+    }
 }
 
-/// The titles of a table.
+/// The titles that go by the family, of one of the tables of links.
+#[tactic(auto, unfolding(crate::specs::Titles::own_titles))]
+fn own_table(table: usize) -> &'static [Title]
+    ensures titles { said (λ b. b.now) (λ t. t.now) (λ r. r.now) result.now ≡ get_or own_titles table [] }
+    ensures dense { are_dense result.now ≡ true }
+{
+    match table {
+        0 => message_titles::UNSPEC_OWN,
+        1 => message_titles::BRIDGE_OWN,
+        2 => message_titles::INET6_OWN,
+        3 => message_titles::OTHER_OWN,
+        _ => &[],
+    }
+}
+
+/// The titles of links of every family.
+#[tactic(auto, unfolding(crate::specs::Titles::link_rows))]
+fn link_rows() -> &'static [Title]
+    ensures titles { said (λ b. b.now) (λ t. t.now) (λ r. r.now) result.now ≡ link_rows }
+    ensures dense { are_dense result.now ≡ true }
+{
+    message_titles::LINK_TITLES
+}
+
+#[tactic(auto, unfolding(crate::specs::Titles::info_titles))]
+fn info_titles() -> &'static [Title]
+    ensures titles { said (λ b. b.now) (λ t. t.now) (λ r. r.now) result.now ≡ info_titles }
+    ensures dense { are_dense result.now ≡ true }
+{
+    message_titles::INFO_TITLES
+}
+
+/// The name of a kind of a link.
+fn link_title(family: usize, kind: u16) -> Option<Name>
+    requires { family < 4 }
+    ensures { option_map (viewed (λ b. b.now) (λ t. t.now) (λ r. r.now)) result ≡ find kind (get_or link_titles family []) }
+{
+    match look_up(own_table(family), kind) {
+        Some(name) => Some(name),
+        None => look_up(link_rows(), kind),
+    }
+}
+
+/// The titles of a table that isn't of links.
 #[tactic(auto, unfolding(crate::specs::Titles::titles_of))]
 fn titles_of(table: usize) -> &'static [Title]
+    requires { table < 15 ⊎ 19 ≤ table }
     ensures titles { said (λ b. b.now) (λ t. t.now) (λ r. r.now) result.now ≡ titles_of table }
     ensures dense { are_dense result.now ≡ true }
 {
     if table < LINK {
         nested_table(table)
-    } else if table < DATA {
-        link_table(table - LINK)
+    } else if table == LINK_INFO {
+        info_titles()
     } else {
         data_table(table - DATA)
     }
@@ -185,5 +223,9 @@ fn titles_of(table: usize) -> &'static [Title]
 pub fn title_of(table: usize, kind: u16) -> Option<Name>
     ensures { option_map (viewed (λ b. b.now) (λ t. t.now) (λ r. r.now)) result ≡ title_of table kind }
 {
-    look_up(titles_of(table), kind)
+    if LINK <= table && table < LINK_INFO {
+        link_title(table - LINK, kind)
+    } else {
+        look_up(titles_of(table), kind)
+    }
 }

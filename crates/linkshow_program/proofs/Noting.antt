@@ -4,7 +4,7 @@ use Rattle.std.proofs.KnownBytes.{Appends-nil, Appends-trans}
 use Rattle.std.specs.Io.KnownBytes.{Appends}
 use Rattle.link_capture_grammar.specs.declared.fault.CaptureFault.{CaptureFault}
 use Rattle.link_capture_engine.specs.Devices.{Rises}
-use Rattle.link_capture_spellings.specs.declared.placed.PlacedSpelling.{PlacedSpelling}
+use Rattle.link_capture_spelling_rows.specs.declared.placed.PlacedSpelling.{PlacedSpelling}
 use Rattle.link_capture_spellings.specs.Spellings.{told_then}
 use Rattle.linkshow_program.specs.Devices.{SinkState}
 use Rattle.linkshow_program.specs.Telling.{IsTold, Tells}

@@ -9,8 +9,8 @@ use Rattle.link_capture_grammar.specs.Faults.{fault_text}
 use Rattle.link_capture_commands.specs.Commands.{status_of}
 use Rattle.link_capture_engine.specs.Devices.{Rises, TellsItsEnd}
 use Rattle.link_capture_engine.specs.Outcomes.{ReadFault}
-use Rattle.link_capture_spellings.specs.declared.placed.PlacedSpelling.{PlacedSpelling}
-use Rattle.link_capture_spellings.specs.SpellingWords.{placed_text}
+use Rattle.link_capture_spelling_rows.specs.declared.placed.PlacedSpelling.{PlacedSpelling}
+use Rattle.link_capture_spelling_rows.specs.SpellingWords.{placed_text}
 use Rattle.link_capture_spellings.specs.Spellings.{spellings}
 use Rattle.link_lines.specs.Outcomes.{Shows}
 use Rattle.linkshow_words.specs.declared.words.Asked.{Asked}

@@ -1,11 +1,14 @@
-use Rattle.std.proofs.Common.{ap, ◌∙◌}
-use Rattle.std.specs.Prelude.{option_map}
+use Rattle.std.proofs.Common.{[], get_or, ◌-◌, sym, ap, ◌∙◌}
 use Rattle.link_lines_texts.specs.Placed.{find}
-use Rattle.link_lines_texts.specs.Titles.{title_of, viewed}
-use Rattle.link_lines_texts.proofs.RowFacts.{said_at}
+use Rattle.link_lines_texts.specs.Titles.{link_titles, title_of, titles_of}
+use Rattle.link_lines_texts.proofs.Joined.{of_family}
+use Rattle.link_lines_texts.proofs.RowFacts.{at_kind}
 use Rattle.link_lines_texts.proofs.titles.title_of.Goals as goal
 
-pub returns : goal.returns
+pub returns-else-table-ge-LINK : goal.returns-else-table-ge-LINK
 unfolding title_of
-returns c =
-    ap (option_map (viewed (λ x. x.now) (λ t. t.now) (λ r. r.now))) c.look_up.ensures ∙ said_at c.args.kind c.titles_of.result.now ∙ ap (find c.args.kind) c.titles_of.ensures.titles
+returns-else-table-ge-LINK c = at_kind c.args.kind c.look_up.result c.titles_of.result.now (titles_of c.args.table) c.look_up.ensures c.titles_of.ensures.titles
+
+pub returns-then-table-lt-LINK_INFO : goal.returns-then-table-lt-LINK_INFO
+unfolding title_of
+returns-then-table-lt-LINK_INFO c = c.link_title.ensures ∙ ap (find c.args.kind) (sym (of_family c.args.table c.if-table-ge-LINK.true c.if-table-lt-LINK_INFO.true))

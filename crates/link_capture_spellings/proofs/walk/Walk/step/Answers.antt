@@ -109,8 +109,8 @@ returns-in-Some-inside-clause-told c =
     let first = c.placed-self.result in
     let second = c.placed-self-2.result in
     let f : Found c.args.level e first second = record {
-      bit = c.placed-self.ensures ∙ ap (λ s. told_at c.args.level.place s) c.bit_spelling.ensures;
-      payload = c.placed-self-2.ensures ∙ ap (λ s. told_at c.args.level.place s) c.payload_spelling.ensures;
+      bit = c.placed-self.ensures ∙ ap (λ s. told_at c.args.level.place s) c.attribute_spellings-nested.ensures.bit;
+      payload = c.placed-self-2.ensures ∙ ap (λ s. told_at c.args.level.place s) c.attribute_spellings-nested.ensures.payload;
     } in
     ap (walk_told first second) (c.push-in-Some-inside.ensures.items ∙ ap (λ z. z ++ k ∷ []) c.push.ensures.items)
     ∙ told-inside c.lists_go_by_steps.ensures c.args.self.now.levels.items c.args.level m e n first second f k front i
@@ -150,8 +150,8 @@ returns-in_default-inside-clause-told c =
     let first = c.placed-self.result in
     let second = c.placed-self-2.result in
     let f : Found c.args.level e first second = record {
-      bit = c.placed-self.ensures ∙ ap (λ s. told_at c.args.level.place s) c.bit_spelling.ensures;
-      payload = c.placed-self-2.ensures ∙ ap (λ s. told_at c.args.level.place s) c.payload_spelling.ensures;
+      bit = c.placed-self.ensures ∙ ap (λ s. told_at c.args.level.place s) c.attribute_spellings-nested.ensures.bit;
+      payload = c.placed-self-2.ensures ∙ ap (λ s. told_at c.args.level.place s) c.attribute_spellings-nested.ensures.payload;
     } in
     let nothing : c.inside.result ≡ None = search rules in
     ap (walk_told first second) c.push.ensures.items

@@ -1,11 +1,11 @@
 -- The lists in which spellings stand that kernels tell apart: which one is inside an attribute, and which goes on behind it.
 use Rattle.std.specs.Prelude.{ℕ, ◌+◌, ◌==◌, ◌&&◌, ◌||◌, nat_le, Bool, true, false, cond, List, length, slice_index, Option, Some, None, bytes_eq, codes}
 use Rattle.netlink_packet_core_grammar.specs.Texts.{without_nul}
-use Rattle.link_capture_spellings.specs.declared.tables.Data.{Data}
-use Rattle.link_capture_spellings.specs.declared.tables.Data.TheVariants.{Other, Vxlan, Geneve, Gre, Gre6, IpTunnel, BareUdp, Batadv, Netkit, Pair, Behind}
-use Rattle.link_capture_spellings.specs.declared.tables.Table.{Table}
-use Rattle.link_capture_spellings.specs.declared.tables.Table.TheVariants.{Unspec, Bridge, Link, Info, Families, Inet, Programs, Functions, OfKind}
-use Rattle.link_capture_spellings.specs.declared.tables.Listed.{Listed}
+use Rattle.link_capture_spelling_rows.specs.declared.tables.Data.{Data}
+use Rattle.link_capture_spelling_rows.specs.declared.tables.Data.TheVariants.{Other, Vxlan, Geneve, Gre, Gre6, IpTunnel, BareUdp, Batadv, Netkit, Pair, Behind}
+use Rattle.link_capture_spelling_rows.specs.declared.tables.Table.{Table}
+use Rattle.link_capture_spelling_rows.specs.declared.tables.Table.TheVariants.{Unspec, Bridge, Link, Info, Families, Inet, Programs, Functions, OfKind}
+use Rattle.link_capture_spelling_rows.specs.declared.tables.Listed.{Listed}
 
 -- ---- the data of a kind of link, by its name
 

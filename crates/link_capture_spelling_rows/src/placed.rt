@@ -1,7 +1,7 @@
 //! Spellings: which there are, their places and their words.
 
 ghost use Rattle.std.specs.Prelude.{◌≡◌, ◌≤◌, ◌<◌, Some, length};
-ghost use Rattle.link_capture_spellings.specs.SpellingWords.{words, placed_text};
+ghost use Rattle.link_capture_spelling_rows.specs.SpellingWords.{words, placed_text};
 
 use arrayvec::ArrayString;
 use itoa::Buffer;

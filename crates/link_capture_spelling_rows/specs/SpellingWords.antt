@@ -1,9 +1,9 @@
 -- The words of spellings.
 use Rattle.std.specs.Prelude.{ℕ, List, ◌++◌, codes}
 use Rattle.std.specs.Fmt.{decimal}
-use Rattle.link_capture_spellings.specs.declared.placed.Spelling.{Spelling}
-use Rattle.link_capture_spellings.specs.declared.placed.Spelling.TheVariants.{NestedPortSettings, ResizedSettings, PathDiscoveryOverOne, LaterPeer, LongAlias, NameWithoutNul, FlagWithPayload, TruthOverOne, StrayNestedBit, ForeignFunction, HeaderByte, ShortMap}
-use Rattle.link_capture_spellings.specs.declared.placed.PlacedSpelling.{PlacedSpelling}
+use Rattle.link_capture_spelling_rows.specs.declared.placed.Spelling.{Spelling}
+use Rattle.link_capture_spelling_rows.specs.declared.placed.Spelling.TheVariants.{NestedPortSettings, ResizedSettings, PathDiscoveryOverOne, LaterPeer, LongAlias, NameWithoutNul, FlagWithPayload, TruthOverOne, StrayNestedBit, ForeignFunction, HeaderByte, ShortMap}
+use Rattle.link_capture_spelling_rows.specs.declared.placed.PlacedSpelling.{PlacedSpelling}
 
 abbrev pub words : Spelling → List ℕ
 words NestedPortSettings = codes "IFLA_PROTINFO with the nested bit"

@@ -1,15 +1,15 @@
 //! The lists in which such spellings stand, as far as they are told apart.
 
 ghost use Rattle.std.specs.Prelude.{◌≡◌, ◌≤◌, ◌<◌, length, IfSome};
-ghost use Rattle.link_capture_spellings.specs.SpellingTables.{is_gre, is_gre6, is_ip_tunnel, is_pair, data_named};
-ghost use Rattle.link_capture_spellings.specs.SpellingTables.{family_table, next_table, next_list, inside_table};
-ghost use Rattle.link_capture_spellings.specs.SpellingTables.{has_peer, inside, table_depth, depth};
+ghost use Rattle.link_capture_spelling_rows.specs.SpellingTables.{is_gre, is_gre6, is_ip_tunnel, is_pair, data_named};
+ghost use Rattle.link_capture_spelling_rows.specs.SpellingTables.{family_table, next_table, next_list, inside_table};
+ghost use Rattle.link_capture_spelling_rows.specs.SpellingTables.{has_peer, inside, table_depth, depth};
 
 use netlink_packet_core_numbers::without_nul;
 
 /// The data of a kind of link, by the table that the name of the kind tells.
 #[derive(Clone, Copy)]
-pub(crate) enum Data {
+pub enum Data {
     /// Those in which no spelling stands.
     Other,
     Vxlan,
@@ -31,7 +31,7 @@ pub(crate) enum Data {
 
 /// A list of attributes.
 #[derive(Clone, Copy)]
-pub(crate) enum Table {
+pub enum Table {
     /// Of a link of the family AF_UNSPEC.
     Unspec,
     /// Of AF_BRIDGE.
@@ -54,7 +54,7 @@ pub(crate) enum Table {
 
 /// A list, and whether peers inside are judged.
 #[derive(Clone, Copy)]
-pub(crate) struct Listed {
+pub struct Listed {
     pub table: Table,
     pub judged: bool,
 }
@@ -114,7 +114,7 @@ fn data_named(name: &[u8]) -> Data
 }
 
 /// The attributes of a link of an address family.
-pub(crate) fn family_table(family: u8) -> Table
+pub fn family_table(family: u8) -> Table
     ensures { result ≡ family_table family }
 {
     match family {
@@ -137,7 +137,7 @@ fn next_table(table: Table, kind: u16, payload: &[u8]) -> Table
 }
 
 /// The same, with what is judged in it.
-pub(crate) fn next_list(list: Listed, kind: u16, payload: &[u8]) -> Listed
+pub fn next_list(list: Listed, kind: u16, payload: &[u8]) -> Listed
     ensures next { result ≡ next_list list kind payload.now }
     ensures as_deep { depth result ≡ depth list }
 {
@@ -181,7 +181,7 @@ fn has_peer(table: Table) -> bool
 
 /// The list in an attribute, and the bytes in front of it: 16 of a peer's header, which is a link's.
 #[tactic(auto, unfolding(crate::specs::SpellingTables::inside))]
-pub(crate) fn inside(list: Listed, kind: u16, payload: &[u8]) -> Option<(Listed, usize)>
+pub fn inside(list: Listed, kind: u16, payload: &[u8]) -> Option<(Listed, usize)>
     ensures inside { result ≡ inside list kind payload.now }
     ensures front { IfSome result (λ x. x.1 ≤ length payload.now) }
     ensures lower { IfSome result (λ x. depth x.0 < depth list) }

@@ -3,12 +3,12 @@ use Rattle.std.specs.Prelude.{ℕ, ◌==◌, ◌&&◌, ◌||◌, not, nat_le, na
 use Rattle.std.specs.List.{list_any}
 use Rattle.netlink_packet_core_grammar.specs.Attributes.{proper_kind}
 use Rattle.netlink_packet_core_grammar.specs.Numbers.{u32_at}
-use Rattle.link_capture_spellings.specs.declared.placed.Spelling.{Spelling}
-use Rattle.link_capture_spellings.specs.declared.placed.Spelling.TheVariants.{NestedPortSettings, ResizedSettings, PathDiscoveryOverOne, LaterPeer, LongAlias, NameWithoutNul, FlagWithPayload, TruthOverOne, StrayNestedBit, ForeignFunction, HeaderByte, ShortMap}
-use Rattle.link_capture_spellings.specs.declared.tables.Data.{Data}
-use Rattle.link_capture_spellings.specs.declared.tables.Data.TheVariants.{Vxlan, Geneve, Gre, Gre6, IpTunnel, BareUdp, Batadv, Netkit, Behind}
-use Rattle.link_capture_spellings.specs.declared.tables.Table.{Table}
-use Rattle.link_capture_spellings.specs.declared.tables.Table.TheVariants.{Unspec, Bridge, Link, Inet, Programs, Functions, OfKind}
+use Rattle.link_capture_spelling_rows.specs.declared.placed.Spelling.{Spelling}
+use Rattle.link_capture_spelling_rows.specs.declared.placed.Spelling.TheVariants.{NestedPortSettings, ResizedSettings, PathDiscoveryOverOne, LaterPeer, LongAlias, NameWithoutNul, FlagWithPayload, TruthOverOne, StrayNestedBit, ForeignFunction, HeaderByte, ShortMap}
+use Rattle.link_capture_spelling_rows.specs.declared.tables.Data.{Data}
+use Rattle.link_capture_spelling_rows.specs.declared.tables.Data.TheVariants.{Vxlan, Geneve, Gre, Gre6, IpTunnel, BareUdp, Batadv, Netkit, Behind}
+use Rattle.link_capture_spelling_rows.specs.declared.tables.Table.{Table}
+use Rattle.link_capture_spelling_rows.specs.declared.tables.Table.TheVariants.{Unspec, Bridge, Link, Inet, Programs, Functions, OfKind}
 
 abbrev pub told_if : Bool → Spelling → Option Spelling
 told_if stands s = cond stands (Some s) None

@@ -1,9 +1,10 @@
 //! Which spelling an attribute has, by its list, its kind and its payload.
 
 ghost use Rattle.std.specs.Prelude.{◌≡◌, ◌≤◌, length};
-ghost use Rattle.link_capture_spellings.specs.SpellingRows.{told_if, over_one_byte, over_one_word, has_nul, is_long_alias};
-ghost use Rattle.link_capture_spellings.specs.SpellingRows.{link_spelling, is_flag, value_spelling, data_spelling};
-ghost use Rattle.link_capture_spellings.specs.SpellingRows.{payload_spelling, is_strict, nested_spelling, bit_spelling, header_spelling};
+ghost use Rattle.netlink_packet_core_grammar.specs.Attributes.{proper_kind};
+ghost use Rattle.link_capture_spelling_rows.specs.SpellingRows.{told_if, over_one_byte, over_one_word, has_nul, is_long_alias};
+ghost use Rattle.link_capture_spelling_rows.specs.SpellingRows.{link_spelling, is_flag, value_spelling, data_spelling};
+ghost use Rattle.link_capture_spelling_rows.specs.SpellingRows.{payload_spelling, is_strict, nested_spelling, bit_spelling, header_spelling};
 
 use crate::placed::Spelling;
 use crate::tables::{Data, Table};
@@ -104,7 +105,7 @@ fn data_spelling(held: Data, kind: u16, payload: &[u8]) -> Option<Spelling>
 }
 
 /// The spelling of a payload in a list, of a kind without its flag bits.
-pub(crate) fn payload_spelling(table: Table, kind: u16, payload: &[u8]) -> Option<Spelling>
+fn payload_spelling(table: Table, kind: u16, payload: &[u8]) -> Option<Spelling>
     ensures { result ≡ payload_spelling table kind payload.now }
 {
     match table {
@@ -140,7 +141,7 @@ fn nested_spelling(table: Table, kind: u16) -> Option<Spelling>
 }
 
 /// The spelling of a kind in a list, flag bits and all.
-pub(crate) fn bit_spelling(table: Table, kind: u16) -> Option<Spelling>
+fn bit_spelling(table: Table, kind: u16) -> Option<Spelling>
     ensures { result ≡ bit_spelling table kind }
 {
     if kind >= 0x8000 {
@@ -150,8 +151,22 @@ pub(crate) fn bit_spelling(table: Table, kind: u16) -> Option<Spelling>
     }
 }
 
+/// The spellings of an attribute of a list, whose kind has its flag bits: that of the nested bit, and that of the payload.
+pub fn attribute_spellings(
+    table: Table,
+    kind: u16,
+    payload: &[u8],
+) -> (Option<Spelling>, Option<Spelling>)
+    ensures bit { result.0 ≡ bit_spelling table kind }
+    ensures payload { result.1 ≡ payload_spelling table (proper_kind kind) payload.now }
+{
+    let nested = bit_spelling(table, kind);
+    let held = payload_spelling(table, kind % 0x4000, payload);
+    (nested, held)
+}
+
 /// The spelling of the second byte of a link's header in a message of a type.
-pub(crate) fn header_spelling(message_type: u16, body: &[u8]) -> Option<Spelling>
+pub fn header_spelling(message_type: u16, body: &[u8]) -> Option<Spelling>
     requires { 16 ≤ length body.now }
     ensures { result ≡ header_spelling message_type body.now }
 {

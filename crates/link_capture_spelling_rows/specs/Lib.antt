@@ -1,0 +1,3 @@
+pub mod SpellingWords
+pub mod SpellingRows
+pub mod SpellingTables

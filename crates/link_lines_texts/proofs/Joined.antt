@@ -1,0 +1,56 @@
+-- Two lists of the same kinds as one, and a name in them.
+use Rattle.std.proofs.Common.{◌≡◌, ℕ, zero, suc, ◌-◌, ◌<◌, ◌≤◌, Bool, true, false, cond, List, [], ◌∷◌, get_or, Option, refl, sym, ap, ◌∙◌, arith}
+use Rattle.std.specs.Prelude.{◌==◌, ◌&&◌, nat_lt}
+use Rattle.std.proofs.lemmas.Bool.{and_parts, eqb-true, le-ltb, lt-ltb}
+use Rattle.link_lines_texts.specs.Placed.{find}
+use Rattle.link_lines_texts.specs.Titles.{Name, Title, data_titles, first_name, info_titles, joined, link_rows, link_titles, nested_titles, own_titles, titles_of}
+
+abbrev alike : List Title → List Title → Bool
+alike [] [] = true
+alike (t ∷ ts) (u ∷ us) = (t.0 == u.0) && alike ts us
+alike ts us = false
+
+found_by : (a b more other : Option Name) (x : Bool) → more ≡ other → (c d : Option Name) → other ≡ first_name c d → cond x (first_name a b) more ≡ first_name (cond x a c) (cond x b d)
+found_by a b more other true h c d e = refl
+found_by a b more other false h c d e = h ∙ e
+
+find_joined : (k : ℕ) (ts us : List Title) → alike ts us ≡ true → find k (joined ts us) ≡ first_name (find k ts) (find k us)
+find_joined k [] [] h = refl
+find_joined k [] (u ∷ us) h = absurd cc
+find_joined k (t ∷ ts) [] h = absurd cc
+find_joined k (t ∷ ts) (u ∷ us) h =
+    let parts = and_parts (t.0 == u.0) (alike ts us) h in
+    found_by t.1 u.1 (find k (joined ts us)) _ (t.0 == k) (find_joined k ts us parts.1) (find k ts) (find k us) refl
+    ∙ ap (λ n. first_name (cond (t.0 == k) t.1 (find k ts)) (cond (n == k) u.1 (find k us))) (eqb-true t.0 u.0 parts.0)
+
+are_alike : (n : ℕ) → n < 4 → alike (get_or own_titles n []) link_rows ≡ true
+unfolding own_titles link_rows
+are_alike zero h = refl
+are_alike (suc zero) h = refl
+are_alike (suc (suc zero)) h = refl
+are_alike (suc (suc (suc zero))) h = refl
+are_alike (suc (suc (suc (suc n)))) h = absurd (omega (arith, h))
+
+-- a name in a link's titles
+link_is : (n : ℕ) → n < 4 → get_or link_titles n [] ≡ joined (get_or own_titles n []) link_rows
+unfolding link_titles own_titles
+link_is zero h = refl
+link_is (suc zero) h = refl
+link_is (suc (suc zero)) h = refl
+link_is (suc (suc (suc zero))) h = refl
+link_is (suc (suc (suc (suc n)))) h = absurd (omega (arith, h))
+
+pub link_found : (k n : ℕ) → n < 4 → find k (get_or link_titles n []) ≡ first_name (find k (get_or own_titles n [])) (find k link_rows)
+link_found k n h = ap (find k) (link_is n h) ∙ find_joined k (get_or own_titles n []) link_rows (are_alike n h)
+
+-- the titles of a link's table
+pub of_family : (n : ℕ) → 15 ≤ n → n < 19 → titles_of n ≡ get_or link_titles (n - 15) []
+unfolding titles_of
+of_family n h l =
+    ap (λ b. cond b (get_or nested_titles n []) (cond (nat_lt n 20) (get_or link_titles (n - 15) []) (get_or data_titles (n - 20) []))) (le-ltb n 15 h)
+    ∙ ap (λ b. cond b (get_or link_titles (n - 15) []) (get_or data_titles (n - 20) [])) (lt-ltb n 20 (omega (arith, l)))
+
+-- those of link info
+pub of_info : (n : ℕ) → n ≡ 19 → info_titles ≡ titles_of n
+unfolding titles_of link_titles own_titles
+of_info n h = ap titles_of (sym h)

@@ -1,0 +1,45 @@
+#!/usr/bin/env bash
+# Looks at the pages and words of man/: that man has no warning for a page, that its synopsis is the usage line of the
+# program's source, that completion knows each option, and each file that it names completes as such.
+#
+#     tools/manuals.sh
+#
+# The status is 1 where something is wrong. It wants man.
+set -uo pipefail
+cd "$(dirname "$0")/.."
+export LC_ALL=C.UTF-8 MANWIDTH=200
+wrong=0
+fault() {
+    echo "manuals: $1"
+    wrong=1
+}
+
+# The synopsis of a page as a usage line, in lower case.
+synopsis() {
+    man -l "man/$1.1" | col -bx | awk '/^SYNOPSIS/ { inside = 1; next } /^[A-Z]/ { inside = 0 } inside && NF' \
+        | sed -E 's/^ +//; s/ +$//' | paste -sd '|' | sed 's/|/ or /g' | tr '[:upper:]' '[:lower:]'
+}
+
+# The usage line of a program's source, without what follows a semicolon.
+usage() {
+    grep -rhoE "usage: $1 [^\";\\\\]*" crates/*/src | sed -E 's/^usage: //; s/ +$//' | sort -u | tr '[:upper:]' '[:lower:]'
+}
+
+# What completion offers behind some words.
+offered() {
+    bash -c '. man/linkcap.bash; COMP_WORDS=("$@"); COMP_CWORD=$(($# - 1)); "_$1"; printf "%s\n" "${COMPREPLY[@]}"' - "$@"
+}
+
+for program in linkcap linkshow; do
+    words=$(man --warnings -E UTF-8 -l -Tutf8 -Z "man/$program.1" 2>&1 > /dev/null)
+    [ -z "$words" ] || fault "man/$program.1: $words"
+    [ "$(synopsis $program)" = "$(usage $program)" ] \
+        || fault "man/$program.1 has '$(synopsis $program)', the source '$(usage $program)'"
+    for option in $(grep -oE -- '--[a-z][a-z-]+' <<< "$(usage $program)"); do
+        offered "$program" -- | grep -qx -- "$option" || fault "man/linkcap.bash: $program has $option"
+    done
+done
+[ "$(offered linkcap n)" = norm ] || fault "man/linkcap.bash: linkcap n is norm"
+[ "$(offered linkcap same READ)" = README.md ] || fault "man/linkcap.bash: linkcap same takes files"
+[ "$wrong" -eq 0 ] && echo "manuals: as they are to be"
+exit "$wrong"

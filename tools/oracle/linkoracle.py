@@ -1,0 +1,762 @@
+#!/usr/bin/env python3
+"""linkoracle: an independent implementation of normal texts.
+
+Written from the definitions of the format in words (docs/ tells the same ones)
+and apart from this repository's code, and never mended after what that code
+writes.  Standard library only; clear, not fast.
+
+Library (every call takes `stage=` and `peers_judged=`):
+
+    normal_text(capture, limit)  -> (text, fault or None)
+    measure(capture, limit)      -> (frames, attributes, text_len) or fault
+    same(a, b, limit)            -> bool or (second, fault)
+    check_list(bytes)            -> (text_len, attributes, fits) or None
+    same_list(a, b)              -> bool
+    body_check(body)             -> (text_len, attributes, fits, empty_ports)
+                                    or None
+    list_text(bytes), attr_text(table, context, bytes)  canonical text or None
+    Reader                       -> a model of a reader fed in pieces
+
+A fault is the triple (number, words, offset).  `stage` says which rows the
+tables have:
+  names  a link's name alone is text, every other kind is raw
+  plain  texts, bytes, numbers of 4 bytes and of 1, and link info
+  all    all rows
+  peers  all rows, and peers are judged as link messages
+`peers_judged` overrides what the stage says of peers.
+"""
+
+import os
+import sys
+
+sys.path.insert(0, os.path.dirname(os.path.abspath(__file__)))
+from tables import (    # noqa: E402
+    Choice, FirstRow, LAYER_TYPES, LINK_INFO, LINK_NESTED, LINK_TABLES, ListRow, NESTED, PEER, RAW,
+    REFUSED, Shape, TABLES, VF_PORTS_ROW, VOID, ZERO4, drop_nul, layer_written, number, p16, p32,
+    proper, u16, u32, up,
+)
+
+DEFAULT_LIMIT = 1048576
+LEAST_LIMIT = 16
+GREATEST_LIMIT = 4294967295
+
+# --------------------------------------------------------------------------
+# Faults (docs/frames.md)
+
+FAULT_KINDS = {
+    1: ("Cut", "cut frame"),
+    2: ("ShortLength", "length under 16"),
+    3: ("OverLimit", "frame over the limit"),
+    4: ("Refused", "refused body"),
+    5: ("EmptyPorts", "ports with foreign entries alone"),
+    6: ("Unfit", "attribute over 65535"),
+    7: ("TextOverLimit", "normal text over the limit"),
+    8: ("Memory", "no memory"),
+    9: ("Read", "read failed"),
+    10: ("Write", "write failed"),
+    11: ("TooLong", "capture too long"),
+    12: ("Failed", "failed before"),
+}
+
+
+def fault(number, offset):
+    return (number, FAULT_KINDS[number][1], offset)
+
+
+def fault_name(f):
+    return FAULT_KINDS[f[0]][0]
+
+
+def display(f):
+    """Display of CaptureFault: the words, ` at `, the offset in decimal."""
+    return "%s at %d" % (f[1], f[2])
+
+
+# --------------------------------------------------------------------------
+# The rules in force: stage and judging of peers
+
+class Rules:
+    def __init__(self, stage, peers_judged):
+        self.stage = stage
+        self.peers_judged = peers_judged
+        self.link = LINK_TABLES[stage]
+        # inside a judged peer, peers are bytes
+        self.inside_peer = Rules(stage, False) if peers_judged else None
+
+    def row(self, table, context, kind):
+        """The row of a kind proper: a shape or a nested table, RAW for none."""
+        row = table.rows.get(kind, RAW)
+        if isinstance(row, Choice):
+            row = row.pick(self, context)
+        return row
+
+
+def stage_name(stage):
+    if stage not in LINK_TABLES:
+        raise ValueError("no such stage: %s" % stage)
+    return stage
+
+
+_RULES = {}
+
+
+def rules_for(stage="peers", peers_judged=None):
+    stage = stage_name(stage)
+    if peers_judged is None:
+        peers_judged = stage == "peers"
+    key = (stage, bool(peers_judged))
+    if key not in _RULES:
+        _RULES[key] = Rules(*key)
+    return _RULES[key]
+
+
+# --------------------------------------------------------------------------
+# Cutting and judging lists
+
+def attributes(b):
+    """The attributes as far as they go, and whether bytes are left that can't
+    be cut: what NlasIterator gives."""
+    out = []
+    at, size = 0, len(b)
+    while at < size:
+        left = size - at
+        if left < 4:
+            return out, True
+        length = u16(b, at)
+        if length < 4 or length > left:
+            return out, True
+        out.append((u16(b, at + 2), b[at + 4:at + length]))
+        at += min(up(length), left)
+    return out, False
+
+
+def cut(b):
+    """The list of (kind, payload), or None where b is no list of attributes."""
+    out, error = attributes(b)
+    return None if error else out
+
+
+def cut_first(b):
+    """The one attribute that b begins with, for F."""
+    if len(b) < 4:
+        return None
+    length = u16(b, 0)
+    if length < 4 or length > len(b):
+        return None
+    return (u16(b, 2), b[4:length])
+
+
+class Entry:
+    """An accepted attribute with its row.
+
+    inside: for L all its entries, for F its first one, for a peer its Body.
+    written: the kind as it is written.
+    """
+    __slots__ = ("table", "kind", "row", "payload", "inside", "written")
+
+    def __init__(self, table, kind, row, payload, inside, written):
+        self.table, self.kind, self.row = table, kind, row
+        self.payload, self.inside, self.written = payload, inside, written
+
+
+class Body:
+    """An accepted link body."""
+    __slots__ = ("family", "second", "layer", "index", "flags", "mask",
+                 "entries")
+
+
+def written_kind(rules, table, row, kind):
+    """The kind as it is written."""
+    if row.raw:
+        return kind
+    if table is rules.link and proper(kind) in LINK_NESTED:
+        return proper(kind) | NESTED
+    return proper(kind)
+
+
+def read_entry(rules, table, context, kind, payload):
+    """An Entry, or None where its row doesn't accept the payload."""
+    row = rules.row(table, context, proper(kind))
+    if isinstance(row, Shape):
+        if not row.accepted(payload):
+            return None
+        inside = None
+    elif isinstance(row, ListRow):
+        if row.refuse_empty and not payload:
+            return None
+        inside = read_list(rules, row.table, row.context, payload)
+        if inside is None:
+            return None
+    elif isinstance(row, FirstRow):
+        first = cut_first(payload)
+        if first is None:
+            return None
+        entry = read_entry(rules, row.table, row.context, *first)
+        if entry is None:
+            return None
+        inside = [entry]
+    else:                                   # a judged peer
+        inside = read_link_body(rules.inside_peer, payload)
+        if inside is None or empty_ports(inside) or not fits(inside.entries):
+            return None
+    return Entry(table, kind, row, payload, inside,
+                 written_kind(rules, table, row, kind))
+
+
+def as_text(p):
+    """The text of a kind attribute, as what is in force."""
+    return drop_nul(p).decode("utf-8")
+
+
+def read_list(rules, table, context, b):
+    """All entries of b, or None where b isn't accepted."""
+    pairs = cut(b)
+    if pairs is None:
+        return None
+    out = []
+    kind_in_force = port_kind = None        # in link info
+    for kind, payload in pairs:
+        here = (kind_in_force, port_kind) if table is LINK_INFO else context
+        entry = read_entry(rules, table, here, kind, payload)
+        if entry is None:
+            return None
+        out.append(entry)
+        if table is LINK_INFO:
+            if proper(kind) == 1:
+                kind_in_force = as_text(payload)
+            elif proper(kind) == 4:
+                port_kind = as_text(payload)
+            elif proper(kind) == 5:
+                port_kind = None
+    return out
+
+
+def read_link_body(rules, b):
+    """A Body, or None: at least 16 bytes and an accepted list behind them."""
+    if len(b) < 16:
+        return None
+    body = Body()
+    body.family, body.second, body.layer = b[0], b[1], u16(b, 2)
+    body.index, body.flags, body.mask = u32(b, 4), u32(b, 8), u32(b, 12)
+    body.entries = read_list(rules, rules.link, body.family, b[16:])
+    return None if body.entries is None else body
+
+
+# --------------------------------------------------------------------------
+# What is kept, sizes, texts, counts
+
+def kept(entry):
+    """The kept entries of a nested row."""
+    keeps = entry.row.table.keeps
+    if keeps is None:
+        return entry.inside
+    return [e for e in entry.inside if proper(e.kind) == keeps]
+
+
+def nested(entry):
+    return isinstance(entry.row, (ListRow, FirstRow))
+
+
+def payload_size(entry):
+    """The size of the canonical payload, unbounded."""
+    if nested(entry):
+        return list_size(kept(entry))
+    if entry.row is PEER:
+        return 16 + list_size(entry.inside.entries)
+    return len(entry.row.canonical(entry.payload))
+
+
+def list_size(entries):
+    """The size of the text of kept entries."""
+    return sum(up(4 + payload_size(e)) for e in entries)
+
+
+def fits(entries):
+    """Whether each length fits its 2 bytes, of kept entries, at all depths."""
+    for e in entries:
+        if 4 + payload_size(e) > 65535:
+            return False
+        if nested(e) and not fits(kept(e)):
+            return False
+        if e.row is PEER and not fits(e.inside.entries):
+            return False
+    return True
+
+
+def text_of(entries):
+    """The text of kept entries that fit."""
+    out = []
+    for e in entries:
+        if nested(e):
+            payload = text_of(kept(e))
+        elif e.row is PEER:
+            payload = body_text(e.inside)
+        else:
+            payload = e.row.canonical(e.payload)
+        length = 4 + len(payload)
+        out.append(p16(length) + p16(e.written) + payload
+                   + bytes(up(length) - length))
+    return b"".join(out)
+
+
+def body_text(body):
+    """The text of a link body that fits."""
+    return (bytes((body.family, 0)) + p16(layer_written(body.layer))
+            + p32(body.index) + p32(body.flags) + p32(body.mask)
+            + text_of(body.entries))
+
+
+def empty_ports(body):
+    """Whether some accepted IFLA_VF_PORTS keeps nothing."""
+    return any(e.row is VF_PORTS_ROW and not kept(e) for e in body.entries)
+
+
+def count(entries):
+    """The attributes, of all entries that are looked at."""
+    n = 0
+    for e in entries:
+        n += 1
+        if nested(e):
+            n += count(e.inside)
+        elif e.row is PEER:
+            n += count(e.inside.entries)
+    return n
+
+
+# --------------------------------------------------------------------------
+# Meaning the same
+
+def same_entries(a, b):
+    """Of two kept lists.  Builds no text."""
+    if len(a) != len(b):
+        return False
+    for x, y in zip(a, b):
+        if x.row.raw or y.row.raw:
+            if not (x.row.raw and y.row.raw and x.kind == y.kind):
+                return False
+        elif proper(x.kind) != proper(y.kind):
+            return False
+        # Equal entries before this one give equal contexts, so equal rows.
+        if x.row is not y.row:
+            return False
+        if nested(x):
+            if not same_entries(kept(x), kept(y)):
+                return False
+        elif x.row is PEER:
+            if not same_link_bodies(x.inside, y.inside):
+                return False
+        elif not x.row.same(x.payload, y.payload):
+            return False
+    return True
+
+
+def same_layers(m, n):
+    """Equal, or both outside the list of known types or 65535."""
+    return m == n or ((m not in LAYER_TYPES or m == VOID)
+                      and (n not in LAYER_TYPES or n == VOID))
+
+
+def same_link_bodies(a, b):
+    """Of two link bodies, of types 16 to 19."""
+    return (a.family == b.family and a.index == b.index
+            and a.flags == b.flags and a.mask == b.mask
+            and same_layers(a.layer, b.layer)
+            and same_entries(a.entries, b.entries))
+
+
+NOOP, ERROR, DONE, OVERRUN = 1, 2, 3, 4
+LINK_TYPES = (16, 17, 18, 19)
+
+
+def same_bodies(kind, a, b):
+    """Of two accepted frames of one type."""
+    if kind == NOOP:
+        return True
+    if kind == DONE:
+        return (a.body or ZERO4) == (b.body or ZERO4)
+    if kind in LINK_TYPES:
+        return same_link_bodies(a.link, b.link)
+    return a.body == b.body
+
+
+# --------------------------------------------------------------------------
+# Frames
+
+class Frame:
+    """An accepted frame.  link: its Body for types 16 to 19, else None."""
+    __slots__ = ("offset", "length", "type", "flags", "sequence", "port",
+                 "body", "link")
+
+    def body_size(self):
+        """The size of the body as it is written."""
+        if self.link is not None:
+            return 16 + list_size(self.link.entries)
+        return len(self.plain_text())
+
+    def plain_text(self):
+        if self.type == NOOP:
+            return b""
+        if self.type == DONE:
+            return self.body or ZERO4
+        return self.body
+
+    def text(self):
+        body = self.plain_text() if self.link is None else body_text(self.link)
+        length = 16 + len(body)
+        return (p32(length) + p16(self.type) + p16(self.flags)
+                + p32(self.sequence) + p32(self.port)
+                + body + bytes(up(length) - length))
+
+
+def front(rules, limit, c, at):
+    """The front of what c has from `at` on: a Frame, or the number of
+    its fault.  At least one byte is there."""
+    left = len(c) - at
+    if left < 16:
+        return 1
+    length = u32(c, at)
+    if length < 16:
+        return 2
+    if length > limit:
+        return 3
+    if left < length:
+        return 1
+    f = Frame()
+    f.offset, f.length = at, length
+    f.type, f.flags = u16(c, at + 4), u16(c, at + 6)
+    f.sequence, f.port = u32(c, at + 8), u32(c, at + 12)
+    f.body = c[at + 16:at + length]
+    f.link = None
+    if f.type == ERROR:
+        if len(f.body) < 4:
+            return 4
+    elif f.type == DONE:
+        if 1 <= len(f.body) <= 3:
+            return 4
+    elif f.type in LINK_TYPES:
+        f.link = read_link_body(rules, f.body)
+        if f.link is None:
+            return 4
+        if empty_ports(f.link):
+            return 5
+        if not fits(f.link.entries):
+            return 6
+    if 16 + f.body_size() > limit:
+        return 7
+    return f
+
+
+def walk(rules, limit, c):
+    """Gives each accepted Frame, then the first fault, if any."""
+    at = 0
+    while at < len(c):
+        f = front(rules, limit, c, at)
+        if not isinstance(f, Frame):
+            yield fault(f, at)
+            return
+        yield f
+        at += min(up(f.length), len(c) - at)
+
+
+def read_capture(rules, limit, c):
+    """(frames before the first fault, first fault or None)."""
+    frames = []
+    for item in walk(rules, limit, c):
+        if not isinstance(item, Frame):
+            return frames, item
+        frames.append(item)
+    return frames, None
+
+
+def check_limit(limit):
+    if not LEAST_LIMIT <= limit <= GREATEST_LIMIT:
+        raise ValueError("a limit is a number from 16 to 4294967295")
+
+
+# --------------------------------------------------------------------------
+# The calls
+
+def normal_text(capture, limit=DEFAULT_LIMIT, stage="peers", peers_judged=None):
+    """(the texts of the frames before the first fault, that fault or None)."""
+    check_limit(limit)
+    frames, bad = read_capture(rules_for(stage, peers_judged), limit,
+                               bytes(capture))
+    return b"".join(f.text() for f in frames), bad
+
+
+def first_fault(capture, limit=DEFAULT_LIMIT, stage="peers", peers_judged=None):
+    """The first fault, or None."""
+    check_limit(limit)
+    return read_capture(rules_for(stage, peers_judged), limit,
+                        bytes(capture))[1]
+
+
+def measure(capture, limit=DEFAULT_LIMIT, stage="peers", peers_judged=None):
+    """(frames, attributes, text_len), or the fault."""
+    check_limit(limit)
+    frames, bad = read_capture(rules_for(stage, peers_judged), limit,
+                               bytes(capture))
+    if bad is not None:
+        return bad
+    return (len(frames),
+            sum(count(f.link.entries) for f in frames if f.link is not None),
+            sum(up(16 + f.body_size()) for f in frames))
+
+
+def is_fault(answer):
+    """Tells a fault from a measure."""
+    return isinstance(answer[1], str)
+
+
+def same(a, b, limit=DEFAULT_LIMIT, stage="peers", peers_judged=None):
+    """A bool, or (second, fault); a is judged whole before b."""
+    check_limit(limit)
+    rules = rules_for(stage, peers_judged)
+    left, bad = read_capture(rules, limit, bytes(a))
+    if bad is not None:
+        return (False, bad)
+    right, bad = read_capture(rules, limit, bytes(b))
+    if bad is not None:
+        return (True, bad)
+    return (len(left) == len(right)
+            and all(f.type == g.type and f.flags == g.flags
+                    and f.sequence == g.sequence and f.port == g.port
+                    and same_bodies(f.type, f, g)
+                    for f, g in zip(left, right)))
+
+
+def check_list(b, stage="peers", peers_judged=None):
+    """(text_len, attributes, fits) of a link info list, None if refused."""
+    entries = read_list(rules_for(stage, peers_judged), LINK_INFO, None,
+                        bytes(b))
+    if entries is None:
+        return None
+    return (list_size(entries), count(entries), fits(entries))
+
+
+def same_list(a, b, stage="peers", peers_judged=None):
+    """Whether two accepted link info lists mean the same."""
+    rules = rules_for(stage, peers_judged)
+    x = read_list(rules, LINK_INFO, None, bytes(a))
+    y = read_list(rules, LINK_INFO, None, bytes(b))
+    if x is None or y is None:
+        raise ValueError("same_list: both lists have to be accepted")
+    return same_entries(x, y)
+
+
+def list_text(b, stage="peers", peers_judged=None):
+    """Canonical text of a link info list that is accepted and fits."""
+    entries = read_list(rules_for(stage, peers_judged), LINK_INFO, None,
+                        bytes(b))
+    if entries is None or not fits(entries):
+        return None
+    return text_of(entries)
+
+
+def body_check(b, stage="peers", peers_judged=None):
+    """(text_len, attributes, fits, empty_ports) of a link body, or None."""
+    body = read_link_body(rules_for(stage, peers_judged), bytes(b))
+    if body is None:
+        return None
+    return (16 + list_size(body.entries), count(body.entries),
+            fits(body.entries), empty_ports(body))
+
+
+def same_body(a, b, stage="peers", peers_judged=None):
+    """Whether two accepted link bodies mean the same."""
+    rules = rules_for(stage, peers_judged)
+    x = read_link_body(rules, bytes(a))
+    y = read_link_body(rules, bytes(b))
+    if x is None or y is None:
+        raise ValueError("same_body: both bodies have to be accepted")
+    return same_link_bodies(x, y)
+
+
+def attr_text(table, context, b, stage="peers", peers_judged=None):
+    """The canonical text of the one attribute that b begins with, under a
+    table of TABLES (or "link") and a context; None where refused or unfit."""
+    rules = rules_for(stage, peers_judged)
+    t = rules.link if table == "link" else TABLES[table]
+    first = cut_first(bytes(b))
+    if first is None:
+        return None
+    entry = read_entry(rules, t, context, *first)
+    if entry is None or not fits([entry]):
+        return None
+    return text_of([entry])
+
+
+class Reader:
+    """A reader fed in pieces, over whole strings (quadratic)."""
+
+    def __init__(self, limit, stage="peers", peers_judged=None):
+        check_limit(limit)
+        self.args = (limit, stage, peers_judged)
+        self.s = b""
+        self.failed = None
+
+    def feed(self, piece):
+        """(what is added to `out`, fault or None)."""
+        if self.failed is not None:
+            return b"", fault(12, self.failed)
+        old = normal_text(self.s, *self.args)[0]
+        self.s += bytes(piece)
+        new, bad = normal_text(self.s, *self.args)
+        if bad is not None and bad[0] != 1:
+            self.failed = bad[2]
+        else:
+            bad = None
+        return new[len(old):], bad
+
+    def finish(self):
+        if self.failed is not None:
+            return fault(12, self.failed)
+        return first_fault(self.s, *self.args)
+
+    def kept(self):
+        """Bytes of the cut frame that the reader stands for."""
+        if self.failed is not None:
+            return 0
+        bad = first_fault(self.s, *self.args)
+        return 0 if bad is None else len(self.s) - bad[2]
+
+
+# --------------------------------------------------------------------------
+# The program
+
+USAGE = "usage: linkcap norm [LIMIT] or linkcap same FILE FILE [LIMIT]"
+
+
+def read_limit(word):
+    """A number, or None where the word is no LIMIT."""
+    if not word or any(ch not in "0123456789" for ch in word):
+        return None
+    digits = word.lstrip("0") or "0"
+    if len(digits) > 10:
+        return None
+    value = int(digits)
+    return value if LEAST_LIMIT <= value <= GREATEST_LIMIT else None
+
+
+def read_words(words):
+    """("norm", limit), ("same", first, second, limit), or None: status 3."""
+    if words[:1] == ["norm"] and len(words) in (1, 2):
+        limit = DEFAULT_LIMIT if len(words) == 1 else read_limit(words[1])
+        return None if limit is None else ("norm", limit)
+    if words[:1] == ["same"] and len(words) in (3, 4):
+        limit = DEFAULT_LIMIT if len(words) == 3 else read_limit(words[3])
+        return None if limit is None else ("same", words[1], words[2], limit)
+    return None
+
+
+def read_fd(fd):
+    """(bytes read, whether reading failed)."""
+    parts = []
+    while True:
+        try:
+            part = os.read(fd, 1 << 20)
+        except OSError:
+            return b"".join(parts), True
+        if not part:
+            return b"".join(parts), False
+        parts.append(part)
+
+
+def write_fd(fd, b):
+    """(bytes taken, whether writing failed)."""
+    at = 0
+    while at < len(b):
+        try:
+            n = os.write(fd, b[at:at + (1 << 20)])
+        except OSError:
+            return at, True
+        if n == 0:
+            return at, True
+        at += n
+    return at, False
+
+
+def complain(line):
+    write_fd(2, (line + "\n").encode("utf-8", "surrogateescape"))
+
+
+def run_norm(limit, stage, peers_judged):
+    s, broken = read_fd(0)
+    text, bad = normal_text(s, limit, stage, peers_judged)
+    if broken and (bad is None or bad[0] == 1):
+        bad = fault(9, len(s))
+    taken, unwritten = write_fd(1, text)
+    if unwritten:
+        bad = fault(10, taken)
+    if bad is not None:
+        complain(display(bad))
+        return 2
+    return 0
+
+
+def run_same(first, second, limit, stage, peers_judged):
+    sides = []
+    for prefix, name in (("first: ", first), ("second: ", second)):
+        try:
+            fd = os.open(name, os.O_RDONLY)
+        except (OSError, ValueError):
+            complain(prefix + display(fault(9, 0)))
+            return 2
+        s, broken = read_fd(fd)
+        os.close(fd)
+        if broken:
+            complain(prefix + display(fault(9, len(s))))
+            return 2
+        sides.append(s)
+    answer = same(sides[0], sides[1], limit, stage, peers_judged)
+    if not isinstance(answer, bool):
+        complain(("second: " if answer[0] else "first: ")
+                 + display(answer[1]))
+        return 2
+    if write_fd(1, b"same\n" if answer else b"different\n")[1]:
+        complain(display(fault(10, 0)))
+        return 2
+    return 0 if answer else 1
+
+
+def run_measure(limit, stage, peers_judged):
+    s, broken = read_fd(0)
+    if broken:
+        complain(display(fault(9, len(s))))
+        return 2
+    answer = measure(s, limit, stage, peers_judged)
+    if is_fault(answer):
+        complain(display(answer))
+        return 2
+    write_fd(1, b"%d %d %d\n" % answer)
+    return 0
+
+
+def main(words):
+    """The oracle's own options come first: --stage NAME, --peers, --no-peers.
+    `measure [LIMIT]` is the oracle's own word."""
+    stage, peers_judged = "peers", None
+    while words and words[0].startswith("--"):
+        if words[0] == "--stage" and len(words) > 1:
+            stage, words = stage_name(words[1]), words[2:]
+        elif words[0] == "--peers":
+            peers_judged, words = True, words[1:]
+        elif words[0] == "--no-peers":
+            peers_judged, words = False, words[1:]
+        else:
+            break
+    if words[:1] == ["measure"] and len(words) in (1, 2):
+        limit = DEFAULT_LIMIT if len(words) == 1 else read_limit(words[1])
+        if limit is not None:
+            return run_measure(limit, stage, peers_judged)
+    command = read_words(words)
+    if command is None:
+        complain(USAGE)
+        return 3
+    if command[0] == "norm":
+        return run_norm(command[1], stage, peers_judged)
+    return run_same(*command[1:], stage, peers_judged)
+
+
+if __name__ == "__main__":
+    sys.exit(main(sys.argv[1:]))

@@ -3,5 +3,7 @@
 
 mod clearing;
 pub mod laws;
+#[cfg(test)]
+mod tests;
 
 pub use clearing::clear_numbers;

@@ -186,19 +186,19 @@ program=$show
 lines=$(stat -c %s samples/lo-request.lines)
 run < "$request"
 wants "lines of a legal capture" 0 "" "$lines"
-run 47 < "$request"
+run --limit 47 < "$request"
 wants "lines: a fault is told with its place" 2 "frame over the limit at 0" 0
 run < "$work/cut"
 wants "lines before a fault are written" 2 "cut frame at 48" "$lines"
 run < "$work/long"
 wants "lines: a fault behind the first piece" 2 "cut frame at 67200" $((1400 * lines))
-for words in "15" "+48" "48 48" "4294967296" "norm"; do
+for words in "--limit 15" "48 48" "--limit"; do
     # shellcheck disable=SC2086
     run $words < "$request"
-    wants "lines: wrong words: '$words'" 3 "usage: linkshow [--kernels] [LIMIT]" 0
+    wants "lines: wrong words: '$words'" 3 "usage: linkshow [--kernels] [--limit N] [FILE]; linkshow --help says more" 0
 done
 run $'\xff' < "$request"
-wants "lines: a word that is no text" 3 "usage: linkshow [--kernels] [LIMIT]" 0
+wants "lines: a word that is no text" 3 "usage: linkshow [--kernels] [--limit N] [FILE]; linkshow --help says more" 0
 run < "$work"
 wants "lines: a directory can't be read" 2 "read failed at 0" 0
 : > "$work/text"
@@ -210,7 +210,7 @@ wants "lines: a full device" 2 "write failed at 0" 0
 status=$?
 wants "lines: a closed input" 2 "read failed at 0" 0
 : > "$work/text"
-(ulimit -v 65536 && exec "$program" 4294967295) < "$work/claimed" > "$work/text" 2> "$work/told"
+(ulimit -v 65536 && exec "$program" --limit 4294967295) < "$work/claimed" > "$work/text" 2> "$work/told"
 status=$?
 wants "lines: a claimed frame of 4 GiB takes what has come" 2 "cut frame at 0" 0
 exit $failed

@@ -20,7 +20,7 @@ for ((i = 0; i < groups; i++)); do cat "$work/group"; done > "$work/input"
 size=$(stat -c %s "$work/input")
 
 labels=(cat linkshow od)
-commands=(cat "$program 4294967295" "od -An -tx1")
+commands=(cat "$program --limit 4294967295" "od -An -tx1")
 best=(0 0 0)
 for round in 1 2 3; do
     for i in 0 1 2; do

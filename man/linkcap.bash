@@ -9,14 +9,24 @@ _linkcap() {
     fi
 }
 
+# _linkshow_words OPTIONS: the options where the word begins with -, else files.
+_linkshow_words() {
+    local word=${COMP_WORDS[COMP_CWORD]}
+    if [[ $word == -* ]]; then
+        mapfile -t COMPREPLY < <(compgen -W "$1" -- "$word")
+    else
+        mapfile -t COMPREPLY < <(compgen -f -- "$word")
+    fi
+}
+
 _linkshow() {
-    mapfile -t COMPREPLY < <(compgen -W "--kernels" -- "${COMP_WORDS[COMP_CWORD]}")
+    _linkshow_words "--kernels --limit --help --version"
 }
 
 _linkdiff() {
-    mapfile -t COMPREPLY < <(compgen -f -- "${COMP_WORDS[COMP_CWORD]}")
+    _linkshow_words "--empty --kernels --limit --help"
 }
 
 complete -o filenames -F _linkcap linkcap
-complete -F _linkshow linkshow
+complete -o filenames -F _linkshow linkshow
 complete -o filenames -F _linkdiff linkdiff

@@ -7,12 +7,13 @@
 
 Standard library alone. Asking needs no privilege.
 """
-import argparse
 import select
 import socket
 import struct
 import sys
 import time
+
+from frames import plainly, words
 
 NLMSG_ERROR, NLMSG_DONE = 2, 3  # linux/netlink.h
 NLM_F_REQUEST, NLM_F_DUMP = 0x001, 0x300
@@ -77,7 +78,7 @@ def watch(port, seconds):
 
 
 def main():
-    parser = argparse.ArgumentParser(description=__doc__.splitlines()[0])
+    parser = words(__doc__)
     parser.add_argument("--watch", type=float, metavar="SECONDS")
     parser.add_argument("--port", type=int, default=0, metavar="NUMBER")
     args = parser.parse_args()
@@ -85,4 +86,4 @@ def main():
 
 
 if __name__ == "__main__":
-    main()
+    plainly(main)

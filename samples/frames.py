@@ -1,4 +1,4 @@
-"""Walks the messages of a capture by their headers alone; the scripts beside it use it.
+"""Walks the messages of a capture by their headers alone, and reads the words of the scripts beside it, which use both.
 
     from frames import messages
     for place, length in messages(data): ..
@@ -7,7 +7,9 @@ A message starts at a multiple of 4, with its length in 4 bytes, the lowest byte
 bytes and a body, and not the padding behind them. Works on bytes, and on a file that is mapped (mmap). Standard library
 alone.
 """
+import argparse
 import struct
+import sys
 
 HEADER_SIZE = 16
 
@@ -46,3 +48,16 @@ def cut(data):
         capture += data[place:place + length] + bytes(-length % 4)
         end = place + padded(length)
     return bytes(capture), max(0, len(data) - end)
+
+
+def words(doc):
+    """A parser of a script's words, whose help is what the script tells of itself."""
+    return argparse.ArgumentParser(description=doc, formatter_class=argparse.RawDescriptionHelpFormatter)
+
+
+def plainly(main):
+    """Runs a script. A file or a socket that fails is told in a line, with status 1."""
+    try:
+        main()
+    except OSError as error:
+        sys.exit(": ".join(filter(None, [error.filename, error.strerror])))

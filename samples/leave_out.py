@@ -9,10 +9,9 @@ A place is counted in bytes from the start of the capture that is read. All else
 message padded. Where a message's length is under 16, or more than is left, nobody can tell where the next one starts:
 all from there on is one message, as far as this script goes. Standard library alone.
 """
-import argparse
 import sys
 
-from frames import HEADER_SIZE, message_type, messages, padded
+from frames import HEADER_SIZE, message_type, messages, padded, plainly, words
 
 
 def pieces(data):
@@ -26,7 +25,7 @@ def pieces(data):
 
 
 def main():
-    parser = argparse.ArgumentParser(description=__doc__.splitlines()[0])
+    parser = words(__doc__)
     parser.add_argument("places", type=int, nargs="*", metavar="PLACE")
     parser.add_argument("--type", type=int, action="append", default=[], metavar="NUMBER", dest="types")
     args = parser.parse_args()
@@ -41,4 +40,4 @@ def main():
 
 
 if __name__ == "__main__":
-    main()
+    plainly(main)

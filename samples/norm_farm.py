@@ -10,12 +10,16 @@ file and the fault. So each worker has to see this folder and the files under th
 come as the tasks end, in any order. The status is 0 where every file's is. Needs Dask's distributed, as in Debian's
 python3-distributed.
 """
-import argparse
 import os
 import subprocess
 import sys
 
-from distributed import Client, LocalCluster, as_completed
+from frames import plainly, words
+
+try:
+    from distributed import Client, LocalCluster, as_completed
+except ImportError:  # told in main, behind --help
+    Client = None
 
 NORM_ONE = os.path.join(os.path.dirname(os.path.realpath(__file__)), "norm_one.sh")
 
@@ -39,12 +43,14 @@ def connect(args):
 
 
 def main():
-    parser = argparse.ArgumentParser(description=__doc__.splitlines()[0])
+    parser = words(__doc__)
     farm = parser.add_mutually_exclusive_group(required=True)
     farm.add_argument("--scheduler", metavar="ADDRESS")
     farm.add_argument("--workers", type=int, metavar="NUMBER")
     parser.add_argument("files", nargs="+", metavar="FILE", help="- for names on standard input, one a line")
     args = parser.parse_args()
+    if Client is None:
+        sys.exit("there is no distributed: install Dask's, as Debian's python3-distributed")
     files = sys.stdin.read().splitlines() if args.files == ["-"] else args.files
     failed = False
     with connect(args) as client:
@@ -55,4 +61,4 @@ def main():
 
 
 if __name__ == "__main__":
-    main()
+    plainly(main)

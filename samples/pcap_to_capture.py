@@ -6,12 +6,13 @@
 Reads the classic pcap format of tcpdump, in either byte order, with link type 253 (LINKTYPE_NETLINK): each packet is a
 cooked header of 16 bytes, whose last two are the netlink family (0 is NETLINK_ROUTE) with the highest byte first, and
 netlink messages behind it. Messages are written by their length. What stands behind the last one of a packet, as the
-zeros that some programs send, is dropped, which standard error tells. Standard library alone.
+zeros that some programs send, is dropped, which standard error tells. The status is 1 where the file has no route
+message or can't be read. Standard library alone.
 """
 import struct
 import sys
 
-from frames import cut
+from frames import cut, plainly, words
 
 LINKTYPE_NETLINK, NETLINK_ROUTE = 253, 0
 FILE_HEADER, PACKET_HEADER, COOKED_HEADER = 24, 16, 16
@@ -44,16 +45,19 @@ def is_route(packet):
 
 
 def main():
-    if len(sys.argv) != 2:
-        sys.exit(__doc__)
-    with open(sys.argv[1], "rb") as file:
+    parser = words(__doc__)
+    parser.add_argument("file", metavar="FILE")
+    with open(parser.parse_args().file, "rb") as file:
         data = file.read()
+    written = 0
     for packet in filter(is_route, packets(data)):
         capture, dropped = cut(packet[COOKED_HEADER:])
-        sys.stdout.buffer.write(capture)
+        written += sys.stdout.buffer.write(capture)
         if dropped:
             print(f"dropped {dropped} bytes behind the messages of a packet", file=sys.stderr)
+    if not written:
+        sys.exit("no route message in the file")
 
 
 if __name__ == "__main__":
-    main()
+    plainly(main)

@@ -14,7 +14,7 @@ import mmap
 import os
 import sys
 
-from frames import messages
+from frames import messages, plainly, words
 
 BLOCK = 1 << 20
 
@@ -47,15 +47,20 @@ def split(source, size, folder):
 
 
 def main():
-    if len(sys.argv) != 4 or not sys.argv[2].isdigit() or int(sys.argv[2]) < 1:
-        sys.exit(__doc__)
-    if os.path.exists(sys.argv[3]):
-        sys.exit(f"{sys.argv[3]} is there already: pieces of another capture would be joined too")
-    os.makedirs(sys.argv[3])
-    with open(sys.argv[1], "rb") as source:
+    parser = words(__doc__)
+    parser.add_argument("capture", metavar="CAPTURE")
+    parser.add_argument("size", type=int, metavar="SIZE")
+    parser.add_argument("folder", metavar="FOLDER")
+    args = parser.parse_args()
+    if args.size < 1:
+        parser.error("SIZE is a number of bytes, 1 at least")
+    if os.path.exists(args.folder):
+        sys.exit(f"{args.folder} is there already: pieces of another capture would be joined too")
+    with open(args.capture, "rb") as source:
+        os.makedirs(args.folder)
         if os.fstat(source.fileno()).st_size:
-            split(source, int(sys.argv[2]), sys.argv[3])
+            split(source, args.size, args.folder)
 
 
 if __name__ == "__main__":
-    main()
+    plainly(main)

@@ -7,12 +7,12 @@
 strace prints the bytes that each call sends in hex. Those of calls whose messages it takes for netlink's are written,
 by the messages' length; where -yy names the socket, as in `3<NETLINK:[ROUTE:1234]>`, those of route sockets alone. What
 stands behind the last message of a call, as the zeros that some programs send, is dropped, which standard error tells.
-Standard library alone.
+The status is 1 where the trace has no route message or can't be read. Standard library alone.
 """
 import re
 import sys
 
-from frames import cut
+from frames import cut, plainly, words
 
 # ` | 00010  07 00 03 00 76 30 00 00  2c 00 12 00 08 00 01 00  ....v0..,....... |`
 HEX_LINE = re.compile(r" \| [0-9a-f]+  (.{49})")
@@ -46,15 +46,18 @@ def datagrams(lines):
 
 
 def main():
-    if len(sys.argv) != 2:
-        sys.exit(__doc__)
-    with open(sys.argv[1], encoding="utf-8", errors="replace") as trace:
+    parser = words(__doc__)
+    parser.add_argument("trace", metavar="TRACE")
+    written = 0
+    with open(parser.parse_args().trace, encoding="utf-8", errors="replace") as trace:
         for datagram in datagrams(trace):
             capture, dropped = cut(datagram)
-            sys.stdout.buffer.write(capture)
+            written += sys.stdout.buffer.write(capture)
             if dropped:
                 print(f"dropped {dropped} bytes behind the messages of a call", file=sys.stderr)
+    if not written:
+        sys.exit("no route message in the trace")
 
 
 if __name__ == "__main__":
-    main()
+    plainly(main)

@@ -1,3 +1,3 @@
 pub mod Telling
+pub mod Keeping
 pub mod Noting
-pub mod Asking

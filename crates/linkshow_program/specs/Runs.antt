@@ -1,35 +1,64 @@
--- What the program's words ask for, what it tells, and its status.
-use Rattle.std.specs.Prelude.{◌≡◌, ◌≤◌, ℕ, List, [], ◌∷◌, ◌++◌, ◌⊎◌, length, codes, Option, None, Some, Result, Ok, Err, ⊤}
-use Rattle.std.specs.Io.KnownBytes.{Appends, Consumes}
+-- What is told of a capture, and the program's status.
+use Rattle.std.specs.Prelude.{◌≡◌, ℕ, Bool, true, false, List, [], ◌∷◌, ◌++◌, ◌⊎◌, length, codes, cond, Option, None, Some, Result, Ok, Err, option_map, ⊤}
+use Rattle.std.specs.Io.KnownBytes.{Consumes}
+use Rattle.std.specs.declared.io.ErrorKind.{ErrorKind}
 use Rattle.link_capture_grammar.specs.declared.fault.CaptureFault.{CaptureFault}
+use Rattle.link_capture_grammar.specs.declared.fault.FaultKind.{FaultKind}
+use Rattle.link_capture_grammar.specs.declared.fault.FaultKind.TheVariants.{Read, Write}
 use Rattle.link_capture_grammar.specs.Faults.{fault_text}
-use Rattle.link_capture_commands.specs.Commands.{IsLimit, status_of}
+use Rattle.link_capture_commands.specs.Commands.{status_of}
 use Rattle.link_capture_engine.specs.Devices.{Rises, TellsItsEnd}
-use Rattle.link_capture_engine.specs.Outcomes.{IsPrefix, ReadFault}
+use Rattle.link_capture_engine.specs.Outcomes.{ReadFault}
 use Rattle.link_capture_spelling_rows.specs.declared.placed.PlacedSpelling.{PlacedSpelling}
 use Rattle.link_capture_spelling_rows.specs.SpellingWords.{placed_text}
 use Rattle.link_capture_spellings.specs.Spellings.{spellings}
 use Rattle.link_lines.specs.Outcomes.{Shows}
-use Rattle.linkshow_program.specs.declared.words.Asked.{Asked}
-use Rattle.linkshow_program.specs.declared.words.Asked.TheVariants.{Lines, Notes}
+use Rattle.linkshow_words.specs.declared.words.Asked.{Asked}
+use Rattle.linkshow_words.specs.declared.words.Asked.TheVariants.{Help, Version, Show}
+use Rattle.linkshow_words.specs.Words.{Asks}
+use Rattle.linkshow_words.specs.Texts.{cause, advice}
+use Rattle.linkshow_program.specs.Devices.{SourceState, SinkState, Run}
+use Rattle.linkshow_program.specs.Telling.{IsTold, Tells, TellsBoth}
 
--- A writer that held the first bytes holds the second: all of the text has come to it, or the front of the text and
--- then it failed.
-abbrev pub Tells : Option (List ℕ) → Option (List ℕ) → Type 0 → List ℕ → Type 0
-Tells held holds failed text = Appends held holds text ⊎ (failed × ((front : List ℕ) × IsPrefix front text × Appends held holds front))
+-- ---- what is told
 
--- wrong words: this is told, with this status
-abbrev pub UsageAnswer : (List ℕ → Type 0) → ℕ → Type 0
-UsageAnswer Told status = Told (codes "usage: linkshow [--kernels] [LIMIT]" ++ 10 ∷ []) × (status ≡ 3)
+-- the source failed
+abbrev pub is_unread : FaultKind → Bool
+is_unread Read = true
+is_unread kind = false
 
--- what is told of a capture that was shown: a line of the fault, or nothing
-abbrev pub fault_line : Result ⊤ CaptureFault → List ℕ
-fault_line (Ok x) = []
-fault_line (Err fault) = fault_text fault ++ 10 ∷ []
+-- the name of a file that couldn't be opened or read, before why
+abbrev pub name_told : Option (List ℕ) → Bool → List ℕ
+name_told (Some name) true = codes "linkshow: " ++ (name ++ codes ": ")
+name_told file unread = []
+
+-- of a fault: its words and its place, and behind them what helps where the capture begins with these bytes
+abbrev pub fault_told : Option (List ℕ) → List ℕ → CaptureFault → List ℕ
+fault_told file first fault = name_told file (is_unread fault.kind) ++ (fault_text fault ++ (10 ∷ advice first))
+
+-- of a capture of which no byte was read
+abbrev pub nothing_read : List ℕ → List ℕ
+nothing_read [] = codes "no messages" ++ 10 ∷ []
+nothing_read (x ∷ more) = []
+
+-- of a capture that was shown, which begins with these bytes
+abbrev pub told_of : Option (List ℕ) → List ℕ → Result ⊤ CaptureFault → List ℕ
+told_of file first (Ok x) = nothing_read first
+told_of file first (Err fault) = fault_told file first fault
+
+-- of a file that couldn't be opened
+abbrev pub unopened : List ℕ → ErrorKind → List ℕ
+unopened name kind = name_told (Some name) true ++ (cause kind ++ 10 ∷ [])
+
+-- ---- lines
 
 -- a capture was shown, and this is told of it, with this status
-abbrev pub ShowAnswer : (Result ⊤ CaptureFault → Type 0) → (List ℕ → Type 0) → ℕ → Type 0
-ShowAnswer Shown Told status = (outcome : Result ⊤ CaptureFault) × Shown outcome × Told (fault_line outcome) × (status ≡ status_of outcome)
+abbrev pub ShowAnswer : Run → Option (List ℕ) → ℕ → ℕ → Type 0
+ShowAnswer r file limit status =
+    (outcome : Result ⊤ CaptureFault)
+    × Shows r.from.to_come r.left.to_come r.held.holds r.holds.holds (TellsItsEnd r.from.ends_told r.left.ends_told r.left.to_come)
+    (Rises r.from.failures r.left.failures) (Rises r.held.failures r.holds.failures) limit outcome
+    × Tells r.told r.tells (told_of file r.first outcome) × (status ≡ status_of outcome)
 
 -- ---- with notes
 
@@ -41,57 +70,64 @@ abbrev pub notes_text : List PlacedSpelling → List ℕ
 notes_text [] = []
 notes_text (x ∷ xs) = note_text x ++ notes_text xs
 
--- one text is told, and then another, by a writer that counts its failures
-abbrev pub TellsBoth : Option (List ℕ) → Option (List ℕ) → ℕ → ℕ → List ℕ → List ℕ → Type 0
-TellsBoth held holds old new first second =
-    (between : Option (List ℕ)) × (count : ℕ) × Tells held between (Rises old count) first × Tells between holds (Rises count new) second
-
 -- what was read is shown as a source that never fails is
-abbrev pub ShowsWhole : List ℕ → Option (List ℕ) → Option (List ℕ) → Type 0 → ℕ → Result ⊤ CaptureFault → Type 0
-ShowsWhole s held holds write_failed limit outcome =
-    (left : Option (List ℕ)) × (old new : ℕ) × Shows (Some s) left held holds (TellsItsEnd old new left) (Rises 0 0) write_failed limit outcome
+abbrev pub ShowsWhole : List ℕ → SinkState → SinkState → ℕ → Result ⊤ CaptureFault → Type 0
+ShowsWhole s held holds limit outcome =
+    (left : Option (List ℕ)) × (old new : ℕ) × Shows (Some s) left held.holds holds.holds (TellsItsEnd old new left) (Rises 0 0) (Rises held.failures holds.failures) limit outcome
 
--- All was read, noted and then shown; or the read failed, which alone is told. The first five tell of the source, the next four of the sink, and the
--- next four of the error writer.
-abbrev pub NotesAnswer : Option (List ℕ) → Option (List ℕ) → Type 0 → ℕ → ℕ
-    → Option (List ℕ) → Option (List ℕ) → Type 0 → Type 0
-    → Option (List ℕ) → Option (List ℕ) → ℕ → ℕ → ℕ → ℕ → Type 0
-NotesAnswer from left ended read_before read_after held holds write_failed unwritten told tells old new limit status =
-    (s : List ℕ) × Consumes from left s × (
-    (ended × ((outcome : Result ⊤ CaptureFault) × ShowsWhole s held holds write_failed limit outcome
-    × TellsBoth told tells old new (notes_text (spellings limit s)) (fault_line outcome) × (status ≡ status_of outcome)))
-    ⊎ ((fault : CaptureFault) × ReadFault read_before read_after s fault.kind × (fault.offset ≡ length s) × unwritten
-    × Tells told tells (Rises old new) (fault_line (Err fault)) × (status ≡ 2))
+-- All was read, noted and then shown; or the read failed, which alone is told, and the sink of the lines is unwritten.
+abbrev pub NotesAnswer : Run → Type 0 → Option (List ℕ) → ℕ → ℕ → Type 0
+NotesAnswer r unwritten file limit status =
+    (s : List ℕ) × Consumes r.from.to_come r.left.to_come s × (
+    (TellsItsEnd r.from.ends_told r.left.ends_told r.left.to_come × ((outcome : Result ⊤ CaptureFault) × ShowsWhole s r.held r.holds limit outcome
+    × TellsBoth r.told r.tells (notes_text (spellings limit s)) (told_of file r.first outcome) × (status ≡ status_of outcome)))
+    ⊎ ((fault : CaptureFault) × ReadFault r.from.failures r.left.failures s fault.kind × (fault.offset ≡ length s) × unwritten
+    × Tells r.told r.tells (told_of file r.first (Err fault)) × (status ≡ 2))
     )
 
 -- ---- the words
 
--- `--kernels`, and then a limit or nothing
-abbrev pub IsKernels : List (List ℕ) → ℕ → Type 0
-IsKernels [] limit = ⊥
-IsKernels (w ∷ last) limit = (w ≡ codes "--kernels") × IsLimit last limit
+-- with notes or without
+abbrev pub CaptureAnswer : Bool → Run → Type 0 → Option (List ℕ) → ℕ → ℕ → Type 0
+CaptureAnswer true r unwritten file limit status = NotesAnswer r unwritten file limit status
+CaptureAnswer false r unwritten file limit status = ShowAnswer r file limit status
 
--- the words ask for this
-abbrev pub Asks : List (List ℕ) → Asked → Type 0
-Asks words (Lines limit) = IsLimit words limit
-Asks words (Notes limit) = IsKernels words limit
+-- A file of this name couldn't be opened, which alone is told; or it was, and its capture is shown: its bytes are those known of it.
+abbrev pub FileAnswer : {File : Type 0} → (File → SourceState) → Option (List ℕ) → Option ErrorKind → List ℕ → SinkState → SinkState → SinkState → SinkState → Type 0
+    → Bool → ℕ → ℕ → Type 0
+FileAnswer {File} state known refusal name held holds told tells unwritten kernels limit status =
+    ((kind : ErrorKind) × (refusal ≡ Some kind) × unwritten × Tells told tells (unopened name kind) × (status ≡ 2))
+    ⊎ ((refusal ≡ None) × ((file after : File) × (first : List ℕ) × ((state file).to_come ≡ known)
+    × CaptureAnswer kernels (record { from = state file; left = state after; first = first; held = held; holds = holds; told = told; tells = tells }) unwritten (Some name) limit status))
 
--- the limit is one that a run can have
-abbrev pub HasLimit : Asked → Type 0
-HasLimit (Lines limit) = 16 ≤ limit
-HasLimit (Notes limit) = 16 ≤ limit
+-- a text was printed, or told that it couldn't be, with this status
+abbrev pub PrintAnswer : SinkState → SinkState → SinkState → SinkState → List ℕ → ℕ → Type 0
+PrintAnswer held holds told tells text status =
+    (printed : Bool) × IsTold held holds text printed
+    × Tells told tells (cond printed [] (fault_text (record { kind = Write; offset = 0 }) ++ 10 ∷ [])) × (status ≡ cond printed 0 2)
+
+-- wrong words: this is told, with this status
+abbrev pub UsageAnswer : SinkState → SinkState → ℕ → Type 0
+UsageAnswer told tells status = Tells told tells (codes "usage: linkshow [--kernels] [--limit N] [FILE]; linkshow --help says more" ++ 10 ∷ []) × (status ≡ 3)
 
 -- the words ask for this, or for nothing
 abbrev pub Gives : List (List ℕ) → Option Asked → Type 0
 Gives words None = (asked : Asked) → Asks words asked → ⊥
 Gives words (Some asked) = Asks words asked
 
+-- of standard input, or of a file
+abbrev pub ShowsFrom : Type 0 → (List ℕ → Type 0) → Option (List ℕ) → Type 0
+ShowsFrom FromInput FromFile None = FromInput
+ShowsFrom FromInput FromFile (Some name) = FromFile name
+
 -- what holds then
-abbrev pub Does : Type 0 → (ℕ → Type 0) → (ℕ → Type 0) → Option Asked → Type 0
-Does Misused Shown Noted None = Misused
-Does Misused Shown Noted (Some (Lines limit)) = Shown limit
-Does Misused Shown Noted (Some (Notes limit)) = Noted limit
+abbrev pub Does : Type 0 → Type 0 → Type 0 → (Bool → ℕ → Type 0) → (List ℕ → Bool → ℕ → Type 0) → Option Asked → Type 0
+Does Misused Helped Told FromInput FromFile None = Misused
+Does Misused Helped Told FromInput FromFile (Some Help) = Helped
+Does Misused Helped Told FromInput FromFile (Some Version) = Told
+Does Misused Helped Told FromInput FromFile (Some (Show o)) =
+    ShowsFrom (FromInput o.kernels o.limit) (λ name. FromFile name o.kernels o.limit) (option_map (λ name. name.now) o.file)
 
 -- what the words ask for was done
-abbrev pub Answers : List (List ℕ) → Type 0 → (ℕ → Type 0) → (ℕ → Type 0) → Type 0
-Answers words Misused Shown Noted = (given : Option Asked) × Gives words given × Does Misused Shown Noted given
+abbrev pub Answers : List (List ℕ) → Type 0 → Type 0 → Type 0 → (Bool → ℕ → Type 0) → (List ℕ → Bool → ℕ → Type 0) → Type 0
+Answers words Misused Helped Told FromInput FromFile = (given : Option Asked) × Gives words given × Does Misused Helped Told FromInput FromFile given

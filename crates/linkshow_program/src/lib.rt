@@ -1,96 +1,156 @@
-//! What the program `linkshow` does: the lines of a netlink link capture, from standard input to standard output.
+//! What the program `linkshow` does: the lines of a netlink link capture, from standard input or a file to standard output.
 #![tactic(auto)]
 
-ghost use Rattle.std.specs.Prelude.{◌≡◌, map, string_bytes};
+ghost use Rattle.std.specs.Prelude.{◌≡◌, ◌≤◌, map, option_map, string_bytes, Some, None};
 ghost use Rattle.std.specs.Process.{exit_status};
-ghost use Rattle.link_capture_engine.specs.Devices.{Rises, TellsItsEnd};
-ghost use Rattle.link_capture_engine.specs.Known.{source_reader, source_failures, source_ends_told, sink_writer, sink_failures};
-ghost use Rattle.link_lines.specs.Outcomes.{Shows};
-ghost use Rattle.linkshow_program.specs.Runs.{Answers, NotesAnswer, ShowAnswer, UsageAnswer, Tells};
+ghost use Rattle.link_capture_engine.specs.Devices.{risen};
+ghost use Rattle.linkshow_words.specs.declared.texts.TheConstants as Texts;
+ghost use Rattle.linkshow_program.specs.Devices.{source_state, sink_state, run_of};
+ghost use Rattle.linkshow_program.specs.Runs.{Answers, CaptureAnswer, FileAnswer, PrintAnswer, UsageAnswer};
 
 mod environment;
+mod files;
+mod first_kept;
 mod lines;
 mod notes;
+mod printing;
 mod showing;
-mod words;
 
 use environment::words;
+pub use files::Files;
+use files::HostFiles;
+pub use first_kept::FirstKept;
 use lines::tell;
-use link_capture_engine::{ReadSource, WriteSink};
+use link_capture_engine::{ReadSource, Sink, Source, WriteSink};
+use linkshow_words::{Asked, HELP, Options, USAGE, VERSION, read_words};
 pub use notes::answer_notes;
-pub use showing::{answer_show, show_source};
+use printing::print;
+pub use showing::answer_show;
+use showing::tell_unopened;
 use std::alloc::Global;
-use std::io::{self, Read, Write};
+use std::io;
 use std::process::ExitCode;
-use words::{Asked, read_words};
-
-/// What is told of wrong words, as a line.
-const USAGE: &str = "usage: linkshow [--kernels] [LIMIT]\n";
 
 /// Tells on the error writer how the program is used. The answer is the program's status.
-fn answer_usage<E: Write>(errors: &mut WriteSink<E>) -> ExitCode
-    ensures { UsageAnswer (Tells (E.contents (sink_writer errors.old))
-        (E.contents (sink_writer errors.new))
-        (Rises (sink_failures errors.old) (sink_failures errors.new))) (exit_status result) }
+fn answer_usage<E: Sink>(errors: &mut E) -> ExitCode
+    ensures { UsageAnswer (sink_state E.holds E.failures errors.old)
+        (sink_state E.holds E.failures errors.new) (exit_status result) }
 {
     tell(errors, USAGE);
     ExitCode::from(3)
 }
 
-/// The program: writes the lines of what a source has, under the limit that the words behind its name give, tells on
-/// the error writer what went wrong, and answers with its status. Where the words ask for it, it notes on the error
-/// writer first what kernels tell apart. Where the words give none, nothing is read or
-/// printed, and the usage line is told.
-pub fn answer<R: Read, W: Write, E: Write>(
+/// Writes the lines of a capture, and where it is asked for notes of what kernels tell apart before them.
+fn answer_capture<S: Source, K: Sink, E: Sink>(
     alloc: Global,
-    words: &[String],
-    source: &mut ReadSource<R>,
-    sink: &mut WriteSink<W>,
-    errors: &mut WriteSink<E>,
+    source: &mut FirstKept<S>,
+    sink: &mut K,
+    errors: &mut E,
+    options: &Options<'_>,
 ) -> ExitCode
-    ensures { Answers (map string_bytes words.now)
-        ((source.new ≡ source.old) × (sink.new ≡ sink.old)
-        × UsageAnswer (Tells (E.contents (sink_writer errors.old))
-        (E.contents (sink_writer errors.new))
-        (Rises (sink_failures errors.old) (sink_failures errors.new))) (exit_status result))
-        (λ limit. ShowAnswer (Shows
-        (R.remaining (source_reader source.old)) (R.remaining (source_reader source.new))
-        (W.contents (sink_writer sink.old)) (W.contents (sink_writer sink.new))
-        (TellsItsEnd (source_ends_told source.old) (source_ends_told source.new)
-        (R.remaining (source_reader source.new)))
-        (Rises (source_failures source.old) (source_failures source.new))
-        (Rises (sink_failures sink.old) (sink_failures sink.new)) limit)
-        (Tells (E.contents (sink_writer errors.old)) (E.contents (sink_writer errors.new))
-        (Rises (sink_failures errors.old) (sink_failures errors.new))) (exit_status result))
-        (λ limit. NotesAnswer
-        (R.remaining (source_reader source.old)) (R.remaining (source_reader source.new))
-        (TellsItsEnd (source_ends_told source.old) (source_ends_told source.new)
-        (R.remaining (source_reader source.new)))
-        (source_failures source.old) (source_failures source.new)
-        (W.contents (sink_writer sink.old)) (W.contents (sink_writer sink.new))
-        (Rises (sink_failures sink.old) (sink_failures sink.new)) (sink.new ≡ sink.old)
-        (E.contents (sink_writer errors.old)) (E.contents (sink_writer errors.new))
-        (sink_failures errors.old) (sink_failures errors.new) limit (exit_status result)) }
+    requires { 16 ≤ options.now.limit }
+    ensures { CaptureAnswer options.now.kernels (run_of
+        (source_state S.to_come S.failures S.ends_told) (sink_state K.holds K.failures)
+        (sink_state E.holds E.failures) source.old source.new sink.old sink.new
+        errors.old errors.new) (sink.new ≡ sink.old)
+        (option_map (λ name. name.now) options.now.file) options.now.limit (exit_status result) }
 {
-    match read_words(words) {
-        None => answer_usage(errors),
-        Some(Asked::Lines(limit)) => answer_show(alloc, source, sink, errors, limit),
-        Some(Asked::Notes(limit)) => answer_notes(alloc, source, sink, errors, limit),
+    if options.kernels {
+        answer_notes(alloc, source, sink, errors, options.file, options.limit)
+    } else {
+        answer_show(alloc, source, sink, errors, options.file, options.limit)
     }
 }
 
-/// Runs on standard input, output and error, and the process's words. It hands them on, and does nothing else.
+/// Opens the file of a name, and writes the lines of its capture in the same way. That it can't be opened is told.
+fn answer_file<F: Files, K: Sink, E: Sink>(
+    alloc: Global,
+    files: &mut F,
+    sink: &mut K,
+    errors: &mut E,
+    name: &str,
+    options: &Options<'_>,
+) -> ExitCode
+    requires low { 16 ≤ options.now.limit }
+    requires name { option_map (λ name. name.now) options.now.file ≡ Some name.now }
+    ensures asked { F.asked files.new ≡ risen (F.asked files.old) }
+    ensures answer { FileAnswer (source_state F.File.to_come F.File.failures F.File.ends_told)
+        (F.contents files.old name.now) (F.refusal files.new) name.now
+        (sink_state K.holds K.failures sink.old) (sink_state K.holds K.failures sink.new)
+        (sink_state E.holds E.failures errors.old) (sink_state E.holds E.failures errors.new)
+        (sink.new ≡ sink.old) options.now.kernels options.now.limit (exit_status result) }
+{
+    match files.open(name) {
+        Ok(file) => {
+            let mut source = FirstKept::new(file);
+            answer_capture(alloc, &mut source, sink, errors, options)
+        }
+        Err(kind) => {
+            tell_unopened(errors, name, kind);
+            ExitCode::from(2)
+        }
+    }
+}
+
+/// The program: writes the lines of what a file or the source has, as the words behind its name ask, tells on the error
+/// writer what went wrong, and answers with its status. Where they ask how it is used or for its version, or for nothing
+/// that it knows, no file is opened and nothing is read; and the source isn't read where they name a file.
+pub fn answer<F: Files, S: Source, K: Sink, E: Sink>(
+    alloc: Global,
+    words: &[String],
+    files: &mut F,
+    source: &mut FirstKept<S>,
+    sink: &mut K,
+    errors: &mut E,
+) -> ExitCode
+    ensures { Answers (map string_bytes words.now)
+        ((files.new ≡ files.old) × (source.new ≡ source.old) × (sink.new ≡ sink.old)
+        × UsageAnswer (sink_state E.holds E.failures errors.old)
+        (sink_state E.holds E.failures errors.new) (exit_status result))
+        ((files.new ≡ files.old) × (source.new ≡ source.old)
+        × PrintAnswer (sink_state K.holds K.failures sink.old)
+        (sink_state K.holds K.failures sink.new) (sink_state E.holds E.failures errors.old)
+        (sink_state E.holds E.failures errors.new) Texts.HELP.now (exit_status result))
+        ((files.new ≡ files.old) × (source.new ≡ source.old)
+        × PrintAnswer (sink_state K.holds K.failures sink.old)
+        (sink_state K.holds K.failures sink.new) (sink_state E.holds E.failures errors.old)
+        (sink_state E.holds E.failures errors.new) Texts.VERSION.now (exit_status result))
+        (λ kernels limit. (files.new ≡ files.old) × CaptureAnswer kernels (run_of
+        (source_state S.to_come S.failures S.ends_told) (sink_state K.holds K.failures)
+        (sink_state E.holds E.failures) source.old source.new sink.old sink.new
+        errors.old errors.new) (sink.new ≡ sink.old) None limit (exit_status result))
+        (λ name kernels limit. (source.new ≡ source.old)
+        × (F.asked files.new ≡ risen (F.asked files.old))
+        × FileAnswer (source_state F.File.to_come F.File.failures F.File.ends_told)
+        (F.contents files.old name) (F.refusal files.new) name
+        (sink_state K.holds K.failures sink.old) (sink_state K.holds K.failures sink.new)
+        (sink_state E.holds E.failures errors.old) (sink_state E.holds E.failures errors.new)
+        (sink.new ≡ sink.old) kernels limit (exit_status result)) }
+{
+    match read_words(words) {
+        None => answer_usage(errors),
+        Some(Asked::Help) => print(sink, errors, HELP),
+        Some(Asked::Version) => print(sink, errors, VERSION),
+        Some(Asked::Show(options)) => match options.file {
+            Some(name) => answer_file(alloc, files, sink, errors, name, &options),
+            None => answer_capture(alloc, source, sink, errors, &options),
+        },
+    }
+}
+
+/// Runs on standard input, output and error, the process's files and its words. It hands them on, and does nothing else.
 ///
 /// Where a word is no text, or there is no memory for the words, an empty word stands for them, which is wrong.
 pub fn outcome(rt: &HostRuntime) -> ExitCode {
     let wrong = [String::new(rt.alloc())];
     let words = words(rt);
-    let mut source = ReadSource::new(rt.reader());
+    let mut source = FirstKept::new(ReadSource::new(rt.reader()));
     let mut sink = WriteSink::new(io::writer(rt));
     let mut errors = WriteSink::new(rt.stderr());
     answer(
         rt.alloc(),
         words.as_ref().map_or(&wrong, |words| words.as_slice()),
+        &mut HostFiles::new(rt),
         &mut source,
         &mut sink,
         &mut errors,

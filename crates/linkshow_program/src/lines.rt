@@ -1,24 +1,11 @@
 //! Lines, and where they are told.
 
 ghost use Rattle.std.specs.Prelude.{◌≡◌, ◌≤◌, ◌++◌, ◌∷◌, [], codes, length};
-ghost use Rattle.link_capture_engine.specs.Devices.{Rises};
-ghost use Rattle.link_capture_engine.specs.Known.{sink_writer, sink_failures};
-ghost use Rattle.linkshow_program.specs.Runs.{Tells};
+ghost use Rattle.linkshow_program.specs.Devices.{sink_state};
+ghost use Rattle.linkshow_program.specs.Telling.{IsTold, texts_joined};
 
 use arrayvec::ArrayString;
-use link_capture_engine::{WriteSink, write_all};
-use std::io::Write;
-
-/// A text as a line.
-pub(crate) fn line(text: &str) -> ArrayString<129>
-    requires { length text.now ≤ 128 }
-    ensures { result.bytes ≡ text.now ++ 10 ∷ [] }
-{
-    let mut line = ArrayString::new();
-    line.push_str(text);
-    line.push_str("\n");
-    line
-}
+use link_capture_engine::{Sink, write_all};
 
 /// A text as the line of a note.
 pub(crate) fn note(text: &str) -> ArrayString<135>
@@ -32,13 +19,29 @@ pub(crate) fn note(text: &str) -> ArrayString<135>
     line
 }
 
-/// Writes a text. Where the writer fails, the rest of it isn't written.
-pub(crate) fn tell<W: Write>(writer: &mut WriteSink<W>, text: &str)
-    ensures { Tells (W.contents (sink_writer writer.old)) (W.contents (sink_writer writer.new))
-        (Rises (sink_failures writer.old) (sink_failures writer.new)) text.now }
+/// Writes a text. Whether all of it was written: where the sink fails, the rest of it isn't.
+pub(crate) fn tell<K: Sink>(sink: &mut K, text: &str) -> bool
+    ensures { IsTold (sink_state K.holds K.failures sink.old)
+        (sink_state K.holds K.failures sink.new) text.now result }
 {
-    match write_all(writer, text.as_bytes(), 0) {
-        Ok(_) => {}
-        Err(_) => {}
+    match write_all(sink, text.as_bytes(), 0) {
+        Ok(_) => true,
+        Err(_) => false,
     }
+}
+
+/// Writes texts, one behind the other, in the same way.
+pub(crate) fn tell_all<K: Sink>(sink: &mut K, texts: &[&str]) -> bool
+    ensures { IsTold (sink_state K.holds K.failures sink.old)
+        (sink_state K.holds K.failures sink.new)
+        (texts_joined texts.now) result }
+{
+    let mut left = texts;
+    'texts: while let [text, rest @ ..] = left {
+        if !tell(sink, text) {
+            return false;
+        }
+        left = rest;
+    }
+    true
 }

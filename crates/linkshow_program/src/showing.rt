@@ -1,81 +1,124 @@
 //! The lines of what a source has.
 
-ghost use Rattle.std.specs.Prelude.{◌≡◌, ◌≤◌};
+ghost use Rattle.std.specs.Prelude.{◌≡◌, ◌≤◌, ◌++◌, option_map};
 ghost use Rattle.std.specs.Process.{exit_status};
 ghost use Rattle.link_capture_commands.specs.Commands.{status_of};
-ghost use Rattle.link_capture_engine.specs.Devices.{Rises, TellsItsEnd};
-ghost use Rattle.link_capture_engine.specs.Known.{source_reader, source_failures, source_ends_told, sink_writer, sink_failures};
-ghost use Rattle.link_lines.specs.Outcomes.{Shows};
-ghost use Rattle.linkshow_program.specs.Runs.{ShowAnswer, Tells, fault_line};
+ghost use Rattle.linkshow_program.specs.Devices.{source_state, sink_state, run_of};
+ghost use Rattle.linkshow_program.specs.Telling.{IsTold, Tells};
+ghost use Rattle.linkshow_program.specs.Runs.{ShowAnswer, fault_told, is_unread, name_told, nothing_read, told_of, unopened};
 
-use super::lines::{line, tell};
+use super::first_kept::FirstKept;
+use super::lines::{tell, tell_all};
 use link_capture_commands::status_norm;
-use link_capture_engine::{ReadSource, WriteSink};
-use link_capture_grammar::fault::CaptureFault;
+use link_capture_engine::{Sink, Source};
+use link_capture_grammar::fault::{CaptureFault, FaultKind};
 use link_lines::show;
+use linkshow_words::{advice, cause};
 use std::alloc::Global;
-use std::io::{Read, Write};
+use std::io::ErrorKind;
 use std::process::ExitCode;
 
-/// Writes the lines of all that a source has, as its frames come. A failed write is told in place of any fault of the
-/// capture.
-pub fn show_source<R: Read, W: Write>(
-    alloc: Global,
-    source: &mut ReadSource<R>,
-    sink: &mut WriteSink<W>,
-    limit: u32,
-) -> Result<(), CaptureFault>
-    requires { 16 ≤ limit }
-    ensures { Shows
-        (R.remaining (source_reader source.old)) (R.remaining (source_reader source.new))
-        (W.contents (sink_writer sink.old)) (W.contents (sink_writer sink.new))
-        (TellsItsEnd (source_ends_told source.old) (source_ends_told source.new)
-        (R.remaining (source_reader source.new)))
-        (Rises (source_failures source.old) (source_failures source.new))
-        (Rises (sink_failures sink.old) (sink_failures sink.new)) limit result }
+/// Whether the source failed.
+fn is_unread(kind: FaultKind) -> bool
+    ensures { result ≡ is_unread kind }
 {
-    show(alloc, source, sink, limit)
+    match kind {
+        FaultKind::Read => true,
+        _ => false,
+    }
 }
 
-/// Tells in one line what went wrong, and nothing where nothing did. The answer is the program's status.
-pub(crate) fn report<E: Write>(
-    errors: &mut WriteSink<E>,
+/// Tells the name of a file that couldn't be read, before the words of the fault.
+fn tell_name<E: Sink>(errors: &mut E, file: Option<&str>, is_unread: bool) -> bool
+    ensures { IsTold (sink_state E.holds E.failures errors.old)
+        (sink_state E.holds E.failures errors.new)
+        (name_told (option_map (λ name. name.now) file.entry) is_unread) result }
+{
+    match file {
+        Some(name) if is_unread => tell_all(errors, &["linkshow: ", name, ": "]),
+        _ => true,
+    }
+}
+
+/// Tells a fault in a line, of a file that couldn't be read by its name, and behind it what helps where the capture is a
+/// file of another form.
+fn tell_fault<E: Sink>(
+    errors: &mut E,
+    file: Option<&str>,
+    first: &[u8],
+    fault: CaptureFault,
+) -> bool
+    ensures { IsTold (sink_state E.holds E.failures errors.old)
+        (sink_state E.holds E.failures errors.new)
+        (fault_told (option_map (λ name. name.now) file.entry) first.now fault) result }
+{
+    if !tell_name(errors, file, is_unread(fault.kind)) {
+        return false;
+    }
+    tell_all(errors, &[fault.text().as_str(), "\n", advice(first)])
+}
+
+/// Tells that the file of a name can't be opened, and why.
+pub(crate) fn tell_unopened<E: Sink>(errors: &mut E, name: &str, kind: ErrorKind) -> bool
+    ensures { IsTold (sink_state E.holds E.failures errors.old)
+        (sink_state E.holds E.failures errors.new) (unopened name.now kind) result }
+{
+    if !tell_name(errors, Some(name), true) {
+        return false;
+    }
+    tell_all(errors, &[cause(kind), "\n"])
+}
+
+/// What is told of a legal capture that begins with these bytes: that it has no messages, where there are none.
+fn nothing_read(first: &[u8]) -> &'static str
+    ensures { result.now ≡ nothing_read first.now }
+{
+    if first.is_empty() {
+        "no messages\n"
+    } else {
+        ""
+    }
+}
+
+/// Tells in one line what went wrong, or that the capture has no messages. The answer is the program's status.
+pub(crate) fn report<E: Sink>(
+    errors: &mut E,
+    file: Option<&str>,
+    first: &[u8],
     outcome: Result<(), CaptureFault>,
 ) -> ExitCode
     ensures status { exit_status result ≡ status_of outcome }
-    ensures told { Tells
-        (E.contents (sink_writer errors.old)) (E.contents (sink_writer errors.new))
-        (Rises (sink_failures errors.old) (sink_failures errors.new)) (fault_line outcome) }
+    ensures told { Tells (sink_state E.holds E.failures errors.old)
+        (sink_state E.holds E.failures errors.new)
+        (told_of (option_map (λ name. name.now) file.entry) first.now outcome) }
 {
     match outcome {
-        Ok(()) => ExitCode::from(status_norm(&outcome)),
+        Ok(()) => {
+            tell(errors, nothing_read(first));
+            ExitCode::from(status_norm(&outcome))
+        }
         Err(fault) => {
-            tell(errors, line(fault.text().as_str()).as_str());
+            tell_fault(errors, file, first, fault);
             ExitCode::from(status_norm(&outcome))
         }
     }
 }
 
-/// Writes the lines of all that a source has, and tells on the error writer what went wrong. The answer is the
-/// program's status.
-pub fn answer_show<R: Read, W: Write, E: Write>(
+/// Writes the lines of all that a source has, and tells what went wrong. The answer is the program's status.
+pub fn answer_show<S: Source, K: Sink, E: Sink>(
     alloc: Global,
-    source: &mut ReadSource<R>,
-    sink: &mut WriteSink<W>,
-    errors: &mut WriteSink<E>,
+    source: &mut FirstKept<S>,
+    sink: &mut K,
+    errors: &mut E,
+    file: Option<&str>,
     limit: u32,
 ) -> ExitCode
     requires { 16 ≤ limit }
-    ensures { ShowAnswer (Shows
-        (R.remaining (source_reader source.old)) (R.remaining (source_reader source.new))
-        (W.contents (sink_writer sink.old)) (W.contents (sink_writer sink.new))
-        (TellsItsEnd (source_ends_told source.old) (source_ends_told source.new)
-        (R.remaining (source_reader source.new)))
-        (Rises (source_failures source.old) (source_failures source.new))
-        (Rises (sink_failures sink.old) (sink_failures sink.new)) limit)
-        (Tells (E.contents (sink_writer errors.old)) (E.contents (sink_writer errors.new))
-        (Rises (sink_failures errors.old) (sink_failures errors.new))) (exit_status result) }
+    ensures { ShowAnswer (run_of
+        (source_state S.to_come S.failures S.ends_told) (sink_state K.holds K.failures)
+        (sink_state E.holds E.failures) source.old source.new sink.old sink.new
+        errors.old errors.new) (option_map (λ name. name.now) file.entry) limit (exit_status result) }
 {
-    let outcome = show_source(alloc, source, sink, limit);
-    report(errors, outcome)
+    let outcome = show(alloc, source, sink, limit);
+    report(errors, file, source.first(), outcome)
 }

@@ -1,6 +1,5 @@
-use Rattle.std.proofs.Common.{◌≡◌}
-use Rattle.link_capture_engine.specs.Known.{sink_writer, sink_failures}
 use Rattle.link_capture_spellings.specs.Spellings.{spellings, answers_left}
+use Rattle.linkshow_program.specs.Devices.{sink_state}
 use Rattle.linkshow_program.specs.Runs.{notes_text}
 use Rattle.linkshow_program.proofs.Noting.{Noted}
 use Rattle.linkshow_program.proofs.notes.tell_notes.Given as goal
@@ -9,6 +8,5 @@ abbrev pub invariant-notes : goal.invariant-notes
 invariant-notes g l = record {
   can : (goal.iterator-notes g).can_next l.left;
   finite : (goal.iterator-notes g).is_finite l.left;
-  noted : Noted (g.E.Write.contents (sink_writer l.fn.errors)) (g.E.Write.contents (sink_writer l.errors)) (answers_left l.left) (notes_text (spellings l.fn.limit l.fn.bytes));
-  count : sink_failures l.errors ≡ sink_failures l.fn.errors;
+  noted : Noted (sink_state g.E.Sink.holds g.E.Sink.failures l.fn.errors) (sink_state g.E.Sink.holds g.E.Sink.failures l.errors) (answers_left l.left) (notes_text (spellings l.fn.limit l.fn.bytes));
 }

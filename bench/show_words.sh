@@ -1,0 +1,136 @@
+#!/usr/bin/env bash
+# Runs `linkshow` with each kind of words, files and captures, and compares status, output and what is told.
+#
+#     bench/show_words.sh [PROGRAM]
+#
+# PROGRAM is crates/linkshow/out/linkshow where none is given. It builds nothing, and no gate runs it.
+set -uo pipefail
+cd "$(dirname "$0")/.."
+
+program=$(realpath "${1:-crates/linkshow/out/linkshow}")
+[ -x "$program" ] || { echo "no program at $program: build it first" >&2; exit 1; }
+work=$(mktemp -d)
+trap 'rm -rf "$work"' EXIT
+request=samples/lo-request.bin
+lines=samples/lo-request.lines
+usage='usage: linkshow [--kernels] [--limit N] [FILE]; linkshow --help says more'
+failed=0
+: > "$work/nothing"
+
+# run WORD..: the program with these words, from the input that is given
+run() {
+    "$program" "$@" > "$work/text" 2> "$work/told"
+    status=$?
+}
+
+# wants NAME STATUS TOLD WRITTEN: compares the last run with these. TOLD is what standard error has, WRITTEN a file with
+# the output.
+wants() {
+    local told
+    told=$(cat "$work/told")
+    if [ "$status" = "$2" ] && [ "$told" = "$3" ] && cmp -s "$work/text" "$4"; then
+        echo "ok      $1"
+    else
+        echo "WRONG   $1: status $status and not $2, or '$told' and not '$3', or another output than $4"
+        failed=1
+    fi
+}
+
+# What is to be shown.
+run < "$request"
+wants "standard input" 0 "" "$lines"
+run - < "$request"
+wants "standard input by -" 0 "" "$lines"
+run "$request" < "$work/nothing"
+wants "a file" 0 "" "$lines"
+run --limit 48 "$request"
+wants "a file under a limit" 0 "" "$lines"
+run --limit 4294967295 --kernels samples/notify-vrf.bin
+wants "options, and a file" 0 "note: IFLA_PROTINFO with the nested bit at 84" samples/notify-vrf.lines
+run --kernels --limit 4096 - < samples/notify-vrf.bin
+wants "options in another order" 0 "note: IFLA_PROTINFO with the nested bit at 84" samples/notify-vrf.lines
+run --limit 16 --limit 48 "$request"
+wants "the last limit counts" 0 "" "$lines"
+cp "$request" "$work/48"
+(cd "$work" && "$program" 48 > text 2> told)
+status=$?
+wants "a file with a number for a name" 0 "" "$lines"
+
+# Texts.
+run --version
+grep -oE 'linkshow [0-9]+\.[0-9.]+, lines [0-9]+' docs/showing.md | head -n 1 > "$work/version"
+wants "the version is that of the page" 0 "" "$work/version"
+run --help
+status=$status:$(head -n 1 "$work/text"):$(grep -c -- '^  --' "$work/text")
+wants "help" "0:usage: linkshow [--kernels] [--limit N] [FILE]:4" "" "$work/text"
+: > "$work/text"
+"$program" --help > /dev/full 2> "$work/told"
+status=$?
+wants "help that can't be printed" 2 "write failed at 0" "$work/nothing"
+
+# Wrong words.
+for words in "--limit" "--limit 15" "--limit +48" "--limit 4294967296" "--limit 48 --limit" "--limit=48" "--kernels --unknown" "-x" \
+    "a b" "- a" "a --kernels" "--help a" "--version --kernels"; do
+    # shellcheck disable=SC2086
+    run $words < "$request"
+    wants "wrong words: '$words'" 3 "$usage" "$work/nothing"
+done
+run "" < "$request"
+wants "wrong words: an empty one" 3 "$usage" "$work/nothing"
+run $'\xff' < "$request"
+wants "wrong words: no text" 3 "$usage" "$work/nothing"
+
+# Files that can't be opened or read.
+run "$work/missing" < "$request"
+wants "a missing file" 2 "linkshow: $work/missing: no such file" "$work/nothing"
+run "$request/x"
+wants "a path through a file" 2 "linkshow: $request/x: a part of the path is no directory" "$work/nothing"
+ln -s loop "$work/loop"
+run "$work/loop"
+wants "a link to itself" 2 "linkshow: $work/loop: too many links to follow" "$work/nothing"
+long=$(printf '%0300d' 0)
+run "$long"
+wants "a name that is too long" 2 "linkshow: $long: no name of a file" "$work/nothing"
+run "$work"
+wants "a directory" 2 "linkshow: $work: read failed at 0" "$work/nothing"
+run --kernels "$work"
+wants "a directory, with notes" 2 "linkshow: $work: read failed at 0" "$work/nothing"
+run - < "$work"
+wants "a directory on standard input" 2 "read failed at 0" "$work/nothing"
+cp "$request" "$work/denied"
+chmod 0 "$work/denied"
+chmod 755 "$work"
+if [ "$(id -u)" != 0 ]; then
+    run "$work/denied"
+    wants "a file without permission" 2 "linkshow: $work/denied: permission denied" "$work/nothing"
+elif command -v setpriv > /dev/null; then
+    cp "$program" "$work/linkshow"
+    setpriv --reuid 65534 --clear-groups "$work/linkshow" "$work/denied" > "$work/text" 2> "$work/told"
+    status=$?
+    wants "a file without permission" 2 "linkshow: $work/denied: permission denied" "$work/nothing"
+else
+    echo "skipped a file without permission: no setpriv"
+fi
+
+# Captures.
+run "$work/nothing"
+wants "a file without messages" 0 "no messages" "$work/nothing"
+run --kernels < "$work/nothing"
+wants "no messages, with notes" 0 "no messages" "$work/nothing"
+cat "$request" <(head -c 20 "$request") > "$work/cut"
+run "$work/cut"
+wants "lines before a fault are written" 2 "cut frame at 48" "$lines"
+pcap="linkshow: this is a pcap file: samples/pcap_to_capture.py makes a capture of it"
+for magic in a1b2c3d4 d4c3b2a1 a1b23c4d 4d3cb2a1; do
+    { printf "\\x${magic:0:2}\\x${magic:2:2}\\x${magic:4:2}\\x${magic:6:2}"; head -c 20 /dev/zero; } > "$work/pcap"
+    run "$work/pcap"
+    wants "a pcap file that begins with $magic" 2 "frame over the limit at 0"$'\n'"$pcap" "$work/nothing"
+done
+run --kernels < "$work/pcap"
+wants "a pcap file on standard input, with notes" 2 "frame over the limit at 0"$'\n'"$pcap" "$work/nothing"
+run --limit 4294967295 "$work/pcap"
+wants "a pcap file under the greatest limit" 2 "cut frame at 0"$'\n'"$pcap" "$work/nothing"
+{ printf '\n\r\r\n'; head -c 24 /dev/zero; } > "$work/pcapng"
+run "$work/pcapng"
+wants "a pcapng file" 2 "frame over the limit at 0"$'\n'"linkshow: this is a pcapng file: tshark -r FILE -F pcap -w OTHER makes a pcap file of it, and samples/pcap_to_capture.py a capture of that" "$work/nothing"
+exit $failed

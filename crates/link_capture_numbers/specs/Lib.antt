@@ -1,0 +1,2 @@
+pub mod Cleared
+pub mod Laws

@@ -1,0 +1,80 @@
+//! Zeros over the sequence and port numbers of messages.
+
+ghost use Rattle.std.specs.Prelude.{◌≡◌, ◌+◌, ◌<◌, ◌≤◌, ◌^◌, ◌++◌, true, false, length, take, drop, IfSome, IfNone};
+ghost use Rattle.netlink_packet_core_grammar.specs.Frames.{frame_length};
+ghost use Rattle.link_capture_numbers.specs.Cleared.{is_frame, zeros_at, repeats_request, front_cleared, numbers_cleared};
+
+use super::laws::numbers_are_cleared_by_frames;
+use netlink_packet_core::{NETLINK_HEADER_LEN, NLMSG_ERROR, NetlinkBuffer, nla_align};
+
+/// Where a message has its sequence number, behind which stands its port number: 4 bytes each.
+const NUMBERS: usize = 8;
+
+/// Where an NLMSG_ERROR has the numbers of the request's header, which it repeats behind its own header and a code.
+const REQUEST_NUMBERS: usize = 28;
+
+/// The least length of an NLMSG_ERROR that repeats a request's header.
+const REPEATED_LEN: usize = 36;
+
+/// The length of the frame in front of some bytes, where they hold a whole one.
+fn frame_len(bytes: &[u8]) -> Option<usize>
+    ensures some { IfSome result (λ n. (is_frame bytes.now ≡ true) × (n ≡ frame_length bytes.now)) }
+    ensures none { IfNone result (is_frame bytes.now ≡ false) }
+    ensures bounds { IfSome result (λ n. (16 ≤ n) × (n ≤ length bytes.now) × (n < 2 ^ 32)) }
+{
+    if bytes.len() < NETLINK_HEADER_LEN {
+        return None;
+    }
+    let size = NetlinkBuffer::new(bytes).length() as usize;
+    if size < NETLINK_HEADER_LEN || size > bytes.len() {
+        return None;
+    }
+    Some(size)
+}
+
+/// Writes zeros over 8 bytes.
+fn clear_at(bytes: &mut [u8], place: usize)
+    requires { place + 8 ≤ length bytes.old }
+    ensures { bytes.new ≡ zeros_at place bytes.old }
+{
+    bytes[place..place + 8].copy_from_slice(&[0; 8]);
+}
+
+/// Whether the frame in front of some bytes, of this length, is an NLMSG_ERROR that repeats a request's header.
+fn repeats(bytes: &[u8], size: usize) -> bool
+    requires header { 16 ≤ length bytes.now }
+    requires size { size ≡ frame_length bytes.now }
+    ensures { result ≡ repeats_request bytes.now }
+{
+    NetlinkBuffer::new(bytes).message_type() == NLMSG_ERROR && size >= REPEATED_LEN
+}
+
+/// Writes zeros over the numbers of the frame in front of some bytes, of this length.
+fn clear_front(bytes: &mut [u8], size: usize)
+    requires low { 16 ≤ size }
+    requires whole { size ≤ length bytes.old }
+    requires size { size ≡ frame_length bytes.old }
+    ensures { bytes.new ≡ front_cleared bytes.old }
+{
+    let has_request = repeats(bytes, size);
+    clear_at(bytes, NUMBERS);
+    if has_request {
+        clear_at(bytes, REQUEST_NUMBERS);
+    }
+}
+
+/// Writes zeros over the sequence and port number of each message, and over those of the request's header that an
+/// NLMSG_ERROR repeats behind its code, up to where no whole message stands.
+///
+/// The bytes are read as a capture: each message at a multiple of 4, with a header of 16 bytes (netlink.h, struct
+/// nlmsghdr), whose numbers stand in the bytes 8 to 16.
+pub fn clear_numbers(text: &mut [u8])
+    ensures { text.new ≡ numbers_cleared text.old }
+{
+    numbers_are_cleared_by_frames();
+    let mut at = 0;
+    'frames: while let Some(size) = frame_len(&text[at..]) {
+        clear_front(&mut text[at..], size);
+        at += nla_align(size).min(text.len() - at);
+    }
+}

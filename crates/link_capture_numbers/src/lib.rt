@@ -1,0 +1,9 @@
+//! Captures without sequence and port numbers, which change from run to run.
+#![tactic(auto)]
+
+mod clearing;
+pub mod laws;
+#[cfg(test)]
+mod tests;
+
+pub use clearing::clear_numbers;

@@ -1,0 +1,23 @@
+use Rattle.std.proofs.Common.{◌≡◌, ◌++◌, ◌∷◌, [], true, false, append-nil, ap, subst, ◌∙◌}
+use Rattle.std.specs.Prelude.{option_map}
+use Rattle.link_capture_grammar.specs.Faults.{fault_text}
+use Rattle.linkshow_words.specs.Texts.{advice}
+use Rattle.linkshow_program.specs.Devices.{sink_state}
+use Rattle.linkshow_program.specs.Telling.{IsTold}
+use Rattle.linkshow_program.specs.Runs.{is_unread, name_told}
+use Rattle.linkshow_program.proofs.Telling.{told_then, told_no_more}
+use Rattle.linkshow_program.proofs.showing.tell_fault.Goals as goal
+
+pub returns-then-not-tell_name : goal.returns-then-not-tell_name
+returns-then-not-tell_name g c =
+    let named : IsTold (sink_state g.E.Sink.holds g.E.Sink.failures c.args.errors.now) (sink_state g.E.Sink.holds g.E.Sink.failures c.tell_name.new.errors) (name_told (option_map (λ name. name.now) c.args.file) (is_unread c.args.fault.kind)) false =
+    subst (λ u. IsTold (sink_state g.E.Sink.holds g.E.Sink.failures c.args.errors.now) (sink_state g.E.Sink.holds g.E.Sink.failures c.tell_name.new.errors) (name_told (option_map (λ name. name.now) c.args.file) u) false) c.is_unread.ensures (subst (λ b. IsTold (sink_state g.E.Sink.holds g.E.Sink.failures c.args.errors.now) (sink_state g.E.Sink.holds g.E.Sink.failures c.tell_name.new.errors) (name_told (option_map (λ name. name.now) c.args.file) c.is_unread.result) b) c.if-not-tell_name.true c.tell_name.ensures) in
+    told_no_more _ _ _ _ named
+
+pub returns : goal.returns
+returns g c =
+    let named : IsTold (sink_state g.E.Sink.holds g.E.Sink.failures c.args.errors.now) (sink_state g.E.Sink.holds g.E.Sink.failures c.tell_name.new.errors) (name_told (option_map (λ name. name.now) c.args.file) (is_unread c.args.fault.kind)) true =
+    subst (λ u. IsTold (sink_state g.E.Sink.holds g.E.Sink.failures c.args.errors.now) (sink_state g.E.Sink.holds g.E.Sink.failures c.tell_name.new.errors) (name_told (option_map (λ name. name.now) c.args.file) u) true) c.is_unread.ensures (subst (λ b. IsTold (sink_state g.E.Sink.holds g.E.Sink.failures c.args.errors.now) (sink_state g.E.Sink.holds g.E.Sink.failures c.tell_name.new.errors) (name_told (option_map (λ name. name.now) c.args.file) c.is_unread.result) b) c.if-not-tell_name.false c.tell_name.ensures) in
+    let text : c.as_str.result.now ++ (10 ∷ (c.advice.result.now ++ [])) ≡ fault_text c.args.fault ++ (10 ∷ advice c.args.first.now) =
+    ap (λ z. z ++ (10 ∷ (c.advice.result.now ++ []))) (c.as_str.ensures.value ∙ c.text.ensures.text) ∙ ap (λ z. fault_text c.args.fault ++ (10 ∷ z)) (append-nil c.advice.result.now ∙ c.advice.ensures) in
+    told_then _ _ _ _ _ _ named (subst (λ t. IsTold (sink_state g.E.Sink.holds g.E.Sink.failures c.tell_name.new.errors) (sink_state g.E.Sink.holds g.E.Sink.failures c.tell_all.new.sink) t c.tell_all.result) text c.tell_all.ensures)

@@ -1,0 +1,30 @@
+//! Texts that are asked for.
+
+ghost use Rattle.std.specs.Prelude.{◌≡◌};
+ghost use Rattle.std.specs.Process.{exit_status};
+ghost use Rattle.linkshow_program.specs.Devices.{sink_state};
+ghost use Rattle.linkshow_program.specs.Runs.{PrintAnswer};
+
+use super::lines::{tell, tell_all};
+use link_capture_engine::Sink;
+use link_capture_grammar::fault::{CaptureFault, FaultKind};
+use std::process::ExitCode;
+
+/// What is told where a text can't be printed.
+const NOT_PRINTED: CaptureFault = CaptureFault {
+    kind: FaultKind::Write,
+    offset: 0,
+};
+
+/// Prints a text, or tells that it can't be printed. The answer is the program's status.
+pub(crate) fn print<K: Sink, E: Sink>(sink: &mut K, errors: &mut E, text: &str) -> ExitCode
+    ensures { PrintAnswer (sink_state K.holds K.failures sink.old)
+        (sink_state K.holds K.failures sink.new) (sink_state E.holds E.failures errors.old)
+        (sink_state E.holds E.failures errors.new) text.now (exit_status result) }
+{
+    if tell(sink, text) {
+        return ExitCode::from(0);
+    }
+    tell_all(errors, &[NOT_PRINTED.text().as_str(), "\n"]);
+    ExitCode::from(2)
+}

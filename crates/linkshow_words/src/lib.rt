@@ -1,0 +1,8 @@
+//! The words and the texts of the program linkshow.
+#![tactic(auto)]
+
+mod texts;
+mod words;
+
+pub use texts::{HELP, USAGE, VERSION, advice, cause};
+pub use words::{Asked, Options, read_words};

@@ -1,0 +1,155 @@
+//! The words behind the program's name.
+
+ghost use Rattle.std.specs.Prelude.{◌≡◌, ◌≤◌, ℕ, [], false, map, IfSome, IfNone, string_bytes};
+ghost use Rattle.std.specs.Str.Parse.{digits_value};
+ghost use Rattle.link_capture_commands.specs.Commands.{IsLimitWord};
+ghost use Rattle.linkshow_words.specs.Words.{word_of, Gives, Asks, HasLimit};
+
+use link_capture_commands::DEFAULT_LIMIT;
+
+/// How a capture is to be shown.
+#[derive(Clone, Copy, Debug, PartialEq, Eq, Drop)]
+pub struct Options<'a> {
+    /// The greatest length of a message, in bytes.
+    pub limit: u32,
+    /// Whether notes of what kernels tell apart are wanted.
+    pub kernels: bool,
+    /// The name of a file; without one it is standard input.
+    pub file: Option<&'a str>,
+}
+
+/// What the program is asked to do.
+#[derive(Clone, Copy, Debug, PartialEq, Eq, Drop)]
+pub enum Asked<'a> {
+    /// Tell how it is used.
+    Help,
+    /// Tell its version.
+    Version,
+    /// Show a capture.
+    Show(Options<'a>),
+}
+
+/// What a word is where no number is awaited.
+#[derive(Clone, Copy)]
+pub(crate) enum Word {
+    /// `--kernels`
+    Kernels,
+    /// `--limit`, behind which stands a number
+    Limit,
+    /// `-`: standard input
+    Input,
+    /// The name of a file.
+    Name,
+    /// Nothing that is known.
+    Wrong,
+}
+
+/// Tells what a word is.
+#[tactic(auto, unfolding(crate::specs::Words::word_of))]
+fn word_of(word: &str) -> Word
+    ensures { result ≡ word_of word.now }
+{
+    if word == "--kernels" {
+        Word::Kernels
+    } else if word == "--limit" {
+        Word::Limit
+    } else if word == "-" {
+        Word::Input
+    } else if word.is_empty() || word.as_bytes()[0] == b'-' {
+        Word::Wrong
+    } else {
+        Word::Name
+    }
+}
+
+/// Reads a limit: digits that write a number from 16 to 4294967295.
+fn read_limit(word: &str) -> Option<u32>
+    ensures some { IfSome result (λ n. IsLimitWord word.now × (n ≡ digits_value 10 word.now)) }
+    ensures none { IfNone result (IsLimitWord word.now → ⊥) }
+{
+    let bytes = word.as_bytes();
+    if !bytes.is_empty() && bytes[0] == b'+' {
+        return None;
+    }
+    match word.parse::<u32>() {
+        Ok(limit) if limit >= 16 => Some(limit),
+        _ => None,
+    }
+}
+
+/// These options, where nothing is left behind them.
+fn when_last<'a>(left: &[String], options: Options<'a>) -> Option<Options<'a>>
+    ensures some { IfSome result (λ o. (left.now ≡ []) × (o ≡ options.entry)) }
+    ensures none { IfNone result (left.now ≡ [] → ⊥) }
+{
+    if left.is_empty() { Some(options) } else { None }
+}
+
+/// Reads options, and behind them the name of a file, `-` or nothing. None where the words are anything else.
+fn read_options(words: &[String]) -> Option<Options<'_>>
+    ensures some { IfSome result (λ o. Gives false 1048576 false (map string_bytes words.now) o) }
+    ensures limit { IfSome result (λ o. 16 ≤ o.limit) }
+    ensures none { IfNone result ((o : Options)
+        → Gives false 1048576 false (map string_bytes words.now) o → ⊥) }
+{
+    let mut awaited = false;
+    let mut limit = DEFAULT_LIMIT;
+    let mut kernels = false;
+    let mut left = words;
+    'words: loop {
+        let [word, rest @ ..] = left else {
+            if awaited {
+                return None;
+            }
+            return Some(Options {
+                limit,
+                kernels,
+                file: None,
+            });
+        };
+        left = rest;
+        if awaited {
+            limit = read_limit(word.as_str())?;
+            awaited = false;
+            continue;
+        }
+        match word_of(word.as_str()) {
+            Word::Kernels => kernels = true,
+            Word::Limit => awaited = true,
+            Word::Input => return when_last(
+                rest,
+                Options {
+                    limit,
+                    kernels,
+                    file: None,
+                },
+            ),
+            Word::Name => {
+                let file = Some(word.as_str());
+                return when_last(
+                    rest,
+                    Options {
+                        limit,
+                        kernels,
+                        file,
+                    },
+                );
+            }
+            Word::Wrong => return None,
+        }
+    }
+}
+
+/// Reads the words: `--help`, `--version`, or options and behind them the name of a file, `-` or nothing. An option may
+/// stand in any place and more than once; the last limit counts. None where they are anything else.
+pub fn read_words(words: &[String]) -> Option<Asked<'_>>
+    ensures some { IfSome result (λ asked. Asks (map string_bytes words.now) asked) }
+    ensures limit { IfSome result (λ asked. HasLimit asked) }
+    ensures none { IfNone result ((asked : Asked) → Asks (map string_bytes words.now) asked → ⊥) }
+{
+    match words {
+        [word] if word.as_str() == "--help" => Some(Asked::Help),
+        [word] if word.as_str() == "--version" => Some(Asked::Version),
+        _ => Some(Asked::Show(read_options(words)?)),
+    }
+}

@@ -24,3 +24,4 @@ pub use Rattle.link_capture_spelling_rows.specs.SpellingTables
 pub use Rattle.link_capture_spellings.specs.SpellingLists
 pub use Rattle.link_capture_spellings.specs.Spellings
 pub use Rattle.link_capture_spellings.specs.SpellingLaws
+pub use Rattle.link_capture_numbers.specs.Cleared

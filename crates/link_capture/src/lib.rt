@@ -13,6 +13,8 @@ pub use link_capture_messages::{
     Messages, NotReadable, OtherMessage, RTM_DELLINK, RTM_GETLINK, RTM_NEWLINK, RTM_SETLINK,
     ReadableLink, RouteFault, RouteLink, read_message,
 };
+pub use link_capture_numbers::clear_numbers;
+pub use link_capture_numbers::laws::cleared_captures_have_cleared_texts;
 pub use link_capture_reader::{CaptureReader, normalize_bytes};
 pub use link_capture_spelling_rows::{PlacedSpelling, Spelling};
 pub use link_capture_spellings::{Spellings, spelling};

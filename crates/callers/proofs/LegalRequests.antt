@@ -1,5 +1,5 @@
 -- What a vxlan is written as is legal, and its own canonical text.
-use Rattle.std.proofs.Common.{◌≡◌, ℕ, ◌+◌, ◌≤◌, List, [], ◌∷◌, ◌++◌, length, inl, inr, refl, sym, ap, subst, ◌∙◌, arith, length-append}
+use Rattle.std.proofs.Common.{◌≡◌, ℕ, ◌+◌, ◌≤◌, List, [], ◌∷◌, ◌++◌, length, Ok, Some, refl, sym, ap, ◌∙◌, arith, length-append}
 use Rattle.std.specs.Prelude.{true, false, ◌&&◌, ◌||◌, nat_le, codes}
 use Rattle.std.specs.Str.{is_utf8, chars}
 use lib.Utf8.{encode}
@@ -10,15 +10,23 @@ use Rattle.netlink_packet_core.specs.Families.{attribute}
 use Rattle.netlink_packet_core.specs.Laws.{TextIsCut}
 use Rattle.netlink_packet_core.specs.Numbers.{be2, le4}
 use Rattle.netlink_packet_core.specs.Texts.{without_nul}
+use Rattle.netlink_packet_core.specs.TypedBodies.{TypedBody}
 use Rattle.link_info.specs.Families.{kinds, port_kinds, vxlan}
 use Rattle.link_info.specs.Lists.{nothing, Grammar, all_accepted, all_fit, some_empty_ports, rewritten, any, non_empty, not_empty, if_read, list_rule, without_context}
 use Rattle.link_info.specs.Tables.{named, names_grammar, row_in, rule}
 use Rattle.link_message.specs.Body.{body_rule, is_listed, link_body, link_peer, list_rule_of}
 use Rattle.link_message.specs.LinkTables.{info, link_table, unspec}
-use Rattle.link_message.specs.LinkMessages.{link_message_text}
-use Rattle.link_message_messages.specs.declared.message.LinkMessage.{LinkMessage}
-use Rattle.link_capture.specs.Readable.{IsReadFrom, ReadsAsAnother}
-use Rattle.callers.specs.Requests.{IsOwnText, IsReadOtherwise, vxlan_attributes, vxlan_body, vxlan_info, vxlan_info_text, vxlan_settings}
+use Rattle.link_info.specs.Rules.{Rule}
+use Rattle.link_capture_grammar.specs.Bodies.{body_text_under, ruled_text}
+use Rattle.link_capture.specs.Routes.{reads_route, typed_text}
+use Rattle.callers.specs.Requests.{vxlan_attributes, vxlan_body, vxlan_info, vxlan_info_text, vxlan_settings}
+
+-- bytes that a rule accepts, with no list of ports of which nothing is kept, that fit and are their own canonical text
+pub record IsOwnText (r : Rule) (b : List ℕ) : Type 0 where
+  pub accepted : r.accepted b ≡ true
+  pub fits : r.fits b ≡ true
+  pub empty_ports : r.empty_ports b ≡ false
+  pub canonical : r.canonical b ≡ b
 
 -- ---- a list of attributes that are their own
 
@@ -123,8 +131,15 @@ own_body cut name vni mtu utf8 short =
       canonical = ap (λ x. zeros 16 ++ x) own.canonical;
     }
 
--- a message that is written as such a body is refused only where it is read as another one
-pub read_otherwise : (m : LinkMessage) (b : List ℕ) → link_message_text m ≡ b → IsOwnText link_body b → ReadsAsAnother m → IsReadOtherwise b
-read_otherwise m b e own (inl a) = absurd (let x : true ≡ false = sym own.accepted ∙ ap link_body.accepted (sym e) ∙ a in cc)
-read_otherwise m b e own (inr (inl p)) = absurd (let x : true ≡ false = sym p ∙ ap link_body.empty_ports e ∙ own.empty_ports in cc)
-read_otherwise m b e own (inr (inr w)) = (m, w.0, e, subst (λ (x : List ℕ). IsReadFrom x w.0) e w.1, w.2)
+-- so it is its own canonical text
+pub own_ruled : (r : Rule) (b : List ℕ) → IsOwnText r b → ruled_text r b ≡ Ok b
+own_ruled r b o = rw (o.accepted, o.empty_ports, o.fits) (ap Ok o.canonical)
+
+-- ---- what is read of a body of RTM_NEWLINK that is its own canonical text
+
+read_as : (b : List ℕ) (x : TypedBody) → ruled_text link_body b ≡ Ok b → reads_route 16 b ≡ Some x → x ≡ (16, b)
+unfolding body_text_under
+read_as b x own h = let e = sym (ap (typed_text 16) own) ∙ h in cc
+
+pub read_back : (b bytes : List ℕ) (x : TypedBody) → bytes ≡ b → ruled_text link_body b ≡ Ok b → reads_route 16 bytes ≡ Some x → x ≡ (16, b)
+read_back b bytes x e own h = read_as b x own (ap (reads_route 16) (sym e) ∙ h)

@@ -1,6 +1,6 @@
 -- The frames of requests, and the texts of what they hold.
 use Rattle.std.proofs.Common.{◌≡◌, ℕ, ◌+◌, ◌-◌, ◌%◌, ◌≤◌, ◌<◌, ◌^◌, List, [], ◌∷◌, ◌++◌, length, map, take, drop, Result, Ok, Err, Option, None, Some, IfOk, inl, inr, refl, sym, ap, subst, ◌∙◌, arith, append-nil, length-append}
-use Rattle.std.specs.Prelude.{min, Bool, true, false, ◌&&◌, ◌↔◌, nat_le}
+use Rattle.std.specs.Prelude.{min, Bool, true, false, ◌&&◌, ◌↔◌, ◌⊎◌, ◌≢◌, nat_le, IfErr}
 use Rattle.std.proofs.Math.Nat.{min-eq_left, min-eq_right, min-le_left}
 use Rattle.std.proofs.lemmas.Bool.{cases_lt, leb-true, le-leb}
 use Rattle.std.proofs.lemmas.List.{drop_all, length-replicate, take_all}
@@ -26,7 +26,6 @@ use Rattle.link_message.specs.LinkAttributes.{link_attribute_entry}
 use Rattle.link_message.specs.LinkMessages.{link_message_text}
 use Rattle.link_message_messages.specs.declared.message.LinkMessage.{LinkMessage}
 use Rattle.link_message_types.specs.declared.header.LinkHeader.{LinkHeader}
-use Rattle.link_capture.specs.Readable.{IsReadable}
 use Rattle.link_capture_grammar.specs.declared.fault.CaptureFault.{CaptureFault}
 use Rattle.link_capture_grammar.specs.Bodies.{body_text, body_text_under, ruled_text}
 use Rattle.link_capture.specs.Captures.{first_fault, raised, texts}
@@ -34,7 +33,7 @@ use Rattle.link_capture.specs.Laws.{CapturesAreCounted, FramesAreJudged}
 use Rattle.link_capture.specs.Routes.{route_entry}
 use Rattle.link_capture_messages.specs.declared.route.RouteLink.{RouteLink}
 use Rattle.callers.specs.declared.requests.RequestFault.{RequestFault}
-use Rattle.callers.specs.Requests.{request_text, new_link_text, IsNormal, vxlan_attributes, vxlan_body, vxlan_info_text}
+use Rattle.callers.specs.Requests.{request_text, new_link_text, IsNormal, NewLinksAreNormal, vxlan_attributes, vxlan_body, vxlan_info_text}
 
 -- a header of zeros
 pub header_of_zeros : (h : LinkHeader) → address_family_number h.interface_family ≡ 0 → link_layer_type_number h.link_layer_type ≡ 0 → h.index ≡ 0 → link_flags_bits h.flags ≡ 0 → link_flags_bits h.change_mask ≡ 0 → link_header_bytes h ≡ zeros 16
@@ -98,11 +97,12 @@ not_raised None h = refl
 not_raised (Some fault) h = absurd cc
 
 -- it is the one frame of a legal capture
-normal : FramesAreJudged link_body → CapturesAreCounted link_body → (s limit : ℕ) (b : List ℕ) → 16 + length b < 2 ^ 32 → 16 + length b ≤ limit → length b % 4 ≡ 0 → ruled_text link_body b ≡ Ok b → IsNormal limit (new_link_text s b)
+pub normal : FramesAreJudged link_body → CapturesAreCounted link_body → NewLinksAreNormal
 unfolding body_text_under
-normal judged counted s limit b small under aligned' own =
+normal judged counted s limit b own aligned' small within =
     let c = new_link_text s b in
     let size = length-new_link_text s b in
+    let under : 16 + length b ≤ limit = omega arith in
     let told = tells_length s b small in
     let body : body_text (frame_type c) (frame_body c) ≡ Ok b = ap (λ t. body_text t (frame_body c)) (tells_type s b) ∙ ap (body_text 16) (has_body s b small) ∙ own in
     let first = judged.ok limit c b (whole s b small) (subst (λ n. n ≤ limit) (sym told) under) body under in
@@ -111,12 +111,10 @@ normal judged counted s limit b small under aligned' own =
       counted.next_text limit c (frame_length c, frame_text c b) first ∙ ap (λ r. frame_text c b ++ texts limit r) end ∙ ap (λ t. frame_text c b ++ t) (counted.no_text limit) ∙ append-nil (frame_text c b) ∙ own_text s b aligned',
     )
 
--- a readable message, in the frame of a request to make its link
-pub readable_is_normal : FramesAreJudged link_body → CapturesAreCounted link_body → HeadersAreSixteenBytes → TextIsCut → (s limit : ℕ) (m : LinkMessage) → IsReadable m → 16 + length (link_message_text m) < 2 ^ 32 → length (new_link_text s (link_message_text m)) ≤ limit → IsNormal limit (new_link_text s (link_message_text m))
-readable_is_normal judged counted sixteen cut s limit m r small under =
-    let b = link_message_text m in
-    let size = length-new_link_text s b in
-    normal judged counted s limit b small (omega arith) (body_aligned cut (link_header_bytes m.header) (map link_attribute_entry m.attributes.items) (sixteen m.header)) r.text
+-- the body of a message
+pub message_aligned : HeadersAreSixteenBytes → TextIsCut → (m : LinkMessage) → length (link_message_text m) % 4 ≡ 0
+message_aligned sixteen cut m =
+    body_aligned cut (link_header_bytes m.header) (map link_attribute_entry m.attributes.items) (sixteen m.header)
 
 -- ---- the message of a request
 
@@ -151,6 +149,16 @@ ok_normal (Ok b) items text n e t f =
       | inl k ↦ subst (λ x. (limit : ℕ) → length x ≤ limit → IsNormal limit x) (sym e) (f k)
       | inr k ↦ absurd (let h = t k in cc)
     ]
+
+-- a request that isn't too long wants memory, where it isn't written
+pub only_memory : {A : Type 0} (r : Result A RequestFault) → r ≢ Err RequestFault.TooLong → IfErr r (λ fault. (fault ≡ RequestFault.TooLong) ⊎ (fault ≡ RequestFault.Memory)) → IfErr r (λ fault. (fault ≡ RequestFault.Unfit) ⊎ (fault ≡ RequestFault.Memory))
+only_memory (Ok v) short e = tt
+only_memory (Err fault) short (inl k) = absurd (short (ap Err k))
+only_memory (Err fault) short (inr k) = inr k
+
+-- the body of a vxlan
+pub vxlan_aligned : TextIsCut → (name : List ℕ) (vni mtu : ℕ) → length (vxlan_body name vni mtu) % 4 ≡ 0
+vxlan_aligned cut name vni mtu = body_aligned cut (zeros 16) (vxlan_attributes name vni mtu) refl
 
 -- ---- whether a vxlan fits
 
@@ -203,3 +211,10 @@ pub short_body : (name : List ℕ) (vni mtu : ℕ) → length name ≤ 65530 →
 short_body name vni mtu n =
     let l = short_list name (le4 mtu) (vxlan_info_text vni) n (length-le4 mtu) (length-info vni) in
     omega (arith, l, length-append (zeros 16) (list_text (vxlan_attributes name vni mtu)), length-replicate {A = ℕ} 16 0)
+
+-- and as `buffer_len` tells it
+pub vxlan_size : (name : List ℕ) (vni mtu : ℕ) (text : List ℕ) → text ≡ vxlan_body name vni mtu → length name ≤ 65530 → as_usize (length text) ≡ length text
+vxlan_size name vni mtu text e h =
+    let s = short_body name vni mtu h in
+    let l : length text ≡ length (vxlan_body name vni mtu) = ap length e in
+    min-eq_left (omega (arith, s, l))

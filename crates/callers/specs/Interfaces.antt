@@ -1,5 +1,5 @@
 -- What a table of interfaces has, and what it learns from messages.
-use Rattle.std.specs.Prelude.{◌≡◌, ◌≢◌, ℕ, ◌+◌, List, [], ◌∷◌, drop, option_map, Option, None, Some, string_bytes}
+use Rattle.std.specs.Prelude.{◌≡◌, ◌≢◌, ℕ, ◌+◌, Bool, true, false, List, [], ◌∷◌, drop, option_map, Option, None, Some, string_bytes}
 use Rattle.std.specs.BTreeMap.{get, BTreeMap}
 use Rattle.std.specs.Ordering.{nat_cmp}
 use Rattle.netlink_packet_core_grammar.specs.Attributes.{nla_align}
@@ -31,6 +31,11 @@ known table index = option_map (λ i. (string_bytes i.name, i.flags)) (get nat_c
 pub record Sets (index : ℕ) (told : Option (List ℕ × LinkFlags)) (old new : Interfaces) : Type 0 where
   pub it : known new index ≡ told
   pub others : (other : ℕ) → other ≢ index → known new other ≡ known old other
+
+-- a message tells of a link that is there
+abbrev pub is_new_link : NetlinkPayload RouteLink → Bool
+is_new_link (InnerMessage (RouteLink.NewLink link)) = true
+is_new_link _ = false
 
 -- what a table learns from a message
 abbrev pub Learns : NetlinkPayload RouteLink → Interfaces → Interfaces → Type 0

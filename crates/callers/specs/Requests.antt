@@ -1,15 +1,13 @@
 -- Requests, and the frames that they are written as.
-use Rattle.std.specs.Prelude.{◌≡◌, true, false, ℕ, ◌+◌, ◌^◌, ◌<◌, ◌≤◌, List, [], ◌∷◌, ◌++◌, length, codes}
+use Rattle.std.specs.Prelude.{◌≡◌, ℕ, ◌+◌, ◌%◌, ◌^◌, ◌<◌, ◌≤◌, List, [], ◌∷◌, ◌++◌, length, codes, Ok}
 use Rattle.netlink_packet_core.specs.Attributes.{Attribute, list_text, zeros}
 use Rattle.netlink_packet_core.specs.Families.{attribute}
 use Rattle.netlink_packet_core.specs.Headers.{header_text}
 use Rattle.netlink_packet_core.specs.Numbers.{be2, le4}
 use Rattle.netlink_packet_core.specs.TypedBodies.{TypedBody}
-use Rattle.link_message_messages.specs.declared.message.LinkMessage.{LinkMessage}
-use Rattle.link_message.specs.LinkMessages.{link_message_text}
+use Rattle.link_message.specs.Body.{link_body}
+use Rattle.link_capture_grammar.specs.Bodies.{ruled_text}
 use Rattle.link_capture.specs.Captures.{IsLegal, texts}
-use Rattle.link_capture.specs.Readable.{IsReadable, IsReadFrom, says_the_same}
-use Rattle.link_info.specs.Rules.{Rule}
 
 -- the frame of a message with these flags and this sequence number, to the port 0, which is the kernel's (netlink.h, struct nlmsghdr)
 abbrev pub request_text : ℕ → ℕ → TypedBody → List ℕ
@@ -25,21 +23,10 @@ new_link_text sequence_number body = request_text 0x605 sequence_number (16, bod
 abbrev pub IsNormal : ℕ → List ℕ → Type 0
 IsNormal limit c = IsLegal limit c × (texts limit c ≡ c)
 
--- a request to make a link that is readable is so, under each limit that it keeps
+-- a request to make a link is so, under each limit that it keeps, where its body is its own canonical text, of a multiple of 4 bytes
 abbrev pub NewLinksAreNormal : Type 0
 NewLinksAreNormal =
-    (sequence_number limit : ℕ) (m : LinkMessage) → IsReadable m → 16 + length (link_message_text m) < 2 ^ 32 → length (new_link_text sequence_number (link_message_text m)) ≤ limit → IsNormal limit (new_link_text sequence_number (link_message_text m))
-
--- bytes that a rule accepts, with no list of ports of which nothing is kept, that fit and are their own canonical text
-pub record IsOwnText (r : Rule) (b : List ℕ) : Type 0 where
-  pub accepted : r.accepted b ≡ true
-  pub fits : r.fits b ≡ true
-  pub empty_ports : r.empty_ports b ≡ false
-  pub canonical : r.canonical b ≡ b
-
--- a message is written as a body that is read as a message that says something else
-abbrev pub IsReadOtherwise : List ℕ → Type 0
-IsReadOtherwise body = (m n : LinkMessage) × (link_message_text m ≡ body) × IsReadFrom body n × (says_the_same m n ≡ false)
+    (sequence_number limit : ℕ) (b : List ℕ) → ruled_text link_body b ≡ Ok b → length b % 4 ≡ 0 → 16 + length b < 2 ^ 32 → length (new_link_text sequence_number b) ≤ limit → IsNormal limit (new_link_text sequence_number b)
 
 -- IFLA_VXLAN_ID, IFLA_VXLAN_LEARNING, which is off, and IFLA_VXLAN_PORT, the port of vxlan (IANA)
 abbrev pub vxlan_settings : ℕ → List Attribute

@@ -1,9 +1,9 @@
 //! A table of interfaces, kept from the messages of links.
 
-ghost use Rattle.std.specs.Prelude.{◌≡◌, ◌≢◌, ◌≤◌, ℕ, List, length, Some, IfErr, OnOk, OnErr, MatchResult};
+ghost use Rattle.std.specs.Prelude.{◌≡◌, ◌≢◌, ◌≤◌, ℕ, List, length, true, Some, IfErr, OnOk, OnErr, MatchResult};
 ghost use Rattle.std.specs.BTreeMap.{IsUnchanged};
 ghost use Rattle.link_capture.specs.Captures.{first_fault, IsLegal};
-ghost use Rattle.callers.specs.Interfaces.{AreMessages, Learns, LearnsAll, name_told};
+ghost use Rattle.callers.specs.Interfaces.{AreMessages, Learns, LearnsAll, is_new_link, name_told};
 
 use link_capture::{CaptureFault, FaultKind, Messages, RouteLink};
 use link_message::{LinkAttribute, LinkFlags, LinkMessage};
@@ -36,7 +36,7 @@ pub fn name(message: &LinkMessage) -> &str
 }
 
 /// Learns from a message: of a link that is there its name and flags, and of one that is gone to forget it. Other
-/// messages tell nothing.
+/// messages tell nothing. Memory is wanted for a link that is there alone.
 pub fn learn(
     alloc: Global,
     message: &NetlinkMessage<RouteLink>,
@@ -44,6 +44,7 @@ pub fn learn(
 ) -> Result<(), AllocError>
     ensures ok { OnOk result (Learns message.now.payload interfaces.old interfaces.new) }
     ensures err { OnErr result (IsUnchanged interfaces.old interfaces.new) }
+    ensures memory { OnErr result (is_new_link message.now.payload ≡ true) }
 {
     match &message.payload {
         NetlinkPayload::InnerMessage(RouteLink::NewLink(link)) => {

@@ -1,24 +1,28 @@
 //! Requests of links, as the frames that are sent to the kernel (netlink.h, rtnetlink.h).
 
-ghost use Rattle.std.specs.Prelude.{◌≡◌, ◌≢◌, ◌↔◌, ◌⊎◌, ◌+◌, ◌≤◌, ◌<◌, ◌^◌, ℕ, true, false, length, IfOk, IfErr, OnOk, Err};
+ghost use Rattle.std.specs.Prelude.{◌≡◌, ◌↔◌, ◌⊎◌, ◌+◌, ◌%◌, ◌≤◌, ◌<◌, ◌^◌, ℕ, true, false, length, IfOk, IfErr, OnOk, Ok, Err};
 ghost use Rattle.netlink_packet_core.specs.Lists.{text_by, all_fit_by};
 ghost use Rattle.link_info.specs.LinkInfo.{link_info_entry, link_info_fits};
 ghost use Rattle.link_message.specs.LinkMessages.{link_message_text, link_message_fits};
 ghost use Rattle.link_message.specs.Body.{link_body};
 ghost use Rattle.link_capture.specs.Readable.{IsReadable, ReadsAsAnother};
 ghost use Rattle.link_capture.specs.Routes.{route_entry};
+ghost use Rattle.link_capture_grammar.specs.Bodies.{ruled_text};
 ghost use Rattle.callers.specs.Requests.{request_text, new_link_text, IsNormal, NewLinksAreNormal};
-ghost use Rattle.callers.specs.Requests.{vxlan_info_text, vxlan_body, vxlan_text, IsOwnText, IsReadOtherwise};
+ghost use Rattle.callers.specs.Requests.{vxlan_info_text, vxlan_body, vxlan_text};
 
 use link_capture::laws::{captures_are_counted, frames_are_judged};
-use link_capture::{NotReadable, ReadableLink, RouteLink};
+use link_capture::{NotReadable, RTM_NEWLINK, ReadableLink, RouteLink};
 use link_info::{InfoData, InfoKind, InfoVxlan, LinkInfo};
 use link_message::laws::headers_are_sixteen_bytes;
 use link_message::{
     AddressFamily, Flags, LinkAttribute, LinkFlags, LinkHeader, LinkLayerType, LinkMessage,
 };
 use netlink_packet_core::laws::{finalized_messages_tell, texts_are_cut_again};
-use netlink_packet_core::{NLM_F_ACK, NLM_F_CREATE, NLM_F_EXCL, NLM_F_REQUEST, NetlinkMessage};
+use netlink_packet_core::{
+    Emitable, NLM_F_ACK, NLM_F_CREATE, NLM_F_EXCL, NLM_F_REQUEST, NetlinkDeserializable,
+    NetlinkHeader, NetlinkMessage,
+};
 use std::alloc::{AllocError, Global};
 use thiserror::Error;
 
@@ -82,7 +86,8 @@ pub fn request(
 
 /// The frame of a request to make a link is a legal capture, and its own normal text.
 fn new_links_are_normal()
-    ensures { NewLinksAreNormal }
+    ensures normal { NewLinksAreNormal }
+    ensures aligned { (message : LinkMessage) → length (link_message_text message) % 4 ≡ 0 }
 {
     captures_are_counted();
     frames_are_judged();
@@ -165,9 +170,23 @@ fn vxlan_message(alloc: Global, name: &str, vni: u32, mtu: u32) -> Result<LinkMe
 
 /// What a vxlan is written as, where its name fits, is a legal body, and its own canonical text.
 fn vxlans_are_legal(name: &str, vni: u32, mtu: u32)
-    ensures { length name.now ≤ 65530 → IsOwnText link_body (vxlan_body name.now vni mtu) }
+    ensures own { length name.now ≤ 65530
+        → ruled_text link_body (vxlan_body name.now vni mtu) ≡ Ok (vxlan_body name.now vni mtu) }
+    ensures aligned { length (vxlan_body name.now vni mtu) % 4 ≡ 0 }
 {
     texts_are_cut_again();
+}
+
+/// The body of a request to make a vxlan, whose name fits.
+#[tactic(auto, using(crate::proofs::RequestFrames::vxlan_size))]
+fn write_vxlan(alloc: Global, name: &str, vni: u32, mtu: u32) -> Result<Vec<u8>, AllocError>
+    requires { length name.now ≤ 65530 }
+    ensures { IfOk result (λ body. body.items ≡ vxlan_body name.now vni mtu) }
+{
+    let message = vxlan_message(alloc, name, vni, mtu)?;
+    let mut body = Vec::from_elem(alloc, 0u8, message.buffer_len())?;
+    message.emit(body.as_mut_slice());
+    Ok(body)
 }
 
 /// The frame of a request to make a vxlan, a virtual extensible local network (if_link.h, `IFLA_VXLAN_`): its name, the
@@ -175,8 +194,8 @@ fn vxlans_are_legal(name: &str, vni: u32, mtu: u32)
 /// UDP port is 4789. Numbers are little-endian, the port big-endian. The kernel takes names of 1 to 15 bytes and
 /// networks below 2^24; that isn't tested here.
 ///
-/// What is promised beside the bytes: `Unfit` is told exactly of a name over 65530 bytes, `TooLong` never, and
-/// `ReadsOtherwise` only where the body, which is legal, is read as another message.
+/// What is promised beside the bytes: `Unfit` is told exactly of a name over 65530 bytes, and no other fault but want
+/// of memory: what is asked for is legal, and so it is readable.
 pub fn vxlan_request(
     alloc: Global,
     name: &str,
@@ -190,16 +209,23 @@ pub fn vxlan_request(
         (λ bytes. (limit : ℕ) → length bytes.items ≤ limit → IsNormal limit bytes.items) }
     ensures fits { OnOk result (length name.now ≤ 65530) }
     ensures unfit { (result ≡ Err RequestFault.Unfit) ↔ (65530 < length name.now) }
-    ensures otherwise { result ≡ Err RequestFault.ReadsOtherwise
-        → IsReadOtherwise (vxlan_body name.now vni mtu) }
-    ensures too_long { result ≢ Err RequestFault.TooLong }
+    ensures err { IfErr result
+        (λ fault. (fault ≡ RequestFault.Unfit) ⊎ (fault ≡ RequestFault.Memory)) }
 {
     if name.len() > LONGEST_NAME {
         return Err(RequestFault::Unfit);
     }
+    new_links_are_normal();
     vxlans_are_legal(name, vni, mtu);
-    match vxlan_message(alloc, name, vni, mtu) {
-        Ok(message) => new_link_request(alloc, message, sequence_number),
+    let Ok(body) = write_vxlan(alloc, name, vni, mtu) else {
+        return Err(RequestFault::Memory);
+    };
+    let header = NetlinkHeader {
+        message_type: RTM_NEWLINK,
+        ..NetlinkHeader::default()
+    };
+    match RouteLink::deserialize(alloc, &header, body.as_slice()) {
+        Ok(link) => request(alloc, link, NEW_LINK, sequence_number),
         Err(_) => Err(RequestFault::Memory),
     }
 }

@@ -1,7 +1,7 @@
 //! A store of values by captures: those that mean the same have one place.
 
-ghost use Rattle.std.specs.Prelude.{◌≡◌, ◌≢◌, ℕ, List, None, Some, IfOk, IfErr, OnOk, OnErr, option_copied};
-ghost use Rattle.link_capture.specs.Captures.{first_fault, texts, IsLegal};
+ghost use Rattle.std.specs.Prelude.{◌≡◌, ◌≢◌, ◌⊎◌, ℕ, List, length, None, Some, IfOk, IfErr, OnOk, OnErr, option_copied};
+ghost use Rattle.link_capture.specs.Captures.{first_fault, texts, IsLegal, StopsAt};
 
 use link_capture::laws::{
     captures_are_counted, faults_stand_at_frames, frames_stand_alone, sameness_goes_by_frames,
@@ -19,14 +19,14 @@ pub struct NotStored<V> {
     pub value: V,
 }
 
-/// The normal text of a capture; or the first fault of one that isn't legal; or want of memory at some message.
+/// The normal text of a capture; or the first fault of one that isn't legal; or want of memory at a message's place.
 fn normal_text(alloc: Global, capture: &[u8], limit: u32) -> Result<Vec<u8>, CaptureFault>
     ensures text { IfOk result (λ text. text.items ≡ texts limit capture.now) }
     ensures legal { OnOk result (IsLegal limit capture.now) }
     ensures fault { IfErr result (λ fault. fault.kind ≢ FaultKind.Memory
         → first_fault limit capture.now ≡ Some fault) }
     ensures memory { IfErr result (λ fault. fault.kind ≡ FaultKind.Memory
-        → IsLegal limit capture.now) }
+        → IsLegal limit capture.now × StopsAt limit capture.now fault.offset) }
 {
     faults_stand_at_frames();
     check(capture, limit)?;
@@ -68,7 +68,7 @@ impl<V> Store<V> {
     /// Puts a value under a capture. The answer is the value that was under it before.
     ///
     /// A value that isn't stored comes back: with the first fault of a capture that isn't legal, or with want of memory
-    /// at some message or at the capture's end.
+    /// at the place of a message, or, for the entry of its text, at the capture's end.
     pub fn insert(
         &mut self,
         alloc: Global,
@@ -89,6 +89,9 @@ impl<V> Store<V> {
             → first_fault (limit_of self.old) capture.now ≡ Some refused.fault) }
         ensures memory { IfErr result (λ refused. refused.fault.kind ≡ FaultKind.Memory
             → IsLegal (limit_of self.old) capture.now) }
+        ensures place { IfErr result (λ refused. refused.fault.kind ≡ FaultKind.Memory
+            → StopsAt (limit_of self.old) capture.now refused.fault.offset
+            ⊎ (refused.fault.offset ≡ length capture.now)) }
         ensures unchanged { OnErr result (IsUnchanged self.old self.new) }
         ensures limit { limit_of self.new ≡ limit_of self.old }
     {
@@ -112,8 +115,8 @@ impl<V> Store<V> {
         }
     }
 
-    /// The value under a capture; or the first fault of one that isn't legal; or want of memory at some message, for
-    /// the text that is looked up.
+    /// The value under a capture; or the first fault of one that isn't legal; or want of memory, for the text that is
+    /// looked up, at the place of a message.
     pub fn get(&self, alloc: Global, capture: &[u8]) -> Result<Option<&V>, CaptureFault>
         ensures legal { OnOk result (IsLegal (limit_of self.now) capture.now) }
         ensures value { IfOk result
@@ -121,7 +124,8 @@ impl<V> Store<V> {
         ensures fault { IfErr result (λ fault. fault.kind ≢ FaultKind.Memory
             → first_fault (limit_of self.now) capture.now ≡ Some fault) }
         ensures memory { IfErr result (λ fault. fault.kind ≡ FaultKind.Memory
-            → IsLegal (limit_of self.now) capture.now) }
+            → IsLegal (limit_of self.now) capture.now
+            × StopsAt (limit_of self.now) capture.now fault.offset) }
     {
         let text = normal_text(alloc, capture, self.limit)?;
         Ok(self.entries.get(text.as_slice()))

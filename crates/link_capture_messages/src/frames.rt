@@ -44,3 +44,20 @@ pub fn read_message(
         Err(_) => Err(FaultKind::Memory),
     }
 }
+
+/// The same, as a walk over a capture needs it: what is kept of a message isn't told.
+pub(super) fn read_front(
+    alloc: Global,
+    bytes: &[u8],
+    limit: u32,
+) -> Result<(usize, NetlinkMessage<RouteLink>), FaultKind>
+    ensures message { IfOk result (λ frame. GivesMessage limit bytes.now frame.0 frame.1) }
+    ensures bounds { IfOk result
+        (λ frame. (16 ≤ frame.0) × (frame.0 ≤ limit) × (frame.0 ≤ length bytes.now)) }
+    ensures refused { IfErr result
+        (λ kind. kind ≢ FaultKind.Memory → first_frame limit bytes.now ≡ Err kind) }
+    ensures memory { IfErr result (λ kind. kind ≡ FaultKind.Memory
+        → (n : ℕ) × (text : List ℕ) × (first_frame limit bytes.now ≡ Ok (n, text))) }
+{
+    read_message(alloc, bytes, limit)
+}

@@ -1,7 +1,10 @@
 //! The message of one frame.
 
-ghost use Rattle.std.specs.Prelude.{◌≡◌, ◌≢◌, ◌≤◌, ℕ, List, length, IfOk, IfErr, Ok, Err};
+ghost use Rattle.std.specs.Prelude.{◌≡◌, ◌≢◌, ◌≤◌, ℕ, List, length, true, IfOk, IfErr, Ok, Err};
+ghost use Rattle.netlink_packet_core.specs.Frames.{frame_type, frame_body};
+ghost use Rattle.netlink_packet_core.specs.Payloads.{payload_may_want_memory};
 ghost use Rattle.link_capture_grammar.specs.Captures.{first_frame};
+ghost use Rattle.link_capture_messages.specs.Routes.{route_may_want_memory};
 ghost use Rattle.link_capture_messages.specs.Texts.{GivesMessage};
 
 use super::route::RouteLink;
@@ -15,7 +18,7 @@ use std::alloc::Global;
 /// greatest length in bytes that a message, read or written, may have.
 ///
 /// The frame is judged on its bytes first, as `push_frame` judges it, so want of memory is answered of an accepted
-/// frame alone.
+/// frame alone, and never of one of which nothing is kept, as a NOOP.
 pub fn read_message(
     alloc: Global,
     bytes: &[u8],
@@ -28,6 +31,9 @@ pub fn read_message(
         (λ kind. kind ≢ FaultKind.Memory → first_frame limit bytes.now ≡ Err kind) }
     ensures memory { IfErr result (λ kind. kind ≡ FaultKind.Memory
         → (n : ℕ) × (text : List ℕ) × (first_frame limit bytes.now ≡ Ok (n, text))) }
+    ensures kept { IfErr result (λ kind. kind ≡ FaultKind.Memory
+        → payload_may_want_memory route_may_want_memory (frame_type bytes.now)
+        (frame_body bytes.now) ≡ true) }
 {
     let frame = measure_frame(bytes, limit)?;
     match NetlinkMessage::<RouteLink>::deserialize(alloc, bytes) {
@@ -37,4 +43,21 @@ pub fn read_message(
         }
         Err(_) => Err(FaultKind::Memory),
     }
+}
+
+/// The same, as a walk over a capture needs it: what is kept of a message isn't told.
+pub(super) fn read_front(
+    alloc: Global,
+    bytes: &[u8],
+    limit: u32,
+) -> Result<(usize, NetlinkMessage<RouteLink>), FaultKind>
+    ensures message { IfOk result (λ frame. GivesMessage limit bytes.now frame.0 frame.1) }
+    ensures bounds { IfOk result
+        (λ frame. (16 ≤ frame.0) × (frame.0 ≤ limit) × (frame.0 ≤ length bytes.now)) }
+    ensures refused { IfErr result
+        (λ kind. kind ≢ FaultKind.Memory → first_frame limit bytes.now ≡ Err kind) }
+    ensures memory { IfErr result (λ kind. kind ≡ FaultKind.Memory
+        → (n : ℕ) × (text : List ℕ) × (first_frame limit bytes.now ≡ Ok (n, text))) }
+{
+    read_message(alloc, bytes, limit)
 }

@@ -4,7 +4,7 @@ ghost use Rattle.std.specs.Prelude.{◌≡◌, ◌≤◌, ◌+◌, ◌-◌, leng
 ghost use Rattle.std.specs.Iterator.{at_most};
 ghost use Rattle.link_capture_messages.specs.Messages.{MessagesLeft, AreLeft, IsNext};
 
-use super::frames::read_message;
+use super::frames::read_front;
 use super::route::RouteLink;
 use link_capture_grammar::fault::CaptureFault;
 use link_capture_grammar::laws::{captures_are_counted, captures_go_by_frames};
@@ -72,7 +72,7 @@ impl<'a> Iterator for Messages<'a> {
         if self.place >= self.bytes.len() {
             return None;
         }
-        match read_message(self.alloc, &self.bytes[self.place..], self.limit) {
+        match read_front(self.alloc, &self.bytes[self.place..], self.limit) {
             Ok((len, message)) => {
                 self.place += nla_align(len);
                 Some(Ok(message))

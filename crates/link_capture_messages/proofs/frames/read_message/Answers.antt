@@ -1,8 +1,10 @@
-use Rattle.std.proofs.Common.{Ok, sym, ap, ◌∙◌}
+use Rattle.std.proofs.Common.{Ok, inl, inr, sym, ap, ◌∙◌}
+use Rattle.std.proofs.lemmas.Bool.{cases_Bool}
 use Rattle.netlink_packet_core.specs.Frames.{frame_type, frame_body}
 use Rattle.netlink_packet_core.specs.Messages.{unpadded_text}
-use Rattle.link_capture_messages.specs.Routes.{route_entry, typed_text}
-use Rattle.link_capture_messages.proofs.WrittenBodies.{one_body, body_written}
+use Rattle.netlink_packet_core.specs.Refusals.{wants_memory}
+use Rattle.link_capture_messages.specs.Routes.{route_entry, route_wants_memory, typed_text}
+use Rattle.link_capture_messages.proofs.WrittenBodies.{one_body, body_written, frame_read}
 use Rattle.link_capture_messages.proofs.frames.read_message.Goals as goal
 
 pub returns-in-Ok-clause-message : goal.returns-in-Ok-clause-message
@@ -17,3 +19,12 @@ returns-in-Ok-clause-message c =
       read = c.in-Ok.ensures.ok;
       text = law ∙ ap (unpadded_text bytes) (body_written (frame_type bytes) (frame_body bytes) t.body t.judged);
     }
+
+-- what has a text is read, so a refusal is want of memory
+pub returns-in-Err-clause-kept : goal.returns-in-Err-clause-kept
+returns-in-Err-clause-kept c =
+    let t = c.in_ok-frame.ensures.ok in
+    λ _. elim (cases_Bool (wants_memory route_wants_memory c.in-Err.field-0)) [
+      | inl k ↦ (c.in-Err.ensures.memory k).1
+      | inr k ↦ absurd (frame_read c.args.bytes.now t.body t.whole t.judged (c.in-Err.ensures.err k))
+    ]

@@ -43,7 +43,8 @@ nothing : (c : List ℕ) → c ≡ [] → numbers_cleared c ≡ []
 unfolding numbers_cleared cleared_after
 nothing c e = subst (λ z. numbers_cleared z ≡ []) (sym e) refl
 
-behind : (c : List ℕ) → is_frame c ≡ true → drop (nla_align (frame_length c)) (numbers_cleared c) ≡ numbers_cleared (drop (nla_align (frame_length c)) c)
+-- what stands behind the frame in front of a cleared capture
+pub behind : (c : List ℕ) → is_frame c ≡ true → drop (nla_align (frame_length c)) (numbers_cleared c) ≡ numbers_cleared (drop (nla_align (frame_length c)) c)
 behind c f =
     let n = nla_align (frame_length c) in
     let bounds = length_of c f in

@@ -9,7 +9,7 @@ use Rattle.netlink_packet_core_grammar.specs.Numbers.{u16_at, u32_at}
 use Rattle.link_capture_numbers.specs.Cleared.{zeros_at, repeats_request, front_cleared}
 use Rattle.link_capture_numbers.proofs.Zeros.{front, length-zeros, drop-zeros, take-zeros, repeated, zeros_behind, zeros_before}
 
-byte_of : (c d : List ℕ) (i : ℕ) → i < 8 → take 8 d ≡ take 8 c → get_or d i 0 ≡ get_or c i 0
+pub byte_of : (c d : List ℕ) (i : ℕ) → i < 8 → take 8 d ≡ take 8 c → get_or d i 0 ≡ get_or c i 0
 byte_of c d i l e = sym (get_or-take 8 d i 0 l) ∙ ap (λ z. get_or z i 0) e ∙ get_or-take 8 c i 0 l
 
 pub length_same : (c d : List ℕ) → take 8 d ≡ take 8 c → frame_length d ≡ frame_length c

@@ -9,8 +9,8 @@ use Rattle.link_capture_grammar.specs.declared.fault.FaultKind.TheVariants.{Memo
 use Rattle.link_capture_grammar.specs.Captures.{Judged, first_fault, first_frame, texts, fault_after_under, HeaderStands, IsLegal, StopsAt}
 use Rattle.link_capture_grammar.specs.Laws.{CapturesGoByFrames, FramesStandAlone, PrefixTexts}
 use Rattle.link_capture_reader.specs.Readers.{WantsMemory}
-use Rattle.link_lines_texts.specs.Captures.{text_lines, lines}
-use Rattle.link_lines_texts.specs.Laws.{AcceptedFramesHaveLines, LinesAreJoined}
+use Rattle.link_lines_texts.specs.Captures.{Choice, text_lines, lines}
+use Rattle.link_lines_texts.specs.Laws.{LinesAreJoined}
 use Rattle.link_lines.specs.Outcomes.{WantsMemoryAt}
 use Rattle.link_lines.proofs.Joined.{texts_nil, lines_nil}
 
@@ -23,21 +23,21 @@ pub record Gathers (r : Result (Unit {0}) CaptureFault) (limit : ℕ) (c start i
 
 -- ---- lines of the texts that were gathered
 
-written_of : (old new start items t : List ℕ) → start ≡ [] → new ≡ old ++ text_lines items → items ≡ start ++ t → new ≡ old ++ text_lines t
-written_of old new start items t s w e = w ∙ ap (λ x. old ++ text_lines x) (e ∙ ap (λ x. x ++ t) s)
+written_of : (ch : Choice) → (old new start items t : List ℕ) → start ≡ [] → new ≡ old ++ text_lines ch items → items ≡ start ++ t → new ≡ old ++ text_lines ch t
+written_of ch old new start items t s w e = w ∙ ap (λ x. old ++ text_lines ch x) (e ∙ ap (λ x. x ++ t) s)
 
-module _ (limit : ℕ) (c old new start items : List ℕ) where
-  pub legal_shown : (r : Result (Unit {0}) CaptureFault) → Gathers r limit c start items → new ≡ old ++ text_lines items → OnOk r ((first_fault limit c ≡ None) × (new ≡ old ++ lines limit c))
-  legal_shown (Ok x) g w = (g.legal.0, written_of old new start items (texts limit c) g.nothing w g.legal.1)
+module _ (ch : Choice) (limit : ℕ) (c old new start items : List ℕ) where
+  pub legal_shown : (r : Result (Unit {0}) CaptureFault) → Gathers r limit c start items → new ≡ old ++ text_lines ch items → OnOk r ((first_fault limit c ≡ None) × (new ≡ old ++ lines ch limit c))
+  legal_shown (Ok x) g w = (g.legal.0, written_of ch old new start items (texts limit c) g.nothing w g.legal.1)
   legal_shown (Err x) g w = tt
 
-  pub fault_shown : (r : Result (Unit {0}) CaptureFault) → Gathers r limit c start items → new ≡ old ++ text_lines items → IfErr r (λ fault. fault.kind ≢ Memory → (first_fault limit c ≡ Some fault) × (new ≡ old ++ lines limit c))
+  pub fault_shown : (r : Result (Unit {0}) CaptureFault) → Gathers r limit c start items → new ≡ old ++ text_lines ch items → IfErr r (λ fault. fault.kind ≢ Memory → (first_fault limit c ≡ Some fault) × (new ≡ old ++ lines ch limit c))
   fault_shown (Ok x) g w = tt
-  fault_shown (Err fault) g w = λ m. let k = g.fault m in (k.0, written_of old new start items (texts limit c) g.nothing w k.1)
+  fault_shown (Err fault) g w = λ m. let k = g.fault m in (k.0, written_of ch old new start items (texts limit c) g.nothing w k.1)
 
-  pub memory_shown : (r : Result (Unit {0}) CaptureFault) → Gathers r limit c start items → new ≡ old ++ text_lines items → IfErr r (λ fault. fault.kind ≡ Memory → StopsAt limit c fault.offset × (new ≡ old ++ lines limit (take fault.offset c)))
+  pub memory_shown : (r : Result (Unit {0}) CaptureFault) → Gathers r limit c start items → new ≡ old ++ text_lines ch items → IfErr r (λ fault. fault.kind ≡ Memory → StopsAt limit c fault.offset × (new ≡ old ++ lines ch limit (take fault.offset c)))
   memory_shown (Ok x) g w = tt
-  memory_shown (Err fault) g w = λ m. let k = g.memory m in (k.0, written_of old new start items (texts limit (take fault.offset c)) g.nothing w k.1)
+  memory_shown (Err fault) g w = λ m. let k = g.memory m in (k.0, written_of ch old new start items (texts limit (take fault.offset c)) g.nothing w k.1)
 
 -- ---- where there is something to be written
 
@@ -80,22 +80,22 @@ front_stands go frames limit c l =
     let a = frames.accepted limit c front.0 front.1 in
     inr (omega (arith, a.low, a.is), omega (arith, a.high, a.is))
 
--- and they have lines
-pub lines_wanted : CapturesGoByFrames link_body → AcceptedFramesHaveLines → (limit : ℕ) (c : List ℕ) → limit < 2 ^ 32 → 0 < length (texts limit c) → WantsMemoryAt limit c 0
-lines_wanted go have limit c b l = inl ((have limit c b).1 (front_accepted go limit c (first_frame limit c) refl l))
+-- and memory may be wanting for its text
+pub texts_wanted : CapturesGoByFrames link_body → (limit : ℕ) (c : List ℕ) → 0 < length (texts limit c) → WantsMemoryAt limit c 0
+texts_wanted go limit c l = inl (front_accepted go limit c (first_frame limit c) refl l)
 
--- an accepted frame for whose text there was less room has lines
-pub memory_wanted : {Z : Type 0} → AcceptedFramesHaveLines → (limit : ℕ) (c : List ℕ) (at : ℕ) (old : Vec ℕ Z) → limit < 2 ^ 32 → WantsMemory limit c at old → WantsMemoryAt limit c at
-memory_wanted have limit c at old b (inl lacks) = inl ((have limit (drop at c) b).1 ((lacks.0, lacks.1), lacks.2))
-memory_wanted have limit c at old b (inr cut) = inr cut
+-- an accepted frame for whose text there was less room
+pub memory_wanted : {Z : Type 0} → (limit : ℕ) (c : List ℕ) (at : ℕ) (old : Vec ℕ Z) → WantsMemory limit c at old → WantsMemoryAt limit c at
+memory_wanted limit c at old (inl lacks) = inl ((lacks.0, lacks.1), lacks.2)
+memory_wanted limit c at old (inr cut) = inr cut
 
 legal_nil : (limit : ℕ) → IsLegal limit []
 unfolding fault_after_under
 legal_nil limit = refl
 
 -- no memory for the lines: nothing is shown, and what stands before the first frame is nothing
-pub nothing_shown : CapturesGoByFrames link_body → FramesStandAlone link_body → LinesAreJoined → (limit : ℕ) (c old new : List ℕ) → 0 < length (texts limit c) → new ≡ old → StopsAt limit c 0 × (new ≡ old ++ lines limit [])
-nothing_shown go frames joined limit c old new l e = (
+pub nothing_shown : (ch : Choice) → CapturesGoByFrames link_body → FramesStandAlone link_body → LinesAreJoined → (limit : ℕ) (c old new : List ℕ) → 0 < length (texts limit c) → new ≡ old → StopsAt limit c 0 × (new ≡ old ++ lines ch limit [])
+nothing_shown ch go frames joined limit c old new l e = (
   record { inside = some_bytes limit c l; start = refl; header = front_stands go frames limit c l; legal = legal_nil limit },
-  e ∙ sym (append-nil old) ∙ ap (λ x. old ++ x) (sym (lines_nil joined limit)),
+  e ∙ sym (append-nil old) ∙ ap (λ x. old ++ x) (sym (lines_nil ch joined limit)),
 )

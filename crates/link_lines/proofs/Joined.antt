@@ -4,7 +4,7 @@ use Rattle.std.proofs.lemmas.List.{append-nil}
 use Rattle.link_capture_grammar.specs.Captures.{texts, texts_after_under}
 use Rattle.link_capture_reader.specs.Readers.{Gains}
 use Rattle.link_capture_engine.specs.Outcomes.{IsPrefix}
-use Rattle.link_lines_texts.specs.Captures.{text_lines, lines}
+use Rattle.link_lines_texts.specs.Captures.{Choice, text_lines, lines}
 use Rattle.link_lines_texts.specs.Laws.{LinesAreJoined}
 
 -- what holds where nothing failed, and where something did
@@ -26,27 +26,27 @@ nothing_twice [] e = refl
 nothing_twice (a ∷ x) e = absurd (omega (arith, ap length e, length-append (a ∷ x) (a ∷ x)))
 
 -- and no lines
-pub no_lines : LinesAreJoined → text_lines [] ≡ []
-no_lines joined =
+pub no_lines : (ch : Choice) → LinesAreJoined → text_lines ch [] ≡ []
+no_lines ch joined =
     let z = texts_nil 0 in
-    let h = joined 0 [] [] (omega arith) in
-    nothing_twice (text_lines []) (ap (λ x. text_lines (x ++ [])) (sym z) ∙ h ∙ ap (λ x. text_lines x ++ text_lines []) z)
+    let h = joined ch 0 [] [] (omega arith) in
+    nothing_twice (text_lines ch []) (ap (λ x. text_lines ch (x ++ [])) (sym z) ∙ h ∙ ap (λ x. text_lines ch x ++ text_lines ch []) z)
 
-pub lines_nil : LinesAreJoined → (limit : ℕ) → lines limit [] ≡ []
-lines_nil joined limit = ap text_lines (texts_nil limit) ∙ no_lines joined
+pub lines_nil : (ch : Choice) → LinesAreJoined → (limit : ℕ) → lines ch limit [] ≡ []
+lines_nil ch joined limit = ap (text_lines ch) (texts_nil limit) ∙ no_lines ch joined
 
-pub lines_of_none : LinesAreJoined → (old t : List ℕ) → length t ≡ 0 → old ≡ old ++ text_lines t
-lines_of_none joined old [] e = sym (append-nil old) ∙ ap (λ x. old ++ x) (sym (no_lines joined))
-lines_of_none joined old (b ∷ t) e = absurd (omega arith)
+pub lines_of_none : (ch : Choice) → LinesAreJoined → (old t : List ℕ) → length t ≡ 0 → old ≡ old ++ text_lines ch t
+lines_of_none ch joined old [] e = sym (append-nil old) ∙ ap (λ x. old ++ x) (sym (no_lines ch joined))
+lines_of_none ch joined old (b ∷ t) e = absurd (omega arith)
 
 -- texts that go on have the lines of both
-pub lines_go_on : LinesAreJoined → (limit : ℕ) (s t out : List ℕ) → limit < 2 ^ 32 → texts limit t ≡ texts limit s ++ out → lines limit t ≡ lines limit s ++ text_lines out
-lines_go_on joined limit s t out b e = ap text_lines e ∙ joined limit s out b
+pub lines_go_on : (ch : Choice) → LinesAreJoined → (limit : ℕ) (s t out : List ℕ) → limit < 2 ^ 32 → texts limit t ≡ texts limit s ++ out → lines ch limit t ≡ lines ch limit s ++ text_lines ch out
+lines_go_on ch joined limit s t out b e = ap (text_lines ch) e ∙ joined ch limit s out b
 
 -- so do those that a reader gained
-pub lines_gained : LinesAreJoined → (limit : ℕ) (s t out : List ℕ) → limit < 2 ^ 32 → Gains limit s t [] out → lines limit t ≡ lines limit s ++ text_lines out
-lines_gained joined limit s t out b g = lines_go_on joined limit s t out b (g.1 ∙ ap (λ x. texts limit s ++ x) (sym g.2))
+pub lines_gained : (ch : Choice) → LinesAreJoined → (limit : ℕ) (s t out : List ℕ) → limit < 2 ^ 32 → Gains limit s t [] out → lines ch limit t ≡ lines ch limit s ++ text_lines ch out
+lines_gained ch joined limit s t out b g = lines_go_on ch joined limit s t out b (g.1 ∙ ap (λ x. texts limit s ++ x) (sym g.2))
 
 -- the lines of a front of the texts begin the lines
-pub lines_begin : LinesAreJoined → (limit : ℕ) (s t : List ℕ) → limit < 2 ^ 32 → IsPrefix (texts limit s) (texts limit t) → IsPrefix (lines limit s) (lines limit t)
-lines_begin joined limit s t b p = (text_lines p.0, lines_go_on joined limit s t p.0 b p.1)
+pub lines_begin : (ch : Choice) → LinesAreJoined → (limit : ℕ) (s t : List ℕ) → limit < 2 ^ 32 → IsPrefix (texts limit s) (texts limit t) → IsPrefix (lines ch limit s) (lines ch limit t)
+lines_begin ch joined limit s t b p = (text_lines ch p.0, lines_go_on ch joined limit s t p.0 b p.1)

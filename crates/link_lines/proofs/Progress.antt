@@ -14,44 +14,44 @@ use Rattle.link_capture_reader.specs.Readers.{ReaderState, StandsFor, Gains, Fee
 use Rattle.link_capture_engine.specs.Devices.{counted, is_end}
 use Rattle.link_capture_engine.specs.Outcomes.{IsOpen, IsPrefix}
 use Rattle.link_capture_engine.proofs.Progress.{open_from, part_front, FeedOk, FeedErr}
-use Rattle.link_lines_texts.specs.Captures.{text_lines, lines}
+use Rattle.link_lines_texts.specs.Captures.{Choice, text_lines, lines}
 use Rattle.link_lines_texts.specs.Laws.{LinesAreJoined}
 use Rattle.link_lines.specs.Outcomes.{ShowsFront, ShownAt}
 use Rattle.link_lines.proofs.Joined.{on_ok, no_lines, lines_nil, lines_go_on, lines_gained, lines_begin}
 
 -- s was read and accepted, and its lines are written
-pub record Came (limit : ℕ) (reader : ReaderState) (written : ℕ) (come_old come_new holds_old holds_new : Option (List ℕ)) (s : List ℕ) : Type 0 where
+pub record Came (ch : Choice) (limit : ℕ) (reader : ReaderState) (written : ℕ) (come_old come_new holds_old holds_new : Option (List ℕ)) (s : List ℕ) : Type 0 where
   pub limit_is : reader.limit ≡ limit
   pub stands : StandsFor reader s
   pub consumed : Consumes come_old come_new s
-  pub wrote : Appends holds_old holds_new (lines limit s)
-  pub count : written ≡ min (length (lines limit s)) (2 ^ 64 - 1)
+  pub wrote : Appends holds_old holds_new (lines ch limit s)
+  pub count : written ≡ min (length (lines ch limit s)) (2 ^ 64 - 1)
 
-pub nothing_came : LinesAreJoined → (limit : ℕ) (reader : ReaderState) (come holds : Option (List ℕ)) → reader.limit ≡ limit → StandsFor reader [] → Came limit reader 0 come come holds holds []
-nothing_came joined limit reader come holds e h = record {
+pub nothing_came : (ch : Choice) → LinesAreJoined → (limit : ℕ) (reader : ReaderState) (come holds : Option (List ℕ)) → reader.limit ≡ limit → StandsFor reader [] → Came ch limit reader 0 come come holds holds []
+nothing_came ch joined limit reader come holds e h = record {
   limit_is = e;
   stands = h;
   consumed = Consumes-nil come;
-  wrote = subst (Appends holds holds) (sym (lines_nil joined limit)) (Appends-nil holds);
-  count = ap (λ (t : List ℕ). min (length t) (2 ^ 64 - 1)) (sym (lines_nil joined limit));
+  wrote = subst (Appends holds holds) (sym (lines_nil ch joined limit)) (Appends-nil holds);
+  count = ap (λ (t : List ℕ). min (length t) (2 ^ 64 - 1)) (sym (lines_nil ch joined limit));
 }
 
 -- what `push_lines` leaves where nothing was
-pub pushed : {E : Type 0} (r : Result (Unit {0}) E) (old new slice out : List ℕ) → is_err r ≡ false → old ≡ [] → slice ≡ out → OnOk r (new ≡ old ++ text_lines slice) → new ≡ text_lines out
-pushed r old new slice out k e t h = on_ok r (new ≡ old ++ text_lines slice) k h ∙ ap (λ o. o ++ text_lines slice) e ∙ ap text_lines t
+pub pushed : (ch : Choice) → {E : Type 0} (r : Result (Unit {0}) E) (old new slice out : List ℕ) → is_err r ≡ false → old ≡ [] → slice ≡ out → OnOk r (new ≡ old ++ text_lines ch slice) → new ≡ text_lines ch out
+pushed ch r old new slice out k e t h = on_ok r (new ≡ old ++ text_lines ch slice) k h ∙ ap (λ o. o ++ text_lines ch slice) e ∙ ap (text_lines ch) t
 
 -- the reading goes on by a piece
-pub goes_on : LinesAreJoined → (limit : ℕ) (reader then : ReaderState) (s p old out shown : List ℕ) (come_old come_between come_new holds_old holds_between holds_new : Option (List ℕ)) (written total : ℕ) → limit < 2 ^ 32 → Came limit reader written come_old come_between holds_old holds_between s → old ≡ [] → then.limit ≡ reader.limit → FeedOk reader then p old out → Consumes come_between come_new p → shown ≡ text_lines out → Appends holds_between holds_new shown → total ≡ min (written + length shown) (2 ^ 64 - 1) → Came limit then total come_old come_new holds_old holds_new (s ++ p)
-goes_on joined limit reader then s p old out shown come_old come_between come_new holds_old holds_between holds_new written total b came e l fed consumed is wrote count =
+pub goes_on : (ch : Choice) → LinesAreJoined → (limit : ℕ) (reader then : ReaderState) (s p old out shown : List ℕ) (come_old come_between come_new holds_old holds_between holds_new : Option (List ℕ)) (written total : ℕ) → limit < 2 ^ 32 → Came ch limit reader written come_old come_between holds_old holds_between s → old ≡ [] → then.limit ≡ reader.limit → FeedOk reader then p old out → Consumes come_between come_new p → shown ≡ text_lines ch out → Appends holds_between holds_new shown → total ≡ min (written + length shown) (2 ^ 64 - 1) → Came ch limit then total come_old come_new holds_old holds_new (s ++ p)
+goes_on ch joined limit reader then s p old out shown come_old come_between come_new holds_old holds_between holds_new written total b came e l fed consumed is wrote count =
     let f = fed s came.stands in
     let gains : Gains limit s (s ++ p) [] out = subst (λ n. Gains n s (s ++ p) [] out) came.limit_is (subst (λ o. Gains reader.limit s (s ++ p) o out) e f.2) in
-    let all : lines limit (s ++ p) ≡ lines limit s ++ shown = lines_gained joined limit s (s ++ p) out b gains ∙ ap (λ x. lines limit s ++ x) (sym is) in
-    let size : length (lines limit (s ++ p)) ≡ length (lines limit s) + length shown = ap length all ∙ length-append (lines limit s) shown in
+    let all : lines ch limit (s ++ p) ≡ lines ch limit s ++ shown = lines_gained ch joined limit s (s ++ p) out b gains ∙ ap (λ x. lines ch limit s ++ x) (sym is) in
+    let size : length (lines ch limit (s ++ p)) ≡ length (lines ch limit s) + length shown = ap length all ∙ length-append (lines ch limit s) shown in
     record {
       limit_is = l ∙ came.limit_is;
       stands = f.1;
       consumed = Consumes-trans come_old come_between come_new s p came.consumed consumed;
-      wrote = subst (Appends holds_old holds_new) (sym all) (Appends-trans holds_old holds_between holds_new (lines limit s) shown came.wrote wrote);
+      wrote = subst (Appends holds_old holds_new) (sym all) (Appends-trans holds_old holds_between holds_new (lines ch limit s) shown came.wrote wrote);
       count = (let known = came.count in omega (arith, size, known, count));
     }
 
@@ -94,65 +94,65 @@ reaches stay limit s p out Failed at h = absurd h
 reaches stay limit s p out kind at h = reaches_all limit s p out h.2
 
 -- the lines of what it adds, behind those that were written, begin the lines of what was read
-lines_reach : LinesAreJoined → (limit : ℕ) (s p out : List ℕ) → limit < 2 ^ 32 → Reaches limit s p out → IsPrefix (lines limit s ++ text_lines out) (lines limit (s ++ p))
-lines_reach joined limit s p out b r =
-    subst (λ x. IsPrefix x (lines limit (s ++ p))) (lines_go_on joined limit s r.front out b r.is) (lines_begin joined limit r.front (s ++ p) b r.begins)
+lines_reach : (ch : Choice) → LinesAreJoined → (limit : ℕ) (s p out : List ℕ) → limit < 2 ^ 32 → Reaches limit s p out → IsPrefix (lines ch limit s ++ text_lines ch out) (lines ch limit (s ++ p))
+lines_reach ch joined limit s p out b r =
+    subst (λ x. IsPrefix x (lines ch limit (s ++ p))) (lines_go_on ch joined limit s r.front out b r.is) (lines_begin ch joined limit r.front (s ++ p) b r.begins)
 
-pub fed_lines : PrefixTexts link_body → LinesAreJoined → (limit : ℕ) (reader then : ReaderState) (s p old out : List ℕ) (r : Result (Unit {0}) CaptureFault) → limit < 2 ^ 32 → reader.limit ≡ limit → old ≡ [] → StandsFor reader s → OnOk r (FeedOk reader then p old out) → IfErr r (FeedErr reader p old out) → IsPrefix (lines limit s ++ text_lines out) (lines limit (s ++ p))
-fed_lines stay joined limit reader then s p old out (Ok x) b l e h good bad =
-    lines_reach joined limit s p out b
+pub fed_lines : (ch : Choice) → PrefixTexts link_body → LinesAreJoined → (limit : ℕ) (reader then : ReaderState) (s p old out : List ℕ) (r : Result (Unit {0}) CaptureFault) → limit < 2 ^ 32 → reader.limit ≡ limit → old ≡ [] → StandsFor reader s → OnOk r (FeedOk reader then p old out) → IfErr r (FeedErr reader p old out) → IsPrefix (lines ch limit s ++ text_lines ch out) (lines ch limit (s ++ p))
+fed_lines ch stay joined limit reader then s p old out (Ok x) b l e h good bad =
+    lines_reach ch joined limit s p out b
     (subst (λ n. Reaches n s p out) l (reaches_all reader.limit s p out (subst (λ o. Gains reader.limit s (s ++ p) o out) e (good s h).2)))
-fed_lines stay joined limit reader then s p old out (Err fault) b l e h good bad =
-    lines_reach joined limit s p out b
+fed_lines ch stay joined limit reader then s p old out (Err fault) b l e h good bad =
+    lines_reach ch joined limit s p out b
     (subst (λ n. Reaches n s p out) l (reaches stay reader.limit s p out fault.kind fault.offset (subst (λ o. FeedFault reader.limit s p o out fault.kind fault.offset) e (bad s h))))
 
 -- a failed write: a front of the lines that were to be written has been
-pub failed_write : (E R W : Type 0) (limit : ℕ) (s a out : List ℕ) (written n : ℕ) (fault : CaptureFault) → W → IsPrefix (a ++ out) (lines limit s) → n ≤ length out → written ≡ min (length a) (2 ^ 64 - 1) → fault.kind ≡ Write → fault.offset ≡ min (written + n) (2 ^ 64 - 1) → ShownAt E R W limit s (a ++ take n out) fault.kind fault.offset
-failed_write E R W limit s a out written n fault w p l c k o =
+pub failed_write : (ch : Choice) → (E R W : Type 0) (limit : ℕ) (s a out : List ℕ) (written n : ℕ) (fault : CaptureFault) → W → IsPrefix (a ++ out) (lines ch limit s) → n ≤ length out → written ≡ min (length a) (2 ^ 64 - 1) → fault.kind ≡ Write → fault.offset ≡ min (written + n) (2 ^ 64 - 1) → ShownAt ch E R W limit s (a ++ take n out) fault.kind fault.offset
+failed_write ch E R W limit s a out written n fault w p l c k o =
     let size : length (a ++ take n out) ≡ length a + n = length-append a (take n out) ∙ omega (arith, length-take n out) in
-    subst (λ x. ShownAt E R W limit s (a ++ take n out) x fault.offset) (sym k) (w, omega (arith, size), part_front a out (lines limit s) n p)
+    subst (λ x. ShownAt ch E R W limit s (a ++ take n out) x fault.offset) (sym k) (w, omega (arith, size), part_front a out (lines ch limit s) n p)
 
 -- what stands before the piece is shown
-pub before_piece : (limit : ℕ) (s p : List ℕ) (at : ℕ) → at ≡ length s → IsOpen (first_fault limit s) → ShowsFront limit (s ++ p) (lines limit s) at
-before_piece limit s p at e o =
+pub before_piece : (ch : Choice) → (limit : ℕ) (s p : List ℕ) (at : ℕ) → at ≡ length s → IsOpen (first_fault limit s) → ShowsFront ch limit (s ++ p) (lines ch limit s) at
+before_piece ch limit s p at e o =
     let t : take at (s ++ p) ≡ s = take_at s p at (sym e) in
     record {
       inside = omega (arith, e, length-append s p);
       going = subst (λ x. IsOpen (first_fault limit x)) (sym t) o;
-      written = ap (lines limit) (sym t);
+      written = ap (lines ch limit) (sym t);
     }
 
 -- no memory for the lines of a piece
-pub lines_lack : (limit : ℕ) (reader : ReaderState) (s p : List ℕ) (at : ℕ) → reader.limit ≡ limit → StandsFor reader s → at ≡ reader.accepted → ShowsFront limit (s ++ p) (lines limit s) at
-lines_lack limit reader s p at l h e =
-    before_piece limit s p at (e ∙ h.accepted) (subst (λ n. IsOpen (first_fault n s)) l (open_from _ s reader.kept reader.owed h.rest))
+pub lines_lack : (ch : Choice) → (limit : ℕ) (reader : ReaderState) (s p : List ℕ) (at : ℕ) → reader.limit ≡ limit → StandsFor reader s → at ≡ reader.accepted → ShowsFront ch limit (s ++ p) (lines ch limit s) at
+lines_lack ch limit reader s p at l h e =
+    before_piece ch limit s p at (e ∙ h.accepted) (subst (λ n. IsOpen (first_fault n s)) l (open_from _ s reader.kept reader.owed h.rest))
 
 -- a legal front has no fault
-legal_front : (limit : ℕ) (c w : List ℕ) (at : ℕ) → StopsAt limit c at → w ≡ lines limit (take at c) → ShowsFront limit c w at
-legal_front limit c w at h e = record {
+legal_front : (ch : Choice) → (limit : ℕ) (c w : List ℕ) (at : ℕ) → StopsAt limit c at → w ≡ lines ch limit (take at c) → ShowsFront ch limit c w at
+legal_front ch limit c w at h e = record {
   inside = (let i = h.inside in omega arith);
   going = subst IsOpen (sym h.legal) tt;
   written = e;
 }
 
 -- a fault of `feed` is answered, once the lines of what it added are written
-fed_fault : LinesAreJoined → (E R W : Type 0) (limit : ℕ) (s p out : List ℕ) (kind : FaultKind) (at : ℕ) → limit < 2 ^ 32 → length p ≤ 65536 → IsOpen (first_fault limit s) → FeedFault limit s p [] out kind at → ShownAt E R W limit (s ++ p) (lines limit s ++ text_lines out) kind at
-fed_fault joined E R W limit s p out Cut at b z o h = absurd h
-fed_fault joined E R W limit s p out Memory at b z o h = legal_front limit (s ++ p) _ at h.1 (sym (lines_gained joined limit s (take at (s ++ p)) out b h.2))
-fed_fault joined E R W limit s p out Read at b z o h = absurd h
-fed_fault joined E R W limit s p out Write at b z o h = absurd h
-fed_fault joined E R W limit s p out TooLong at b z o h =
-    let none : lines limit s ++ text_lines out ≡ lines limit s = ap (λ x. lines limit s ++ text_lines x) h.2 ∙ ap (λ x. lines limit s ++ x) (no_lines joined) ∙ append-nil (lines limit s) in
+fed_fault : (ch : Choice) → LinesAreJoined → (E R W : Type 0) (limit : ℕ) (s p out : List ℕ) (kind : FaultKind) (at : ℕ) → limit < 2 ^ 32 → length p ≤ 65536 → IsOpen (first_fault limit s) → FeedFault limit s p [] out kind at → ShownAt ch E R W limit (s ++ p) (lines ch limit s ++ text_lines ch out) kind at
+fed_fault ch joined E R W limit s p out Cut at b z o h = absurd h
+fed_fault ch joined E R W limit s p out Memory at b z o h = legal_front ch limit (s ++ p) _ at h.1 (sym (lines_gained ch joined limit s (take at (s ++ p)) out b h.2))
+fed_fault ch joined E R W limit s p out Read at b z o h = absurd h
+fed_fault ch joined E R W limit s p out Write at b z o h = absurd h
+fed_fault ch joined E R W limit s p out TooLong at b z o h =
+    let none : lines ch limit s ++ text_lines ch out ≡ lines ch limit s = ap (λ x. lines ch limit s ++ text_lines ch x) h.2 ∙ ap (λ x. lines ch limit s ++ x) (no_lines ch joined) ∙ append-nil (lines ch limit s) in
     record {
       long = omega (arith, h.0, length-append s p);
       last = omega (arith, h.1, length-append s p);
-      front = subst (λ x. ShowsFront limit (s ++ p) x at) (sym none) (before_piece limit s p at h.1 o);
+      front = subst (λ x. ShowsFront ch limit (s ++ p) x at) (sym none) (before_piece ch limit s p at h.1 o);
     }
-fed_fault joined E R W limit s p out Failed at b z o h = absurd h
-fed_fault joined E R W limit s p out kind at b z o h = (h.1, sym (lines_gained joined limit s (s ++ p) out b h.2))
+fed_fault ch joined E R W limit s p out Failed at b z o h = absurd h
+fed_fault ch joined E R W limit s p out kind at b z o h = (h.1, sym (lines_gained ch joined limit s (s ++ p) out b h.2))
 
-pub fed_outcome : LinesAreJoined → (E R W : Type 0) (limit : ℕ) (reader : ReaderState) (s p old out : List ℕ) (fault : CaptureFault) → limit < 2 ^ 32 → reader.limit ≡ limit → old ≡ [] → length p ≤ 65536 → StandsFor reader s → FeedErr reader p old out fault → ShownAt E R W limit (s ++ p) (lines limit s ++ text_lines out) fault.kind fault.offset
-fed_outcome joined E R W limit reader s p old out fault b l e z h bad =
+pub fed_outcome : (ch : Choice) → LinesAreJoined → (E R W : Type 0) (limit : ℕ) (reader : ReaderState) (s p old out : List ℕ) (fault : CaptureFault) → limit < 2 ^ 32 → reader.limit ≡ limit → old ≡ [] → length p ≤ 65536 → StandsFor reader s → FeedErr reader p old out fault → ShownAt ch E R W limit (s ++ p) (lines ch limit s ++ text_lines ch out) fault.kind fault.offset
+fed_outcome ch joined E R W limit reader s p old out fault b l e z h bad =
     let o : IsOpen (first_fault limit s) = subst (λ n. IsOpen (first_fault n s)) l (open_from _ s reader.kept reader.owed h.rest) in
     let f : FeedFault limit s p [] out fault.kind fault.offset = subst (λ n. FeedFault n s p [] out fault.kind fault.offset) l (subst (λ x. FeedFault reader.limit s p x out fault.kind fault.offset) e (bad s h)) in
-    fed_fault joined E R W limit s p out fault.kind fault.offset b z o f
+    fed_fault ch joined E R W limit s p out fault.kind fault.offset b z o f

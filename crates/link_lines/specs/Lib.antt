@@ -1,3 +1,4 @@
+pub mod Options
 pub mod Outcomes
 pub use Rattle.link_lines_texts.specs.Captures
 pub use Rattle.link_capture_engine.specs.Devices

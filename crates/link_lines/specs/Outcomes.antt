@@ -6,45 +6,45 @@ use Rattle.link_capture_grammar.specs.declared.fault.FaultKind.TheVariants.{Cut,
 use Rattle.link_capture_grammar.specs.declared.fault.CaptureFault.{CaptureFault}
 use Rattle.link_capture_grammar.specs.Captures.{first_fault, first_frame, IsLegal}
 use Rattle.link_capture_engine.specs.Outcomes.{IsOpen, IsPrefix}
-use Rattle.link_lines_texts.specs.Captures.{lines}
+use Rattle.link_lines_texts.specs.Captures.{Choice, lines}
 
--- Why memory was wanting at this place: what stands there has lines to be written, or the frame there is cut, and its
+-- Why memory was wanting at this place: what stands there is accepted, and its text had to be written; or the frame there is cut, and its
 -- bytes had to be kept.
 abbrev pub WantsMemoryAt : ℕ → List ℕ → ℕ → Type 0
-WantsMemoryAt limit c at = (0 < length (lines limit (drop at c))) ⊎ (first_frame limit (drop at c) ≡ Err Cut)
+WantsMemoryAt limit c at = ((frame : ℕ × List ℕ) × (first_frame limit (drop at c) ≡ Ok frame)) ⊎ (first_frame limit (drop at c) ≡ Err Cut)
 
 -- The first bytes of s, so many of them as `at` says, have no fault or a cut frame, and w are their lines.
-pub record ShowsFront (limit : ℕ) (s w : List ℕ) (at : ℕ) : Type 0 where
+pub record ShowsFront (o : Choice) (limit : ℕ) (s w : List ℕ) (at : ℕ) : Type 0 where
   pub inside : at ≤ length s
   pub going : IsOpen (first_fault limit (take at s))
-  pub written : w ≡ lines limit (take at s)
+  pub written : w ≡ lines o limit (take at s)
 
 -- More bytes were read than can be counted. All but the last piece, of at most 65,536 bytes, were accepted, and their
 -- lines are written.
-pub record PassesLength (limit : ℕ) (s w : List ℕ) (at : ℕ) : Type 0 where
+pub record PassesLength (o : Choice) (limit : ℕ) (s w : List ℕ) (at : ℕ) : Type 0 where
   pub long : 2 ^ 64 ≤ length s
   pub last : length s ≤ at + 65536
-  pub front : ShowsFront limit s w at
+  pub front : ShowsFront o limit s w at
 
 -- s was read, w was written, and a fault of this kind is answered at this place. What the devices told is given by
 -- ended, read_failed and write_failed.
-abbrev pub ShownAt : Type 0 → Type 0 → Type 0 → ℕ → List ℕ → List ℕ → FaultKind → ℕ → Type 0
-ShownAt ended read_failed write_failed limit s w Cut at = ended × (first_fault limit s ≡ Some (record { kind = Cut; offset = at })) × (w ≡ lines limit s)
-ShownAt ended read_failed write_failed limit s w Memory at = ShowsFront limit s w at
-ShownAt ended read_failed write_failed limit s w Read at = read_failed × (at ≡ length s) × IsOpen (first_fault limit s) × (w ≡ lines limit s)
-ShownAt ended read_failed write_failed limit s w Write at = write_failed × (at ≡ min (length w) (2 ^ 64 - 1)) × IsPrefix w (lines limit s)
-ShownAt ended read_failed write_failed limit s w TooLong at = PassesLength limit s w at
-ShownAt ended read_failed write_failed limit s w Failed at = ⊥
-ShownAt ended read_failed write_failed limit s w kind at = (first_fault limit s ≡ Some (record { kind = kind; offset = at })) × (w ≡ lines limit s)
+abbrev pub ShownAt : Choice → Type 0 → Type 0 → Type 0 → ℕ → List ℕ → List ℕ → FaultKind → ℕ → Type 0
+ShownAt o ended read_failed write_failed limit s w Cut at = ended × (first_fault limit s ≡ Some (record { kind = Cut; offset = at })) × (w ≡ lines o limit s)
+ShownAt o ended read_failed write_failed limit s w Memory at = ShowsFront o limit s w at
+ShownAt o ended read_failed write_failed limit s w Read at = read_failed × (at ≡ length s) × IsOpen (first_fault limit s) × (w ≡ lines o limit s)
+ShownAt o ended read_failed write_failed limit s w Write at = write_failed × (at ≡ min (length w) (2 ^ 64 - 1)) × IsPrefix w (lines o limit s)
+ShownAt o ended read_failed write_failed limit s w TooLong at = PassesLength o limit s w at
+ShownAt o ended read_failed write_failed limit s w Failed at = ⊥
+ShownAt o ended read_failed write_failed limit s w kind at = (first_fault limit s ≡ Some (record { kind = kind; offset = at })) × (w ≡ lines o limit s)
 
 -- s was read, w was written, and this is answered
-abbrev pub Shown : Type 0 → Type 0 → Type 0 → ℕ → List ℕ → List ℕ → Result (Unit {0}) CaptureFault → Type 0
-Shown ended read_failed write_failed limit s w (Ok x) = ended × IsLegal limit s × (w ≡ lines limit s)
-Shown ended read_failed write_failed limit s w (Err fault) = ShownAt ended read_failed write_failed limit s w fault.kind fault.offset
+abbrev pub Shown : Choice → Type 0 → Type 0 → Type 0 → ℕ → List ℕ → List ℕ → Result (Unit {0}) CaptureFault → Type 0
+Shown o ended read_failed write_failed limit s w (Ok x) = ended × IsLegal limit s × (w ≡ lines o limit s)
+Shown o ended read_failed write_failed limit s w (Err fault) = ShownAt o ended read_failed write_failed limit s w fault.kind fault.offset
 
 -- What was read has left the source, which had the first bytes and has the second. What was written has come to the
 -- sink, which held the third and holds the fourth.
-abbrev pub Shows : Option (List ℕ) → Option (List ℕ) → Option (List ℕ) → Option (List ℕ)
+abbrev pub Shows : Choice → Option (List ℕ) → Option (List ℕ) → Option (List ℕ) → Option (List ℕ)
     → Type 0 → Type 0 → Type 0 → ℕ → Result (Unit {0}) CaptureFault → Type 0
-Shows from left held holds ended read_failed write_failed limit result =
-    (s w : List ℕ) × Consumes from left s × Appends held holds w × Shown ended read_failed write_failed limit s w result
+Shows o from left held holds ended read_failed write_failed limit result =
+    (s w : List ℕ) × Consumes from left s × Appends held holds w × Shown o ended read_failed write_failed limit s w result

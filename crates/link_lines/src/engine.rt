@@ -2,9 +2,11 @@
 
 ghost use Rattle.std.specs.Prelude.{◌≤◌};
 ghost use Rattle.link_capture_engine.specs.Devices.{Rises, TellsItsEnd};
+ghost use Rattle.link_lines.specs.Options.{choice_of};
 ghost use Rattle.link_lines.specs.Outcomes.{Shows};
 
 use crate::lines::push_lines;
+use crate::options::LineOptions;
 use link_capture_engine::{Sink, Source, write_all};
 use link_capture_grammar::fault::{CaptureFault, FaultKind};
 use link_capture_grammar::laws::texts_of_a_prefix_stay;
@@ -25,9 +27,10 @@ pub fn show<S: Source, K: Sink>(
     source: &mut S,
     sink: &mut K,
     limit: u32,
+    options: LineOptions<'_>,
 ) -> Result<(), CaptureFault>
     requires { 16 ≤ limit }
-    ensures { Shows (S.to_come source.old) (S.to_come source.new)
+    ensures { Shows (choice_of options.entry) (S.to_come source.old) (S.to_come source.new)
         (K.holds sink.old) (K.holds sink.new)
         (TellsItsEnd (S.ends_told source.old) (S.ends_told source.new) (S.to_come source.new))
         (Rises (S.failures source.old) (S.failures source.new))
@@ -52,7 +55,7 @@ pub fn show<S: Source, K: Sink>(
             return reader.finish();
         }
         let fed = reader.feed(&buffer[..size], &mut texts);
-        if push_lines(texts.as_slice(), &mut lines).is_err() {
+        if push_lines(texts.as_slice(), options, &mut lines).is_err() {
             return Err(CaptureFault {
                 kind: FaultKind::Memory,
                 offset: accepted,

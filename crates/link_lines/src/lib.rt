@@ -3,6 +3,7 @@
 
 mod engine;
 mod lines;
+mod options;
 mod whole;
 
 pub use engine::show;
@@ -14,4 +15,5 @@ pub use link_capture_engine::{
 pub use link_capture_grammar::fault::{CaptureFault, FaultKind};
 pub use link_capture_reader::{CaptureReader, normalize_bytes};
 pub use link_lines_texts::laws;
+pub use options::LineOptions;
 pub use whole::show_bytes;

@@ -1,10 +1,12 @@
 //! The lines of normal texts.
 
-ghost use Rattle.std.specs.Prelude.{◌≡◌, ◌<◌, ◌≤◌, ◌^◌, ◌++◌, true, false, length, drop, OnOk, IfSome, IfNone};
+ghost use Rattle.std.specs.Prelude.{◌≡◌, ◌<◌, ◌≤◌, ◌^◌, ◌++◌, true, false, length, take, drop, OnOk, IfSome, IfNone};
 ghost use Rattle.netlink_packet_core_grammar.specs.Attributes.{nla_align};
-ghost use Rattle.netlink_packet_core.specs.Frames.{frame_length};
-ghost use Rattle.link_lines_texts.specs.Captures.{is_frame, text_lines};
+ghost use Rattle.netlink_packet_core.specs.Frames.{frame_length, frame_type};
+ghost use Rattle.link_lines.specs.Options.{choice_of};
+ghost use Rattle.link_lines_texts.specs.Captures.{is_frame, shown_lines, text_lines};
 
+use crate::options::LineOptions;
 use link_lines_texts::laws::lines_go_by_frames;
 use link_lines_texts::push_frame;
 use netlink_packet_core::{NETLINK_HEADER_LEN, NetlinkBuffer, nla_align};
@@ -39,14 +41,31 @@ fn behind(bytes: &[u8], size: usize) -> &[u8]
     }
 }
 
+/// Appends the lines of a frame, of which these are all bytes without the padding, where its type is shown.
+fn push_shown(frame: &[u8], options: LineOptions<'_>, out: &mut Vec<u8>) -> Result<(), AllocError>
+    requires { 16 ≤ length frame.now }
+    ensures ok { OnOk result (out.new.items
+        ≡ out.old.items ++ shown_lines (choice_of options.entry) frame.now) }
+{
+    if !options.shows(NetlinkBuffer::new(frame).message_type()) {
+        return Ok(());
+    }
+    push_frame(frame, !options.without_numbers, out)
+}
+
 /// Appends the lines of these bytes, which are read as normal text, up to where no whole frame stands.
-pub fn push_lines(texts: &[u8], out: &mut Vec<u8>) -> Result<(), AllocError>
-    ensures ok { OnOk result (out.new.items ≡ out.old.items ++ text_lines texts.now) }
+pub fn push_lines(
+    texts: &[u8],
+    options: LineOptions<'_>,
+    out: &mut Vec<u8>,
+) -> Result<(), AllocError>
+    ensures ok { OnOk result (out.new.items
+        ≡ out.old.items ++ text_lines (choice_of options.entry) texts.now) }
 {
     lines_go_by_frames();
     let mut rest = texts;
     while let Some(size) = frame_len(rest) {
-        push_frame(&rest[..size], out)?;
+        push_shown(&rest[..size], options, out)?;
         rest = behind(rest, size);
     }
     Ok(())

@@ -1,6 +1,6 @@
 -- Where lines tell frames, they tell captures.
-use Rattle.std.proofs.Common.{◌≡◌, ℕ, zero, suc, ◌+◌, ◌-◌, ◌^◌, ◌<◌, ◌≤◌, Bool, true, false, cond, List, [], ◌∷◌, ◌++◌, length, take, drop, Result, Ok, Err, ◌⊎◌, inl, inr, refl, sym, ap, subst, ◌∙◌, append_assoc, arith}
-use Rattle.std.specs.Prelude.{nat_lt, nat_eq, codes, decimal}
+use Rattle.std.proofs.Common.{◌≡◌, ℕ, zero, suc, ◌+◌, ◌-◌, ◌^◌, ◌<◌, ◌≤◌, Bool, true, false, cond, List, [], ◌∷◌, ◌++◌, length, take, drop, Result, Ok, Err, ◌⊎◌, inl, inr, None, refl, sym, ap, subst, ◌∙◌, append_assoc, arith}
+use Rattle.std.specs.Prelude.{nat_lt, nat_eq, codes, ⊤}
 use Rattle.std.proofs.lemmas.List.{take_at, drop_at, length-append, length-take, length-drop}
 use Rattle.netlink_packet_core_grammar.specs.Attributes.{nla_align, zeros}
 use Rattle.netlink_packet_core_grammar.specs.Bytes.{AreBytes}
@@ -14,12 +14,18 @@ use Rattle.link_capture_grammar.specs.Bodies.{Refusal, refused, empty_ports, unf
 use Rattle.link_capture_grammar.specs.Captures.{Judged, first_frame, next_texts, texts_after, texts_after_under, texts}
 use Rattle.link_capture_grammar.specs.Laws.{FramesAreJudged, FramesStandAlone, CapturesAreCounted, BodiesAreNormal, TextsTellMeanings}
 use Rattle.link_lines_values.specs.Flags.{named_flags}
-use Rattle.link_lines_texts.specs.Frames.{labelled, flag_names, type_text, header_line, body_lines, frame_lines}
-use Rattle.link_lines_texts.specs.Captures.{lines_after, text_lines}
-use Rattle.link_lines_texts.specs.Laws.{LinesTellMeanings, LinesTellTexts}
-use Rattle.link_lines_texts.specs.Telling.{IsOwnFrame, StartsFrame, FramesAreTold}
+use Rattle.link_capture_numbers.specs.Cleared.{numbers_cleared}
+use Rattle.link_capture_numbers.specs.Laws.{ClearedCapturesHaveClearedTexts}
+use Rattle.link_capture_numbers.proofs.Steps.{stopped}
+use Rattle.link_capture_numbers.proofs.ClearedCaptures.{behind}
+use Rattle.link_lines_texts.specs.Frames.{labelled, flag_names, type_text, numbers_text, header_line, body_lines, frame_lines}
+use Rattle.link_lines_texts.specs.Captures.{Choice, everything, is_frame, lines_after, text_lines, without_numbers}
+use Rattle.link_lines_texts.specs.Laws.{LinesTellMeanings, LinesTellTexts, LinesWithoutNumbersTellClearedTexts}
+use Rattle.link_lines_texts.specs.Telling.{IsOwnFrame, StartsFrame, FramesAreTold, NumbersAreKnown}
 use Rattle.link_lines_texts.proofs.ByteParts.{first_bytes, joined_bytes, later_bytes}
-use Rattle.link_lines_texts.proofs.FrameSteps.{in_front, accepted_is}
+use Rattle.link_lines_texts.proofs.FrameSteps.{InFront, in_front, accepted_is, stands_in_front}
+use Rattle.link_lines_texts.proofs.NumbersLeft.{cleared_shape, numbers_are_left}
+use Rattle.link_lines_texts.proofs.NumbersKnown.{cleared_bytes, known_front}
 
 -- ---- bytes
 
@@ -127,36 +133,60 @@ text_told c d body more h k e =
 
 -- ---- lines of a frame are some
 
-header_some : (a b c d more s : List ℕ) → ((a ++ (b ++ (c ++ (d ++ 10 ∷ [])))) ++ more) ++ s ≡ [] → ⊥
-header_some [] [] [] [] more s e = absurd cc
-header_some [] [] [] (x ∷ d) more s e = absurd cc
-header_some [] [] (x ∷ c) d more s e = absurd cc
-header_some [] (x ∷ b) c d more s e = absurd cc
-header_some (x ∷ a) b c d more s e = absurd cc
+header_some : (a b c more s : List ℕ) → ((a ++ (b ++ (c ++ 10 ∷ []))) ++ more) ++ s ≡ [] → ⊥
+header_some [] [] [] more s e = absurd cc
+header_some [] [] (x ∷ c) more s e = absurd cc
+header_some [] (x ∷ b) c more s e = absurd cc
+header_some (x ∷ a) b c more s e = absurd cc
 
-pub frame_has_lines : (f s : List ℕ) → frame_lines f ++ s ≡ [] → ⊥
+pub frame_has_lines : (n : Bool) (f s : List ℕ) → frame_lines n f ++ s ≡ [] → ⊥
 unfolding frame_lines header_line
-frame_has_lines f s e =
+frame_has_lines n f s e =
     let t = u16_at 4 f in
     let flags = labelled (codes " flags ") (named_flags (flag_names t) (u16_at 6 f)) in
-    let seq = labelled (codes " seq ") (decimal (u32_at 8 f)) in
-    let port = labelled (codes " port ") (decimal (u32_at 12 f)) in
-    header_some (type_text t) flags seq port (body_lines t (drop 16 f)) s e
+    header_some (type_text t) flags (numbers_text n f) (body_lines n t (drop 16 f)) s e
 
-pub no_text_lines : text_lines [] ≡ []
+pub no_text_lines : (o : Choice) → text_lines o [] ≡ []
 unfolding text_lines lines_after
-no_text_lines = refl
+no_text_lines o = refl
+
+-- ---- all is shown of every type, with numbers or without them
+
+abbrev pub all_of : Bool → Choice
+all_of n = record { numbers = n; only = None }
+
+-- numbers that aren't shown are cleared
+abbrev Known : Bool → List ℕ → Type 0
+Known true x = ⊤
+Known false x = (c : List ℕ) × (x ≡ numbers_cleared c)
+
+same_frame : (c x : List ℕ) → is_frame c ≡ false → x ≡ numbers_cleared c → is_frame x ≡ true → ⊥
+same_frame c x h e i = let bad : true ≡ false = sym i ∙ ap is_frame (e ∙ stopped c h) ∙ h in absurd cc
+
+cleared_front : (c x : List ℕ) (b : Bool) → is_frame c ≡ b → x ≡ numbers_cleared c → is_frame x ≡ true → NumbersAreKnown false (take (frame_length x) x) × Known false (drop (nla_align (frame_length x)) x)
+cleared_front c x false h e i = absurd (same_frame c x h e i)
+cleared_front c x true h e i =
+    let n : ℕ = frame_length c in
+    let size : frame_length x ≡ n = ap (λ z. frame_length z) e ∙ (cleared_shape c h).size in
+    let own : take n (numbers_cleared c) ≡ take (frame_length x) x = sym (ap (take n) e) ∙ ap (λ k. take k x) (sym size) in
+    let rest : drop (nla_align (frame_length x)) x ≡ numbers_cleared (drop (nla_align n) c) = ap (λ k. drop (nla_align k) x) size ∙ ap (drop (nla_align n)) e ∙ behind c h in
+    (subst (NumbersAreKnown false) own (known_front c h), (drop (nla_align n) c, rest))
+
+known_by : (n : Bool) (x : List ℕ) → Known n x → is_frame x ≡ true → NumbersAreKnown n (take (frame_length x) x) × Known n (drop (nla_align (frame_length x)) x)
+known_by true x k i = (record { own = tt; request = λ two l. tt }, tt)
+known_by false x k i = cleared_front k.0 x (is_frame k.0) refl k.1 i
 
 -- ---- what a capture has in front
 
 -- a frame in front of a capture's texts, and what is behind it
-record Front (limit : ℕ) (s : List ℕ) : Type 0 where
+record Front (n : Bool) (limit : ℕ) (s : List ℕ) : Type 0 where
   pub body : List ℕ
   pub after : List ℕ
   pub header : 16 ≤ length s
   pub own : IsOwnFrame (own_frame s body)
   pub text : texts limit s ≡ frame_text s body ++ texts limit after
-  pub lines : text_lines (texts limit s) ≡ frame_lines (own_frame s body) ++ text_lines (texts limit after)
+  pub lines : text_lines (all_of n) (texts limit s) ≡ frame_lines n (own_frame s body) ++ text_lines (all_of n) (texts limit after)
+  pub known : Known n (texts limit s) → NumbersAreKnown n (own_frame s body) × Known n (texts limit after)
   pub shorter : length after < length s
   pub bytes : AreBytes after
 
@@ -165,7 +195,16 @@ unfolding texts_after_under
 stopped_texts limit [] kind e = refl
 stopped_texts limit (b ∷ s) kind e = ap (λ j. next_texts j (λ skip. texts_after limit skip s)) e
 
-module _ (judged : FramesAreJudged link_body) (counted : CapturesAreCounted link_body) (alone : FramesStandAlone link_body) (normal : BodiesAreNormal link_body) (lawful : Lawful link_body) where
+-- the front of a text is known where the text is
+text_known : (n : Bool) (s body rest x : List ℕ) → 16 ≤ length s → InFront s body rest → x ≡ frame_text s body ++ rest → Known n x → NumbersAreKnown n (own_frame s body) × Known n rest
+text_known n s body rest x h front e k =
+    let size : frame_length x ≡ 16 + length body = ap (λ z. frame_length z) e ∙ front.told in
+    let r = known_by n x k (ap is_frame e ∙ front.is) in
+    let own : take (frame_length x) x ≡ own_frame s body = ap (λ m. take m x) size ∙ ap (take (16 + length body)) e ∙ front.own ∙ in_text s body h in
+    let more : drop (nla_align (frame_length x)) x ≡ rest = ap (λ m. drop (nla_align m) x) size ∙ ap (drop (nla_align (16 + length body))) e ∙ front.rest in
+    (subst (NumbersAreKnown n) own r.0, subst (Known n) more r.1)
+
+module _ (n : Bool) (judged : FramesAreJudged link_body) (counted : CapturesAreCounted link_body) (alone : FramesStandAlone link_body) (normal : BodiesAreNormal link_body) (lawful : Lawful link_body) where
   own_is : (c body : List ℕ) → 16 ≤ length c → AreBytes c → body_text (frame_type c) (frame_body c) ≡ Ok body → IsOwnFrame (own_frame c body)
   own_is c body h p o =
       let size = own_size c body h in
@@ -181,7 +220,7 @@ module _ (judged : FramesAreJudged link_body) (counted : CapturesAreCounted link
             ∙ ap (body_text (frame_type c)) is ∙ again ∙ ap (λ z. Ok z) (sym is);
       }
 
-  fronted : (limit : ℕ) (s : List ℕ) (frame : ℕ × List ℕ) → limit < 2 ^ 32 → AreBytes s → first_frame limit s ≡ Ok frame → Front limit s
+  fronted : (limit : ℕ) (s : List ℕ) (frame : ℕ × List ℕ) → limit < 2 ^ 32 → AreBytes s → first_frame limit s ≡ Ok frame → Front n limit s
   fronted limit s frame l p e =
       let i = accepted_is limit s frame e in
       let after : List ℕ = drop (nla_align frame.0) s in
@@ -190,70 +229,91 @@ module _ (judged : FramesAreJudged link_body) (counted : CapturesAreCounted link
       let low = (alone.accepted limit s frame e).low in
       let size = length-drop (nla_align frame.0) s in
       let text : texts limit s ≡ frame_text s i.body ++ texts limit after = counted.next_text limit s frame e ∙ ap (λ z. z ++ texts limit after) i.is in
+      let front = stands_in_front judged s i.body (texts limit after) header (omega (arith, small, l)) in
       record {
         body = i.body;
         after = after;
         header = header;
         own = own_is s i.body header p i.of_body;
         text = text;
-        lines = ap (λ z. text_lines z) text ∙ in_front judged s i.body (texts limit after) header (omega (arith, small, l))
-            ∙ ap (λ z. frame_lines z ++ text_lines (texts limit after)) (in_text s i.body header);
+        lines = ap (λ z. text_lines (all_of n) z) text ∙ in_front judged (all_of n) s i.body (texts limit after) header (omega (arith, small, l))
+            ∙ ap (λ z. frame_lines n z ++ text_lines (all_of n) (texts limit after)) (in_text s i.body header);
+        known = text_known n s i.body (texts limit after) (texts limit s) header front text;
         shorter = omega (arith, size, low, header);
         bytes = later_bytes (nla_align frame.0) s p;
       }
 
-  first_of_capture : (limit : ℕ) (s : List ℕ) (j : Judged) → limit < 2 ^ 32 → AreBytes s → first_frame limit s ≡ j → (texts limit s ≡ []) ⊎ Front limit s
+  first_of_capture : (limit : ℕ) (s : List ℕ) (j : Judged) → limit < 2 ^ 32 → AreBytes s → first_frame limit s ≡ j → (texts limit s ≡ []) ⊎ Front n limit s
   first_of_capture limit s (Err kind) l p e = inl (stopped_texts limit s kind e)
   first_of_capture limit s (Ok frame) l p e = inr (fronted limit s frame l p e)
 
-  first_of : (limit : ℕ) (s : List ℕ) → limit < 2 ^ 32 → AreBytes s → (texts limit s ≡ []) ⊎ Front limit s
+  first_of : (limit : ℕ) (s : List ℕ) → limit < 2 ^ 32 → AreBytes s → (texts limit s ≡ []) ⊎ Front n limit s
   first_of limit s l p = first_of_capture limit s (first_frame limit s) l p refl
+
+  abbrev shown : List ℕ → List ℕ
+  shown t = text_lines (all_of n) t
 
   module _ (tell : FramesAreTold) (limit : ℕ) (l : limit < 2 ^ 32) where
     -- what follows a frame's lines are a capture's lines
-    starts : (s : List ℕ) → (texts limit s ≡ []) ⊎ Front limit s → StartsFrame (text_lines (texts limit s))
-    starts s (inl none) = subst StartsFrame (sym (ap (λ z. text_lines z) none ∙ no_text_lines)) tt
-    starts s (inr a) = subst StartsFrame (sym a.lines) (tell.starts (own_frame s a.body) (text_lines (texts limit a.after)))
+    starts : (s : List ℕ) → (texts limit s ≡ []) ⊎ Front n limit s → StartsFrame (shown (texts limit s))
+    starts s (inl none) = subst StartsFrame (sym (ap shown none ∙ no_text_lines (all_of n))) tt
+    starts s (inr a) = subst StartsFrame (sym a.lines) (tell.starts n (own_frame s a.body) (shown (texts limit a.after)))
 
-    rest_starts : (s : List ℕ) → AreBytes s → StartsFrame (text_lines (texts limit s))
+    rest_starts : (s : List ℕ) → AreBytes s → StartsFrame (shown (texts limit s))
     rest_starts s p = starts s (first_of limit s l p)
 
     -- no lines are a frame's
-    one_ended : (s t : List ℕ) → texts limit s ≡ [] → Front limit t → text_lines (texts limit s) ≡ text_lines (texts limit t) → ⊥
+    one_ended : (s t : List ℕ) → texts limit s ≡ [] → Front n limit t → shown (texts limit s) ≡ shown (texts limit t) → ⊥
     one_ended s t none b e =
-        frame_has_lines (own_frame t b.body) (text_lines (texts limit b.after)) (sym b.lines ∙ sym e ∙ ap (λ z. text_lines z) none ∙ no_text_lines)
+        frame_has_lines n (own_frame t b.body) (shown (texts limit b.after)) (sym b.lines ∙ sym e ∙ ap shown none ∙ no_text_lines (all_of n))
 
     -- frames in front of both are told, and so are the rests
-    both_front : (s t : List ℕ) (a : Front limit s) (b : Front limit t) → text_lines (texts limit s) ≡ text_lines (texts limit t) →
-        (text_lines (texts limit a.after) ≡ text_lines (texts limit b.after) → texts limit a.after ≡ texts limit b.after) → texts limit s ≡ texts limit t
-    both_front s t a b e rest =
-        let x = text_lines (texts limit a.after) in
-        let y = text_lines (texts limit b.after) in
+    both_front : (s t : List ℕ) (a : Front n limit s) (b : Front n limit t) → Known n (texts limit s) → Known n (texts limit t) → shown (texts limit s) ≡ shown (texts limit t) →
+        (Known n (texts limit a.after) → Known n (texts limit b.after) → shown (texts limit a.after) ≡ shown (texts limit b.after) → texts limit a.after ≡ texts limit b.after) → texts limit s ≡ texts limit t
+    both_front s t a b h k e rest =
+        let x = shown (texts limit a.after) in
+        let y = shown (texts limit b.after) in
         let alike = sym a.lines ∙ e ∙ b.lines in
-        let told = tell.told (own_frame s a.body) (own_frame t b.body) x y a.own b.own (rest_starts a.after a.bytes) (rest_starts b.after b.bytes) alike in
+        let p = a.known h in
+        let q = b.known k in
+        let told = tell.told n (own_frame s a.body) (own_frame t b.body) x y a.own b.own p.0 q.0 (rest_starts a.after a.bytes) (rest_starts b.after b.bytes) alike in
         a.text ∙ ap (λ z. z ++ texts limit a.after) (text_told s t a.body b.body a.header b.header told.0)
-        ∙ ap (λ z. frame_text t b.body ++ z) (rest told.1) ∙ sym b.text
+        ∙ ap (λ z. frame_text t b.body ++ z) (rest p.1 q.1 told.1) ∙ sym b.text
 
-    -- captures, the first of fewer bytes than n, are told by their lines
+    -- captures, the first of fewer bytes than m, are told by their lines
     abbrev Told : ℕ → Type 0
-    Told n = (s t : List ℕ) → length s < n → AreBytes s → AreBytes t → text_lines (texts limit s) ≡ text_lines (texts limit t) → texts limit s ≡ texts limit t
+    Told m = (s t : List ℕ) → length s < m → AreBytes s → AreBytes t → Known n (texts limit s) → Known n (texts limit t) → shown (texts limit s) ≡ shown (texts limit t) → texts limit s ≡ texts limit t
 
-    from_front : (n : ℕ) (s t : List ℕ) → Told n → length s < suc n → (texts limit s ≡ []) ⊎ Front limit s → (texts limit t ≡ []) ⊎ Front limit t →
-        text_lines (texts limit s) ≡ text_lines (texts limit t) → texts limit s ≡ texts limit t
-    from_front n s t rest h (inl a) (inl b) e = a ∙ sym b
-    from_front n s t rest h (inl a) (inr b) e = absurd (one_ended s t a b e)
-    from_front n s t rest h (inr a) (inl b) e = absurd (one_ended t s b a (sym e))
-    from_front n s t rest h (inr a) (inr b) e =
+    from_front : (m : ℕ) (s t : List ℕ) → Told m → length s < suc m → (texts limit s ≡ []) ⊎ Front n limit s → (texts limit t ≡ []) ⊎ Front n limit t →
+        Known n (texts limit s) → Known n (texts limit t) → shown (texts limit s) ≡ shown (texts limit t) → texts limit s ≡ texts limit t
+    from_front m s t rest h (inl a) (inl b) p q e = a ∙ sym b
+    from_front m s t rest h (inl a) (inr b) p q e = absurd (one_ended s t a b e)
+    from_front m s t rest h (inr a) (inl b) p q e = absurd (one_ended t s b a (sym e))
+    from_front m s t rest h (inr a) (inr b) p q e =
         let shorter = a.shorter in
-        both_front s t a b e (rest a.after b.after (omega (arith, h, shorter)) a.bytes b.bytes)
+        both_front s t a b p q e (λ x y. rest a.after b.after (omega (arith, h, shorter)) a.bytes b.bytes x y)
 
-    told_within : (n : ℕ) → Told n
-    told_within zero s t h p q e = absurd (omega (arith, h))
-    told_within (suc n) s t h p q e = from_front n s t (told_within n) h (first_of limit s l p) (first_of limit t l q) e
+    told_within : (m : ℕ) → Told m
+    told_within zero s t h a b p q e = absurd (omega (arith, h))
+    told_within (suc m) s t h a b p q e = from_front m s t (told_within m) h (first_of limit s l a) (first_of limit t l b) p q e
 
 pub captures_told : FramesAreTold → FramesAreJudged link_body → CapturesAreCounted link_body → FramesStandAlone link_body → BodiesAreNormal link_body → BodiesAreLawful → LinkPeerIsLawful → LinesTellTexts
 captures_told tell judged counted alone normal lawful peers limit s t l p q =
-    (told_within judged counted alone normal (link_lawful lawful peers) tell limit l (suc (length s)) s t (omega arith) p q, λ e. ap (λ z. text_lines z) e)
+    (told_within true judged counted alone normal (link_lawful lawful peers) tell limit l (suc (length s)) s t (omega arith) p q tt tt, λ e. ap (λ z. text_lines everything z) e)
+
+-- lines without numbers tell what they tell with the numbers cleared
+pub cleared_told : FramesAreTold → FramesAreJudged link_body → CapturesAreCounted link_body → FramesStandAlone link_body → BodiesAreNormal link_body → BodiesAreLawful → LinkPeerIsLawful → ClearedCapturesHaveClearedTexts →
+    LinesWithoutNumbersTellClearedTexts
+cleared_told tell judged counted alone normal lawful peers cleared limit s t l p q =
+    let x : List ℕ = numbers_cleared s in
+    let y : List ℕ = numbers_cleared t in
+    let of_x = cleared.texts_cleared limit s l in
+    let of_y = cleared.texts_cleared limit t l in
+    let shown : List ℕ → List ℕ = λ z. text_lines without_numbers z in
+    let one : shown (texts limit x) ≡ shown (texts limit s) = ap shown of_x ∙ numbers_are_left (texts limit s) in
+    let other : shown (texts limit y) ≡ shown (texts limit t) = ap shown of_y ∙ numbers_are_left (texts limit t) in
+    let told = told_within false judged counted alone normal (link_lawful lawful peers) tell limit l (suc (length x)) x y (omega arith) (cleared_bytes s p) (cleared_bytes t q) (texts limit s, of_x) (texts limit t, of_y) in
+    (λ e. sym of_x ∙ told (one ∙ e ∙ sym other) ∙ of_y, λ e. sym one ∙ ap shown (of_x ∙ e ∙ sym of_y) ∙ other)
 
 pub meanings_told : LinesTellTexts → TextsTellMeanings link_body → LinesTellMeanings
 meanings_told lines meanings limit a b l p q x y =

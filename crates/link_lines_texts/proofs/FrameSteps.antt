@@ -12,15 +12,14 @@ use Rattle.link_capture_grammar.specs.declared.fault.FaultKind.TheVariants.{Cut,
 use Rattle.link_capture_grammar.specs.Bodies.{Refusal, body_text}
 use Rattle.link_capture_grammar.specs.Captures.{Judged, judged_text, first_frame, first_frame_under, next_texts, texts_after, texts_after_under}
 use Rattle.link_capture_grammar.specs.Laws.{FramesAreJudged}
-use Rattle.link_lines_texts.specs.Frames.{frame_lines}
-use Rattle.link_lines_texts.specs.Captures.{is_frame, lines_after, text_lines}
+use Rattle.link_lines_texts.specs.Captures.{Choice, is_frame, lines_after, shown_lines, text_lines}
 use Rattle.link_lines_texts.specs.Laws.{LinesGoByFrames, LinesAreJoined}
 
-passed : (k : ℕ) (c : List ℕ) → lines_after k c ≡ text_lines (drop k c)
+passed : (o : Choice) (k : ℕ) (c : List ℕ) → lines_after o k c ≡ text_lines o (drop k c)
 unfolding lines_after text_lines
-passed zero c = refl
-passed (suc k) [] = refl
-passed (suc k) (b ∷ c) = passed k c
+passed o zero c = refl
+passed o (suc k) [] = refl
+passed o (suc k) (b ∷ c) = passed o k c
 
 -- a whole frame has a length of at least 16, which its bytes reach
 length_of : (c : List ℕ) → is_frame c ≡ true → (16 ≤ frame_length c) × (frame_length c ≤ length c)
@@ -29,23 +28,23 @@ length_of c h =
     let q = and_parts (nat_le 16 (frame_length c)) (nat_le (frame_length c) (length c)) p.1 in
     (leb-true 16 (frame_length c) q.0, leb-true (frame_length c) (length c) q.1)
 
-pub whole : (c : List ℕ) → is_frame c ≡ true → text_lines c ≡ frame_lines (take (frame_length c) c) ++ text_lines (drop (nla_align (frame_length c)) c)
+pub whole : (o : Choice) (c : List ℕ) → is_frame c ≡ true → text_lines o c ≡ shown_lines o (take (frame_length c) c) ++ text_lines o (drop (nla_align (frame_length c)) c)
 unfolding text_lines lines_after
-whole [] h = absurd cc
-whole (b ∷ c) h =
+whole o [] h = absurd cc
+whole o (b ∷ c) h =
     let n = frame_length (b ∷ c) in
-    let own = frame_lines (take n (b ∷ c)) in
+    let own = shown_lines o (take n (b ∷ c)) in
     let l = (length_of (b ∷ c) h).0 in
     let k : suc (nla_align n - 1) ≡ nla_align n = omega (arith, l) in
-    ap (λ t. cond t (own ++ lines_after (nla_align n - 1) c) []) h
-    ∙ ap (λ z. own ++ z) (passed (nla_align n - 1) c ∙ ap (λ m. text_lines (drop m (b ∷ c))) k)
+    ap (λ t. cond t (own ++ lines_after o (nla_align n - 1) c) []) h
+    ∙ ap (λ z. own ++ z) (passed o (nla_align n - 1) c ∙ ap (λ m. text_lines o (drop m (b ∷ c))) k)
 
-pub stopped : (c : List ℕ) → is_frame c ≡ false → text_lines c ≡ []
+pub stopped : (o : Choice) (c : List ℕ) → is_frame c ≡ false → text_lines o c ≡ []
 unfolding text_lines lines_after
-stopped [] h = refl
-stopped (b ∷ c) h =
+stopped o [] h = refl
+stopped o (b ∷ c) h =
     let n = frame_length (b ∷ c) in
-    ap (λ t. cond t (frame_lines (take n (b ∷ c)) ++ lines_after (nla_align n - 1) c) []) h
+    ap (λ t. cond t (shown_lines o (take n (b ∷ c)) ++ lines_after o (nla_align n - 1) c) []) h
 
 pub by_frames : LinesGoByFrames
 by_frames = record { frame = whole; none = stopped }
@@ -63,8 +62,15 @@ told_length c body r h =
     let more = take 12 (drop 4 c) ++ (body ++ zeros (nla_align n - n)) in
     ap (λ z. frame_length z) (append_assoc (le4 n) more r) ∙ length_kept n (more ++ r) h
 
-pub in_front : FramesAreJudged link_body → (c body r : List ℕ) → 16 ≤ length c → 16 + length body < 2 ^ 32 → text_lines (frame_text c body ++ r) ≡ frame_lines (take (16 + length body) (frame_text c body)) ++ text_lines r
-in_front j c body r h b =
+-- a frame's text in front of other bytes begins with a whole frame
+pub record InFront (c body r : List ℕ) : Type 0 where
+  pub is : is_frame (frame_text c body ++ r) ≡ true
+  pub told : frame_length (frame_text c body ++ r) ≡ 16 + length body
+  pub own : take (16 + length body) (frame_text c body ++ r) ≡ take (16 + length body) (frame_text c body)
+  pub rest : drop (nla_align (16 + length body)) (frame_text c body ++ r) ≡ r
+
+pub stands_in_front : FramesAreJudged link_body → (c body r : List ℕ) → 16 ≤ length c → 16 + length body < 2 ^ 32 → InFront c body r
+stands_in_front j c body r h b =
     let n = 16 + length body in
     let t = frame_text c body in
     let told = told_length c body r b in
@@ -72,13 +78,24 @@ in_front j c body r h b =
     let low : 16 ≤ nla_align n = omega arith in
     let high : n ≤ nla_align n = omega arith in
     let all : length (t ++ r) ≡ length t + length r = length-append t r in
-    let is : is_frame (t ++ r) ≡ true =
-    and_from (nat_le 16 (length (t ++ r))) (nat_le 16 (frame_length (t ++ r)) && nat_le (frame_length (t ++ r)) (length (t ++ r))) (le-leb 16 (length (t ++ r)) (omega (arith, all, size, low)))
-    (and_from (nat_le 16 (frame_length (t ++ r))) (nat_le (frame_length (t ++ r)) (length (t ++ r))) (le-leb 16 (frame_length (t ++ r)) (omega (arith, told))) (le-leb (frame_length (t ++ r)) (length (t ++ r)) (omega (arith, told, all, size, high)))) in
-    whole (t ++ r) is
-    ∙ ap (λ m. frame_lines (take m (t ++ r)) ++ text_lines (drop (nla_align m) (t ++ r))) told
-    ∙ ap (λ z. frame_lines z ++ text_lines (drop (nla_align n) (t ++ r))) (take-append-le n t r (omega (arith, size, high)))
-    ∙ ap (λ z. frame_lines (take n t) ++ text_lines z) (drop_at t r (nla_align n) size)
+    record {
+      is = and_from (nat_le 16 (length (t ++ r))) (nat_le 16 (frame_length (t ++ r)) && nat_le (frame_length (t ++ r)) (length (t ++ r))) (le-leb 16 (length (t ++ r)) (omega (arith, all, size, low)))
+          (and_from (nat_le 16 (frame_length (t ++ r))) (nat_le (frame_length (t ++ r)) (length (t ++ r))) (le-leb 16 (frame_length (t ++ r)) (omega (arith, told))) (le-leb (frame_length (t ++ r)) (length (t ++ r)) (omega (arith, told, all, size, high))));
+      told = told;
+      own = take-append-le n t r (omega (arith, size, high));
+      rest = drop_at t r (nla_align n) size;
+    }
+
+pub in_front : FramesAreJudged link_body → (o : Choice) (c body r : List ℕ) → 16 ≤ length c → 16 + length body < 2 ^ 32 →
+    text_lines o (frame_text c body ++ r) ≡ shown_lines o (take (16 + length body) (frame_text c body)) ++ text_lines o r
+in_front j o c body r h b =
+    let n = 16 + length body in
+    let t = frame_text c body in
+    let front = stands_in_front j c body r h b in
+    whole o (t ++ r) front.is
+    ∙ ap (λ m. shown_lines o (take m (t ++ r)) ++ text_lines o (drop (nla_align m) (t ++ r))) front.told
+    ∙ ap (λ z. shown_lines o z ++ text_lines o (drop (nla_align n) (t ++ r))) front.own
+    ∙ ap (λ z. shown_lines o (take n t) ++ text_lines o z) front.rest
 
 -- ---- a frame that is accepted has such a text
 
@@ -111,26 +128,26 @@ accepted_is limit c frame h =
 
 -- ---- texts in front of other bytes
 
-frame_first : FramesAreJudged link_body → (limit : ℕ) (c : List ℕ) (text : List ℕ) → limit < 2 ^ 32 → IsText limit c text → (own : List ℕ) × ((r : List ℕ) → text_lines (text ++ r) ≡ own ++ text_lines r)
-frame_first j limit c text l i =
-    let s = i.small in
-    (frame_lines (take (16 + length i.body) (frame_text c i.body)), λ r. ap (λ z. text_lines (z ++ r)) i.is ∙ in_front j c i.body r i.header (omega (arith, s, l)))
+module _ (o : Choice) (j : FramesAreJudged link_body) (limit : ℕ) (l : limit < 2 ^ 32) where
+  frame_first : (c text : List ℕ) → IsText limit c text → (own : List ℕ) × ((r : List ℕ) → text_lines o (text ++ r) ≡ own ++ text_lines o r)
+  frame_first c text i =
+      let s = i.small in
+      (shown_lines o (take (16 + length i.body) (frame_text c i.body)), λ r. ap (λ z. text_lines o (z ++ r)) i.is ∙ in_front j o c i.body r i.header (omega (arith, s, l)))
 
-module _ (j : FramesAreJudged link_body) (limit : ℕ) (l : limit < 2 ^ 32) where
-  next_joined : (c : List ℕ) (judged : Judged) (after : ℕ → List ℕ) (t : List ℕ) → first_frame limit c ≡ judged → ((k : ℕ) → text_lines (after k ++ t) ≡ text_lines (after k) ++ text_lines t) → text_lines (next_texts judged after ++ t) ≡ text_lines (next_texts judged after) ++ text_lines t
+  next_joined : (c : List ℕ) (judged : Judged) (after : ℕ → List ℕ) (t : List ℕ) → first_frame limit c ≡ judged → ((k : ℕ) → text_lines o (after k ++ t) ≡ text_lines o (after k) ++ text_lines o t) → text_lines o (next_texts judged after ++ t) ≡ text_lines o (next_texts judged after) ++ text_lines o t
   unfolding text_lines lines_after
   next_joined c (Err kind) after t h i = refl
   next_joined c (Ok frame) after t h i =
       let more = after (nla_align frame.0 - 1) in
-      let f = frame_first j limit c frame.1 l (accepted_is limit c frame h) in
-      ap (λ z. text_lines z) (append_assoc frame.1 more t) ∙ f.1 (more ++ t) ∙ ap (λ z. f.0 ++ z) (i (nla_align frame.0 - 1))
-      ∙ sym (append_assoc f.0 (text_lines more) (text_lines t)) ∙ sym (ap (λ z. z ++ text_lines t) (f.1 more))
+      let f = frame_first c frame.1 (accepted_is limit c frame h) in
+      ap (λ z. text_lines o z) (append_assoc frame.1 more t) ∙ f.1 (more ++ t) ∙ ap (λ z. f.0 ++ z) (i (nla_align frame.0 - 1))
+      ∙ sym (append_assoc f.0 (text_lines o more) (text_lines o t)) ∙ sym (ap (λ z. z ++ text_lines o t) (f.1 more))
 
-  joined_after : (s : List ℕ) (skip : ℕ) (t : List ℕ) → text_lines (texts_after limit skip s ++ t) ≡ text_lines (texts_after limit skip s) ++ text_lines t
+  joined_after : (s : List ℕ) (skip : ℕ) (t : List ℕ) → text_lines o (texts_after limit skip s ++ t) ≡ text_lines o (texts_after limit skip s) ++ text_lines o t
   unfolding texts_after_under text_lines lines_after
   joined_after [] skip t = refl
   joined_after (b ∷ s) (suc skip) t = joined_after s skip t
   joined_after (b ∷ s) zero t = next_joined (b ∷ s) (first_frame limit (b ∷ s)) (λ skip. texts_after limit skip s) t refl (λ k. joined_after s k t)
 
 pub joined : FramesAreJudged link_body → LinesAreJoined
-joined j limit s t l = joined_after j limit l s 0 t
+joined j o limit s t l = joined_after o j limit l s 0 t

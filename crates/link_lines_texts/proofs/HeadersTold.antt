@@ -1,5 +1,5 @@
 -- The lines of headers tell them.
-use Rattle.std.proofs.Common.{◌≡◌, ℕ, zero, suc, ◌+◌, ◌*◌, ◌^◌, ◌<◌, ◌≤◌, Bool, true, false, cond, List, [], ◌∷◌, ◌++◌, length, drop, get_or, refl, sym, ap, subst, ◌∙◌, arith}
+use Rattle.std.proofs.Common.{◌≡◌, ℕ, zero, suc, ◌+◌, ◌*◌, ◌^◌, ◌<◌, ◌≤◌, Bool, true, false, cond, List, [], ◌∷◌, ◌++◌, length, drop, get_or, refl, sym, ap, subst, ◌∙◌, append_assoc, arith}
 use Rattle.std.specs.Prelude.{◌==◌, ◌&&◌, nat_lt, ⊤, bytes_eq, codes, decimal, slice_index}
 use Rattle.std.specs.Int.{w16, w32, from_le_bytes}
 use Rattle.std.proofs.lemmas.Bool.{and_parts, eqb-true, ltb-true}
@@ -11,8 +11,8 @@ use Rattle.link_lines_values.specs.Flags.{listed, named_flags, nameless, names_s
 use Rattle.link_lines_values.specs.Names.{Text, bracketed, named_number, text_in}
 use Rattle.link_lines_values.specs.Laws.{DigitsAreTold, Ends}
 use Rattle.link_lines_texts.specs.Coverage.{is_word}
-use Rattle.link_lines_texts.specs.Frames.{address_families, flag_names, header_line, labelled, layer_types, link_flag_names, link_flags, link_header_line, link_numbers, message_types, or_number, type_text}
-use Rattle.link_lines_texts.specs.Telling.{StartsFrame}
+use Rattle.link_lines_texts.specs.Frames.{address_families, flag_names, header_line, labelled, layer_types, link_flag_names, link_flags, link_header_line, link_numbers, message_types, numbers_text, or_number, request_line, type_text}
+use Rattle.link_lines_texts.specs.Telling.{AreKnown, HasNoNumbers, StartsFrame}
 use Rattle.link_lines_texts.proofs.ByteParts.{later_bytes}
 use Rattle.link_lines_texts.proofs.LineCuts.{IsWord, behind, cut_word, word_of}
 
@@ -198,15 +198,25 @@ four_further i p q h k l m e r =
 abbrev port_part : List ℕ → List ℕ
 port_part f = labelled (codes " port ") (decimal (u32_at 12 f)) ++ 10 ∷ []
 
-abbrev number_part : List ℕ → List ℕ
-number_part f = labelled (codes " seq ") (decimal (u32_at 8 f)) ++ port_part f
+abbrev seq_part : List ℕ → List ℕ
+seq_part f = labelled (codes " seq ") (decimal (u32_at 8 f)) ++ port_part f
 
-abbrev pub flags_part : List ℕ → List ℕ
-flags_part f = labelled (codes " flags ") (named_flags (flag_names (u16_at 4 f)) (u16_at 6 f)) ++ number_part f
+abbrev number_part : Bool → List ℕ → List ℕ
+number_part n f = numbers_text n f ++ 10 ∷ []
 
-header_is : (f : List ℕ) → header_line f ≡ type_text (u16_at 4 f) ++ flags_part f
+abbrev pub flags_part : Bool → List ℕ → List ℕ
+flags_part n f = labelled (codes " flags ") (named_flags (flag_names (u16_at 4 f)) (u16_at 6 f)) ++ number_part n f
+
+header_is : (n : Bool) (f : List ℕ) → header_line n f ≡ type_text (u16_at 4 f) ++ flags_part n f
 unfolding header_line
-header_is f = refl
+header_is n f = refl
+
+numbers_are_shown : (f : List ℕ) → number_part true f ≡ seq_part f
+numbers_are_shown f = append_assoc (labelled (codes " seq ") (decimal (u32_at 8 f))) (labelled (codes " port ") (decimal (u32_at 12 f))) (10 ∷ [])
+
+number_ends : (n : Bool) (f s : List ℕ) → Ends (number_part n f ++ s)
+number_ends false f s = omega arith
+number_ends true f s = omega arith
 
 module _ (d : DigitsAreTold) (f g : List ℕ) (a : AreBytes f) (b : AreBytes g) where
   port_told : (s t : List ℕ) → port_part f ++ s ≡ port_part g ++ t → (u32_at 12 f ≡ u32_at 12 g) × (s ≡ t)
@@ -217,23 +227,31 @@ module _ (d : DigitsAreTold) (f g : List ℕ) (a : AreBytes f) (b : AreBytes g) 
       let r = d.decimal_digits _ _ (10 ∷ s) (10 ∷ t) (u32_small 12 f a) (u32_small 12 g b) (omega arith) (omega arith) shown in
       (r.0, ap (drop 1) r.1)
 
-  seq_told : (s t : List ℕ) → number_part f ++ s ≡ number_part g ++ t → (u32_at 8 f ≡ u32_at 8 g) × (port_part f ++ s ≡ port_part g ++ t)
+  seq_told : (s t : List ℕ) → seq_part f ++ s ≡ seq_part g ++ t → (u32_at 8 f ≡ u32_at 8 g) × (port_part f ++ s ≡ port_part g ++ t)
   seq_told s t e =
       d.decimal_digits _ _ (port_part f ++ s) (port_part g ++ t) (u32_small 8 f a) (u32_small 8 g b) (omega arith) (omega arith)
       (behind (decimal (u32_at 8 f)) (port_part f) s (decimal (u32_at 8 g)) (port_part g) t (ap (drop 5) e))
 
-  header_flags_told : (s t : List ℕ) → u16_at 4 f ≡ u16_at 4 g → flags_part f ++ s ≡ flags_part g ++ t → (u16_at 6 f ≡ u16_at 6 g) × (number_part f ++ s ≡ number_part g ++ t)
-  header_flags_told s t k e =
-      let m = named_flags (flag_names (u16_at 4 f)) (u16_at 6 f) in
-      let n = named_flags (flag_names (u16_at 4 g)) (u16_at 6 g) in
-      flags_told d _ _ _ _ (number_part f ++ s) (number_part g ++ t) (ap flag_names k) (u16_small 6 f a) (u16_small 6 g b) (omega arith) (omega arith)
-      (behind m (number_part f) s n (number_part g) t (ap (drop 7) e))
+  -- both numbers are told, or known
+  numbers_told : (n : Bool) (s t : List ℕ) → AreKnown n f → AreKnown n g → number_part n f ++ s ≡ number_part n g ++ t → (u32_at 8 f ≡ u32_at 8 g) × (u32_at 12 f ≡ u32_at 12 g) × (s ≡ t)
+  numbers_told false s t h k e = (h.sequence ∙ sym k.sequence, h.port ∙ sym k.port, ap (drop 1) e)
+  numbers_told true s t h k e =
+      let q = seq_told s t (sym (ap (λ z. z ++ s) (numbers_are_shown f)) ∙ e ∙ ap (λ z. z ++ t) (numbers_are_shown g)) in
+      let p = port_told s t q.1 in
+      (q.0, p.0, p.1)
 
-  header_type_told : (s t : List ℕ) → header_line f ++ s ≡ header_line g ++ t → (u16_at 4 f ≡ u16_at 4 g) × (flags_part f ++ s ≡ flags_part g ++ t)
-  header_type_told s t e =
-      let shown = sym (ap (λ z. z ++ s) (header_is f)) ∙ e ∙ ap (λ z. z ++ t) (header_is g) in
-      type_told d _ _ (flags_part f ++ s) (flags_part g ++ t) (u16_small 4 f a) (u16_small 4 g b) (omega arith) (omega arith)
-      (behind (type_text (u16_at 4 f)) (flags_part f) s (type_text (u16_at 4 g)) (flags_part g) t shown)
+  header_flags_told : (n : Bool) (s t : List ℕ) → u16_at 4 f ≡ u16_at 4 g → flags_part n f ++ s ≡ flags_part n g ++ t → (u16_at 6 f ≡ u16_at 6 g) × (number_part n f ++ s ≡ number_part n g ++ t)
+  header_flags_told n s t k e =
+      let x = named_flags (flag_names (u16_at 4 f)) (u16_at 6 f) in
+      let y = named_flags (flag_names (u16_at 4 g)) (u16_at 6 g) in
+      flags_told d _ _ _ _ (number_part n f ++ s) (number_part n g ++ t) (ap flag_names k) (u16_small 6 f a) (u16_small 6 g b) (number_ends n f s) (number_ends n g t)
+      (behind x (number_part n f) s y (number_part n g) t (ap (drop 7) e))
+
+  header_type_told : (n : Bool) (s t : List ℕ) → header_line n f ++ s ≡ header_line n g ++ t → (u16_at 4 f ≡ u16_at 4 g) × (flags_part n f ++ s ≡ flags_part n g ++ t)
+  header_type_told n s t e =
+      let shown = sym (ap (λ z. z ++ s) (header_is n f)) ∙ e ∙ ap (λ z. z ++ t) (header_is n g) in
+      type_told d _ _ (flags_part n f ++ s) (flags_part n g ++ t) (u16_small 4 f a) (u16_small 4 g b) (omega arith) (omega arith)
+      (behind (type_text (u16_at 4 f)) (flags_part n f) s (type_text (u16_at 4 g)) (flags_part n g) t shown)
 
 -- two headers with the same line, and what stands behind it
 pub record SameHeader (f g s t : List ℕ) : Type 0 where
@@ -241,18 +259,36 @@ pub record SameHeader (f g s t : List ℕ) : Type 0 where
   pub bytes : drop 16 f ≡ drop 16 g → drop 4 f ≡ drop 4 g
   pub rest : s ≡ t
 
-pub header_told : DigitsAreTold → (f g s t : List ℕ) → AreBytes f → AreBytes g → 16 ≤ length f → 16 ≤ length g → header_line f ++ s ≡ header_line g ++ t → SameHeader f g s t
-header_told d f g s t a b l m e =
-    let k = header_type_told d f g a b s t e in
-    let n = header_flags_told d f g a b s t k.0 k.1 in
-    let q = seq_told d f g a b s t n.1 in
-    let p = port_told d f g a b s t q.1 in
+pub header_told : DigitsAreTold → (n : Bool) (f g s t : List ℕ) → AreBytes f → AreBytes g → 16 ≤ length f → 16 ≤ length g → AreKnown n f → AreKnown n g →
+    header_line n f ++ s ≡ header_line n g ++ t → SameHeader f g s t
+header_told d n f g s t a b l m i j e =
+    let k = header_type_told d f g a b n s t e in
+    let x = header_flags_told d f g a b n s t k.0 k.1 in
+    let r = numbers_told d f g a b n s t i j x.1 in
     record {
       type = k.0;
-      bytes = λ r. two_further 4 f g a b (omega arith) (omega arith) k.0 (two_further 6 f g a b (omega arith) (omega arith) n.0
-          (four_further 8 f g a b (omega arith) (omega arith) q.0 (four_further 12 f g a b (omega arith) (omega arith) p.0 r)));
-      rest = p.1;
+      bytes = λ z. two_further 4 f g a b (omega arith) (omega arith) k.0 (two_further 6 f g a b (omega arith) (omega arith) x.0
+          (four_further 8 f g a b (omega arith) (omega arith) r.0 (four_further 12 f g a b (omega arith) (omega arith) r.1 z)));
+      rest = r.2;
     }
+
+-- ---- the header of a request that an ERROR message repeats
+
+request_is : (n : Bool) (r : List ℕ) → request_line n r ≡ labelled (codes "  request length ") (decimal (u32_at 0 r)) ++ (32 ∷ header_line n r)
+unfolding request_line
+request_is n r = refl
+
+-- its line tells it
+pub request_told : DigitsAreTold → (n : Bool) (p q s t : List ℕ) → AreBytes p → AreBytes q → 16 ≤ length p → 16 ≤ length q → AreKnown n p → AreKnown n q →
+    request_line n p ++ s ≡ request_line n q ++ t → (drop 16 p ≡ drop 16 q → p ≡ q) × (s ≡ t)
+request_told d n p q s t a b l m i j e =
+    let x = 32 ∷ header_line n p in
+    let y = 32 ∷ header_line n q in
+    let lines = sym (ap (λ z. z ++ s) (request_is n p)) ∙ e ∙ ap (λ z. z ++ t) (request_is n q) in
+    let size = d.decimal_digits (u32_at 0 p) (u32_at 0 q) (x ++ s) (y ++ t) (u32_small 0 p a) (u32_small 0 q b) (omega arith) (omega arith)
+    (behind (decimal (u32_at 0 p)) x s (decimal (u32_at 0 q)) y t (ap (drop 17) lines)) in
+    let same = header_told d n p q s t a b l m i j (ap (drop 1) size.1) in
+    (λ r. four_told p q a b (omega arith) (omega arith) size.0 (same.bytes r), same.rest)
 
 -- ---- a link's header
 

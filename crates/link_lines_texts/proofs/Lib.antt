@@ -8,6 +8,8 @@ pub mod LineCuts
 pub mod LinksTold
 pub mod ListSteps
 pub mod ListsTold
+pub mod NumbersKnown
+pub mod NumbersLeft
 pub mod RowFacts
 pub mod Joined
 pub mod ShapesTold

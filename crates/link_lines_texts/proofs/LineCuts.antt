@@ -88,3 +88,8 @@ pub line_shallow : (level : ℕ) (a : List ℕ) → Starts a → IsShallow (leve
 line_shallow level a h r e =
     no_space a (32 ∷ r) h (append_cancel_left (indent level) a (32 ∷ 32 ∷ r)
     (e ∙ ap (λ z. z ++ r) (sym (one_deeper level)) ∙ append_assoc (indent level) (32 ∷ 32 ∷ []) r))
+
+-- ---- what was appended in three steps
+
+pub three_parts : (o a b d x y z : List ℕ) → x ≡ o ++ a → y ≡ x ++ b → z ≡ y ++ d → z ≡ o ++ (a ++ (b ++ d))
+three_parts o a b d x y z e f g = g ∙ ap (λ v. v ++ d) (f ∙ ap (λ v. v ++ b) e) ∙ append_assoc (o ++ a) b d ∙ append_assoc o a (b ++ d)

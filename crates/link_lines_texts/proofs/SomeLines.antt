@@ -1,11 +1,11 @@
 -- Where a capture has lines.
-use Rattle.std.proofs.Common.{◌≡◌, ℕ, ◌+◌, ◌^◌, ◌<◌, List, [], ◌∷◌, ◌++◌, length, take, drop, Ok, Err, refl, sym, ap, ◌∙◌, arith}
+use Rattle.std.proofs.Common.{◌≡◌, true, ℕ, ◌+◌, ◌^◌, ◌<◌, List, [], ◌∷◌, ◌++◌, length, take, drop, Ok, Err, refl, sym, ap, ◌∙◌, arith}
 use Rattle.netlink_packet_core_grammar.specs.Attributes.{nla_align}
 use Rattle.netlink_packet_core_grammar.specs.Frames.{frame_text}
 use Rattle.link_message_grammar.specs.Body.{link_body}
 use Rattle.link_capture_grammar.specs.Captures.{Judged, first_frame, texts}
 use Rattle.link_capture_grammar.specs.Laws.{FramesAreJudged, CapturesAreCounted}
-use Rattle.link_lines_texts.specs.Captures.{lines, text_lines}
+use Rattle.link_lines_texts.specs.Captures.{everything, lines, text_lines}
 use Rattle.link_lines_texts.specs.Frames.{frame_lines}
 use Rattle.link_lines_texts.specs.Laws.{AcceptedFramesHaveLines}
 use Rattle.link_lines_texts.proofs.CapturesTold.{frame_has_lines, no_text_lines, stopped_texts}
@@ -16,21 +16,22 @@ some_since [] h = absurd (h refl)
 some_since (x ∷ s) h = omega arith
 
 -- those of a frame that is accepted
-accepted_lines : FramesAreJudged link_body → CapturesAreCounted link_body → (limit : ℕ) (c : List ℕ) (frame : ℕ × List ℕ) → limit < 2 ^ 32 → first_frame limit c ≡ Ok frame → 0 < length (lines limit c)
+accepted_lines : FramesAreJudged link_body → CapturesAreCounted link_body → (limit : ℕ) (c : List ℕ) (frame : ℕ × List ℕ) → limit < 2 ^ 32 → first_frame limit c ≡ Ok frame → 0 < length (lines everything limit c)
 accepted_lines judged counted limit c frame l e =
     let i = accepted_is limit c frame e in
     let small = i.small in
     let more = texts limit (drop (nla_align frame.0) c) in
     let text : texts limit c ≡ frame_text c i.body ++ more = counted.next_text limit c frame e ∙ ap (λ z. z ++ more) i.is in
     let own = take (16 + length i.body) (frame_text c i.body) in
-    let all : lines limit c ≡ frame_lines own ++ text_lines more = ap (λ z. text_lines z) text ∙ in_front judged c i.body more i.header (omega (arith, small, l)) in
-    some_since (lines limit c) (λ none. frame_has_lines own (text_lines more) (sym all ∙ none))
+    let all : lines everything limit c ≡ frame_lines true own ++ text_lines everything more =
+    ap (λ z. text_lines everything z) text ∙ in_front judged everything c i.body more i.header (omega (arith, small, l)) in
+    some_since (lines everything limit c) (λ none. frame_has_lines true own (text_lines everything more) (sym all ∙ none))
 
 -- one that isn't has none
-judged_lines : (limit : ℕ) (c : List ℕ) (j : Judged) → first_frame limit c ≡ j → 0 < length (lines limit c) → (frame : ℕ × List ℕ) × (first_frame limit c ≡ Ok frame)
+judged_lines : (limit : ℕ) (c : List ℕ) (j : Judged) → first_frame limit c ≡ j → 0 < length (lines everything limit c) → (frame : ℕ × List ℕ) × (first_frame limit c ≡ Ok frame)
 judged_lines limit c (Ok frame) e h = (frame, e)
 judged_lines limit c (Err kind) e h =
-    let none : lines limit c ≡ [] = ap (λ z. text_lines z) (stopped_texts limit c kind e) ∙ no_text_lines in
+    let none : lines everything limit c ≡ [] = ap (λ z. text_lines everything z) (stopped_texts limit c kind e) ∙ no_text_lines everything in
     absurd (omega (arith, ap length none, h))
 
 pub have_lines : FramesAreJudged link_body → CapturesAreCounted link_body → AcceptedFramesHaveLines

@@ -1,5 +1,5 @@
 -- The lines of a message: its header's, its link's header's, and those of its attributes.
-use Rattle.std.specs.Prelude.{ℕ, ◌==◌, ◌||◌, nat_le, cond, List, [], ◌∷◌, ◌++◌, length, take, drop, codes, decimal, slice_index}
+use Rattle.std.specs.Prelude.{ℕ, ◌==◌, ◌||◌, ◌&&◌, nat_le, Bool, true, false, cond, List, [], ◌∷◌, ◌++◌, length, take, drop, codes, decimal, slice_index}
 use Rattle.netlink_packet_core_grammar.specs.Numbers.{u16_at, u32_at}
 use Rattle.link_capture_grammar.specs.Bodies.{is_link_type}
 use Rattle.link_lines_values.specs.declared.flags.TheConstants.{LINK_FLAGS, MESSAGE_FLAGS, MESSAGE_GET_FLAGS, MESSAGE_CREATE_FLAGS, MESSAGE_DELETE_FLAGS, MESSAGE_ACK_FLAGS}
@@ -23,11 +23,21 @@ message_types = texts_of (λ n. n.now) MESSAGE_TYPE.now
 unfoldable pub link_flag_names : List Text
 link_flag_names = texts_of (λ n. n.now) LINK_FLAGS.now
 
+-- the types of requests that make or change what they name, remove it, and ask for it (rtnetlink.h)
+abbrev pub is_create : ℕ → Bool
+is_create t = t == 16 || (t == 19 || (t == 20 || (t == 24 || (t == 28 || t == 32))))
+
+abbrev pub is_delete : ℕ → Bool
+is_delete t = t == 17 || (t == 21 || (t == 25 || (t == 29 || t == 33)))
+
+abbrev pub is_get : ℕ → Bool
+is_get t = t == 18 || (t == 22 || (t == 26 || (t == 30 || t == 34)))
+
 -- the flags that messages of a type have
 unfoldable pub flag_names : ℕ → List Text
 flag_names t =
-    cond (t == 2) (texts_of (λ n. n.now) MESSAGE_ACK_FLAGS.now) (cond (t == 16 || t == 19) (texts_of (λ n. n.now) MESSAGE_CREATE_FLAGS.now)
-    (cond (t == 17) (texts_of (λ n. n.now) MESSAGE_DELETE_FLAGS.now) (cond (t == 18) (texts_of (λ n. n.now) MESSAGE_GET_FLAGS.now) (texts_of (λ n. n.now) MESSAGE_FLAGS.now))))
+    cond (t == 2) (texts_of (λ n. n.now) MESSAGE_ACK_FLAGS.now) (cond (is_create t) (texts_of (λ n. n.now) MESSAGE_CREATE_FLAGS.now)
+    (cond (is_delete t) (texts_of (λ n. n.now) MESSAGE_DELETE_FLAGS.now) (cond (is_get t) (texts_of (λ n. n.now) MESSAGE_GET_FLAGS.now) (texts_of (λ n. n.now) MESSAGE_FLAGS.now))))
 
 abbrev pub or_number : ℕ → List ℕ → List ℕ
 or_number t [] = codes "type " ++ decimal t
@@ -40,11 +50,19 @@ type_text t = or_number t (text_in message_types t)
 abbrev pub labelled : List ℕ → List ℕ → List ℕ
 labelled label text = label ++ text
 
--- type, flags, sequence number and port number
-unfoldable pub header_line : List ℕ → List ℕ
-header_line f =
-    type_text (u16_at 4 f) ++ (labelled (codes " flags ") (named_flags (flag_names (u16_at 4 f)) (u16_at 6 f))
-    ++ (labelled (codes " seq ") (decimal (u32_at 8 f)) ++ (labelled (codes " port ") (decimal (u32_at 12 f)) ++ 10 ∷ [])))
+-- sequence number and port number, which are left out where they aren't wanted
+abbrev pub numbers_text : Bool → List ℕ → List ℕ
+numbers_text false f = []
+numbers_text true f = labelled (codes " seq ") (decimal (u32_at 8 f)) ++ labelled (codes " port ") (decimal (u32_at 12 f))
+
+-- type, flags and numbers
+unfoldable pub header_line : Bool → List ℕ → List ℕ
+header_line numbers f =
+    type_text (u16_at 4 f) ++ (labelled (codes " flags ") (named_flags (flag_names (u16_at 4 f)) (u16_at 6 f)) ++ (numbers_text numbers f ++ 10 ∷ []))
+
+-- the header of the request that an ERROR message is about: its length, and its header's line
+unfoldable pub request_line : Bool → List ℕ → List ℕ
+request_line numbers r = labelled (codes "  request length ") (decimal (u32_at 0 r)) ++ (32 ∷ header_line numbers r)
 
 -- the table of the attributes of a link of an address family
 unfoldable pub family_table : ℕ → ℕ
@@ -73,15 +91,19 @@ unfoldable pub link_lines : List ℕ → List ℕ
 link_lines b =
     cond (nat_le 16 (length b)) (link_header_line b ++ list_lines 1 (family_table (slice_index b 0)) (drop 16 b)) (bytes_line (codes "body") b)
 
--- the body of an ERROR or a DONE message: a code with a sign, and the bytes behind it; one without a code, which no normal text has, is bytes
-unfoldable pub code_lines : List ℕ → List ℕ
-code_lines b =
-    cond (nat_le 4 (length b)) (codes "  code" ++ (value_text Signed (take 4 b) ++ (10 ∷ [] ++ bytes_line (codes "rest") (drop 4 b))))
+-- what stands behind the code: of an ERROR message (netlink.h, struct nlmsgerr) the request's header, where it is there, and bytes
+unfoldable pub behind_code : Bool → ℕ → List ℕ → List ℕ
+behind_code numbers t r = cond (t == 2 && nat_le 16 (length r)) (request_line numbers r ++ bytes_line (codes "rest") (drop 16 r)) (bytes_line (codes "rest") r)
+
+-- the body of an ERROR or a DONE message: a code with a sign, and what stands behind it; one without a code, which no normal text has, is bytes
+unfoldable pub code_lines : Bool → ℕ → List ℕ → List ℕ
+code_lines numbers t b =
+    cond (nat_le 4 (length b)) (codes "  code" ++ (value_text Signed (take 4 b) ++ (10 ∷ [] ++ behind_code numbers t (drop 4 b))))
     (bytes_line (codes "body") b)
 
-unfoldable pub body_lines : ℕ → List ℕ → List ℕ
-body_lines t b = cond (is_link_type t) (link_lines b) (cond (t == 2 || t == 3) (code_lines b) (bytes_line (codes "body") b))
+unfoldable pub body_lines : Bool → ℕ → List ℕ → List ℕ
+body_lines numbers t b = cond (is_link_type t) (link_lines b) (cond (t == 2 || t == 3) (code_lines numbers t b) (bytes_line (codes "body") b))
 
--- of the bytes of a frame without its padding
-unfoldable pub frame_lines : List ℕ → List ℕ
-frame_lines f = header_line f ++ body_lines (u16_at 4 f) (drop 16 f)
+-- of the bytes of a frame without its padding; with sequence and port numbers, or without
+unfoldable pub frame_lines : Bool → List ℕ → List ℕ
+frame_lines numbers f = header_line numbers f ++ body_lines numbers (u16_at 4 f) (drop 16 f)

@@ -10,9 +10,9 @@ use Rattle.link_capture_grammar.specs.Same.{SameCapture}
 use Rattle.link_message_grammar.specs.LinkMessage.{unspec, bridge, inet_6, other, link_table}
 use Rattle.link_lines_texts.specs.Coverage.{all_titles, has_line, has_name, holds_shown, in_each, is_info_kind, names_apart}
 use Rattle.link_lines_texts.specs.Lists.{own_line, table_inside, next_in, list_lines, nested_lines, rest_lines}
-use Rattle.link_lines_texts.specs.Frames.{frame_lines}
 use Rattle.link_lines_texts.specs.Titles.{Inside.Nested, titles_of}
-use Rattle.link_lines_texts.specs.Captures.{is_frame, lines, text_lines}
+use Rattle.link_capture_numbers.specs.Cleared.{numbers_cleared}
+use Rattle.link_lines_texts.specs.Captures.{Choice, everything, is_frame, lines, shown_lines, text_lines, without_numbers}
 
 -- The lines of a list are those of its first attribute, of what it holds, and of the rest in the context that it leaves. Where no whole attribute stands,
 -- there are none.
@@ -21,18 +21,18 @@ pub record ListsGoBySteps : Type 0 where
   pub next : (level table : ℕ) (c : Context) (bytes : List ℕ) (e : Attribute) (after : List ℕ) → first_attribute bytes ≡ Some (e, after) → rest_lines level table c bytes ≡ own_line level table c e ++ (nested_lines (level + 1) (table_inside table c e) e.payload ++ rest_lines level table (next_in table c e) after)
   pub none : (level table : ℕ) (c : Context) (bytes : List ℕ) → first_attribute bytes ≡ None → rest_lines level table c bytes ≡ []
 
--- bytes that begin with a whole frame have its lines, and then those of what follows it and its padding; others have none
+-- bytes that begin with a whole frame have what is shown of it, and then the lines of what follows it and its padding; others have none
 pub record LinesGoByFrames : Type 0 where
-  pub frame : (c : List ℕ) → is_frame c ≡ true → text_lines c ≡ frame_lines (take (frame_length c) c) ++ text_lines (drop (nla_align (frame_length c)) c)
-  pub none : (c : List ℕ) → is_frame c ≡ false → text_lines c ≡ []
+  pub frame : (o : Choice) (c : List ℕ) → is_frame c ≡ true → text_lines o c ≡ shown_lines o (take (frame_length c) c) ++ text_lines o (drop (nla_align (frame_length c)) c)
+  pub none : (o : Choice) (c : List ℕ) → is_frame c ≡ false → text_lines o c ≡ []
 
 -- what follows the texts of some frames has lines of its own
 abbrev pub LinesAreJoined : Type 0
-LinesAreJoined = (limit : ℕ) (s t : List ℕ) → limit < 2 ^ 32 → text_lines (texts limit s ++ t) ≡ text_lines (texts limit s) ++ text_lines t
+LinesAreJoined = (o : Choice) (limit : ℕ) (s t : List ℕ) → limit < 2 ^ 32 → text_lines o (texts limit s ++ t) ≡ text_lines o (texts limit s) ++ text_lines o t
 
--- a capture has lines exactly where its first frame is accepted
+-- a capture of which everything is shown has lines exactly where its first frame is accepted
 abbrev pub AcceptedFramesHaveLines : Type 0
-AcceptedFramesHaveLines = (limit : ℕ) (c : List ℕ) → limit < 2 ^ 32 → (0 < length (lines limit c)) ↔ ((frame : ℕ × List ℕ) × (first_frame limit c ≡ Ok frame))
+AcceptedFramesHaveLines = (limit : ℕ) (c : List ℕ) → limit < 2 ^ 32 → (0 < length (lines everything limit c)) ↔ ((frame : ℕ × List ℕ) × (first_frame limit c ≡ Ok frame))
 
 -- Each row of the tables of link messages, and of every table inside, has a name, behind which stands what tells the row's payload; each name is that of a row;
 -- and no two names of a table are equal.
@@ -48,8 +48,13 @@ pub record RowsAreTold : Type 0 where
 
 -- Two captures have the same lines exactly where they have the same texts: for legal captures, where their normal texts are equal.
 abbrev pub LinesTellTexts : Type 0
-LinesTellTexts = (limit : ℕ) (s t : List ℕ) → limit < 2 ^ 32 → AreBytes s → AreBytes t → (lines limit s ≡ lines limit t) ↔ (texts limit s ≡ texts limit t)
+LinesTellTexts = (limit : ℕ) (s t : List ℕ) → limit < 2 ^ 32 → AreBytes s → AreBytes t → (lines everything limit s ≡ lines everything limit t) ↔ (texts limit s ≡ texts limit t)
+
+-- They have the same lines without numbers exactly where their texts with the numbers cleared are the same.
+abbrev pub LinesWithoutNumbersTellClearedTexts : Type 0
+LinesWithoutNumbersTellClearedTexts = (limit : ℕ) (s t : List ℕ) → limit < 2 ^ 32 → AreBytes s → AreBytes t →
+    (lines without_numbers limit s ≡ lines without_numbers limit t) ↔ (numbers_cleared (texts limit s) ≡ numbers_cleared (texts limit t))
 
 -- So legal captures have the same lines exactly where they mean the same.
 abbrev pub LinesTellMeanings : Type 0
-LinesTellMeanings = (limit : ℕ) (a b : List ℕ) → limit < 2 ^ 32 → AreBytes a → AreBytes b → IsLegal limit a → IsLegal limit b → (lines limit a ≡ lines limit b) ↔ SameCapture limit a b
+LinesTellMeanings = (limit : ℕ) (a b : List ℕ) → limit < 2 ^ 32 → AreBytes a → AreBytes b → IsLegal limit a → IsLegal limit b → (lines everything limit a ≡ lines everything limit b) ↔ SameCapture limit a b

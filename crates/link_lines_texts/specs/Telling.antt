@@ -1,7 +1,7 @@
 -- What lines tell of what they are of.
-use Rattle.std.specs.Prelude.{◌≡◌, ℕ, ◌≤◌, true, List, [], ◌∷◌, ◌++◌, ⊤, length, drop, Ok}
+use Rattle.std.specs.Prelude.{◌≡◌, ℕ, ◌≤◌, Bool, true, false, List, [], ◌∷◌, ◌++◌, ⊤, length, drop, Ok}
 use Rattle.netlink_packet_core_grammar.specs.Bytes.{AreBytes}
-use Rattle.netlink_packet_core_grammar.specs.Numbers.{u16_at}
+use Rattle.netlink_packet_core_grammar.specs.Numbers.{u16_at, u32_at}
 use Rattle.attribute_tables_grammar.specs.Rules.{Rule, shape_rule}
 use Rattle.attribute_tables_grammar.specs.Shapes.{Shape}
 use Rattle.link_message_grammar.specs.Body.{attributes_rule}
@@ -43,7 +43,23 @@ abbrev pub StartsFrame : List ℕ → Type 0
 StartsFrame [] = ⊤
 StartsFrame (c ∷ s) = 48 ≤ c
 
+-- both numbers of a header are zero
+pub record HasNoNumbers (header : List ℕ) : Type 0 where
+  pub sequence : u32_at 8 header ≡ 0
+  pub port : u32_at 12 header ≡ 0
+
+-- the numbers of a header are shown, or zero
+abbrev pub AreKnown : Bool → List ℕ → Type 0
+AreKnown true header = ⊤
+AreKnown false header = HasNoNumbers header
+
+-- so are those of a frame, and those of the request's header that an ERROR message has behind its code
+pub record NumbersAreKnown (numbers : Bool) (f : List ℕ) : Type 0 where
+  pub own : AreKnown numbers f
+  pub request : u16_at 4 f ≡ 2 → 20 ≤ length (drop 16 f) → AreKnown numbers (drop 4 (drop 16 f))
+
 -- Lines of a frame begin with the name of its type. They tell all of it but its length, and where they end.
 pub record FramesAreTold : Type 0 where
-  pub starts : (f s : List ℕ) → StartsFrame (frame_lines f ++ s)
-  pub told : (f g s t : List ℕ) → IsOwnFrame f → IsOwnFrame g → StartsFrame s → StartsFrame t → frame_lines f ++ s ≡ frame_lines g ++ t → (drop 4 f ≡ drop 4 g) × (s ≡ t)
+  pub starts : (numbers : Bool) (f s : List ℕ) → StartsFrame (frame_lines numbers f ++ s)
+  pub told : (numbers : Bool) (f g s t : List ℕ) → IsOwnFrame f → IsOwnFrame g → NumbersAreKnown numbers f → NumbersAreKnown numbers g → StartsFrame s → StartsFrame t →
+      frame_lines numbers f ++ s ≡ frame_lines numbers g ++ t → (drop 4 f ≡ drop 4 g) × (s ≡ t)

@@ -5,8 +5,8 @@ ghost use Rattle.netlink_packet_core_grammar.specs.Attributes.{nla_align};
 ghost use Rattle.netlink_packet_core.specs.Frames.{frame_length};
 ghost use Rattle.link_lines_values.specs.Flags.{named_flags};
 ghost use Rattle.link_lines_values.specs.Names.{named_number, texts_of};
-ghost use Rattle.link_lines_texts.specs.Frames.{labelled, type_text, flag_names, header_line, family_table, link_flag_names};
-ghost use Rattle.link_lines_texts.specs.Frames.{link_numbers, link_flags, link_lines, bytes_line, code_lines};
+ghost use Rattle.link_lines_texts.specs.Frames.{labelled, type_text, flag_names, numbers_text, header_line, request_line, family_table, link_flag_names};
+ghost use Rattle.link_lines_texts.specs.Frames.{link_numbers, link_flags, link_lines, bytes_line, behind_code, code_lines};
 ghost use Rattle.link_lines_texts.specs.Frames.{body_lines, frame_lines};
 
 use crate::attributes::push_list;
@@ -30,11 +30,12 @@ const CODE_LEN: usize = 4;
 fn flag_names(message_type: u16) -> FlagNames
     ensures { texts_of (λ b. b.now) result.now ≡ flag_names message_type }
 {
+    // rtnetlink.h: RTM_NEWLINK, RTM_SETLINK, RTM_NEWADDR, RTM_NEWROUTE, .., RTM_DELLINK, .., RTM_GETLINK, ..
     match message_type {
-        2 => MESSAGE_ACK_FLAGS,
-        16 | 19 => MESSAGE_CREATE_FLAGS,
-        17 => MESSAGE_DELETE_FLAGS,
-        18 => MESSAGE_GET_FLAGS,
+        NLMSG_ERROR => MESSAGE_ACK_FLAGS,
+        16 | 19 | 20 | 24 | 28 | 32 => MESSAGE_CREATE_FLAGS,
+        17 | 21 | 25 | 29 | 33 => MESSAGE_DELETE_FLAGS,
+        18 | 22 | 26 | 30 | 34 => MESSAGE_GET_FLAGS,
         _ => MESSAGE_FLAGS,
     }
 }
@@ -90,11 +91,24 @@ fn push_labelled_flags(
     push_flags(names, flags as u64, out)
 }
 
+/// Appends the sequence and the port number of a message, where they are wanted.
+fn push_numbers(numbers: bool, frame: &[u8], out: &mut Vec<u8>) -> Result<(), AllocError>
+    requires { 16 ≤ length frame.now }
+    ensures ok { OnOk result (out.new.items ≡ out.old.items ++ numbers_text numbers frame.now) }
+{
+    if !numbers {
+        return Ok(());
+    }
+    let header = NetlinkBuffer::new(frame);
+    push_labelled_decimal(b" seq ", header.sequence_number(), out)?;
+    push_labelled_decimal(b" port ", header.port_number(), out)
+}
+
 /// Appends the line of the header of a message (netlink.h, `struct nlmsghdr`).
 #[tactic(auto, unfolding(crate::specs::Frames::header_line))]
-fn push_header(frame: &[u8], out: &mut Vec<u8>) -> Result<(), AllocError>
+fn push_header(numbers: bool, frame: &[u8], out: &mut Vec<u8>) -> Result<(), AllocError>
     requires { 16 ≤ length frame.now }
-    ensures ok { OnOk result (out.new.items ≡ out.old.items ++ header_line frame.now) }
+    ensures ok { OnOk result (out.new.items ≡ out.old.items ++ header_line numbers frame.now) }
 {
     let header = NetlinkBuffer::new(frame);
     let message_type = header.message_type();
@@ -105,9 +119,23 @@ fn push_header(frame: &[u8], out: &mut Vec<u8>) -> Result<(), AllocError>
         header.flags() as u32,
         out,
     )?;
-    push_labelled_decimal(b" seq ", header.sequence_number(), out)?;
-    push_labelled_decimal(b" port ", header.port_number(), out)?;
+    push_numbers(numbers, frame, out)?;
     out.extend_from_slice(b"\n")
+}
+
+/// Appends the line of the header of the request that an ERROR message is about.
+#[tactic(auto, unfolding(crate::specs::Frames::request_line))]
+fn push_request(numbers: bool, header: &[u8], out: &mut Vec<u8>) -> Result<(), AllocError>
+    requires { 16 ≤ length header.now }
+    ensures ok { OnOk result (out.new.items ≡ out.old.items ++ request_line numbers header.now) }
+{
+    push_labelled_decimal(
+        b"  request length ",
+        NetlinkBuffer::new(header).length(),
+        out,
+    )?;
+    out.extend_from_slice(b" ")?;
+    push_header(numbers, header, out)
 }
 
 /// The table of the attributes of a link of an address family, by the interpreter's number.
@@ -181,10 +209,33 @@ fn push_link(body: &[u8], out: &mut Vec<u8>) -> Result<(), AllocError>
     push_list(1, family_table(body[0]), &body[LINK_HEADER_LEN..], out)
 }
 
-/// Appends the lines of the body of an ERROR or a DONE message: a code, and the bytes behind it.
+/// Appends the lines of what stands behind the code of an ERROR or a DONE message.
+#[tactic(auto, unfolding(crate::specs::Frames::behind_code))]
+fn push_behind_code(
+    numbers: bool,
+    message_type: u16,
+    rest: &[u8],
+    out: &mut Vec<u8>,
+) -> Result<(), AllocError>
+    ensures ok { OnOk result (out.new.items
+        ≡ out.old.items ++ behind_code numbers message_type rest.now) }
+{
+    if message_type == NLMSG_ERROR && rest.len() >= NETLINK_HEADER_LEN {
+        push_request(numbers, rest, out)?;
+        return push_bytes_line(b"rest", &rest[NETLINK_HEADER_LEN..], out);
+    }
+    push_bytes_line(b"rest", rest, out)
+}
+
+/// Appends the lines of the body of an ERROR or a DONE message: a code, and what stands behind it.
 #[tactic(auto, unfolding(crate::specs::Frames::code_lines))]
-fn push_code(body: &[u8], out: &mut Vec<u8>) -> Result<(), AllocError>
-    ensures ok { OnOk result (out.new.items ≡ out.old.items ++ code_lines body.now) }
+fn push_code(
+    numbers: bool,
+    message_type: u16,
+    body: &[u8],
+    out: &mut Vec<u8>,
+) -> Result<(), AllocError>
+    ensures ok { OnOk result (out.new.items ≡ out.old.items ++ code_lines numbers message_type body.now) }
 {
     if body.len() < CODE_LEN {
         return push_bytes_line(b"body", body, out);
@@ -193,29 +244,35 @@ fn push_code(body: &[u8], out: &mut Vec<u8>) -> Result<(), AllocError>
     out.extend_from_slice(b"  code")?;
     push_value(ShownBy::Signed, code, out)?;
     out.extend_from_slice(b"\n")?;
-    push_bytes_line(b"rest", rest, out)
+    push_behind_code(numbers, message_type, rest, out)
 }
 
 /// Appends the lines of the body of a message of a type.
 #[tactic(auto, unfolding(crate::specs::Frames::body_lines))]
-fn push_body(message_type: u16, body: &[u8], out: &mut Vec<u8>) -> Result<(), AllocError>
-    ensures ok { OnOk result (out.new.items ≡ out.old.items ++ body_lines message_type body.now) }
+fn push_body(
+    numbers: bool,
+    message_type: u16,
+    body: &[u8],
+    out: &mut Vec<u8>,
+) -> Result<(), AllocError>
+    ensures ok { OnOk result (out.new.items ≡ out.old.items ++ body_lines numbers message_type body.now) }
 {
     match message_type {
-        NLMSG_ERROR | NLMSG_DONE => push_code(body, out),
+        NLMSG_ERROR | NLMSG_DONE => push_code(numbers, message_type, body, out),
         // RTM_NEWLINK, RTM_DELLINK, RTM_GETLINK and RTM_SETLINK (rtnetlink.h)
         16..=19 => push_link(body, out),
         _ => push_bytes_line(b"body", body, out),
     }
 }
 
-/// Appends the lines of a frame, of which these are all bytes without the padding.
+/// Appends the lines of a frame, of which these are all bytes without the padding. Its sequence and port number, and
+/// those of the request's header that an NLMSG_ERROR repeats, stand in them only where `numbers` says so.
 #[tactic(auto, unfolding(crate::specs::Frames::frame_lines))]
-pub fn push_frame(frame: &[u8], out: &mut Vec<u8>) -> Result<(), AllocError>
+pub fn push_frame(frame: &[u8], numbers: bool, out: &mut Vec<u8>) -> Result<(), AllocError>
     requires { 16 ≤ length frame.now }
-    ensures ok { OnOk result (out.new.items ≡ out.old.items ++ frame_lines frame.now) }
+    ensures ok { OnOk result (out.new.items ≡ out.old.items ++ frame_lines numbers frame.now) }
 {
-    push_header(frame, out)?;
+    push_header(numbers, frame, out)?;
     let message_type = NetlinkBuffer::new(frame).message_type();
-    push_body(message_type, &frame[NETLINK_HEADER_LEN..], out)
+    push_body(numbers, message_type, &frame[NETLINK_HEADER_LEN..], out)
 }

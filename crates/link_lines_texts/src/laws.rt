@@ -2,6 +2,7 @@
 
 ghost use Rattle.link_lines_texts.specs.Laws.{AcceptedFramesHaveLines, LinesAreJoined, LinesGoByFrames};
 ghost use Rattle.link_lines_texts.specs.Laws.{LinesTellMeanings, LinesTellTexts};
+ghost use Rattle.link_lines_texts.specs.Laws.{LinesWithoutNumbersTellClearedTexts};
 ghost use Rattle.link_lines_texts.specs.Laws.{ListsGoBySteps, RowsAreTold};
 ghost use Rattle.link_lines_texts.specs.Telling.{FramesAreTold, ListsAreTold, ShapesAreTold};
 
@@ -9,6 +10,7 @@ use link_capture_grammar::laws::{
     bodies_are_normal, captures_are_counted, frames_are_judged, frames_stand_alone,
     texts_tell_meanings,
 };
+use link_capture_numbers::laws::cleared_captures_have_cleared_texts;
 use link_lines_values::laws::{
     address_sizes_are_told, addresses_are_told, bytes_are_told, digits_are_told, numbers_are_told,
     records_are_told, settings_are_told, values_stand_on_a_line,
@@ -99,6 +101,20 @@ pub fn lines_tell_texts()
     bodies_are_lawful();
     bodies_are_normal();
     captures_are_counted();
+    frames_are_judged();
+    frames_are_told();
+    frames_stand_alone();
+    link_peer_is_lawful();
+}
+
+/// Two captures have the same lines without numbers exactly where their texts with the numbers cleared are the same.
+pub fn lines_without_numbers_tell_cleared_texts()
+    ensures { LinesWithoutNumbersTellClearedTexts }
+{
+    bodies_are_lawful();
+    bodies_are_normal();
+    captures_are_counted();
+    cleared_captures_have_cleared_texts();
     frames_are_judged();
     frames_are_told();
     frames_stand_alone();

@@ -7,6 +7,7 @@ use Rattle.std.specs.Io.KnownBytes.{Appends}
 use Rattle.link_capture_engine.specs.Devices.{risen}
 use Rattle.link_capture_engine.specs.Outcomes.{IsPrefix}
 use Rattle.link_lines_texts.specs.Captures.{text_lines, lines}
+use Rattle.link_lines.specs.Options.{choice_of}
 use Rattle.link_lines.proofs.Progress.{nothing_came, unended, goes_on, fed_lines, failed_write, lines_lack, pushed, fed_outcome}
 use Rattle.link_lines.proofs.engine.show.Goals as goal
 
@@ -17,7 +18,7 @@ pieces-init g c = record {
   source_failures = refl;
   ends = refl;
   sink_failures = refl;
-  came = ([], nothing_came c.lines_are_joined.ensures c.args.limit c.new-reader.result _ _ c.new-reader.ensures.limit c.new-reader.ensures.empty);
+  came = ([], nothing_came _ c.lines_are_joined.ensures c.args.limit c.new-reader.result _ _ c.new-reader.ensures.limit c.new-reader.ensures.empty);
 }
 
 pub returns-then-is_err : goal.returns-then-is_err
@@ -26,10 +27,10 @@ returns-then-is_err g c =
     let came = c.pieces.invariant.came.1 in
     let piece = take c.in-Ok.size c.read.new.buffer in (
       s ++ piece,
-      lines c.args.limit s,
+      lines (choice_of c.args.options) c.args.limit s,
       Consumes-trans _ _ _ s piece came.consumed c.in-Ok.ensures.bytes.0,
       came.wrote,
-      lines_lack c.args.limit c.pieces.reader s piece c.accepted-accepted.result came.limit_is came.stands c.accepted-accepted.ensures,
+      lines_lack _ c.args.limit c.pieces.reader s piece c.accepted-accepted.result came.limit_is came.stands c.accepted-accepted.ensures,
     )
 
 pub returns-in_err-written : goal.returns-in_err-written
@@ -40,16 +41,16 @@ returns-in_err-written g c =
     let came = i.came.1 in
     let piece = take c.in-Ok.size c.read.new.buffer in
     let z = c.in_err-written.ensures.fault in
-    let shown = c.as_slice-in-pieces.ensures.value ∙ pushed c.push_lines.result c.pieces.lines.items c.push_lines.new.out.items c.as_slice.result.now c.feed-fed.new.out.items (sym c.if-is_err.ensures.value) i.empty c.as_slice.ensures.value c.push_lines.ensures.ok in
+    let shown = c.as_slice-in-pieces.ensures.value ∙ pushed _ c.push_lines.result c.pieces.lines.items c.push_lines.new.out.items c.as_slice.result.now c.feed-fed.new.out.items (sym c.if-is_err.ensures.value) i.empty c.as_slice.ensures.value c.push_lines.ensures.ok in
     rw (p.1, p.2) (
       s ++ piece,
-      lines c.args.limit s ++ take z.2.0 c.as_slice-in-pieces.result.now,
+      lines (choice_of c.args.options) c.args.limit s ++ take z.2.0 c.as_slice-in-pieces.result.now,
       Consumes-trans _ _ _ s piece came.consumed c.in-Ok.ensures.bytes.0,
-      Appends-trans _ _ _ (lines c.args.limit s) (take z.2.0 c.as_slice-in-pieces.result.now) came.wrote z.2.3,
-      failed_write _ _ _ c.args.limit (s ++ piece) (lines c.args.limit s) c.as_slice-in-pieces.result.now c.pieces.written z.2.0 c.in_err-written.field-0.0
+      Appends-trans _ _ _ (lines (choice_of c.args.options) c.args.limit s) (take z.2.0 c.as_slice-in-pieces.result.now) came.wrote z.2.3,
+      failed_write _ _ _ _ c.args.limit (s ++ piece) (lines (choice_of c.args.options) c.args.limit s) c.as_slice-in-pieces.result.now c.pieces.written z.2.0 c.in_err-written.field-0.0
           (z.1 ∙ ap risen i.sink_failures)
-          (subst (λ x. IsPrefix (lines c.args.limit s ++ x) (lines c.args.limit (s ++ piece))) (sym shown)
-          (fed_lines c.texts_of_a_prefix_stay.ensures c.lines_are_joined.ensures c.args.limit c.pieces.reader c.feed-fed.new.self s piece c.pieces.texts.items c.feed-fed.new.out.items c.feed-fed.result c.ranges.limit.fits came.limit_is i.no_texts came.stands c.feed-fed.ensures.ok c.feed-fed.ensures.fault))
+          (subst (λ x. IsPrefix (lines (choice_of c.args.options) c.args.limit s ++ x) (lines (choice_of c.args.options) c.args.limit (s ++ piece))) (sym shown)
+          (fed_lines (choice_of c.args.options) c.texts_of_a_prefix_stay.ensures c.lines_are_joined.ensures c.args.limit c.pieces.reader c.feed-fed.new.self s piece c.pieces.texts.items c.feed-fed.new.out.items c.feed-fed.result c.ranges.limit.fits came.limit_is i.no_texts came.stands c.feed-fed.ensures.ok c.feed-fed.ensures.fault))
           z.2.1 came.count z.0 z.2.2,
     )
 
@@ -61,13 +62,13 @@ returns-in_err-fed g c =
     let came = i.came.1 in
     let piece = take c.in-Ok.size c.read.new.buffer in
     let z = c.in_ok-written.ensures.ok in
-    let shown = c.as_slice-in-pieces.ensures.value ∙ pushed c.push_lines.result c.pieces.lines.items c.push_lines.new.out.items c.as_slice.result.now c.feed-fed.new.out.items (sym c.if-is_err.ensures.value) i.empty c.as_slice.ensures.value c.push_lines.ensures.ok in
+    let shown = c.as_slice-in-pieces.ensures.value ∙ pushed _ c.push_lines.result c.pieces.lines.items c.push_lines.new.out.items c.as_slice.result.now c.feed-fed.new.out.items (sym c.if-is_err.ensures.value) i.empty c.as_slice.ensures.value c.push_lines.ensures.ok in
     rw (p.1, p.2) (
       s ++ piece,
-      lines c.args.limit s ++ text_lines c.feed-fed.new.out.items,
+      lines (choice_of c.args.options) c.args.limit s ++ text_lines (choice_of c.args.options) c.feed-fed.new.out.items,
       Consumes-trans _ _ _ s piece came.consumed c.in-Ok.ensures.bytes.0,
-      Appends-trans _ _ _ (lines c.args.limit s) (text_lines c.feed-fed.new.out.items) came.wrote (subst (Appends _ _) shown z.1),
-      fed_outcome c.lines_are_joined.ensures _ _ _ c.args.limit c.pieces.reader s piece c.pieces.texts.items c.feed-fed.new.out.items c.in_err-fed.field-0.0 c.ranges.limit.fits came.limit_is i.no_texts (omega (arith, length-take c.in-Ok.size c.read.new.buffer)) came.stands c.in_err-fed.ensures.fault,
+      Appends-trans _ _ _ (lines (choice_of c.args.options) c.args.limit s) (text_lines (choice_of c.args.options) c.feed-fed.new.out.items) came.wrote (subst (Appends _ _) shown z.1),
+      fed_outcome _ c.lines_are_joined.ensures _ _ _ c.args.limit c.pieces.reader s piece c.pieces.texts.items c.feed-fed.new.out.items c.in_err-fed.field-0.0 c.ranges.limit.fits came.limit_is i.no_texts (omega (arith, length-take c.in-Ok.size c.read.new.buffer)) came.stands c.in_err-fed.ensures.fault,
     )
 
 pub pieces-preserved : goal.pieces-preserved
@@ -77,7 +78,7 @@ pieces-preserved g c =
     let came = i.came.1 in
     let piece = take c.in-Ok.size c.read.new.buffer in
     let z = c.in_ok-written.ensures.ok in
-    let shown = c.as_slice-in-pieces.ensures.value ∙ pushed c.push_lines.result c.pieces.lines.items c.push_lines.new.out.items c.as_slice.result.now c.feed-fed.new.out.items (sym c.if-is_err.ensures.value) i.empty c.as_slice.ensures.value c.push_lines.ensures.ok in
+    let shown = c.as_slice-in-pieces.ensures.value ∙ pushed _ c.push_lines.result c.pieces.lines.items c.push_lines.new.out.items c.as_slice.result.now c.feed-fed.new.out.items (sym c.if-is_err.ensures.value) i.empty c.as_slice.ensures.value c.push_lines.ensures.ok in
     record {
       no_texts = c.clear.ensures.items;
       empty = c.clear-in-pieces.ensures.items;
@@ -86,6 +87,6 @@ pieces-preserved g c =
       sink_failures = z.2 ∙ i.sink_failures;
       came = (
         s ++ piece,
-        goes_on c.lines_are_joined.ensures c.args.limit c.pieces.reader c.feed-fed.new.self s piece c.pieces.texts.items c.feed-fed.new.out.items c.as_slice-in-pieces.result.now _ _ _ _ _ _ c.pieces.written c.in_ok-written.written c.ranges.limit.fits came i.no_texts c.feed-fed.ensures.limit c.in_ok-fed.ensures.ok c.in-Ok.ensures.bytes.0 shown z.1 z.0,
+        goes_on _ c.lines_are_joined.ensures c.args.limit c.pieces.reader c.feed-fed.new.self s piece c.pieces.texts.items c.feed-fed.new.out.items c.as_slice-in-pieces.result.now _ _ _ _ _ _ c.pieces.written c.in_ok-written.written c.ranges.limit.fits came i.no_texts c.feed-fed.ensures.limit c.in_ok-fed.ensures.ok c.in-Ok.ensures.bytes.0 shown z.1 z.0,
       );
     }

@@ -3,8 +3,9 @@ use Rattle.std.proofs.Common.{◌∙◌, ◌++◌, length, refl, ◌≡◌, ◌<
 use Rattle.std.proofs.lemmas.Result.{IfErr-weaker}
 use Rattle.link_capture_grammar.specs.Captures.{texts}
 use Rattle.link_lines_texts.specs.Captures.{text_lines}
+use Rattle.link_lines.specs.Options.{choice_of}
 use Rattle.link_lines.proofs.Joined.{on_ok, on_err}
-use Rattle.link_lines.proofs.Gathered.{Gathers, legal_shown, fault_shown, memory_shown, some_texts, some_bytes, lines_wanted, memory_wanted, nothing_shown}
+use Rattle.link_lines.proofs.Gathered.{Gathers, legal_shown, fault_shown, memory_shown, some_texts, some_bytes, texts_wanted, memory_wanted, nothing_shown}
 use Rattle.link_lines.proofs.whole.show_bytes.Goals as goal
 use Rattle.link_lines.proofs.whole.show_bytes.Goals.{After-push_all, Then-is_err, Else-is_err}
 
@@ -17,10 +18,10 @@ gathered c = record {
 }
 
 -- their lines are written
-written : (c : Else-is_err) → c.push_all.new.out.items ≡ c.args.out.now.items ++ text_lines c.normalize_bytes-shown.new.out.items
+written : (c : Else-is_err) → c.push_all.new.out.items ≡ c.args.out.now.items ++ text_lines (choice_of c.args.options) c.normalize_bytes-shown.new.out.items
 written c =
-    on_ok c.push_all.result (c.push_all.new.out.items ≡ c.args.out.now.items ++ text_lines c.as_slice.result.now) (sym c.if-is_err.ensures.value) c.push_all.ensures.ok
-    ∙ ap (λ x. c.args.out.now.items ++ text_lines x) c.as_slice.ensures.value
+    on_ok c.push_all.result (c.push_all.new.out.items ≡ c.args.out.now.items ++ text_lines (choice_of c.args.options) c.as_slice.result.now) (sym c.if-is_err.ensures.value) c.push_all.ensures.ok
+    ∙ ap (λ x. c.args.out.now.items ++ text_lines (choice_of c.args.options) x) c.as_slice.ensures.value
 
 -- or there was no memory for them: the bytes have texts, and nothing is written
 lacking : (c : Then-is_err) → Gathers c.normalize_bytes-shown.result c.args.limit c.args.bytes.now c.new-texts.result.items c.normalize_bytes-shown.new.out.items → (0 < length (texts c.args.limit c.args.bytes.now)) × (c.push_all.new.out.items ≡ c.args.out.now.items)
@@ -33,7 +34,7 @@ pub returns-then-is_err-clause-memory : goal.returns-then-is_err-clause-memory
 returns-then-is_err-clause-memory c = λ m.
     let at = goal.at.returns-then-is_err-clause-memory c in
     let z = lacking at.Then-is_err (gathered at.After-push_all) in
-    nothing_shown c.captures_go_by_frames.ensures c.frames_stand_alone.ensures c.lines_are_joined.ensures c.args.limit c.args.bytes.now c.args.out.now.items c.push_all.new.out.items z.0 z.1
+    nothing_shown _ c.captures_go_by_frames.ensures c.frames_stand_alone.ensures c.lines_are_joined.ensures c.args.limit c.args.bytes.now c.args.out.now.items c.push_all.new.out.items z.0 z.1
 
 pub returns-then-is_err-clause-place : goal.returns-then-is_err-clause-place
 returns-then-is_err-clause-place c =
@@ -45,23 +46,23 @@ pub returns-then-is_err-clause-cause : goal.returns-then-is_err-clause-cause
 returns-then-is_err-clause-cause c = λ m.
     let at = goal.at.returns-then-is_err-clause-cause c in
     let z = lacking at.Then-is_err (gathered at.After-push_all) in
-    lines_wanted c.captures_go_by_frames.ensures c.accepted_frames_have_lines.ensures c.args.limit c.args.bytes.now c.ranges.limit.fits z.0
+    texts_wanted c.captures_go_by_frames.ensures c.args.limit c.args.bytes.now z.0
 
 pub returns-clause-legal : goal.returns-clause-legal
 returns-clause-legal c =
     let at = goal.at.returns-clause-legal c in
-    legal_shown c.args.limit c.args.bytes.now c.args.out.now.items c.push_all.new.out.items c.new-texts.result.items c.normalize_bytes-shown.new.out.items c.normalize_bytes-shown.result (gathered at.After-push_all) (written at.Else-is_err)
+    legal_shown _ c.args.limit c.args.bytes.now c.args.out.now.items c.push_all.new.out.items c.new-texts.result.items c.normalize_bytes-shown.new.out.items c.normalize_bytes-shown.result (gathered at.After-push_all) (written at.Else-is_err)
 
 pub returns-clause-fault : goal.returns-clause-fault
 returns-clause-fault c =
     let at = goal.at.returns-clause-fault c in
-    fault_shown c.args.limit c.args.bytes.now c.args.out.now.items c.push_all.new.out.items c.new-texts.result.items c.normalize_bytes-shown.new.out.items c.normalize_bytes-shown.result (gathered at.After-push_all) (written at.Else-is_err)
+    fault_shown _ c.args.limit c.args.bytes.now c.args.out.now.items c.push_all.new.out.items c.new-texts.result.items c.normalize_bytes-shown.new.out.items c.normalize_bytes-shown.result (gathered at.After-push_all) (written at.Else-is_err)
 
 pub returns-clause-memory : goal.returns-clause-memory
 returns-clause-memory c =
     let at = goal.at.returns-clause-memory c in
-    memory_shown c.args.limit c.args.bytes.now c.args.out.now.items c.push_all.new.out.items c.new-texts.result.items c.normalize_bytes-shown.new.out.items c.normalize_bytes-shown.result (gathered at.After-push_all) (written at.Else-is_err)
+    memory_shown _ c.args.limit c.args.bytes.now c.args.out.now.items c.push_all.new.out.items c.new-texts.result.items c.normalize_bytes-shown.new.out.items c.normalize_bytes-shown.result (gathered at.After-push_all) (written at.Else-is_err)
 
 pub returns-clause-cause : goal.returns-clause-cause
 returns-clause-cause c =
-    IfErr-weaker c.normalize_bytes-shown.result _ _ (λ fault h m. memory_wanted c.accepted_frames_have_lines.ensures c.args.limit c.args.bytes.now fault.offset c.new-texts.result c.ranges.limit.fits (h m)) c.normalize_bytes-shown.ensures.room
+    IfErr-weaker c.normalize_bytes-shown.result _ _ (λ fault h m. memory_wanted c.args.limit c.args.bytes.now fault.offset c.new-texts.result (h m)) c.normalize_bytes-shown.ensures.room

@@ -1,16 +1,11 @@
-use Rattle.std.proofs.Common.{◌≡◌, ℕ, List, ◌++◌, Result, Ok, Err, codes, decimal, OnOk, ap, ◌∙◌, append_assoc}
+use Rattle.std.proofs.Common.{◌≡◌, ◌++◌, codes, decimal, ap, ◌∙◌}
+use Rattle.std.proofs.lemmas.Result.{on_ok_weaker}
 use Rattle.std.specs.Prelude.{slice_index}
 use Rattle.netlink_packet_core_grammar.specs.Numbers.{u16_at, u32_at}
 use Rattle.link_lines_values.specs.Names.{named_number}
 use Rattle.link_lines_texts.specs.Frames.{address_families, labelled, layer_types, link_numbers}
+use Rattle.link_lines_texts.proofs.LineCuts.{three_parts}
 use Rattle.link_lines_texts.proofs.frames.push_link_numbers.Goals as goal
-
-on_ok : {A E : Type 0} (P Q : Type 0) (r : Result A E) → (P → Q) → OnOk r P → OnOk r Q
-on_ok P Q (Ok x) f h = f h
-on_ok P Q (Err e) f h = tt
-
-three_parts : (o a b d x y z : List ℕ) → x ≡ o ++ a → y ≡ x ++ b → z ≡ y ++ d → z ≡ o ++ (a ++ (b ++ d))
-three_parts o a b d x y z e f g = g ∙ ap (λ v. v ++ d) (f ∙ ap (λ v. v ++ b) e) ∙ append_assoc (o ++ a) b d ∙ append_assoc o a (b ++ d)
 
 pub returns : goal.returns
 unfolding link_numbers address_families layer_types
@@ -23,7 +18,7 @@ returns c =
     let second : c.push_labelled-2.new.out.items ≡ c.push_labelled.new.out.items ++ layer =
     c.in_ok-push_labelled-2.ensures.ok ∙ ap (λ n. c.push_labelled.new.out.items ++ labelled (codes " type ") (named_number layer_types n)) c.read_u16.ensures in
     record {
-      ok = on_ok _ _ c.push_labelled_decimal.result
+      ok = on_ok_weaker c.push_labelled_decimal.result
           (λ p. three_parts c.args.out.now.items family layer index c.push_labelled.new.out.items c.push_labelled-2.new.out.items c.push_labelled_decimal.new.out.items first second
           (p ∙ ap (λ n. c.push_labelled-2.new.out.items ++ labelled (codes " index ") (decimal n)) c.read_u32.ensures))
           c.push_labelled_decimal.ensures.ok;

@@ -1,0 +1,121 @@
+-- The numbers of cleared texts are known.
+use Rattle.std.proofs.Common.{◌≡◌, ℕ, zero, suc, ◌+◌, ◌-◌, ◌≤◌, Bool, true, false, cond, List, [], ◌∷◌, ◌++◌, length, take, drop, refl, sym, ap, subst, ◌∙◌, arith}
+use Rattle.std.specs.Prelude.{◌&&◌, nat_eq, nat_le, slice_index}
+use Rattle.std.specs.Int.{w32, from_le_bytes}
+use Rattle.std.proofs.lemmas.Bool.{and_from, le-leb}
+use Rattle.std.proofs.lemmas.List.{get_or-drop, length-take, length-take-le, length-drop, drop-drop, drop-take, take-take, take_at, drop_at}
+use Rattle.netlink_packet_core_grammar.specs.Attributes.{nla_align, zeros}
+use Rattle.netlink_packet_core_grammar.specs.Bytes.{AreBytes}
+use Rattle.netlink_packet_core_grammar.specs.Frames.{frame_length, frame_type, frame_body}
+use Rattle.netlink_packet_core_grammar.specs.Numbers.{u16_at, u32_at}
+use Rattle.link_capture_numbers.specs.Cleared.{zeros_at, repeats_request, front_cleared, numbers_cleared}
+use Rattle.link_capture_numbers.proofs.Steps.{length_of, whole, stopped}
+use Rattle.link_capture_numbers.proofs.Fronts.{Shape, body_cleared, byte_of, length_same, type_same}
+use Rattle.link_lines_texts.specs.Captures.{is_frame}
+use Rattle.link_lines_texts.specs.Telling.{HasNoNumbers, NumbersAreKnown}
+use Rattle.link_lines_texts.proofs.ByteParts.{first_bytes, joined_bytes, later_bytes}
+use Rattle.link_lines_texts.proofs.NumbersLeft.{cleared_shape, own_body}
+
+-- ---- zeros over both numbers
+
+place_after : (i k : ℕ) (p : List ℕ) → slice_index (drop i p) k ≡ slice_index p (i + k)
+place_after i k p = get_or-drop i p k 0
+
+sequence_of : (p : List ℕ) → u32_at 8 p ≡ u32_at 0 (drop 8 p)
+unfolding u32_at
+sequence_of p = sym (λ j. from_le_bytes w32 (place_after 8 0 p j ∷ place_after 8 1 p j ∷ place_after 8 2 p j ∷ place_after 8 3 p j ∷ []))
+
+port_of : (p : List ℕ) → u32_at 12 p ≡ u32_at 4 (drop 8 p)
+unfolding u32_at
+port_of p = sym (λ j. from_le_bytes w32 (place_after 8 4 p j ∷ place_after 8 5 p j ∷ place_after 8 6 p j ∷ place_after 8 7 p j ∷ []))
+
+second_same : (c d : List ℕ) → take 8 d ≡ take 8 c → u32_at 4 d ≡ u32_at 4 c
+unfolding u32_at
+second_same c d e = rw (byte_of c d 4 (omega arith) e, byte_of c d 5 (omega arith) e, byte_of c d 6 (omega arith) e, byte_of c d 7 (omega arith) e) refl
+
+no_number : (u32_at 0 (zeros 8) ≡ 0) × (u32_at 4 (zeros 8) ≡ 0)
+unfolding u32_at
+no_number = (refl, refl)
+
+of_zeros : (p : List ℕ) → take 8 (drop 8 p) ≡ zeros 8 → HasNoNumbers p
+of_zeros p e = record {
+  sequence = sequence_of p ∙ length_same (zeros 8) (drop 8 p) e ∙ no_number.0;
+  port = port_of p ∙ second_same (zeros 8) (drop 8 p) e ∙ no_number.1;
+}
+
+-- ---- the frame in front of cleared bytes
+
+own_zeros : (c d : List ℕ) (n : ℕ) → 16 ≤ n → 8 ≤ length c → take 16 d ≡ take 8 c ++ zeros 8 → take 8 (drop 8 (take n d)) ≡ zeros 8
+own_zeros c d n l h e =
+    sym (drop-take 8 8 (take n d)) ∙ ap (drop 8) (take-take 16 n d l ∙ e) ∙ drop_at (take 8 c) (zeros 8) 8 (length-take-le 8 c h)
+
+request_zeros : (b : List ℕ) → 20 ≤ length b → take 8 (drop 8 (drop 4 (zeros_at 12 b))) ≡ zeros 8
+unfolding zeros_at
+request_zeros b h =
+    ap (take 8) (drop-drop 8 4 (zeros_at 12 b) ∙ drop_at (take 12 b) (zeros 8 ++ drop 20 b) 12 (length-take-le 12 b (omega (arith, h))))
+    ∙ take_at (zeros 8) (drop 20 b) 8 refl
+
+repeats : (c : List ℕ) → frame_type c ≡ 2 → 36 ≤ frame_length c → repeats_request c ≡ true
+repeats c t l = and_from (nat_eq (frame_type c) 2) (nat_le 36 (frame_length c)) (ap (λ n. nat_eq n 2) t) (le-leb 36 (frame_length c) l)
+
+cleared_request : (c d f : List ℕ) → frame_length c ≤ length c → drop 16 f ≡ frame_body d → frame_body d ≡ body_cleared c → length f ≤ frame_length c → frame_type c ≡ 2 → 20 ≤ length (drop 16 f) →
+    HasNoNumbers (drop 4 (drop 16 f))
+cleared_request c d f m own body l t h =
+    let size = length-drop 16 f in
+    let long : 36 ≤ frame_length c = omega (arith, size, l, h) in
+    let b : List ℕ = frame_body c in
+    let known = length-take-le (frame_length c - 16) (drop 16 c) (omega (arith, m, length-drop 16 c)) in
+    let is : drop 16 f ≡ zeros_at 12 b = own ∙ body ∙ ap (λ r. cond r (zeros_at 12 b) b) (repeats c t long) in
+    of_zeros (drop 4 (drop 16 f)) (ap (λ z. take 8 (drop 8 (drop 4 z))) is ∙ request_zeros b (omega (arith, known, long)))
+
+pub known_front : (c : List ℕ) → is_frame c ≡ true → NumbersAreKnown false (take (frame_length c) (numbers_cleared c))
+known_front c h =
+    let n : ℕ = frame_length c in
+    let d : List ℕ = numbers_cleared c in
+    let bounds = length_of c h in
+    let low = bounds.0 in
+    let high = bounds.1 in
+    let s = cleared_shape c h in
+    let front : take 8 (take n d) ≡ take 8 d = take-take 8 n d (omega (arith, low)) in
+    let type : u16_at 4 (take n d) ≡ frame_type c = type_same d (take n d) front ∙ s.kind in
+    record {
+      own = of_zeros (take n d) (own_zeros c d n low (omega (arith, low, high)) s.header);
+      request = λ t l. cleared_request c d (take n d) high (own_body n d low s.size) s.body (omega (arith, length-take n d)) (sym type ∙ t) l;
+    }
+
+-- ---- cleared bytes are bytes
+
+zeros_bytes : (place : ℕ) (c : List ℕ) → AreBytes c → AreBytes (zeros_at place c)
+unfolding zeros_at
+zeros_bytes place c h =
+    joined_bytes (take place c) (zeros 8 ++ drop (place + 8) c) (first_bytes place c h)
+    (joined_bytes (zeros 8) (drop (place + 8) c) (omega arith, (omega arith, (omega arith, (omega arith, (omega arith, (omega arith, (omega arith, (omega arith, tt)))))))) (later_bytes (place + 8) c h))
+
+front_by : (c : List ℕ) (b : Bool) → AreBytes c → AreBytes (cond b (zeros_at 28 (zeros_at 8 c)) (zeros_at 8 c))
+front_by c false h = zeros_bytes 8 c h
+front_by c true h = zeros_bytes 28 (zeros_at 8 c) (zeros_bytes 8 c h)
+
+front_is : (c : List ℕ) → AreBytes c → AreBytes (front_cleared c)
+unfolding front_cleared
+front_is c h = front_by c (repeats_request c) h
+
+next_bytes : (fuel : ℕ) (c : List ℕ) (b : Bool) → is_frame c ≡ b → length c ≤ suc fuel → AreBytes c → ((d : List ℕ) → length d ≤ fuel → AreBytes d → AreBytes (numbers_cleared d)) → AreBytes (numbers_cleared c)
+next_bytes fuel c false h l a rest = subst AreBytes (sym (stopped c h)) a
+next_bytes fuel c true h l a rest =
+    let n : ℕ = nla_align (frame_length c) in
+    let bounds = length_of c h in
+    let low = bounds.0 in
+    let left = length-drop n c in
+    subst AreBytes (sym (whole c h))
+    (joined_bytes (take n (front_cleared c)) (numbers_cleared (drop n c)) (first_bytes n (front_cleared c) (front_is c a)) (rest (drop n c) (omega (arith, left, low, l)) (later_bytes n c a)))
+
+bytes_by : (c : List ℕ) (b : Bool) → is_frame c ≡ b → length c ≤ 0 → AreBytes c → AreBytes (numbers_cleared c)
+bytes_by c false h l a = subst AreBytes (sym (stopped c h)) a
+bytes_by c true h l a = let bounds = length_of c h in absurd (omega (arith, bounds.0, bounds.1, l))
+
+bytes_within : (fuel : ℕ) (c : List ℕ) → length c ≤ fuel → AreBytes c → AreBytes (numbers_cleared c)
+bytes_within zero c l a = bytes_by c (is_frame c) refl l a
+bytes_within (suc fuel) c l a = next_bytes fuel c (is_frame c) refl l a (λ d. bytes_within fuel d)
+
+pub cleared_bytes : (c : List ℕ) → AreBytes c → AreBytes (numbers_cleared c)
+cleared_bytes c a = bytes_within (length c) c (omega arith) a

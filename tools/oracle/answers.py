@@ -54,9 +54,14 @@ def same(line):
 
 
 def show(line):
-    """The lines, and behind them `legal` or the fault."""
-    limit, capture = line.split(" ")
-    text, bad = linkshow.lines(bytes.fromhex(capture), limit_of(limit))
+    """The lines, and behind them `legal` or the fault. Between limit and capture may stand what is shown."""
+    limit, *choice, capture = line.split(" ")
+    if choice[1:]:
+        raise ValueError("no choice: %s" % " ".join(choice))
+    only, numbers = None, choice != ["without-numbers"]
+    if choice and numbers:
+        only = {int(kind) for kind in choice[0].split(",")}
+    text, bad = linkshow.lines(bytes.fromhex(capture), limit_of(limit), numbers=numbers, only=only)
     return text + outcome(bad)
 
 

@@ -2,13 +2,13 @@
 """Lines of a capture, by the form that lines.md says.  Stands on linkoracle.py,
 and on names.tsv for what tables and records are called.
 
-    python3 linkshow.py [--limit N] [--form 1] [--without-numbers] [--only TYPE,..] < CAPTURE
+    python3 linkshow.py [--limit N] [--form 2] [--without-numbers] [--only TYPE,..] < CAPTURE
 
 Library: lines(capture, limit, stage, numbers, only, form) -> (text, first fault
 or None), why(capture, limit, stage) -> what is refused, where, and what it is.
 
-`form` is the number of the form (lines.md): 1 is the lines that the programs of
-this repository write, 2 the lines that they come to write.
+`form` is the number of the form (lines.md): 2 is the lines that the programs of
+this repository write, 3 the lines that they come to write.
 """
 import argparse
 import ipaddress
@@ -20,7 +20,7 @@ sys.path.insert(0, HERE)
 import linkoracle as o      # noqa: E402
 
 ROWS = {}                   # (table, kind) -> (name, show)
-FORM = 1                    # the form where none is told
+FORM = 2                    # the form where none is told
 NAMED = {}                  # (list of bytes, kind) -> (name, show, size)
 RECORDS = {}                # record -> [(field, size, show)]
 NUMBERS = {}                # number type -> {number: text}
@@ -169,7 +169,7 @@ def named_bytes(table, e, form):
     """An attribute that the normal text keeps as bytes with its whole kind,
     under the kernel's name where it has one: its value where it has the
     kernel's size, else `bytes` and the bytes."""
-    if form == 1 or (table, e.kind) not in NAMED:
+    if form == 2 or (table, e.kind) not in NAMED:
         return "kind 0x%04x" % e.kind, e.payload.hex()
     name, show, size = NAMED[table, e.kind]
     if show == "r":
@@ -200,14 +200,14 @@ def entry_lines(depth, table, e, context, form):
             inside = bytes_table(table, context, e)
         return [line(depth, name)] + list_lines(depth + 1, inside, o.kept(e), context[2], form)
     if e.row is o.PEER:
-        if form == 1:
+        if form == 2:
             return [line(depth, name, o.body_text(e.inside).hex())]
         return [line(depth, name)] + body_lines(depth + 1, e.inside, form)
     if e.row.code == "r" and show not in ("r", "h"):     # held as bytes here
         show = "r"
     if show == "by_size":       # iptunnel 8: N2 of ipip and sit, n4 of ip6tnl
         show = "x" if len(e.payload) == 4 else "X"
-    if form == 1 and show == "x:LinkExtentMask":
+    if form == 2 and show == "x:LinkExtentMask":
         show = "x"
     return [line(depth, name, value(show, e.row.canonical(e.payload)))]
 
@@ -234,17 +234,15 @@ def body_lines(depth, body, form):
     return [line(depth, "ifinfomsg", head)] + list_lines(depth, "link", body.entries, body.family, form)
 
 
-def flag_set(kind, form):
+def flag_set(kind):
     """The names that fit a message's type."""
-    if form == 1 and kind not in o.LINK_TYPES and kind >= 16:
-        return ""
     if kind == 2:
         return "Ack"
     return ("Create", "Delete", "Get", "Create")[kind % 4] if kind >= 16 and kind in TYPES else ""
 
 
 def frame_lines(f, numbers=True, form=FORM):
-    flags = number("x:NlmFlags" + flag_set(f.type, form), o.p16(f.flags))
+    flags = number("x:NlmFlags" + flag_set(f.type), o.p16(f.flags))
     told = "flags %s seq %d port %d" % (flags, f.sequence, f.port)
     out = [line(0, TYPES.get(f.type, "type %d" % f.type),
                 told if numbers else "flags " + flags)]
@@ -254,10 +252,10 @@ def frame_lines(f, numbers=True, form=FORM):
     if f.type in (o.ERROR, o.DONE):
         out.append(line(1, "code", str(int.from_bytes(body[:4], "little", signed=True))))
         rest = body[4:]
-        if form > 1 and f.type == o.ERROR and len(rest) >= 16:   # the request's header
+        if f.type == o.ERROR and len(rest) >= 16:   # the request's header
             kind, size = o.u16(rest, 4), o.u32(rest, 0)
             asked = "length %d %s flags %s" % (size, TYPES.get(kind, "type %d" % kind),
-                                               number("x:NlmFlags" + flag_set(kind, form), rest[6:8]))
+                                               number("x:NlmFlags" + flag_set(kind), rest[6:8]))
             told = " seq %d port %d" % (o.u32(rest, 8), o.u32(rest, 12))
             out.append(line(1, "request", asked + (told if numbers else "")))
             rest = rest[16:]
@@ -367,7 +365,7 @@ def main():
     ap = argparse.ArgumentParser()
     ap.add_argument("--limit", type=int, default=o.DEFAULT_LIMIT)
     ap.add_argument("--stage", default="peers")
-    ap.add_argument("--form", type=int, choices=(1, 2), default=FORM)
+    ap.add_argument("--form", type=int, choices=(2, 3), default=FORM)
     ap.add_argument("--without-numbers", action="store_true")
     ap.add_argument("--only", type=read_only)
     a = ap.parse_args()

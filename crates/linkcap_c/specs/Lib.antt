@@ -1,3 +1,4 @@
 pub mod Buffers
 pub mod Pieces
 pub mod Told
+pub mod Choices

@@ -6,8 +6,10 @@ ghost use Rattle.link_capture_grammar.specs.Captures.{first_fault, texts, IsLega
 ghost use Rattle.link_capture_grammar.specs.Same.{SameCapture};
 ghost use Rattle.link_capture_reader.specs.Joined.{IsJoined};
 ghost use Rattle.link_lines.specs.Outcomes.{WantsMemoryAt};
-ghost use Rattle.link_lines.specs.Captures.{lines};
+ghost use Rattle.link_lines.specs.Captures.{everything, lines};
+ghost use Rattle.link_lines.specs.Options.{choice_of};
 ghost use Rattle.linkcap_c.specs.Buffers.{Holds};
+ghost use Rattle.linkcap_c.specs.Choices.{asked};
 ghost use Rattle.linkcap_c.specs.Pieces.{MayWantMemory};
 ghost use Rattle.linkcap_c.specs.Told.{told};
 
@@ -18,7 +20,7 @@ use link_capture_checks::{measure, normal_len};
 use link_capture_grammar::fault::FaultKind;
 use link_capture_grammar::laws::{captures_go_by_frames, faults_stand_at_frames};
 use link_capture_reader::normalize_bytes;
-use link_lines::show_bytes;
+use link_lines::{LineOptions, show_bytes};
 use std::alloc::Global;
 
 /// The length of a capture's texts, up to its first fault.
@@ -110,6 +112,59 @@ pub extern "C" fn linkcap_normalize(
     }
 }
 
+/// Writes what is shown of a capture to the front of `out`, or of what stands before its first fault.
+fn show_as(
+    alloc: Global,
+    capture: &[u8],
+    limit: u32,
+    options: LineOptions<'_>,
+    out: &mut [u8],
+    size: &mut u64,
+    fault: &mut LinkcapFault,
+) -> u32
+    ensures legal { result ≡ 0 → IsLegal limit capture.now
+        × Holds (lines (choice_of options.entry) limit capture.now) size.new out.old out.new }
+    ensures fault { result ≡ 2
+        → (option_map (told 0) (first_fault limit capture.now) ≡ Some fault.new)
+        × Holds (lines (choice_of options.entry) limit capture.now) size.new out.old out.new }
+    ensures limit { (result ≡ 3) ↔ (limit < 16) }
+    ensures room { result ≡ 4 → length out.old < length (lines (choice_of options.entry) limit capture.now) }
+    ensures wanted { result ≡ 4 → size.new ≡ length (lines (choice_of options.entry) limit capture.now) }
+    ensures memory { result ≡ 5 → (fault.new.kind ≡ 8) × StopsAt limit capture.now fault.new.offset }
+    ensures cause { result ≡ 5 → WantsMemoryAt limit capture.now fault.new.offset }
+    ensures kept { (result ≡ 3) ⊎ (result ≡ 4) ⊎ (result ≡ 5) → out.new ≡ out.old }
+    ensures place { result ≡ 2
+        → (fault.new.offset < length capture.now) × (fault.new.offset % 4 ≡ 0) }
+    ensures answers { (result ≡ 0) ⊎ ((2 ≤ result) × (result ≤ 5)) }
+    // A capture and its texts have the same lines, and so have captures that mean the same.
+    ensures normal { 16 ≤ limit
+        → lines (choice_of options.entry) limit (texts limit capture.now)
+        ≡ lines (choice_of options.entry) limit capture.now }
+    ensures same { 16 ≤ limit → (other : List ℕ) → SameCapture limit capture.now other
+        → lines (choice_of options.entry) limit other ≡ lines (choice_of options.entry) limit capture.now }
+    // What follows a legal capture whose size is a multiple of 4 is shown by itself.
+    ensures joined { 16 ≤ limit → IsLegal limit capture.now → length capture.now % 4 ≡ 0
+        → (more : List ℕ)
+        → lines (choice_of options.entry) limit (capture.now ++ more)
+        ≡ lines (choice_of options.entry) limit capture.now ++ lines (choice_of options.entry) limit more }
+{
+    if !is_limit(limit) {
+        return WRONG;
+    }
+    let mut shown = Vec::new(alloc);
+    match show_bytes(alloc, capture, limit, options, &mut shown) {
+        Ok(()) => hand_over(shown.as_slice(), OK, out, size),
+        Err(found) => {
+            *fault = of_one(found);
+            if found.kind == FaultKind::Memory {
+                NO_MEMORY
+            } else {
+                hand_over(shown.as_slice(), FAULT, out, size)
+            }
+        }
+    }
+}
+
 /// Writes the lines of a capture to the front of `out`, or those before its first fault. Where there is less room than
 /// for these, `out` stays as it was, and their length is told; it stays, too, where memory is wanting.
 #[unsafe(no_mangle)]
@@ -122,13 +177,13 @@ pub extern "C" fn linkcap_show(
     fault: &mut LinkcapFault,
 ) -> u32
     ensures legal { result ≡ 0 → IsLegal limit capture.now
-        × Holds (lines limit capture.now) size.new out.old out.new }
+        × Holds (lines everything limit capture.now) size.new out.old out.new }
     ensures fault { result ≡ 2
         → (option_map (told 0) (first_fault limit capture.now) ≡ Some fault.new)
-        × Holds (lines limit capture.now) size.new out.old out.new }
+        × Holds (lines everything limit capture.now) size.new out.old out.new }
     ensures limit { (result ≡ 3) ↔ (limit < 16) }
-    ensures room { result ≡ 4 → length out.old < length (lines limit capture.now) }
-    ensures wanted { result ≡ 4 → size.new ≡ length (lines limit capture.now) }
+    ensures room { result ≡ 4 → length out.old < length (lines everything limit capture.now) }
+    ensures wanted { result ≡ 4 → size.new ≡ length (lines everything limit capture.now) }
     ensures memory { result ≡ 5 → (fault.new.kind ≡ 8) × StopsAt limit capture.now fault.new.offset }
     ensures cause { result ≡ 5 → WantsMemoryAt limit capture.now fault.new.offset }
     ensures kept { (result ≡ 3) ⊎ (result ≡ 4) ⊎ (result ≡ 5) → out.new ≡ out.old }
@@ -137,27 +192,67 @@ pub extern "C" fn linkcap_show(
     ensures answers { (result ≡ 0) ⊎ ((2 ≤ result) × (result ≤ 5)) }
     // A capture and its texts have the same lines, and so have captures that mean the same.
     ensures normal { 16 ≤ limit
-        → lines limit (texts limit capture.now) ≡ lines limit capture.now }
+        → lines everything limit (texts limit capture.now) ≡ lines everything limit capture.now }
     ensures same { 16 ≤ limit → (other : List ℕ) → SameCapture limit capture.now other
-        → lines limit other ≡ lines limit capture.now }
+        → lines everything limit other ≡ lines everything limit capture.now }
     // What follows a legal capture whose size is a multiple of 4 is shown by itself.
     ensures joined { 16 ≤ limit → IsLegal limit capture.now → length capture.now % 4 ≡ 0
         → (more : List ℕ)
-        → lines limit (capture.now ++ more) ≡ lines limit capture.now ++ lines limit more }
+        → lines everything limit (capture.now ++ more) ≡ lines everything limit capture.now ++ lines everything limit more }
 {
-    if !is_limit(limit) {
-        return WRONG;
-    }
-    let mut shown = Vec::new(alloc);
-    match show_bytes(alloc, capture, limit, &mut shown) {
-        Ok(()) => hand_over(shown.as_slice(), OK, out, size),
-        Err(found) => {
-            *fault = of_one(found);
-            if found.kind == FaultKind::Memory {
-                NO_MEMORY
-            } else {
-                hand_over(shown.as_slice(), FAULT, out, size)
-            }
-        }
-    }
+    show_as(
+        alloc,
+        capture,
+        limit,
+        LineOptions::default(),
+        out,
+        size,
+        fault,
+    )
+}
+
+/// Writes lines of a capture as `linkcap_show` does: those of messages of some types alone, where `only` has any, and
+/// without sequence and port numbers where that is asked for.
+#[unsafe(no_mangle)]
+pub extern "C" fn linkcap_show_with(
+    alloc: Global,
+    capture: &[u8],
+    limit: u32,
+    without_numbers: bool,
+    only: &[u16],
+    out: &mut [u8],
+    size: &mut u64,
+    fault: &mut LinkcapFault,
+) -> u32
+    ensures legal { result ≡ 0 → IsLegal limit capture.now
+        × Holds (lines (asked without_numbers only.now) limit capture.now) size.new out.old out.new }
+    ensures fault { result ≡ 2
+        → (option_map (told 0) (first_fault limit capture.now) ≡ Some fault.new)
+        × Holds (lines (asked without_numbers only.now) limit capture.now) size.new out.old out.new }
+    ensures limit { (result ≡ 3) ↔ (limit < 16) }
+    ensures room { result ≡ 4 → length out.old < length (lines (asked without_numbers only.now) limit capture.now) }
+    ensures wanted { result ≡ 4 → size.new ≡ length (lines (asked without_numbers only.now) limit capture.now) }
+    ensures memory { result ≡ 5 → (fault.new.kind ≡ 8) × StopsAt limit capture.now fault.new.offset }
+    ensures cause { result ≡ 5 → WantsMemoryAt limit capture.now fault.new.offset }
+    ensures kept { (result ≡ 3) ⊎ (result ≡ 4) ⊎ (result ≡ 5) → out.new ≡ out.old }
+    ensures place { result ≡ 2
+        → (fault.new.offset < length capture.now) × (fault.new.offset % 4 ≡ 0) }
+    ensures answers { (result ≡ 0) ⊎ ((2 ≤ result) × (result ≤ 5)) }
+    // A capture and its texts have the same lines, and so have captures that mean the same.
+    ensures normal { 16 ≤ limit
+        → lines (asked without_numbers only.now) limit (texts limit capture.now)
+        ≡ lines (asked without_numbers only.now) limit capture.now }
+    ensures same { 16 ≤ limit → (other : List ℕ) → SameCapture limit capture.now other
+        → lines (asked without_numbers only.now) limit other ≡ lines (asked without_numbers only.now) limit capture.now }
+    // What follows a legal capture whose size is a multiple of 4 is shown by itself.
+    ensures joined { 16 ≤ limit → IsLegal limit capture.now → length capture.now % 4 ≡ 0
+        → (more : List ℕ)
+        → lines (asked without_numbers only.now) limit (capture.now ++ more)
+        ≡ lines (asked without_numbers only.now) limit capture.now ++ lines (asked without_numbers only.now) limit more }
+{
+    let options = LineOptions {
+        without_numbers,
+        only: if only.is_empty() { None } else { Some(only) },
+    };
+    show_as(alloc, capture, limit, options, out, size, fault)
 }

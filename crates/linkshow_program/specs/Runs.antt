@@ -1,5 +1,5 @@
 -- What is told of a capture, and the program's status.
-use Rattle.std.specs.Prelude.{◌≡◌, ℕ, Bool, true, false, List, [], ◌∷◌, ◌++◌, ◌⊎◌, length, codes, cond, Option, None, Some, Result, Ok, Err, option_map, ⊤}
+use Rattle.std.specs.Prelude.{◌≡◌, ℕ, Bool, true, false, List, [], ◌∷◌, ◌++◌, ◌⊎◌, length, codes, cond, Option, None, Some, not, Result, Ok, Err, option_map, ⊤}
 use Rattle.std.specs.Io.KnownBytes.{Consumes}
 use Rattle.std.specs.declared.io.ErrorKind.{ErrorKind}
 use Rattle.link_capture_grammar.specs.declared.fault.CaptureFault.{CaptureFault}
@@ -12,7 +12,9 @@ use Rattle.link_capture_engine.specs.Outcomes.{ReadFault}
 use Rattle.link_capture_spelling_rows.specs.declared.placed.PlacedSpelling.{PlacedSpelling}
 use Rattle.link_capture_spelling_rows.specs.SpellingWords.{placed_text}
 use Rattle.link_capture_spellings.specs.Spellings.{spellings}
+use Rattle.link_lines.specs.Captures.{Choice}
 use Rattle.link_lines.specs.Outcomes.{Shows}
+use Rattle.linkshow_words.specs.declared.words.Options.{Options}
 use Rattle.linkshow_words.specs.declared.words.Asked.{Asked}
 use Rattle.linkshow_words.specs.declared.words.Asked.TheVariants.{Help, Version, Show}
 use Rattle.linkshow_words.specs.Words.{Asks}
@@ -52,11 +54,15 @@ unopened name kind = name_told (Some name) true ++ (cause kind ++ 10 ∷ [])
 
 -- ---- lines
 
+-- what options choose to be shown
+abbrev pub chosen : Options → Choice
+chosen o = record { numbers = not o.without_numbers; only = None }
+
 -- a capture was shown, and this is told of it, with this status
-abbrev pub ShowAnswer : Run → Option (List ℕ) → ℕ → ℕ → Type 0
-ShowAnswer r file limit status =
+abbrev pub ShowAnswer : Choice → Run → Option (List ℕ) → ℕ → ℕ → Type 0
+ShowAnswer ch r file limit status =
     (outcome : Result ⊤ CaptureFault)
-    × Shows r.from.to_come r.left.to_come r.held.holds r.holds.holds (TellsItsEnd r.from.ends_told r.left.ends_told r.left.to_come)
+    × Shows ch r.from.to_come r.left.to_come r.held.holds r.holds.holds (TellsItsEnd r.from.ends_told r.left.ends_told r.left.to_come)
     (Rises r.from.failures r.left.failures) (Rises r.held.failures r.holds.failures) limit outcome
     × Tells r.told r.tells (told_of file r.first outcome) × (status ≡ status_of outcome)
 
@@ -71,15 +77,15 @@ notes_text [] = []
 notes_text (x ∷ xs) = note_text x ++ notes_text xs
 
 -- what was read is shown as a source that never fails is
-abbrev pub ShowsWhole : List ℕ → SinkState → SinkState → ℕ → Result ⊤ CaptureFault → Type 0
-ShowsWhole s held holds limit outcome =
-    (left : Option (List ℕ)) × (old new : ℕ) × Shows (Some s) left held.holds holds.holds (TellsItsEnd old new left) (Rises 0 0) (Rises held.failures holds.failures) limit outcome
+abbrev pub ShowsWhole : Choice → List ℕ → SinkState → SinkState → ℕ → Result ⊤ CaptureFault → Type 0
+ShowsWhole ch s held holds limit outcome =
+    (left : Option (List ℕ)) × (old new : ℕ) × Shows ch (Some s) left held.holds holds.holds (TellsItsEnd old new left) (Rises 0 0) (Rises held.failures holds.failures) limit outcome
 
 -- All was read, noted and then shown; or the read failed, which alone is told, and the sink of the lines is unwritten.
-abbrev pub NotesAnswer : Run → Type 0 → Option (List ℕ) → ℕ → ℕ → Type 0
-NotesAnswer r unwritten file limit status =
+abbrev pub NotesAnswer : Choice → Run → Type 0 → Option (List ℕ) → ℕ → ℕ → Type 0
+NotesAnswer ch r unwritten file limit status =
     (s : List ℕ) × Consumes r.from.to_come r.left.to_come s × (
-    (TellsItsEnd r.from.ends_told r.left.ends_told r.left.to_come × ((outcome : Result ⊤ CaptureFault) × ShowsWhole s r.held r.holds limit outcome
+    (TellsItsEnd r.from.ends_told r.left.ends_told r.left.to_come × ((outcome : Result ⊤ CaptureFault) × ShowsWhole ch s r.held r.holds limit outcome
     × TellsBoth r.told r.tells (notes_text (spellings limit s)) (told_of file r.first outcome) × (status ≡ status_of outcome)))
     ⊎ ((fault : CaptureFault) × ReadFault r.from.failures r.left.failures s fault.kind × (fault.offset ≡ length s) × unwritten
     × Tells r.told r.tells (told_of file r.first (Err fault)) × (status ≡ 2))
@@ -88,17 +94,17 @@ NotesAnswer r unwritten file limit status =
 -- ---- the words
 
 -- with notes or without
-abbrev pub CaptureAnswer : Bool → Run → Type 0 → Option (List ℕ) → ℕ → ℕ → Type 0
-CaptureAnswer true r unwritten file limit status = NotesAnswer r unwritten file limit status
-CaptureAnswer false r unwritten file limit status = ShowAnswer r file limit status
+abbrev pub CaptureAnswer : Bool → Choice → Run → Type 0 → Option (List ℕ) → ℕ → ℕ → Type 0
+CaptureAnswer true ch r unwritten file limit status = NotesAnswer ch r unwritten file limit status
+CaptureAnswer false ch r unwritten file limit status = ShowAnswer ch r file limit status
 
 -- A file of this name couldn't be opened, which alone is told; or it was, and its capture is shown: its bytes are those known of it.
 abbrev pub FileAnswer : {File : Type 0} → (File → SourceState) → Option (List ℕ) → Option ErrorKind → List ℕ → SinkState → SinkState → SinkState → SinkState → Type 0
-    → Bool → ℕ → ℕ → Type 0
-FileAnswer {File} state known refusal name held holds told tells unwritten kernels limit status =
+    → Bool → Choice → ℕ → ℕ → Type 0
+FileAnswer {File} state known refusal name held holds told tells unwritten kernels ch limit status =
     ((kind : ErrorKind) × (refusal ≡ Some kind) × unwritten × Tells told tells (unopened name kind) × (status ≡ 2))
     ⊎ ((refusal ≡ None) × ((file after : File) × (first : List ℕ) × ((state file).to_come ≡ known)
-    × CaptureAnswer kernels (record { from = state file; left = state after; first = first; held = held; holds = holds; told = told; tells = tells }) unwritten (Some name) limit status))
+    × CaptureAnswer kernels ch (record { from = state file; left = state after; first = first; held = held; holds = holds; told = told; tells = tells }) unwritten (Some name) limit status))
 
 -- a text was printed, or told that it couldn't be, with this status
 abbrev pub PrintAnswer : SinkState → SinkState → SinkState → SinkState → List ℕ → ℕ → Type 0
@@ -108,7 +114,7 @@ PrintAnswer held holds told tells text status =
 
 -- wrong words: this is told, with this status
 abbrev pub UsageAnswer : SinkState → SinkState → ℕ → Type 0
-UsageAnswer told tells status = Tells told tells (codes "usage: linkshow [--kernels] [--limit N] [FILE]; linkshow --help says more" ++ 10 ∷ []) × (status ≡ 3)
+UsageAnswer told tells status = Tells told tells (codes "usage: linkshow [--without-numbers] [--kernels] [--limit N] [FILE]; linkshow --help says more" ++ 10 ∷ []) × (status ≡ 3)
 
 -- the words ask for this, or for nothing
 abbrev pub Gives : List (List ℕ) → Option Asked → Type 0
@@ -121,13 +127,13 @@ ShowsFrom FromInput FromFile None = FromInput
 ShowsFrom FromInput FromFile (Some name) = FromFile name
 
 -- what holds then
-abbrev pub Does : Type 0 → Type 0 → Type 0 → (Bool → ℕ → Type 0) → (List ℕ → Bool → ℕ → Type 0) → Option Asked → Type 0
+abbrev pub Does : Type 0 → Type 0 → Type 0 → (Bool → Choice → ℕ → Type 0) → (List ℕ → Bool → Choice → ℕ → Type 0) → Option Asked → Type 0
 Does Misused Helped Told FromInput FromFile None = Misused
 Does Misused Helped Told FromInput FromFile (Some Help) = Helped
 Does Misused Helped Told FromInput FromFile (Some Version) = Told
 Does Misused Helped Told FromInput FromFile (Some (Show o)) =
-    ShowsFrom (FromInput o.kernels o.limit) (λ name. FromFile name o.kernels o.limit) (option_map (λ name. name.now) o.file)
+    ShowsFrom (FromInput o.kernels (chosen o) o.limit) (λ name. FromFile name o.kernels (chosen o) o.limit) (option_map (λ name. name.now) o.file)
 
 -- what the words ask for was done
-abbrev pub Answers : List (List ℕ) → Type 0 → Type 0 → Type 0 → (Bool → ℕ → Type 0) → (List ℕ → Bool → ℕ → Type 0) → Type 0
+abbrev pub Answers : List (List ℕ) → Type 0 → Type 0 → Type 0 → (Bool → Choice → ℕ → Type 0) → (List ℕ → Bool → Choice → ℕ → Type 0) → Type 0
 Answers words Misused Helped Told FromInput FromFile = (given : Option Asked) × Gives words given × Does Misused Helped Told FromInput FromFile given

@@ -6,7 +6,7 @@ ghost use Rattle.std.specs.Process.{exit_status};
 ghost use Rattle.link_capture_engine.specs.Devices.{risen};
 ghost use Rattle.linkshow_words.specs.declared.texts.TheConstants as Texts;
 ghost use Rattle.linkshow_program.specs.Devices.{source_state, sink_state, run_of};
-ghost use Rattle.linkshow_program.specs.Runs.{Answers, CaptureAnswer, FileAnswer, PrintAnswer, UsageAnswer};
+ghost use Rattle.linkshow_program.specs.Runs.{Answers, CaptureAnswer, FileAnswer, PrintAnswer, UsageAnswer, chosen};
 
 mod environment;
 mod files;
@@ -49,16 +49,16 @@ fn answer_capture<S: Source, K: Sink, E: Sink>(
     options: &Options<'_>,
 ) -> ExitCode
     requires { 16 ≤ options.now.limit }
-    ensures { CaptureAnswer options.now.kernels (run_of
+    ensures { CaptureAnswer options.now.kernels (chosen options.now) (run_of
         (source_state S.to_come S.failures S.ends_told) (sink_state K.holds K.failures)
         (sink_state E.holds E.failures) source.old source.new sink.old sink.new
         errors.old errors.new) (sink.new ≡ sink.old)
         (option_map (λ name. name.now) options.now.file) options.now.limit (exit_status result) }
 {
     if options.kernels {
-        answer_notes(alloc, source, sink, errors, options.file, options.limit)
+        answer_notes(alloc, source, sink, errors, options)
     } else {
-        answer_show(alloc, source, sink, errors, options.file, options.limit)
+        answer_show(alloc, source, sink, errors, options)
     }
 }
 
@@ -78,7 +78,8 @@ fn answer_file<F: Files, K: Sink, E: Sink>(
         (F.contents files.old name.now) (F.refusal files.new) name.now
         (sink_state K.holds K.failures sink.old) (sink_state K.holds K.failures sink.new)
         (sink_state E.holds E.failures errors.old) (sink_state E.holds E.failures errors.new)
-        (sink.new ≡ sink.old) options.now.kernels options.now.limit (exit_status result) }
+        (sink.new ≡ sink.old) options.now.kernels (chosen options.now) options.now.limit
+        (exit_status result) }
 {
     match files.open(name) {
         Ok(file) => {
@@ -115,17 +116,17 @@ pub fn answer<F: Files, S: Source, K: Sink, E: Sink>(
         × PrintAnswer (sink_state K.holds K.failures sink.old)
         (sink_state K.holds K.failures sink.new) (sink_state E.holds E.failures errors.old)
         (sink_state E.holds E.failures errors.new) Texts.VERSION.now (exit_status result))
-        (λ kernels limit. (files.new ≡ files.old) × CaptureAnswer kernels (run_of
+        (λ kernels choice limit. (files.new ≡ files.old) × CaptureAnswer kernels choice (run_of
         (source_state S.to_come S.failures S.ends_told) (sink_state K.holds K.failures)
         (sink_state E.holds E.failures) source.old source.new sink.old sink.new
         errors.old errors.new) (sink.new ≡ sink.old) None limit (exit_status result))
-        (λ name kernels limit. (source.new ≡ source.old)
+        (λ name kernels choice limit. (source.new ≡ source.old)
         × (F.asked files.new ≡ risen (F.asked files.old))
         × FileAnswer (source_state F.File.to_come F.File.failures F.File.ends_told)
         (F.contents files.old name) (F.refusal files.new) name
         (sink_state K.holds K.failures sink.old) (sink_state K.holds K.failures sink.new)
         (sink_state E.holds E.failures errors.old) (sink_state E.holds E.failures errors.new)
-        (sink.new ≡ sink.old) kernels limit (exit_status result)) }
+        (sink.new ≡ sink.old) kernels choice limit (exit_status result)) }
 {
     match read_words(words) {
         None => answer_usage(errors),

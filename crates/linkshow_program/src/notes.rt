@@ -5,14 +5,15 @@ ghost use Rattle.std.specs.Process.{exit_status};
 ghost use Rattle.link_capture_spellings.specs.Spellings.{spellings};
 ghost use Rattle.linkshow_program.specs.Devices.{source_state, sink_state, run_of};
 ghost use Rattle.linkshow_program.specs.Telling.{Tells};
-ghost use Rattle.linkshow_program.specs.Runs.{notes_text, NotesAnswer};
+ghost use Rattle.linkshow_program.specs.Runs.{chosen, notes_text, NotesAnswer};
 
 use super::first_kept::FirstKept;
 use super::lines::{note, tell};
-use super::showing::report;
+use super::showing::{line_options, report};
 use link_capture_engine::{Sink, SliceSource, Source, read_all};
 use link_capture_spellings::spelling;
 use link_lines::show;
+use linkshow_words::Options;
 use std::alloc::Global;
 use std::process::ExitCode;
 
@@ -43,22 +44,28 @@ pub fn answer_notes<S: Source, K: Sink, E: Sink>(
     source: &mut FirstKept<S>,
     sink: &mut K,
     errors: &mut E,
-    file: Option<&str>,
-    limit: u32,
+    options: &Options<'_>,
 ) -> ExitCode
-    requires { 16 ≤ limit }
-    ensures { NotesAnswer (run_of
+    requires { 16 ≤ options.now.limit }
+    ensures { NotesAnswer (chosen options.now) (run_of
         (source_state S.to_come S.failures S.ends_told) (sink_state K.holds K.failures)
         (sink_state E.holds E.failures) source.old source.new sink.old sink.new
-        errors.old errors.new) (sink.new ≡ sink.old) (option_map (λ name. name.now) file.entry) limit (exit_status result) }
+        errors.old errors.new) (sink.new ≡ sink.old) (option_map (λ name. name.now) options.now.file) options.now.limit
+        (exit_status result) }
 {
     match read_all(alloc, source) {
         Ok(bytes) => {
-            tell_notes(errors, bytes.as_slice(), limit);
+            tell_notes(errors, bytes.as_slice(), options.limit);
             let mut whole = SliceSource::new(bytes.as_slice());
-            let outcome = show(alloc, &mut whole, sink, limit);
-            report(errors, file, source.first(), outcome)
+            let outcome = show(
+                alloc,
+                &mut whole,
+                sink,
+                options.limit,
+                line_options(options),
+            );
+            report(errors, options.file, source.first(), outcome)
         }
-        Err(fault) => report(errors, file, source.first(), Err(fault)),
+        Err(fault) => report(errors, options.file, source.first(), Err(fault)),
     }
 }

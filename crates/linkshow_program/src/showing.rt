@@ -3,17 +3,18 @@
 ghost use Rattle.std.specs.Prelude.{◌≡◌, ◌≤◌, ◌++◌, option_map};
 ghost use Rattle.std.specs.Process.{exit_status};
 ghost use Rattle.link_capture_commands.specs.Commands.{status_of};
+ghost use Rattle.link_lines.specs.Options.{choice_of};
 ghost use Rattle.linkshow_program.specs.Devices.{source_state, sink_state, run_of};
 ghost use Rattle.linkshow_program.specs.Telling.{IsTold, Tells};
-ghost use Rattle.linkshow_program.specs.Runs.{ShowAnswer, fault_told, is_unread, name_told, nothing_read, told_of, unopened};
+ghost use Rattle.linkshow_program.specs.Runs.{chosen, ShowAnswer, fault_told, is_unread, name_told, nothing_read, told_of, unopened};
 
 use super::first_kept::FirstKept;
 use super::lines::{tell, tell_all};
 use link_capture_commands::status_norm;
 use link_capture_engine::{Sink, Source};
 use link_capture_grammar::fault::{CaptureFault, FaultKind};
-use link_lines::show;
-use linkshow_words::{advice, cause};
+use link_lines::{LineOptions, show};
+use linkshow_words::{Options, advice, cause};
 use std::alloc::Global;
 use std::io::ErrorKind;
 use std::process::ExitCode;
@@ -104,21 +105,31 @@ pub(crate) fn report<E: Sink>(
     }
 }
 
+/// What of a capture is shown.
+pub(crate) fn line_options(options: &Options<'_>) -> LineOptions<'static>
+    ensures { choice_of result ≡ chosen options.now }
+{
+    LineOptions {
+        without_numbers: options.without_numbers,
+        only: None,
+    }
+}
+
 /// Writes the lines of all that a source has, and tells what went wrong. The answer is the program's status.
 pub fn answer_show<S: Source, K: Sink, E: Sink>(
     alloc: Global,
     source: &mut FirstKept<S>,
     sink: &mut K,
     errors: &mut E,
-    file: Option<&str>,
-    limit: u32,
+    options: &Options<'_>,
 ) -> ExitCode
-    requires { 16 ≤ limit }
-    ensures { ShowAnswer (run_of
+    requires { 16 ≤ options.now.limit }
+    ensures { ShowAnswer (chosen options.now) (run_of
         (source_state S.to_come S.failures S.ends_told) (sink_state K.holds K.failures)
         (sink_state E.holds E.failures) source.old source.new sink.old sink.new
-        errors.old errors.new) (option_map (λ name. name.now) file.entry) limit (exit_status result) }
+        errors.old errors.new) (option_map (λ name. name.now) options.now.file) options.now.limit
+        (exit_status result) }
 {
-    let outcome = show(alloc, source, sink, limit);
-    report(errors, file, source.first(), outcome)
+    let outcome = show(alloc, source, sink, options.limit, line_options(options));
+    report(errors, options.file, source.first(), outcome)
 }

@@ -3,7 +3,7 @@ use Rattle.std.specs.Prelude.{◌≡◌, ◌≤◌, ◌==◌, ℕ, Bool, true, f
 use Rattle.std.specs.Str.Parse.{digits_value}
 use Rattle.link_capture_commands.specs.Commands.{IsLimitWord}
 use Rattle.linkshow_words.specs.declared.words.Word.{Word}
-use Rattle.linkshow_words.specs.declared.words.Word.TheVariants.{Kernels, Limit, Input, Name, Wrong}
+use Rattle.linkshow_words.specs.declared.words.Word.TheVariants.{Kernels, WithoutNumbers, Limit, Input, Name, Wrong}
 use Rattle.linkshow_words.specs.declared.words.Options.{Options}
 use Rattle.linkshow_words.specs.declared.words.Asked.{Asked}
 use Rattle.linkshow_words.specs.declared.words.Asked.TheVariants.{Help, Version, Show}
@@ -15,22 +15,41 @@ name_of (c ∷ more) = cond (c == 45) Wrong Name
 
 -- what a word is where no number is awaited
 abbrev pub word_of : List ℕ → Word
-word_of w = cond (bytes_eq w (codes "--kernels")) Kernels (cond (bytes_eq w (codes "--limit")) Limit (cond (bytes_eq w (codes "-")) Input (name_of w)))
+word_of w =
+    cond (bytes_eq w (codes "--kernels")) Kernels (cond (bytes_eq w (codes "--without-numbers")) WithoutNumbers
+    (cond (bytes_eq w (codes "--limit")) Limit (cond (bytes_eq w (codes "-")) Input (name_of w))))
 
--- the options, and the file where there is one
-abbrev pub AreOptions : ℕ → Bool → Option (List ℕ) → Options → Type 0
-AreOptions limit kernels file o = (o.limit ≡ limit) × (o.kernels ≡ kernels) × (option_map (λ name. name.now) o.file ≡ file)
+-- what is asked for without a word
+abbrev pub defaults : Options
+defaults = record { limit = 1048576; kernels = false; without_numbers = false; file = None }
 
--- The words give these options, where a number is awaited or not, and those before gave this limit and said whether notes are wanted.
-abbrev pub Gives : Bool → ℕ → Bool → List (List ℕ) → Options → Type 0
-Gives true limit kernels [] o = ⊥
-Gives true limit kernels (w ∷ rest) o = IsLimitWord w × Gives false (digits_value 10 w) kernels rest o
-Gives false limit kernels [] o = AreOptions limit kernels None o
-Gives false limit kernels (w ∷ rest) o = elim (word_of w) [
-  | Kernels ↦ Gives false limit true rest o
-  | Limit ↦ Gives true limit kernels rest o
-  | Input ↦ (rest ≡ []) × AreOptions limit kernels None o
-  | Name ↦ (rest ≡ []) × AreOptions limit kernels (Some w) o
+abbrev pub with_limit : ℕ → Options → Options
+with_limit n o = record { limit = n; kernels = o.kernels; without_numbers = o.without_numbers; file = o.file }
+
+abbrev pub with_kernels : Options → Options
+with_kernels o = record { limit = o.limit; kernels = true; without_numbers = o.without_numbers; file = o.file }
+
+abbrev pub leaving_numbers : Options → Options
+leaving_numbers o = record { limit = o.limit; kernels = o.kernels; without_numbers = true; file = o.file }
+
+abbrev pub of_input : Options → Options
+of_input o = record { limit = o.limit; kernels = o.kernels; without_numbers = o.without_numbers; file = None }
+
+-- p asks of the file of this name what o asks for
+abbrev pub AreOf : List ℕ → Options → Options → Type 0
+AreOf name o p = (option_map (λ n. n.now) p.file ≡ Some name) × (of_input p ≡ of_input o)
+
+-- The words ask for p, where a number is awaited or not, and those before asked for o.
+abbrev pub Gives : Bool → Options → List (List ℕ) → Options → Type 0
+Gives true o [] p = ⊥
+Gives true o (w ∷ rest) p = IsLimitWord w × Gives false (with_limit (digits_value 10 w) o) rest p
+Gives false o [] p = p ≡ o
+Gives false o (w ∷ rest) p = elim (word_of w) [
+  | Kernels ↦ Gives false (with_kernels o) rest p
+  | WithoutNumbers ↦ Gives false (leaving_numbers o) rest p
+  | Limit ↦ Gives true o rest p
+  | Input ↦ (rest ≡ []) × (p ≡ o)
+  | Name ↦ (rest ≡ []) × AreOf w o p
   | Wrong ↦ ⊥
 ]
 
@@ -38,7 +57,7 @@ Gives false limit kernels (w ∷ rest) o = elim (word_of w) [
 abbrev pub Asks : List (List ℕ) → Asked → Type 0
 Asks words Help = words ≡ codes "--help" ∷ []
 Asks words Version = words ≡ codes "--version" ∷ []
-Asks words (Show options) = Gives false 1048576 false words options
+Asks words (Show options) = Gives false defaults words options
 
 -- the limit is one that a run can have
 abbrev pub HasLimit : Asked → Type 0

@@ -7,13 +7,13 @@ use std::io::ErrorKind;
 
 /// What is told of wrong words.
 pub const USAGE: &str =
-    "usage: linkshow [--kernels] [--limit N] [FILE]; linkshow --help says more\n";
+    "usage: linkshow [--without-numbers] [--kernels] [--limit N] [FILE]; linkshow --help says more\n";
 
 /// The version of the program, and the number of the form of its lines.
-pub const VERSION: &str = "linkshow 0.1.0, lines 1\n";
+pub const VERSION: &str = "linkshow 0.1.0, lines 2\n";
 
 /// How the program is used.
-pub const HELP: &str = "usage: linkshow [--kernels] [--limit N] [FILE]
+pub const HELP: &str = "usage: linkshow [--without-numbers] [--kernels] [--limit N] [FILE]
        linkshow --help
        linkshow --version
 
@@ -22,13 +22,15 @@ input where there is no FILE or it is -. A capture is a byte string of
 netlink messages, one after the other, each at a multiple of 4. Its lines are
 those of its normal text: what means the same has the same lines.
 
-  --limit N    the greatest length of a message in bytes, from 16 to
-               4294967295; without it, 1048576
-  --kernels    note on standard error first what kernels tell apart and the
-               lines don't show
-  --help       this text
-  --version    the version of linkshow, and the number of the form of its
-               lines
+  --without-numbers  leave out sequence and port numbers, which change from
+                     run to run
+  --limit N          the greatest length of a message in bytes, from 16 to
+                     4294967295; without it, 1048576
+  --kernels          note on standard error first what kernels tell apart
+                     and the lines don't show
+  --help             this text
+  --version          the version of linkshow, and the number of the form of
+                     its lines
 
 Status 0: the capture is legal, and its lines are written. 2: a fault, told
 on standard error with its place in bytes; the lines before it are written.

@@ -1,9 +1,9 @@
 //! The words behind the program's name.
 
-ghost use Rattle.std.specs.Prelude.{◌≡◌, ◌≤◌, ℕ, [], false, map, IfSome, IfNone, string_bytes};
+ghost use Rattle.std.specs.Prelude.{◌≡◌, ◌≤◌, [], false, map, IfSome, IfNone, string_bytes};
 ghost use Rattle.std.specs.Str.Parse.{digits_value};
 ghost use Rattle.link_capture_commands.specs.Commands.{IsLimitWord};
-ghost use Rattle.linkshow_words.specs.Words.{word_of, Gives, Asks, HasLimit};
+ghost use Rattle.linkshow_words.specs.Words.{word_of, defaults, Gives, Asks, HasLimit};
 
 use link_capture_commands::DEFAULT_LIMIT;
 
@@ -14,6 +14,8 @@ pub struct Options<'a> {
     pub limit: u32,
     /// Whether notes of what kernels tell apart are wanted.
     pub kernels: bool,
+    /// Whether sequence and port numbers are to be left out.
+    pub without_numbers: bool,
     /// The name of a file; without one it is standard input.
     pub file: Option<&'a str>,
 }
@@ -34,6 +36,8 @@ pub enum Asked<'a> {
 pub(crate) enum Word {
     /// `--kernels`
     Kernels,
+    /// `--without-numbers`
+    WithoutNumbers,
     /// `--limit`, behind which stands a number
     Limit,
     /// `-`: standard input
@@ -51,6 +55,8 @@ fn word_of(word: &str) -> Word
 {
     if word == "--kernels" {
         Word::Kernels
+    } else if word == "--without-numbers" {
+        Word::WithoutNumbers
     } else if word == "--limit" {
         Word::Limit
     } else if word == "-" {
@@ -85,55 +91,45 @@ fn when_last<'a>(left: &[String], options: Options<'a>) -> Option<Options<'a>>
     if left.is_empty() { Some(options) } else { None }
 }
 
+/// What is asked for without a word.
+const DEFAULTS: Options<'static> = Options {
+    limit: DEFAULT_LIMIT,
+    kernels: false,
+    without_numbers: false,
+    file: None,
+};
+
 /// Reads options, and behind them the name of a file, `-` or nothing. None where the words are anything else.
 fn read_options(words: &[String]) -> Option<Options<'_>>
-    ensures some { IfSome result (λ o. Gives false 1048576 false (map string_bytes words.now) o) }
+    ensures some { IfSome result (λ o. Gives false defaults (map string_bytes words.now) o) }
     ensures limit { IfSome result (λ o. 16 ≤ o.limit) }
     ensures none { IfNone result ((o : Options)
-        → Gives false 1048576 false (map string_bytes words.now) o → ⊥) }
+        → Gives false defaults (map string_bytes words.now) o → ⊥) }
 {
     let mut awaited = false;
-    let mut limit = DEFAULT_LIMIT;
-    let mut kernels = false;
+    let mut options = DEFAULTS;
     let mut left = words;
     'words: loop {
         let [word, rest @ ..] = left else {
             if awaited {
                 return None;
             }
-            return Some(Options {
-                limit,
-                kernels,
-                file: None,
-            });
+            return Some(options);
         };
         left = rest;
         if awaited {
-            limit = read_limit(word.as_str())?;
+            options.limit = read_limit(word.as_str())?;
             awaited = false;
             continue;
         }
         match word_of(word.as_str()) {
-            Word::Kernels => kernels = true,
+            Word::Kernels => options.kernels = true,
+            Word::WithoutNumbers => options.without_numbers = true,
             Word::Limit => awaited = true,
-            Word::Input => return when_last(
-                rest,
-                Options {
-                    limit,
-                    kernels,
-                    file: None,
-                },
-            ),
+            Word::Input => return when_last(rest, options),
             Word::Name => {
-                let file = Some(word.as_str());
-                return when_last(
-                    rest,
-                    Options {
-                        limit,
-                        kernels,
-                        file,
-                    },
-                );
+                options.file = Some(word.as_str());
+                return when_last(rest, options);
             }
             Word::Wrong => return None,
         }

@@ -1,9 +1,10 @@
 -- How a capture is answered.
-use Rattle.std.specs.Prelude.{ℕ, List, [], ◌∷◌, ◌++◌, codes, Option, None, Some, Result, Ok, Err}
+use Rattle.std.specs.Prelude.{ℕ, List, [], ◌∷◌, ◌++◌, codes, Option, None, Some, not, option_map, Result, Ok, Err}
 use Rattle.link_capture_grammar.specs.declared.fault.CaptureFault.{CaptureFault}
 use Rattle.link_capture_grammar.specs.Captures.{first_fault}
 use Rattle.link_capture_grammar.specs.Faults.{fault_text}
-use Rattle.link_lines.specs.Captures.{lines}
+use Rattle.link_lines.specs.Captures.{Choice, lines}
+use Rattle.show_vectors.specs.declared.Case.{Case}
 
 -- the last line of an answer
 abbrev pub outcome_line : Result (Unit {0}) CaptureFault → List ℕ
@@ -15,6 +16,10 @@ abbrev pub judged_line : Option CaptureFault → List ℕ
 judged_line None = codes "legal" ++ 10 ∷ []
 judged_line (Some fault) = fault_text fault ++ 10 ∷ []
 
+-- what a case has shown
+abbrev pub chosen : Case → Choice
+chosen case = record { numbers = not case.without_numbers; only = option_map (λ types. types.items) case.only }
+
 -- the lines of the frames before the first fault, and whether there is one
-abbrev pub answer : ℕ → List ℕ → List ℕ
-answer limit capture = lines limit capture ++ judged_line (first_fault limit capture)
+abbrev pub answer : Choice → ℕ → List ℕ → List ℕ
+answer choice limit capture = lines choice limit capture ++ judged_line (first_fault limit capture)

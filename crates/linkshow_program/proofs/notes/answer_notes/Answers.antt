@@ -5,7 +5,7 @@ use Rattle.link_capture_spellings.specs.Spellings.{spellings}
 use Rattle.link_lines.specs.Outcomes.{Shows}
 use Rattle.linkshow_program.specs.Devices.{sink_state}
 use Rattle.linkshow_program.specs.Telling.{Tells}
-use Rattle.linkshow_program.specs.Runs.{notes_text, told_of}
+use Rattle.linkshow_program.specs.Runs.{chosen, notes_text, told_of}
 use Rattle.linkshow_program.proofs.notes.answer_notes.Goals as goal
 
 pub returns-in-Ok : goal.returns-in-Ok
@@ -13,10 +13,10 @@ returns-in-Ok g c =
     let read = c.in-Ok.ensures in
     let whole : c.new-whole.result.rest.now ≡ read.0 = c.new-whole.ensures.rest ∙ c.as_slice-in-Ok.ensures.value ∙ read.2.0 in
     let noted : c.as_slice.result.now ≡ read.0 = c.as_slice.ensures.value ∙ read.2.0 in
-    let Lined : List ℕ → Type 0 = λ x. Shows (Some x) (Some c.show-outcome.new.source.rest.now) (g.K.Sink.holds c.args.sink.now) (g.K.Sink.holds c.show-outcome.new.sink)
-    (TellsItsEnd c.new-whole.result.ends_told c.show-outcome.new.source.ends_told (Some c.show-outcome.new.source.rest.now)) (Rises 0 0) (Rises (g.K.Sink.failures c.args.sink.now) (g.K.Sink.failures c.show-outcome.new.sink)) c.args.limit c.show-outcome.result in
-    let Noted : List ℕ → Type 0 = λ x. Tells (sink_state g.E.Sink.holds g.E.Sink.failures c.args.errors.now) (sink_state g.E.Sink.holds g.E.Sink.failures c.tell_notes.new.errors) (notes_text (spellings c.args.limit x)) in
-    let Told : List ℕ → Type 0 = λ x. Tells (sink_state g.E.Sink.holds g.E.Sink.failures c.tell_notes.new.errors) (sink_state g.E.Sink.holds g.E.Sink.failures c.report.new.errors) (told_of (option_map (λ name. name.now) c.args.file) x c.show-outcome.result) in (
+    let Lined : List ℕ → Type 0 = λ x. Shows (chosen c.args.options.now) (Some x) (Some c.show-outcome.new.source.rest.now) (g.K.Sink.holds c.args.sink.now) (g.K.Sink.holds c.show-outcome.new.sink)
+    (TellsItsEnd c.new-whole.result.ends_told c.show-outcome.new.source.ends_told (Some c.show-outcome.new.source.rest.now)) (Rises 0 0) (Rises (g.K.Sink.failures c.args.sink.now) (g.K.Sink.failures c.show-outcome.new.sink)) c.args.options.now.limit c.show-outcome.result in
+    let Noted : List ℕ → Type 0 = λ x. Tells (sink_state g.E.Sink.holds g.E.Sink.failures c.args.errors.now) (sink_state g.E.Sink.holds g.E.Sink.failures c.tell_notes.new.errors) (notes_text (spellings c.args.options.now.limit x)) in
+    let Told : List ℕ → Type 0 = λ x. Tells (sink_state g.E.Sink.holds g.E.Sink.failures c.tell_notes.new.errors) (sink_state g.E.Sink.holds g.E.Sink.failures c.report.new.errors) (told_of (option_map (λ name. name.now) c.args.options.now.file) x c.show-outcome.result) in (
       read.0,
       read.1,
       inl (
@@ -27,7 +27,8 @@ returns-in-Ok g c =
             Some c.show-outcome.new.source.rest.now,
             c.new-whole.result.ends_told,
             c.show-outcome.new.source.ends_told,
-            subst Lined whole c.show-outcome.ensures,
+            subst Lined whole (subst (λ ch. Shows ch (Some c.new-whole.result.rest.now) (Some c.show-outcome.new.source.rest.now) (g.K.Sink.holds c.args.sink.now) (g.K.Sink.holds c.show-outcome.new.sink)
+                (TellsItsEnd c.new-whole.result.ends_told c.show-outcome.new.source.ends_told (Some c.show-outcome.new.source.rest.now)) (Rises 0 0) (Rises (g.K.Sink.failures c.args.sink.now) (g.K.Sink.failures c.show-outcome.new.sink)) c.args.options.now.limit c.show-outcome.result) c.line_options.ensures c.show-outcome.ensures),
           ),
           (
             sink_state g.E.Sink.holds g.E.Sink.failures c.tell_notes.new.errors,
@@ -42,5 +43,5 @@ returns-in-Ok g c =
 pub returns-in-Err : goal.returns-in-Err
 returns-in-Err g c =
     let read = c.in-Err.ensures in
-    let Told : List ℕ → Type 0 = λ x. Tells (sink_state g.E.Sink.holds g.E.Sink.failures c.args.errors.now) (sink_state g.E.Sink.holds g.E.Sink.failures c.report-in-Err.new.errors) (told_of (option_map (λ name. name.now) c.args.file) x (Err c.in-Err.fault)) in
+    let Told : List ℕ → Type 0 = λ x. Tells (sink_state g.E.Sink.holds g.E.Sink.failures c.args.errors.now) (sink_state g.E.Sink.holds g.E.Sink.failures c.report-in-Err.new.errors) (told_of (option_map (λ name. name.now) c.args.options.now.file) x (Err c.in-Err.fault)) in
     (read.0, read.1, inr (c.in-Err.fault, read.2.0, read.2.1, refl, subst Told c.first-in-Err.ensures c.report-in-Err.ensures.told, c.report-in-Err.ensures.status))

@@ -13,7 +13,7 @@ work=$(mktemp -d)
 trap 'rm -rf "$work"' EXIT
 request=samples/lo-request.bin
 lines=samples/lo-request.lines
-usage='usage: linkshow [--kernels] [--limit N] [FILE]; linkshow --help says more'
+usage='usage: linkshow [--without-numbers] [--kernels] [--limit N] [FILE]; linkshow --help says more'
 failed=0
 : > "$work/nothing"
 
@@ -51,6 +51,16 @@ run --kernels --limit 4096 - < samples/notify-vrf.bin
 wants "options in another order" 0 "note: IFLA_PROTINFO with the nested bit at 84" samples/notify-vrf.lines
 run --limit 16 --limit 48 "$request"
 wants "the last limit counts" 0 "" "$lines"
+sed 's/ seq 1526271540 port 0$//' "$lines" > "$work/unnumbered"
+run --without-numbers "$request"
+wants "without numbers" 0 "" "$work/unnumbered"
+run --kernels --without-numbers --limit 48 - --without-numbers < "$request"
+wants "an option behind -" 3 "$usage" "$work/nothing"
+# An NLMSG_ERROR of code -17 that repeats the header of a request for a link.
+{ printf '\x24\0\0\0\2\0\0\0\7\0\0\0\x09\0\0\0\xef\xff\xff\xff'; head -c 16 "$request"; } > "$work/refusal"
+printf '%s\n' 'NLMSG_ERROR flags 0x0' '  code -17' '  request length 48 RTM_GETLINK flags 0x301 (REQUEST | ROOT | MATCH)' > "$work/refused"
+run --without-numbers --kernels "$work/refusal"
+wants "a refused request without numbers" 0 "" "$work/refused"
 cp "$request" "$work/48"
 (cd "$work" && "$program" 48 > text 2> told)
 status=$?
@@ -62,7 +72,7 @@ grep -oE 'linkshow [0-9]+\.[0-9.]+, lines [0-9]+' docs/showing.md | head -n 1 > 
 wants "the version is that of the page" 0 "" "$work/version"
 run --help
 status=$status:$(head -n 1 "$work/text"):$(grep -c -- '^  --' "$work/text")
-wants "help" "0:usage: linkshow [--kernels] [--limit N] [FILE]:4" "" "$work/text"
+wants "help" "0:usage: linkshow [--without-numbers] [--kernels] [--limit N] [FILE]:5" "" "$work/text"
 : > "$work/text"
 "$program" --help > /dev/full 2> "$work/told"
 status=$?

@@ -11,7 +11,7 @@
  *   `length` bytes that nobody writes to during the call; a buffer `out` is `room` bytes that may be written, and hold
  *   any values. What is written overlaps nothing that is read or written by the same call. Lengths are under 2^63.
  *   Nothing is kept of a pointer after the call.
- * - Memory. linkcap_normalize, linkcap_normalize_some and linkcap_show call malloc, realloc and free, and have freed
+ * - Memory. linkcap_normalize, linkcap_normalize_some, linkcap_show and linkcap_show_with call malloc, realloc and free, and have freed
  *   all when they return. The others take no memory. Where malloc or realloc answers null, the answer is
  *   LINKCAP_NO_MEMORY, or the one that wanted no memory; no call ends the process. The three functions come from one
  *   allocator, and align a block as C's do.
@@ -150,6 +150,15 @@ uint32_t linkcap_same(const uint8_t *first, size_t first_length, const uint8_t *
  */
 uint32_t linkcap_show(const uint8_t *capture, size_t length, uint32_t limit, uint8_t *out, size_t room,
                       uint64_t *written, struct linkcap_fault *fault);
+
+/*
+ * The same of some lines: without sequence and port numbers where without_numbers says so, and of messages of these
+ * types alone, types_length of them, where there are any. Two captures have the same lines without numbers exactly where
+ * their normal texts are the same with these numbers zero.
+ */
+uint32_t linkcap_show_with(const uint8_t *capture, size_t length, uint32_t limit, bool without_numbers,
+                           const uint16_t *types, size_t types_length, uint8_t *out, size_t room, uint64_t *written,
+                           struct linkcap_fault *fault);
 
 /*
  * Writes the words of a fault and its place in ASCII, as `cut frame at 48`, behind `first: ` or `second: ` where it has

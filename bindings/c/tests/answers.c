@@ -166,11 +166,42 @@ static void answer_same(struct bytes first, struct bytes second, uint32_t limit)
     printf("\n");
 }
 
+/* What is to be shown, between limit and capture: without-numbers, types with commas between, or all. */
+static struct {
+    bool without_numbers;
+    uint16_t types[16];
+    size_t count;
+} choice;
+
+static void read_choice(char **word)
+{
+    static const char without[] = "without-numbers ";
+    memset(&choice, 0, sizeof choice);
+    if (strncmp(*word, without, strlen(without)) == 0) {
+        choice.without_numbers = true;
+        *word += strlen(without);
+    } else if (strchr(*word, ' ') != NULL) {
+        for (choice.count = 0; choice.count < 16; (*word)++) {
+            choice.types[choice.count++] = strtoul(*word, word, 10);
+            if (**word == ' ')
+                break;
+        }
+        (*word)++;
+    }
+}
+
+static uint32_t show_chosen(const uint8_t *capture, size_t length, uint32_t limit, uint8_t *out, size_t room, uint64_t *written,
+                            struct linkcap_fault *fault)
+{
+    return linkcap_show_with(capture, length, limit, choice.without_numbers, choice.types, choice.count, out, room, written, fault);
+}
+
 static void answer_show(struct bytes capture, uint32_t limit)
 {
     uint32_t status;
     struct linkcap_fault fault;
-    struct bytes lines = write_all(linkcap_show, capture, limit, &status, &fault);
+    bool all = !choice.without_numbers && choice.count == 0;
+    struct bytes lines = write_all(all ? linkcap_show : show_chosen, capture, limit, &status, &fault);
     fwrite(lines.at, 1, lines.length, stdout);
     if (status == LINKCAP_FAULT)
         print_fault(&fault);
@@ -190,6 +221,8 @@ int main(int argc, char **argv)
         char *word = line;
         uint32_t limit = strtoul(word, &word, 10);
         word++;
+        if (strcmp(what, "show") == 0)
+            read_choice(&word);
         struct bytes capture = read_hex(&word);
         if (strcmp(what, "norm") == 0) {
             answer_norm(capture, limit, 0);

@@ -1,8 +1,8 @@
 """The calls."""
+import array
 import ctypes
-import re
 import threading
-from typing import NamedTuple, Tuple, Union
+from typing import Iterable, NamedTuple, Optional, Tuple, Union
 
 from . import _native
 from ._fault import Fault
@@ -92,28 +92,28 @@ def measure(capture: Capture, limit: int = DEFAULT_LIMIT) -> Measure:
     return Measure(numbers.frames, numbers.attributes, numbers.text_low + (numbers.text_high << 64))
 
 
-def _write_from(call, at, length: int, limit: int) -> bytes:
+def _write_from(call, at, length: int, limit: int, *chosen) -> bytes:
     scratch = _scratch
-    room, free, text = scratch.of_room(4 * length if call is _show else length + 256)
-    status = call(at, length, limit, room, free, scratch.size_at, scratch.fault_at)
+    room, free, text = scratch.of_room(length + 256 if call is _normalize else 4 * length)
+    status = call(at, length, limit, *chosen, room, free, scratch.size_at, scratch.fault_at)
     if status == _native.NO_ROOM:
         room, free, text = scratch.of_room(scratch.size.value)
-        status = call(at, length, limit, room, free, scratch.size_at, scratch.fault_at)
+        status = call(at, length, limit, *chosen, room, free, scratch.size_at, scratch.fault_at)
     if status == _native.OK:
         return text[:scratch.size.value].tobytes()
     raise _refuse(status, scratch, text[:scratch.size.value].tobytes() if status == _native.FAULT else b"")
 
 
-def _write(call, capture: Capture, limit: int) -> bytes:
+def _write(call, capture: Capture, limit: int, *chosen) -> bytes:
     if not 0 <= limit < 1 << 32:
         raise _no_limit()
     if type(capture) is bytes:
-        return _write_from(call, capture, len(capture), limit)
+        return _write_from(call, capture, len(capture), limit, *chosen)
     with _native.Borrowed(capture) as given:
-        return _write_from(call, given.at, given.length, limit)
+        return _write_from(call, given.at, given.length, limit, *chosen)
 
 
-_normalize, _show = _native.library.linkcap_normalize, _native.library.linkcap_show
+_normalize, _show, _show_with = _native.library.linkcap_normalize, _native.library.linkcap_show, _native.library.linkcap_show_with
 
 
 def normalize(capture: Capture, limit: int = DEFAULT_LIMIT) -> bytes:
@@ -139,13 +139,20 @@ def same(first: Capture, second: Capture, limit: int = DEFAULT_LIMIT) -> bool:
     return status == _native.OK
 
 
-def lines(capture: Capture, limit: int = DEFAULT_LIMIT, *, numbers: bool = True) -> str:
+def lines(capture: Capture, limit: int = DEFAULT_LIMIT, *, numbers: bool = True, only: "Optional[Iterable[int]]" = None) -> str:
     """The lines of a legal capture, as `linkshow` writes them; else raises its first `Fault`.
 
-    Without `numbers` the lines of messages lack their sequence and port numbers, which change from run to run.
+    Without `numbers` they lack sequence and port numbers, which change from run to run. With `only` they are those of
+    messages of these types, as 16 for RTM_NEWLINK.
     """
-    shown = _write(_show, capture, limit).decode("ascii")
-    return shown if numbers else re.sub(r"(?m)^([^ \n].*) seq [0-9]+ port [0-9]+$", r"\1", shown)
+    if numbers and only is None:
+        return _write(_show, capture, limit).decode("ascii")
+    types = array.array("H", () if only is None else only)
+    if only is not None and not types:
+        check(capture, limit)
+        return ""
+    at, length = types.buffer_info()
+    return _write(_show_with, capture, limit, not numbers, at or _native.SOMEWHERE, length).decode("ascii")
 
 
 class Reader:

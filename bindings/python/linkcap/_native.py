@@ -30,7 +30,7 @@ _get.argtypes, _get.restype = [ctypes.py_object, ctypes.POINTER(_View), ctypes.c
 _release = ctypes.pythonapi.PyBuffer_Release
 _release.argtypes, _release.restype = [ctypes.POINTER(_View)], None
 _SOME = ctypes.create_string_buffer(1)
-_SOMEWHERE = ctypes.addressof(_SOME)
+SOMEWHERE = ctypes.addressof(_SOME)
 
 
 class Borrowed:
@@ -41,7 +41,7 @@ class Borrowed:
     def __init__(self, capture) -> None:
         self._view = _View()
         _get(capture, self._view, 0)
-        self.at, self.length = self._view.buf or _SOMEWHERE, self._view.len
+        self.at, self.length = self._view.buf or SOMEWHERE, self._view.len
 
     def __enter__(self):
         return self
@@ -73,6 +73,7 @@ def _load() -> ctypes.CDLL:
         "linkcap_normalize_some": [*capture, ctypes.c_bool, number, *capture, address, address],
         "linkcap_same": [*capture, *capture, number, address],
         "linkcap_show": [*capture, number, *capture, address, address],
+        "linkcap_show_with": [*capture, number, ctypes.c_bool, *capture, *capture, address, address],
         "linkcap_fault_text": [address, *capture, address],
     }.items():
         getattr(library, call).argtypes = arguments

@@ -87,11 +87,13 @@ class Vectors(unittest.TestCase):
         self.assertEqual(answers, stored.splitlines())
 
     def test_show(self):
-        cases, stored = vectors("show_vectors")
-        answers = []
-        for limit, capture in cases:
+        stored, answers = read("crates", "show_vectors", "stdout").decode(), []
+        for line in read("crates", "show_vectors", "stdin").decode().splitlines():
+            limit, *choice, capture = line.split(" ")
+            numbers = choice != ["without-numbers"]
+            only = [int(kind) for kind in choice[0].split(",")] if choice and numbers else None
             try:
-                answers.append(linkcap.lines(capture, limit) + "legal\n")
+                answers.append(linkcap.lines(bytes.fromhex(capture), int(limit), numbers=numbers, only=only) + "legal\n")
             except linkcap.Fault as fault:
                 answers.append(fault.written.decode() + str(fault) + "\n")
         self.assertTrue("".join(answers) == stored)

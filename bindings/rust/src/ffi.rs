@@ -33,9 +33,6 @@ pub struct Progress {
     pub wanted: u64,
 }
 
-/// The shape of `linkcap_normalize` and `linkcap_show`.
-pub type Writes = unsafe extern "C" fn(*const u8, usize, u32, *mut u8, usize, &mut u64, &mut Fault) -> u32;
-
 extern "C" {
     pub fn linkcap_version() -> u32;
     pub fn linkcap_check(capture: *const u8, length: usize, limit: u32, fault: &mut Fault) -> u32;
@@ -71,6 +68,18 @@ extern "C" {
         capture: *const u8,
         length: usize,
         limit: u32,
+        out: *mut u8,
+        room: usize,
+        written: &mut u64,
+        fault: &mut Fault,
+    ) -> u32;
+    pub fn linkcap_show_with(
+        capture: *const u8,
+        length: usize,
+        limit: u32,
+        without_numbers: bool,
+        types: *const u16,
+        types_length: usize,
         out: *mut u8,
         room: usize,
         written: &mut u64,

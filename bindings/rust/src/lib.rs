@@ -62,18 +62,15 @@ pub fn measure(capture: &[u8], limit: u32) -> Result<Measure, Error> {
     }
 }
 
-/// What a call writes, with so much room at first.
-fn write(call: ffi::Writes, capture: &[u8], limit: u32, first: usize) -> Result<Vec<u8>, Error> {
+/// What a call writes to a buffer of so many bytes, with so much room at first.
+fn write(mut call: impl FnMut(*mut u8, usize, &mut u64, &mut ffi::Fault) -> u32, first: usize) -> Result<Vec<u8>, Error> {
     let mut out: Vec<u8> = Vec::new();
     let mut wanted = first;
     loop {
         let (mut written, mut fault) = (0, ffi::Fault::default());
         room(&mut out, wanted)?;
         let free = out.spare_capacity_mut();
-        // Safety: both pointers have the lengths that are told, and lie apart.
-        let status = unsafe {
-            call(capture.as_ptr(), capture.len(), limit, free.as_mut_ptr().cast(), free.len(), &mut written, &mut fault)
-        };
+        let status = call(free.as_mut_ptr().cast(), free.len(), &mut written, &mut fault);
         match status {
             ffi::NO_ROOM => wanted = usize::try_from(written).map_err(|_| Error::Memory)?,
             ffi::OK | ffi::FAULT => {
@@ -88,12 +85,36 @@ fn write(call: ffi::Writes, capture: &[u8], limit: u32, first: usize) -> Result<
 
 /// The normal text of a legal capture, else its first fault, whose `written` are the texts before it.
 pub fn normalize(capture: &[u8], limit: u32) -> Result<Vec<u8>, Error> {
-    write(ffi::linkcap_normalize, capture, limit, capture.len() + 16)
+    // Safety: both pointers have the lengths that are told, and lie apart.
+    let call = |out, room, written: &mut u64, fault: &mut ffi::Fault| unsafe {
+        ffi::linkcap_normalize(capture.as_ptr(), capture.len(), limit, out, room, written, fault)
+    };
+    write(call, capture.len() + 16)
+}
+
+/// What lines show of a capture.
+#[derive(Clone, Copy, Debug, Default, PartialEq, Eq)]
+pub struct LineOptions<'a> {
+    /// Leave out sequence and port numbers, which change from run to run.
+    pub without_numbers: bool,
+    /// Show messages of these types alone, as 16 for RTM_NEWLINK; of all where there is none.
+    pub only: &'a [u16],
 }
 
 /// The lines of a legal capture, as `linkshow` writes them, else its first fault, whose `written` are the lines before it.
 pub fn lines(capture: &[u8], limit: u32) -> Result<String, Error> {
-    let shown = write(ffi::linkcap_show, capture, limit, capture.len().saturating_mul(4))?;
+    lines_with(capture, limit, LineOptions::default())
+}
+
+/// The same of what is asked for.
+pub fn lines_with(capture: &[u8], limit: u32, options: LineOptions<'_>) -> Result<String, Error> {
+    let LineOptions { without_numbers, only } = options;
+    let (at, length) = (capture.as_ptr(), capture.len());
+    // Safety: the pointers have the lengths that are told, and `out` lies apart from the others.
+    let call = |out, room, written: &mut u64, fault: &mut ffi::Fault| unsafe {
+        ffi::linkcap_show_with(at, length, limit, without_numbers, only.as_ptr(), only.len(), out, room, written, fault)
+    };
+    let shown = write(call, length.saturating_mul(4))?;
     // Lines are ASCII.
     Ok(String::from_utf8(shown).unwrap_or_default())
 }

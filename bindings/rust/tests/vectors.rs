@@ -1,6 +1,6 @@
 //! The calls over the stored vectors, and at the edges.
 
-use linkcap::{Error, Kind, Reader, Side, DEFAULT_LIMIT};
+use linkcap::{Error, Kind, LineOptions, Reader, Side, DEFAULT_LIMIT};
 use std::fs;
 use std::path::Path;
 
@@ -96,8 +96,12 @@ fn same_vectors() {
 #[test]
 fn show_vectors() {
     let mut answers = String::new();
-    for (limit, captures) in cases("show_vectors") {
-        match linkcap::lines(&captures[0], limit) {
+    for line in text("crates/show_vectors/stdin").lines() {
+        let (front, capture) = line.rsplit_once(' ').expect("a capture");
+        let (limit, choice) = front.split_once(' ').unwrap_or((front, ""));
+        let (limit, without_numbers) = (limit.parse().expect("a limit"), choice == "without-numbers");
+        let types: Vec<u16> = choice.split(',').filter_map(|word| word.parse().ok()).collect();
+        match linkcap::lines_with(&unhex(capture), limit, LineOptions { without_numbers, only: &types }) {
             Ok(lines) => answers += &(lines + "legal\n"),
             Err(error) => {
                 answers += std::str::from_utf8(&error.fault().expect("a fault").written).expect("lines");

@@ -13,7 +13,7 @@ work=$(mktemp -d)
 trap 'rm -rf "$work"' EXIT
 request=samples/lo-request.bin
 lines=samples/lo-request.lines
-usage='usage: linkshow [--without-numbers] [--kernels] [--limit N] [FILE]; linkshow --help says more'
+usage='usage: linkshow [--without-numbers] [--only TYPE,..] [--kernels] [--limit N] [FILE]; linkshow --help says more'
 failed=0
 : > "$work/nothing"
 
@@ -61,6 +61,18 @@ wants "an option behind -" 3 "$usage" "$work/nothing"
 printf '%s\n' 'NLMSG_ERROR flags 0x0' '  code -17' '  request length 48 RTM_GETLINK flags 0x301 (REQUEST | ROOT | MATCH)' > "$work/refused"
 run --without-numbers --kernels "$work/refusal"
 wants "a refused request without numbers" 0 "" "$work/refused"
+cat "$request" "$work/refusal" > "$work/both"
+for types in error 2 newlink,error,77 error,error 65535,2; do
+    run --without-numbers --only "$types" "$work/both"
+    wants "only $types" 0 "" "$work/refused"
+done
+run --only newlink --only getlink "$work/both"
+wants "the last types count" 0 "" "$lines"
+run --only newlink "$work/both"
+wants "types of which there is none" 0 "" "$work/nothing"
+cat "$request" <(head -c 20 "$request") > "$work/cut"
+run --only newlink "$work/cut"
+wants "a fault of the whole capture" 2 "cut frame at 48" "$work/nothing"
 cp "$request" "$work/48"
 (cd "$work" && "$program" 48 > text 2> told)
 status=$?
@@ -72,14 +84,14 @@ grep -oE 'linkshow [0-9]+\.[0-9.]+, lines [0-9]+' docs/showing.md | head -n 1 > 
 wants "the version is that of the page" 0 "" "$work/version"
 run --help
 status=$status:$(head -n 1 "$work/text"):$(grep -c -- '^  --' "$work/text")
-wants "help" "0:usage: linkshow [--without-numbers] [--kernels] [--limit N] [FILE]:5" "" "$work/text"
+wants "help" "0:usage: linkshow [--without-numbers] [--only TYPE,..] [--kernels] [--limit N] [FILE]:6" "" "$work/text"
 : > "$work/text"
 "$program" --help > /dev/full 2> "$work/told"
 status=$?
 wants "help that can't be printed" 2 "write failed at 0" "$work/nothing"
 
 # Wrong words.
-for words in "--limit" "--limit 15" "--limit +48" "--limit 4294967296" "--limit 48 --limit" "--limit=48" "--kernels --unknown" "-x" \
+for words in "--limit" "--limit 15" "--limit +48" "--limit 4294967296" "--limit 48 --limit" "--limit=48" "--only" "--only RTM_NEWLINK" "--only newlink," "--only ,2" "--only 65536" "--only +2" "--only NEWLINK" "--kernels --unknown" "-x" \
     "a b" "- a" "a --kernels" "--help a" "--version --kernels"; do
     # shellcheck disable=SC2086
     run $words < "$request"

@@ -20,11 +20,11 @@ _linkshow_words() {
 }
 
 _linkshow() {
-    _linkshow_words "--without-numbers --kernels --limit --help --version"
+    _linkshow_words "--without-numbers --only --kernels --limit --help --version"
 }
 
 _linkdiff() {
-    _linkshow_words "--empty --without-numbers --kernels --limit --help"
+    _linkshow_words "--empty --without-numbers --only --kernels --limit --help"
 }
 
 complete -o filenames -F _linkcap linkcap

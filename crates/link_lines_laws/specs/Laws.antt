@@ -1,8 +1,11 @@
 -- The names that lines give numbers and flags, and the texts of the typed displays.
-use Rattle.std.specs.Prelude.{◌≡◌, ℕ, List, map}
+use Rattle.std.specs.Prelude.{◌≡◌, ◌==◌, ◌+◌, ◌&&◌, nat_le, ℕ, List, cond, map}
+use Rattle.std.specs.List.{after_first}
 use Rattle.link_lines_values.specs.Names.{Text, texts_of}
 use Rattle.link_lines_values.specs.declared.flags.TheConstants.{LINK_FLAGS}
-use Rattle.link_lines_values.specs.declared.number_texts.TheConstants.{AMT_MODE, GENEVE_DF, VXLAN_DF, GTP_ROLE, TUNNEL_ENCAP_TYPE, GRE_ENCAP_TYPE, ER_SPAN_DIR, IP_VLAN_MODE, MAC_VLAN_MODE, NETKIT_MODE, NETKIT_POLICY, NETKIT_SCRUB, STATE, LINK_MODE, IN6_ADDR_GEN_MODE, MCTP_PHYS_BINDING, LINK_LAYER_TYPE}
+use Rattle.link_lines_values.specs.declared.number_texts.TheConstants.{AMT_MODE, GENEVE_DF, VXLAN_DF, GTP_ROLE, TUNNEL_ENCAP_TYPE, GRE_ENCAP_TYPE, ER_SPAN_DIR, IP_VLAN_MODE, MAC_VLAN_MODE, NETKIT_MODE, NETKIT_POLICY, NETKIT_SCRUB, STATE, LINK_MODE, IN6_ADDR_GEN_MODE, MCTP_PHYS_BINDING, LINK_LAYER_TYPE, MESSAGE_TYPE}
+use Rattle.linkshow_words.specs.declared.types.TheConstants.{TYPE_WORDS}
+use Rattle.linkshow_words.specs.Types.{words_of}
 use Rattle.link_info_tunnel_types.specs.AmtTypes.{amt_mode_number, amt_mode_text, listed_amt_modes}
 use Rattle.link_info_tunnel_types.specs.GeneveTypes.{geneve_df_number, geneve_df_text, listed_geneve_dfs}
 use Rattle.link_info_tunnel_types.specs.GreTypes.{er_span_dir_number, er_span_dir_text, gre_encap_type_number, gre_encap_type_text, listed_er_span_dirs, listed_gre_encap_types}
@@ -43,3 +46,11 @@ pub record NumbersAreDisplayed : Type 0 where
   pub mctp_phys_bindings : texts_of (λ name. name.now) MCTP_PHYS_BINDING.now ≡ displayed mctp_phys_binding_number mctp_phys_binding_text listed_mctp_phys_bindings
   pub link_layer_types : texts_of (λ name. name.now) LINK_LAYER_TYPE.now ≡ displayed link_layer_type_number link_layer_type_text listed_link_layer_types
   pub link_flags : texts_of (λ name. name.now) LINK_FLAGS.now ≡ map (λ row. (row.1, row.0)) link_flags_table
+
+-- a byte in lower case
+abbrev pub in_lower_case : ℕ → ℕ
+in_lower_case c = cond (nat_le 65 c && nat_le c 90) (c + 32) c
+
+-- The words by which linkshow knows types of messages are the names that lines give them, in lower case, without what stands before the first `_`.
+abbrev pub TypesHaveWords : Type 0
+TypesHaveWords = words_of (λ word. word.now) TYPE_WORDS.now ≡ map (λ row. (row.0, map in_lower_case (after_first (λ c. c == 95) row.1))) (texts_of (λ name. name.now) MESSAGE_TYPE.now)

@@ -56,7 +56,7 @@ unopened name kind = name_told (Some name) true ++ (cause kind ++ 10 ∷ [])
 
 -- what options choose to be shown
 abbrev pub chosen : Options → Choice
-chosen o = record { numbers = not o.without_numbers; only = None }
+chosen o = record { numbers = not o.without_numbers; only = option_map (λ types. types.items) o.only }
 
 -- a capture was shown, and this is told of it, with this status
 abbrev pub ShowAnswer : Choice → Run → Option (List ℕ) → ℕ → ℕ → Type 0
@@ -114,7 +114,7 @@ PrintAnswer held holds told tells text status =
 
 -- wrong words: this is told, with this status
 abbrev pub UsageAnswer : SinkState → SinkState → ℕ → Type 0
-UsageAnswer told tells status = Tells told tells (codes "usage: linkshow [--without-numbers] [--kernels] [--limit N] [FILE]; linkshow --help says more" ++ 10 ∷ []) × (status ≡ 3)
+UsageAnswer told tells status = Tells told tells (codes "usage: linkshow [--without-numbers] [--only TYPE,..] [--kernels] [--limit N] [FILE]; linkshow --help says more" ++ 10 ∷ []) × (status ≡ 3)
 
 -- the words ask for this, or for nothing
 abbrev pub Gives : List (List ℕ) → Option Asked → Type 0

@@ -106,12 +106,12 @@ pub(crate) fn report<E: Sink>(
 }
 
 /// What of a capture is shown.
-pub(crate) fn line_options(options: &Options<'_>) -> LineOptions<'static>
+pub(crate) fn line_options<'a>(options: &'a Options<'_>) -> LineOptions<'a>
     ensures { choice_of result ≡ chosen options.now }
 {
     LineOptions {
         without_numbers: options.without_numbers,
-        only: None,
+        only: options.only.as_ref().map(|types| types.as_slice()),
     }
 }
 

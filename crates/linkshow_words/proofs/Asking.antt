@@ -4,23 +4,25 @@ use Rattle.std.proofs.Common.{◌≡◌, ℕ, ◌-◌, ◌≤◌, ◌<◌, ◌�
 use Rattle.std.proofs.lemmas.List.{take_rest}
 use Rattle.std.specs.Str.Parse.{digits_value}
 use Rattle.link_capture_commands.specs.Commands.{IsLimitWord}
-use Rattle.linkshow_words.specs.Words.{word_of, with_limit, with_kernels, leaving_numbers, Gives, AreOf}
+use Rattle.linkshow_words.specs.Words.{word_of, with_limit, with_kernels, with_only, leaving_numbers, Awaited, Awaited.Nothing, Awaited.ALimit, Awaited.SomeTypes, Gives, AreOf, Types}
+use Rattle.linkshow_words.specs.Types.{AreTypeWords, parts}
+use Rattle.linkshow_words.proofs.Typing.{same_types}
 use Rattle.linkshow_words.specs.declared.words.Options.{Options}
-use Rattle.linkshow_words.specs.declared.words.Word.TheVariants.{Kernels, WithoutNumbers, Limit, Input, Name, Wrong}
+use Rattle.linkshow_words.specs.declared.words.Word.TheVariants.{Kernels, WithoutNumbers, Only, Limit, Input, Name, Wrong}
 
 -- what the first words give, the second give
-pub record Gone (a : Bool) (o : Options) (ws : List (List ℕ)) (b : Bool) (q : Options) (vs : List (List ℕ)) : Type 0 where
+pub record Gone (a : Awaited) (o : Options) (ws : List (List ℕ)) (b : Awaited) (q : Options) (vs : List (List ℕ)) : Type 0 where
   pub gives : (p : Options) → Gives a o ws p ↔ Gives b q vs p
 
-pub gone : (a : Bool) (o : Options) (ws : List (List ℕ)) → Gone a o ws a o ws
+pub gone : (a : Awaited) (o : Options) (ws : List (List ℕ)) → Gone a o ws a o ws
 gone a o ws = record { gives = λ p. ((λ g. g), λ g. g) }
 
-pub gone_on : {a b c : Bool} {o q r : Options} {us vs ws : List (List ℕ)} → Gone a o us b q vs → Gone b q vs c r ws → Gone a o us c r ws
+pub gone_on : {a b c : Awaited} {o q r : Options} {us vs ws : List (List ℕ)} → Gone a o us b q vs → Gone b q vs c r ws → Gone a o us c r ws
 gone_on f g = record { gives = λ p. ((λ x. (g.gives p).0 ((f.gives p).0 x)), λ z. (f.gives p).1 ((g.gives p).1 z)) }
 
 -- the same of the words that are left, as they are cut
-pub left_gone : {a b c : Bool} {o q : Options} {ws vs us : List (List ℕ)} → a ≡ c → ws ≡ us → Gone a o ws b q vs → Gone c o us b q vs
-left_gone {a} {b} {c} {o} {q} {ws} {vs} {us} e d g = subst (λ x. Gone x o us b q vs) e (subst (λ x. Gone a o x b q vs) d g)
+pub left_gone : {a b : Awaited} {o q : Options} {ws vs us : List (List ℕ)} → ws ≡ us → Gone a o ws b q vs → Gone a o us b q vs
+left_gone {a} {b} {o} {q} {ws} {vs} {us} d g = subst (λ x. Gone a o x b q vs) d g
 
 pub cut_words : {A : Type 0} (f : A → List ℕ) (ws : List A) (w : A) → 1 ≤ length ws → w ≡ get_or ws 0 w → map f ws ≡ f w ∷ map f (take (length ws - 1) (drop 1 ws))
 cut_words f [] w m e = absurd (omega arith)
@@ -30,16 +32,27 @@ pub no_words : {A : Type 0} (f : A → List ℕ) (ws : List A) → length ws < 1
 no_words f [] m = refl
 no_words f (x ∷ rest) m = absurd (omega arith)
 
-pub number_gone : {w : List ℕ} {rest : List (List ℕ)} {n : ℕ} {o : Options} → IsLimitWord w → n ≡ digits_value 10 w → Gone false (with_limit n o) rest true o (w ∷ rest)
-number_gone {w} {rest} {n} {o} i e = record { gives = λ p. ((λ g. (i, subst (λ m. Gives false (with_limit m o) rest p) e g)), λ h. subst (λ m. Gives false (with_limit m o) rest p) (sym e) h.1) }
+pub number_gone : {w : List ℕ} {rest : List (List ℕ)} {n : ℕ} {o : Options} → IsLimitWord w → n ≡ digits_value 10 w → Gone Nothing (with_limit n o) rest ALimit o (w ∷ rest)
+number_gone {w} {rest} {n} {o} i e = record { gives = λ p. ((λ g. (i, subst (λ m. Gives Nothing (with_limit m o) rest p) e g)), λ h. subst (λ m. Gives Nothing (with_limit m o) rest p) (sym e) h.1) }
 
-pub kernels_gone : {w : List ℕ} {rest : List (List ℕ)} {o : Options} → word_of w ≡ Kernels → Gone false (with_kernels o) rest false o (w ∷ rest)
+pub kernels_gone : {w : List ℕ} {rest : List (List ℕ)} {o : Options} → word_of w ≡ Kernels → Gone Nothing (with_kernels o) rest Nothing o (w ∷ rest)
 kernels_gone e = record { gives = λ p. rw (e, Gives) ((λ g. g), λ g. g) }
 
-pub numbers_gone : {w : List ℕ} {rest : List (List ℕ)} {o : Options} → word_of w ≡ WithoutNumbers → Gone false (leaving_numbers o) rest false o (w ∷ rest)
+pub numbers_gone : {w : List ℕ} {rest : List (List ℕ)} {o : Options} → word_of w ≡ WithoutNumbers → Gone Nothing (leaving_numbers o) rest Nothing o (w ∷ rest)
 numbers_gone e = record { gives = λ p. rw (e, Gives) ((λ g. g), λ g. g) }
 
-pub limit_gone : {w : List ℕ} {rest : List (List ℕ)} {o : Options} → word_of w ≡ Limit → Gone true o rest false o (w ∷ rest)
+pub types_gone : {w : List ℕ} {rest : List (List ℕ)} {types : Types} {o : Options} → AreTypeWords (parts w) types.items → length types.items ≤ 32 → Gone Nothing (with_only types o) rest SomeTypes o (w ∷ rest)
+types_gone {w} {rest} {types} {o} i l = record {
+  gives = λ p. (
+    (λ g. (types, i, l, g)),
+    λ h. subst (λ ts. Gives Nothing (with_only (record { items = ts }) o) rest p) (same_types (parts w) h.0.items types.items h.1 i) h.3,
+  );
+}
+
+pub only_gone : {w : List ℕ} {rest : List (List ℕ)} {o : Options} → word_of w ≡ Only → Gone SomeTypes o rest Nothing o (w ∷ rest)
+only_gone e = record { gives = λ p. rw (e, Gives) ((λ g. g), λ g. g) }
+
+pub limit_gone : {w : List ℕ} {rest : List (List ℕ)} {o : Options} → word_of w ≡ Limit → Gone ALimit o rest Nothing o (w ∷ rest)
 limit_gone e = record { gives = λ p. rw (e, Gives) ((λ g. g), λ g. g) }
 
 pub map_empty : {A : Type 0} (f : A → List ℕ) (ws : List A) → map f ws ≡ [] → ws ≡ []
@@ -47,20 +60,20 @@ map_empty f [] e = refl
 map_empty f (x ∷ rest) e = let bad : length (map f (x ∷ rest)) ≡ 0 = ap length e in absurd (omega arith)
 
 -- these words are the last, where standard input or a file is named
-module _ {A : Type 0} (f : A → List ℕ) (w : List ℕ) (rest : List A) (o : Options) (b : Bool) (q : Options) (vs : List (List ℕ)) (g : Gone false o (w ∷ map f rest) b q vs) where
-  input_then : (p : Options) → word_of w ≡ Input → rest ≡ [] → p ≡ o → Gives false o (w ∷ map f rest) p
+module _ {A : Type 0} (f : A → List ℕ) (w : List ℕ) (rest : List A) (o : Options) (b : Awaited) (q : Options) (vs : List (List ℕ)) (g : Gone Nothing o (w ∷ map f rest) b q vs) where
+  input_then : (p : Options) → word_of w ≡ Input → rest ≡ [] → p ≡ o → Gives Nothing o (w ∷ map f rest) p
   input_then p e r a = rw (e, Gives) (ap (map f) r, a)
 
-  name_then : (p : Options) → word_of w ≡ Name → rest ≡ [] → AreOf w o p → Gives false o (w ∷ map f rest) p
+  name_then : (p : Options) → word_of w ≡ Name → rest ≡ [] → AreOf w o p → Gives Nothing o (w ∷ map f rest) p
   name_then p e r a = rw (e, Gives) (ap (map f) r, a)
 
-  input_last : (p : Options) → word_of w ≡ Input → Gives false o (w ∷ map f rest) p → map f rest ≡ []
+  input_last : (p : Options) → word_of w ≡ Input → Gives Nothing o (w ∷ map f rest) p → map f rest ≡ []
   input_last p e = rw (e, Gives) (λ x. x.0)
 
-  name_last : (p : Options) → word_of w ≡ Name → Gives false o (w ∷ map f rest) p → map f rest ≡ []
+  name_last : (p : Options) → word_of w ≡ Name → Gives Nothing o (w ∷ map f rest) p → map f rest ≡ []
   name_last p e = rw (e, Gives) (λ x. x.0)
 
-  wrong_then : (p : Options) → word_of w ≡ Wrong → Gives false o (w ∷ map f rest) p → ⊥
+  wrong_then : (p : Options) → word_of w ≡ Wrong → Gives Nothing o (w ∷ map f rest) p → ⊥
   wrong_then p e = rw (e, Gives) (λ x. x)
 
   pub input_some : (r : Option Options) → word_of w ≡ Input → IfSome r (λ p. (rest ≡ []) × (p ≡ o)) → IfSome r (λ p. Gives b q vs p)

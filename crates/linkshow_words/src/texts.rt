@@ -7,13 +7,13 @@ use std::io::ErrorKind;
 
 /// What is told of wrong words.
 pub const USAGE: &str =
-    "usage: linkshow [--without-numbers] [--kernels] [--limit N] [FILE]; linkshow --help says more\n";
+    "usage: linkshow [--without-numbers] [--only TYPE,..] [--kernels] [--limit N] [FILE]; linkshow --help says more\n";
 
 /// The version of the program, and the number of the form of its lines.
 pub const VERSION: &str = "linkshow 0.1.0, lines 2\n";
 
 /// How the program is used.
-pub const HELP: &str = "usage: linkshow [--without-numbers] [--kernels] [--limit N] [FILE]
+pub const HELP: &str = "usage: linkshow [--without-numbers] [--only TYPE,..] [--kernels] [--limit N] [FILE]
        linkshow --help
        linkshow --version
 
@@ -24,6 +24,8 @@ those of its normal text: what means the same has the same lines.
 
   --without-numbers  leave out sequence and port numbers, which change from
                      run to run
+  --only TYPE,..     show messages of these types alone, by name or number:
+                     newlink,setlink,77
   --limit N          the greatest length of a message in bytes, from 16 to
                      4294967295; without it, 1048576
   --kernels          note on standard error first what kernels tell apart

@@ -1,14 +1,15 @@
 //! The words behind the program's name.
 
-ghost use Rattle.std.specs.Prelude.{◌≡◌, ◌≤◌, [], false, map, IfSome, IfNone, string_bytes};
+ghost use Rattle.std.specs.Prelude.{◌≡◌, ◌≤◌, [], map, IfSome, IfNone, string_bytes};
 ghost use Rattle.std.specs.Str.Parse.{digits_value};
 ghost use Rattle.link_capture_commands.specs.Commands.{IsLimitWord};
-ghost use Rattle.linkshow_words.specs.Words.{word_of, defaults, Gives, Asks, HasLimit};
+ghost use Rattle.linkshow_words.specs.Words.{word_of, defaults, Awaited.Nothing, Gives, Asks, HasLimit};
 
+use crate::types::{Types, read_types};
 use link_capture_commands::DEFAULT_LIMIT;
 
 /// How a capture is to be shown.
-#[derive(Clone, Copy, Debug, PartialEq, Eq, Drop)]
+#[derive(Clone, Debug, PartialEq, Eq, Drop)]
 pub struct Options<'a> {
     /// The greatest length of a message, in bytes.
     pub limit: u32,
@@ -16,12 +17,14 @@ pub struct Options<'a> {
     pub kernels: bool,
     /// Whether sequence and port numbers are to be left out.
     pub without_numbers: bool,
+    /// The types of the messages to be shown; without it, all are.
+    pub only: Option<Types>,
     /// The name of a file; without one it is standard input.
     pub file: Option<&'a str>,
 }
 
 /// What the program is asked to do.
-#[derive(Clone, Copy, Debug, PartialEq, Eq, Drop)]
+#[derive(Clone, Debug, PartialEq, Eq, Drop)]
 pub enum Asked<'a> {
     /// Tell how it is used.
     Help,
@@ -31,13 +34,15 @@ pub enum Asked<'a> {
     Show(Options<'a>),
 }
 
-/// What a word is where no number is awaited.
+/// What a word is where no number and no types are awaited.
 #[derive(Clone, Copy)]
 pub(crate) enum Word {
     /// `--kernels`
     Kernels,
     /// `--without-numbers`
     WithoutNumbers,
+    /// `--only`, behind which stand types
+    Only,
     /// `--limit`, behind which stands a number
     Limit,
     /// `-`: standard input
@@ -57,6 +62,8 @@ fn word_of(word: &str) -> Word
         Word::Kernels
     } else if word == "--without-numbers" {
         Word::WithoutNumbers
+    } else if word == "--only" {
+        Word::Only
     } else if word == "--limit" {
         Word::Limit
     } else if word == "-" {
@@ -91,41 +98,43 @@ fn when_last<'a>(left: &[String], options: Options<'a>) -> Option<Options<'a>>
     if left.is_empty() { Some(options) } else { None }
 }
 
-/// What is asked for without a word.
-const DEFAULTS: Options<'static> = Options {
-    limit: DEFAULT_LIMIT,
-    kernels: false,
-    without_numbers: false,
-    file: None,
-};
-
 /// Reads options, and behind them the name of a file, `-` or nothing. None where the words are anything else.
 fn read_options(words: &[String]) -> Option<Options<'_>>
-    ensures some { IfSome result (λ o. Gives false defaults (map string_bytes words.now) o) }
+    ensures some { IfSome result (λ o. Gives Nothing defaults (map string_bytes words.now) o) }
     ensures limit { IfSome result (λ o. 16 ≤ o.limit) }
     ensures none { IfNone result ((o : Options)
-        → Gives false defaults (map string_bytes words.now) o → ⊥) }
+        → Gives Nothing defaults (map string_bytes words.now) o → ⊥) }
 {
-    let mut awaited = false;
-    let mut options = DEFAULTS;
+    let mut options = Options {
+        limit: DEFAULT_LIMIT,
+        kernels: false,
+        without_numbers: false,
+        only: None,
+        file: None,
+    };
     let mut left = words;
     'words: loop {
         let [word, rest @ ..] = left else {
-            if awaited {
-                return None;
-            }
             return Some(options);
         };
         left = rest;
-        if awaited {
-            options.limit = read_limit(word.as_str())?;
-            awaited = false;
-            continue;
-        }
         match word_of(word.as_str()) {
             Word::Kernels => options.kernels = true,
             Word::WithoutNumbers => options.without_numbers = true,
-            Word::Limit => awaited = true,
+            Word::Only => {
+                let [types, more @ ..] = rest else {
+                    return None;
+                };
+                options.only = Some(read_types(types.as_str())?);
+                left = more;
+            }
+            Word::Limit => {
+                let [number, more @ ..] = rest else {
+                    return None;
+                };
+                options.limit = read_limit(number.as_str())?;
+                left = more;
+            }
             Word::Input => return when_last(rest, options),
             Word::Name => {
                 options.file = Some(word.as_str());

@@ -1,6 +1,6 @@
-use Rattle.std.proofs.Common.{◌≤◌, false, map, length}
+use Rattle.std.proofs.Common.{◌≤◌, map, length}
 use Rattle.std.specs.Prelude.{string_bytes}
-use Rattle.linkshow_words.specs.Words.{defaults}
+use Rattle.linkshow_words.specs.Words.{Awaited.Nothing, defaults}
 use Rattle.linkshow_words.proofs.Asking.{Gone}
 use Rattle.linkshow_words.proofs.words.read_options.Given as goal
 
@@ -8,7 +8,7 @@ use Rattle.linkshow_words.proofs.words.read_options.Given as goal
 abbrev pub invariant-words : goal.invariant-words
 invariant-words l = record {
   low : 16 ≤ l.options.limit;
-  gone : Gone l.awaited l.options (map string_bytes l.left) false defaults (map string_bytes l.fn.words);
+  gone : Gone Nothing l.options (map string_bytes l.left) Nothing defaults (map string_bytes l.fn.words);
 }
 
 abbrev pub decreases-words : goal.decreases-words

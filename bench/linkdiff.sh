@@ -53,6 +53,20 @@ wants "captures that differ" 1 "" a b << 'END'
 -  IFLA_IFNAME "lo"
 +  IFLA_IFNAME "l1"
 END
+# another sequence number
+{ head -c 8 "$work/a"; printf '\1\2\3\4'; tail -c +13 "$work/a"; } > "$work/later"
+wants "another sequence number" 1 "" a later << 'END'
+--- a
++++ later
+@@ -1,4 +1,4 @@
+-RTM_GETLINK flags 0x301 (REQUEST | ROOT | MATCH) seq 1526271540 port 0
++RTM_GETLINK flags 0x301 (REQUEST | ROOT | MATCH) seq 67305985 port 0
+   ifinfomsg family 0 (AF_UNSPEC) type 0 (netrom) index 0 flags 0x0 change 0x0
+   IFLA_EXT_MASK 0x9
+   IFLA_IFNAME "lo"
+END
+wants "another sequence number, without numbers" 0 "" --without-numbers a later < /dev/null
+wants "messages of another type alone" 0 "" --empty --only newlink a b < /dev/null
 wants "a name that begins with -" 0 "" ./-a a < /dev/null
 wants "a fault of the second" 2 "linkdiff: cut: cut frame at 48" a cut < /dev/null
 wants "faults of both" 2 $'linkdiff: cut: cut frame at 48\nlinkdiff: cut: cut frame at 48' cut cut < /dev/null
@@ -71,7 +85,7 @@ END
 wants "no messages in both" 0 "" --empty none none < /dev/null
 note="linkdiff: v: note: IFLA_PROTINFO with the nested bit at 84"
 wants "notes" 0 "$note"$'\n'"$note" --kernels v v < /dev/null
-usage="usage: linkdiff [--empty] [--limit N] [--kernels] A B; linkdiff --help says more"
+usage="usage: linkdiff [--empty] [--without-numbers] [--only TYPE,..] [--limit N] [--kernels] A B; linkdiff --help says more"
 wants "one file" 2 "$usage" a < /dev/null
 wants "three files" 2 "$usage" a a a < /dev/null
 wants "an unknown option" 2 "$usage" --unknown a a < /dev/null

@@ -1,0 +1,3 @@
+pub mod ListSteps
+pub mod Accepted
+pub mod Going

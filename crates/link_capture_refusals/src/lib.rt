@@ -3,7 +3,7 @@
 
 mod attribute;
 mod capture;
-
+pub mod laws;
 mod refusal;
 mod walk;
 

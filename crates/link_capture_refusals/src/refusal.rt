@@ -1,5 +1,11 @@
 //! What is refused, and where.
 
+ghost use Rattle.std.specs.Prelude.{◌≡◌, ◌<◌, ◌+◌, length, map, Some};
+ghost use Rattle.link_capture_refusals.specs.Refusals.{found_at, named};
+ghost use Rattle.link_capture_refusals.specs.RefusalViews.{found};
+ghost use Rattle.link_capture_refusals.specs.RefusalWords.{path_text, refusal_text};
+ghost use Rattle.std.specs.Fmt.{WritesOnOk, WritesStyledOnOk};
+
 use arrayvec::ArrayVec;
 use itoa::Buffer;
 use link_capture_refusal_rows::Reason;
@@ -21,7 +27,10 @@ pub struct Refusal {
 
 impl Refusal {
     /// What stands in no attribute, at a place.
-    pub(crate) fn at(place: u64, reason: Reason) -> Self {
+    pub(crate) fn at(place: u64, reason: Reason) -> Self
+        ensures found { found result ≡ found_at place reason }
+        ensures bare { length result.path.items ≡ 0 }
+    {
         Refusal {
             path: ArrayVec::new(),
             place: Some(place),
@@ -30,30 +39,45 @@ impl Refusal {
     }
 
     /// The same in an attribute with a name.
-    pub(crate) fn inside(mut self, name: &'static str) -> Self {
+    pub(crate) fn inside(mut self, name: &'static str) -> Self
+        requires { length self.path.items < 7 }
+        ensures found { found result ≡ named name.entry.now (found self) }
+        ensures longer { length result.path.items ≡ length self.path.items + 1 }
+    {
         self.path.insert(0, name);
         self
     }
 }
 
+/// Writes names from outside in, and a colon where there are any.
+fn write_path<W: fmt::Write>(f: &mut fmt::Formatter<W>, path: &[&'static str]) -> fmt::Result
+    ensures writes { WritesOnOk W.write_str_gives f.old result (path_text (map (λ n. n.now) path.now)) f.new }
+    ensures styled { WritesStyledOnOk W.write_str_gives f.old result (path_text (map (λ n. n.now) path.now)) f.new }
+{
+    let mut left = path;
+    'names: while let [name, rest @ ..] = left {
+        f.write_str(name)?;
+        f.write_str(if rest.is_empty() { ": " } else { " > " })?;
+        left = rest;
+    }
+    Ok(())
+}
+
+// Whatever options a format gives, the words are the same.
 impl fmt::Display for Refusal {
+    ghost output = { λ r. Some (refusal_text (found r)) };
+
+    ghost styled_output = { λ r _. Some (refusal_text (found r)) };
+
     fn fmt<W: fmt::Write>(&self, f: &mut fmt::Formatter<W>) -> fmt::Result {
-        let mut first = true;
-        for name in self.path.as_slice() {
-            if !first {
-                f.write_str(" > ")?;
-            }
-            f.write_str(name)?;
-            first = false;
-        }
-        if !first {
-            f.write_str(": ")?;
-        }
+        write_path(f, self.path.as_slice())?;
         fmt::Display::fmt(&self.reason, f)?;
-        if let Some(place) = self.place {
-            f.write_str(" at ")?;
-            f.write_str(Buffer::new().format(place))?;
+        match self.place {
+            Some(place) => {
+                f.write_str(" at ")?;
+                f.write_str(Buffer::new().format(place))
+            }
+            None => Ok(()),
         }
-        Ok(())
     }
 }

@@ -32,7 +32,7 @@ none_taken None q h = refl
 none_taken (Some r) q h = absurd (let e : true ≡ false = h in cc)
 
 module _ (s : ListsGoBySteps) (l : Listing) (place : ℕ) (rest : List ℕ) (e : Attribute) (after : List ℕ) (o : Option Refusal) (h : 0 < length rest) (f : first_attribute rest ≡ Some (e, after))
-  (a : all_found o ≡ attribute_refusal list_refusal l place e) where
+    (a : all_found o ≡ attribute_refusal list_refusal l place e) where
   abbrev more : Option Found
   more = list_refusal (behind l e) (place + nla_align (attribute_length e)) (goes_on l.form after)
 

@@ -107,11 +107,14 @@ list_refusal l place bytes = refusal_within (length bytes) l place bytes
 
 -- ---- of captures
 
+-- of another message than a link's, whose code is cut
+abbrev pub code_refusal : List ℕ → Found
+code_refusal b = record { path = []; place = None; reason = R.CutCode (length b) }
+
 -- of the refused frame in front, at a place
 unfoldable pub frame_refusal : ℕ → List ℕ → Option Found
 frame_refusal place c =
-    cond (is_link_type (frame_type c)) (link_refusal list_refusal true (place + 16) (place + 16) (frame_body c))
-    (Some (record { path = []; place = None; reason = R.CutCode (length (frame_body c)) }))
+    cond (is_link_type (frame_type c)) (link_refusal list_refusal true (place + 16) (place + 16) (frame_body c)) (Some (code_refusal (frame_body c)))
 
 abbrev pub fault_refusal : List ℕ → ℕ → FaultKind → Option Found
 fault_refusal c place Refused = frame_refusal place (drop place c)

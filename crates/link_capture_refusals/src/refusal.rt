@@ -3,7 +3,7 @@
 ghost use Rattle.std.specs.Prelude.{◌≡◌, ◌<◌, ◌+◌, length, map, Some};
 ghost use Rattle.link_capture_refusals.specs.Refusals.{found_at, named};
 ghost use Rattle.link_capture_refusals.specs.RefusalViews.{found};
-ghost use Rattle.link_capture_refusals.specs.RefusalWords.{path_text, refusal_text};
+ghost use Rattle.link_capture_refusals.specs.RefusalWords.{behind_name, path_text, refusal_text};
 ghost use Rattle.std.specs.Fmt.{WritesOnOk, WritesStyledOnOk};
 
 use arrayvec::ArrayVec;
@@ -49,6 +49,13 @@ impl Refusal {
     }
 }
 
+/// What stands behind a name.
+fn behind_name(rest: &[&'static str]) -> &'static str
+    ensures { result.now ≡ behind_name (map (λ n. n.now) rest.now) }
+{
+    if rest.is_empty() { ": " } else { " > " }
+}
+
 /// Writes names from outside in, and a colon where there are any.
 fn write_path<W: fmt::Write>(f: &mut fmt::Formatter<W>, path: &[&'static str]) -> fmt::Result
     ensures writes { WritesOnOk W.write_str_gives f.old result (path_text (map (λ n. n.now) path.now)) f.new }
@@ -57,7 +64,7 @@ fn write_path<W: fmt::Write>(f: &mut fmt::Formatter<W>, path: &[&'static str]) -
     let mut left = path;
     'names: while let [name, rest @ ..] = left {
         f.write_str(name)?;
-        f.write_str(if rest.is_empty() { ": " } else { " > " })?;
+        f.write_str(behind_name(rest))?;
         left = rest;
     }
     Ok(())

@@ -1,4 +1,4 @@
-use Rattle.std.proofs.Common.{◌≡◌, ◌+◌, ◌<◌, ◌≤◌, length, Some, sym, ap, ◌∙◌, arith}
+use Rattle.std.proofs.Common.{◌≡◌, ◌+◌, length, Some, sym, ap, ◌∙◌, arith}
 use Rattle.netlink_packet_core_grammar.specs.Attributes.{Attribute, attribute_length, nla_align}
 use Rattle.link_capture_refusal_rows.specs.RefusalTables.{Listing, listing}
 use Rattle.link_capture_refusal_rows.specs.RowRules.{behind}

@@ -1,6 +1,6 @@
 //! What of a capture is refused.
 
-ghost use Rattle.std.specs.Prelude.{◌≡◌, ◌<◌, ◌+◌, ◌^◌, length, true};
+ghost use Rattle.std.specs.Prelude.{◌≡◌, ◌≤◌, ◌<◌, ◌+◌, ◌^◌, drop, length};
 ghost use Rattle.netlink_packet_core.specs.Frames.{IsFrame, frame_body};
 ghost use Rattle.link_capture_grammar.specs.Bodies.{is_link_type};
 ghost use Rattle.link_capture_refusals.specs.Refusals.{frame_refusal, refusal};
@@ -29,6 +29,14 @@ fn frame_body(bytes: &[u8]) -> &[u8]
     ensures { result.now ≡ frame_body bytes.now }
 {
     &bytes[NETLINK_HEADER_LEN..NetlinkBuffer::new(bytes).length() as usize]
+}
+
+/// What stands behind the first bytes.
+fn behind(bytes: &[u8], front: u64) -> &[u8]
+    requires { front ≤ length bytes.now }
+    ensures { result.now ≡ drop front bytes.now }
+{
+    &bytes[front as usize..]
 }
 
 /// What of the refused frame in front is refused, which stands at a place.
@@ -62,7 +70,7 @@ pub fn why(bytes: &[u8], limit: u32) -> Option<Refusal>
         return None;
     };
     match kind {
-        FaultKind::Refused => frame_refusal(&bytes[offset as usize..], offset),
+        FaultKind::Refused => frame_refusal(behind(bytes, offset), offset),
         _ => None,
     }
 }

@@ -72,6 +72,12 @@ def spelling(line):
     return "".join("%s at %d; " % spelled for spelled in found) + outcome(bad)
 
 
+def refusal(line):
+    """What of the first refused body is refused, or `nothing`."""
+    limit, capture = line.split(" ")
+    return linkshow.why(bytes.fromhex(capture), limit_of(limit)) or "nothing"
+
+
 def link_info(line):
     """The canonical text of a link info list, in which peers are bytes."""
     b = bytes.fromhex(line)
@@ -88,6 +94,7 @@ ANSWERS = {
     "same_vectors": same,
     "show_vectors": show,
     "spelling_vectors": spelling,
+    "refusal_vectors": refusal,
     "link_info_vectors": link_info,
 }
 

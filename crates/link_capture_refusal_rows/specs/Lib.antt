@@ -1,0 +1,3 @@
+pub mod ReasonWords
+pub mod RefusalTables
+pub mod RowRules

@@ -1,0 +1,13 @@
+// What attributes of links are called and what they hold, and the words of what is refused of one.
+#![tactic(auto)]
+
+pub mod laws;
+mod names;
+mod peers;
+mod reason;
+mod rows;
+mod tables;
+
+pub use peers::has_empty_ports;
+pub use reason::{Reason, shape_reason};
+pub use tables::{Inside, Listed, Table, family_table, is_kept, next_list, row_in};

@@ -1,0 +1,89 @@
+//! The rows of links' tables with their names, a table after another.
+
+use crate::named_rows;
+use attribute_checks::Form::{Any, OfKindOne, Ports};
+use attribute_checks::Held;
+use attribute_checks::Held::{LinkInfo, List, Peer, Plain};
+use attribute_checks::Shape::{
+    AtMost, Either, Exact, FixedRecord, IdAndTruth, NonzeroByte, OneByte, Presence, Raw, Resized,
+    Text, TruthOfFour,
+};
+use link_info_checks::{
+    amt, bareudp, batadv, geneve, gre, gre6, gtp, ip4_tunnel, ip6_tunnel, ipoib, ipvlan, macsec,
+    macvlan, macvlan_address, netkit, rmnet, veth, vrf, vti, vxcan, vxlan, wwan, xfrm,
+};
+use link_message_checks::{
+    devlink_port, dpll_pin, inet, inet6, link_bridge, link_inet6, link_other, link_unspec, mctp,
+    props, protocol_down_reason, specific, vf, vf_infos, vf_ports, vf_stats, vf_vlans, xdp,
+};
+
+/// A kind, its name, and what its payload holds.
+pub type NamedRow = (u16, &'static [u8], Held);
+
+/// The rows of a list. A kind without one is left out.
+#[macro_export]
+macro_rules! named_rows {
+    ($(
+        $kind:literal
+        $(-> $held_name:literal, $held:expr)?
+        $(=> $nested_name:literal, $nested:expr)?
+        $(, $name:literal $(, $shape:expr, $shown:expr)?)?;
+    )*) => {
+        [$(
+            $(($kind, $held_name, $held),)?
+            $(($kind, $nested_name, $nested),)?
+            $($(($kind, $name, Plain($shape)),)?)?
+        )*]
+    };
+}
+
+/// The tables of link messages, by the number that `List` has in them.
+pub const MESSAGE_ROWS: [&[NamedRow]; 19] = [
+    &xdp!(named_rows),
+    &props!(named_rows),
+    &protocol_down_reason!(named_rows),
+    &devlink_port!(named_rows),
+    &dpll_pin!(named_rows),
+    &mctp!(named_rows),
+    &inet!(named_rows),
+    &inet6!(named_rows),
+    &specific!(named_rows),
+    &vf_stats!(named_rows),
+    &vf_vlans!(named_rows),
+    &vf!(named_rows),
+    &vf_infos!(named_rows),
+    &vf_ports!(named_rows),
+    &[],
+    &link_unspec!(named_rows),
+    &link_bridge!(named_rows),
+    &link_inet6!(named_rows),
+    &link_other!(named_rows),
+];
+
+/// The tables of link info, by the number that `List` has in them and in the names of kinds.
+pub const DATA_ROWS: [&[NamedRow]; 24] = [
+    &amt!(named_rows),
+    &bareudp!(named_rows),
+    &batadv!(named_rows),
+    &geneve!(named_rows),
+    &gre!(named_rows),
+    &gre6!(named_rows),
+    &gtp!(named_rows),
+    &ipoib!(named_rows),
+    &ipvlan!(named_rows),
+    &ip4_tunnel!(named_rows),
+    &ip6_tunnel!(named_rows),
+    &macvlan!(named_rows),
+    &macvlan_address!(named_rows),
+    &macsec!(named_rows),
+    &netkit!(named_rows),
+    &veth!(named_rows),
+    &rmnet!(named_rows),
+    &vrf!(named_rows),
+    &wwan!(named_rows),
+    &xfrm!(named_rows),
+    &vti!(named_rows),
+    &vxlan!(named_rows),
+    &vxcan!(named_rows),
+    &[],
+];

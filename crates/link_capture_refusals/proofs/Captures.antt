@@ -1,0 +1,134 @@
+-- Something is refused of a capture exactly where its first fault is a refused body.
+use Rattle.std.proofs.Common.{◌≡◌, ℕ, ◌+◌, ◌-◌, ◌<◌, ◌≤◌, Bool, true, false, cond, List, [], drop, take, length, Option, Some, None, Ok, Err, Result, refl, sym, ap, subst, ◌∙◌, arith, length-drop}
+use Rattle.std.specs.Prelude.{◌&&◌, min, IsSome, is_none, nat_eq, nat_le, nat_lt}
+use Rattle.std.proofs.lemmas.Bool.{and_parts, leb-true, ltb-false, ne_eqb}
+use Rattle.std.proofs.lemmas.List.{length-take}
+use Rattle.netlink_packet_core_grammar.specs.Frames.{IsFrame, frame_body, frame_length, frame_type}
+use Rattle.netlink_packet_core_grammar.specs.Laws.{FirstIsWithin}
+use Rattle.attribute_tables_grammar.specs.Rules.{Rule}
+use Rattle.link_message_grammar.specs.Body.{body_rule, link_body, link_peer}
+use Rattle.link_capture_grammar.specs.Bodies.{Refusal, refused, empty_ports, unfit, body_text, body_text_under, done_text, error_text, is_link_type, ruled_text}
+use Rattle.link_capture_grammar.specs.Captures.{Judged, fault_of, first_fault, first_frame, first_frame_under, judged_text}
+use Rattle.link_capture_grammar.specs.Laws.{CapturesGoByFrames}
+use Rattle.link_capture_grammar.specs.declared.fault.CaptureFault.{CaptureFault}
+use Rattle.link_capture_grammar.specs.declared.fault.FaultKind.{FaultKind}
+use Rattle.link_capture_grammar.specs.declared.fault.FaultKind.TheVariants.{Cut, ShortLength, OverLimit, Refused, EmptyPorts, Unfit, TextOverLimit, Memory, Read, Write, TooLong, Failed}
+use Rattle.link_capture_refusals.specs.RefusalLaws.{IsBetween, LinksAreAccepted, RefusedBodiesAreTold, RefusedFramesAreWhole, StandsIn}
+use Rattle.link_capture_refusals.specs.Refusals.{Found, code_refusal, fault_refusal, frame_refusal, link_refusal, list_refusal, refusal, told_refusal}
+use Rattle.link_capture_refusals.proofs.Places.{Placed, link_placed}
+
+-- ---- a refused frame
+
+record RefusedFrame (c : List ℕ) : Type 0 where
+  frame : IsFrame c
+  body : body_text (frame_type c) (frame_body c) ≡ Err refused
+
+-- which tests it passed
+tests : (a b d e : Bool) (j : Judged) → cond a (Err Cut) (cond b (Err ShortLength) (cond d (Err OverLimit) (cond e (Err Cut) j))) ≡ Err Refused → (a ≡ false) × (b ≡ false) × (e ≡ false) × (j ≡ Err Refused)
+tests true b d e j h = absurd cc
+tests false true d e j h = absurd cc
+tests false false true e j h = absurd cc
+tests false false false true j h = absurd cc
+tests false false false false j h = (refl, refl, refl, h)
+
+over : (b : Bool) (x : ℕ × List ℕ) → cond b (Err TextOverLimit) (Ok x) ≡ Err Refused → ⊥
+over true x h = absurd cc
+over false x h = absurd cc
+
+judged_refused : (limit : ℕ) (c : List ℕ) (o : Result (List ℕ) Refusal) → judged_text limit c o ≡ Err Refused → o ≡ Err refused
+judged_refused limit c (Ok text) h = absurd (over (nat_lt limit (16 + length text)) _ h)
+judged_refused limit c (Err refused) h = refl
+judged_refused limit c (Err empty_ports) h = absurd cc
+judged_refused limit c (Err unfit) h = absurd cc
+
+frame_refused : (limit : ℕ) (c : List ℕ) → first_frame limit c ≡ Err Refused → RefusedFrame c
+unfolding first_frame_under
+frame_refused limit c h =
+    let t = tests (nat_lt (length c) 16) (nat_lt (frame_length c) 16) (nat_lt limit (frame_length c)) (nat_lt (length c) (frame_length c)) _ h in
+    record {
+      frame = record { has_header = ltb-false (length c) 16 t.0; covers_header = ltb-false (frame_length c) 16 t.1; within = ltb-false (length c) (frame_length c) t.2 };
+      body = judged_refused limit c (body_text (frame_type c) (frame_body c)) t.3;
+    }
+
+pub frames : CapturesGoByFrames link_body → RefusedFramesAreWhole
+frames law limit place c h = (frame_refused limit (drop place c) (law.fault_there limit c (record { kind = Refused; offset = place }) h)).frame
+
+-- ---- the body of a link
+
+ruled_refused : (r : Rule) (b : List ℕ) (a e f : Bool) → r.accepted b ≡ a → cond a (cond e (Err empty_ports) (cond f (Ok (r.canonical b)) (Err unfit))) (Err refused) ≡ Err refused → r.accepted b ≡ false
+ruled_refused r b true true f i h = absurd cc
+ruled_refused r b true false true i h = absurd cc
+ruled_refused r b true false false i h = absurd cc
+ruled_refused r b false e f i h = i
+
+link_refused : (t : ℕ) (b : List ℕ) → is_link_type t ≡ true → body_text t b ≡ Err refused → link_body.accepted b ≡ false
+unfolding body_text_under
+link_refused t b l h =
+    let low = leb-true 16 t (and_parts (nat_le 16 t) (nat_le t 19) l).0 in
+    let ruled : ruled_text link_body b ≡ Err refused =
+    sym (ap (λ x. cond x (Ok []) (cond (nat_eq t 2) (error_text b) (cond (nat_eq t 3) (done_text b) (cond (is_link_type t) (ruled_text link_body b) (Ok b))))) (ne_eqb t 1 (λ e. omega (arith, e, low)))
+    ∙ ap (λ x. cond x (error_text b) (cond (nat_eq t 3) (done_text b) (cond (is_link_type t) (ruled_text link_body b) (Ok b)))) (ne_eqb t 2 (λ e. omega (arith, e, low)))
+    ∙ ap (λ x. cond x (done_text b) (cond (is_link_type t) (ruled_text link_body b) (Ok b))) (ne_eqb t 3 (λ e. omega (arith, e, low)))
+    ∙ ap (λ x. cond x (ruled_text link_body b) (Ok b)) l) ∙ h
+    in
+    ruled_refused link_body b (link_body.accepted b) (link_body.empty_ports b) (link_body.fits b) refl ruled
+
+-- ---- what is told of it
+
+some_of : (o : Option Found) → is_none o ≡ false → IsSome o
+some_of None h = absurd (let e : true ≡ false = h in cc)
+some_of (Some f) h = refl
+
+module _ (law : CapturesGoByFrames link_body) (w : FirstIsWithin) (links : LinksAreAccepted) where
+  told_frame : (place : ℕ) (c : List ℕ) (l : Bool) → is_link_type (frame_type c) ≡ l → body_text (frame_type c) (frame_body c) ≡ Err refused →
+      IsSome (cond l (link_refusal list_refusal true (place + 16) (place + 16) (frame_body c)) (Some (code_refusal (frame_body c))))
+  told_frame place c true l h =
+      some_of (link_refusal list_refusal true (place + 16) (place + 16) (frame_body c)) (sym (links true (place + 16) (place + 16) (frame_body c)) ∙ link_refused (frame_type c) (frame_body c) l h)
+  told_frame place c false l h = refl
+
+  is_told : (limit place : ℕ) (c : List ℕ) → first_fault limit c ≡ Some (record { kind = Refused; offset = place }) → IsSome (refusal limit c)
+  unfolding frame_refusal
+  is_told limit place c h =
+      let r = frame_refused limit (drop place c) (law.fault_there limit c (record { kind = Refused; offset = place }) h) in
+      subst (λ o. IsSome (told_refusal c o)) (sym h) (told_frame place (drop place c) (is_link_type (frame_type (drop place c))) refl r.body)
+
+  -- ---- where it stands
+
+  in_frame : (place : ℕ) (c : List ℕ) (f : Found) (l : Bool) → IsFrame c → is_link_type (frame_type c) ≡ l →
+      cond l (link_refusal list_refusal true (place + 16) (place + 16) (frame_body c)) (Some (code_refusal (frame_body c))) ≡ Some f → cond l (IsBetween place (place + frame_length c) f.place) (f.place ≡ None)
+  in_frame place c f true i e h =
+      let b = frame_body c in
+      let s = length-take (frame_length c - 16) (drop 16 c) in
+      let p : Placed (place + 16) (place + 16 + length b) (Some f) = subst (Placed (place + 16) (place + 16 + length b)) h (link_placed w true (place + 16) b) in
+      by_place f.place s p
+    where
+      by_place : (o : Option ℕ) → length (take (frame_length c - 16) (drop 16 c)) ≡ min (frame_length c - 16) (length (drop 16 c)) → IsBetween (place + 16) (place + 16 + length (frame_body c)) o → IsBetween place (place + frame_length c) o
+      by_place None s p = p
+      by_place (Some x) s p = let covers = i.covers_header in (omega (arith, p.0), omega (arith, p.1, s, covers))
+  in_frame place c f false i e h = let same : code_refusal (frame_body c) ≡ f = cc in sym (ap (λ (x : Found). x.place) same)
+
+  by_kind : (limit place : ℕ) (c : List ℕ) (f : Found) (kind : FaultKind) → first_fault limit c ≡ Some (record { kind = kind; offset = place }) → fault_refusal c place kind ≡ Some f →
+      (at : ℕ) × (first_fault limit c ≡ Some (record { kind = Refused; offset = at })) × StandsIn at (drop at c) f
+  unfolding frame_refusal
+  by_kind limit place c f Refused h e =
+      let r = frame_refused limit (drop place c) (law.fault_there limit c (record { kind = Refused; offset = place }) h) in
+      (place, h, in_frame place (drop place c) f (is_link_type (frame_type (drop place c))) r.frame refl e)
+  by_kind limit place c f Cut h e = absurd cc
+  by_kind limit place c f ShortLength h e = absurd cc
+  by_kind limit place c f OverLimit h e = absurd cc
+  by_kind limit place c f EmptyPorts h e = absurd cc
+  by_kind limit place c f Unfit h e = absurd cc
+  by_kind limit place c f TextOverLimit h e = absurd cc
+  by_kind limit place c f Memory h e = absurd cc
+  by_kind limit place c f Read h e = absurd cc
+  by_kind limit place c f Write h e = absurd cc
+  by_kind limit place c f TooLong h e = absurd cc
+  by_kind limit place c f Failed h e = absurd cc
+
+  by_fault : (limit : ℕ) (c : List ℕ) (f : Found) (o : Option CaptureFault) → first_fault limit c ≡ o → told_refusal c o ≡ Some f →
+      (at : ℕ) × (first_fault limit c ≡ Some (record { kind = Refused; offset = at })) × StandsIn at (drop at c) f
+  by_fault limit c f None h e = absurd cc
+  by_fault limit c f (Some fault) h e = by_kind limit fault.offset c f fault.kind h e
+
+  pub told : RefusedBodiesAreTold
+  told = record { told = is_told; stands = λ limit c f e. by_fault limit c f (first_fault limit c) refl e }

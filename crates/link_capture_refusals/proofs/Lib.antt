@@ -1,0 +1,6 @@
+pub mod ListSteps
+pub mod Accepted
+pub mod Going
+pub mod Words
+pub mod Places
+pub mod Captures

@@ -1,0 +1,4 @@
+pub mod Refusals
+pub mod RefusalWords
+pub mod RefusalViews
+pub mod RefusalLaws

@@ -1,0 +1,76 @@
+//! What of a capture is refused.
+
+ghost use Rattle.std.specs.Prelude.{◌≡◌, ◌≤◌, ◌<◌, ◌+◌, ◌^◌, drop, length};
+ghost use Rattle.netlink_packet_core.specs.Frames.{IsFrame, frame_body};
+ghost use Rattle.link_capture_grammar.specs.Bodies.{is_link_type};
+ghost use Rattle.link_capture_refusals.specs.Refusals.{frame_refusal, refusal};
+ghost use Rattle.link_capture_refusals.specs.RefusalViews.{all_found};
+
+use crate::laws::refused_frames_are_whole;
+use crate::refusal::Refusal;
+use crate::walk::link_refusal;
+use arrayvec::ArrayVec;
+use link_capture_checks::check;
+use link_capture_grammar::fault::{CaptureFault, FaultKind};
+use link_capture_grammar::laws::faults_stand_at_frames;
+use link_capture_refusal_rows::Reason;
+use netlink_packet_core::{NETLINK_HEADER_LEN, NetlinkBuffer};
+
+/// Whether messages of a type are links': RTM_NEWLINK, RTM_DELLINK, RTM_GETLINK and RTM_SETLINK (rtnetlink.h).
+fn is_link_type(message_type: u16) -> bool
+    ensures { result ≡ is_link_type message_type }
+{
+    16 <= message_type && message_type <= 19
+}
+
+/// The body of the frame in front.
+fn frame_body(bytes: &[u8]) -> &[u8]
+    requires { IsFrame bytes.now }
+    ensures { result.now ≡ frame_body bytes.now }
+{
+    &bytes[NETLINK_HEADER_LEN..NetlinkBuffer::new(bytes).length() as usize]
+}
+
+/// What stands behind the first bytes.
+fn behind(bytes: &[u8], front: u64) -> &[u8]
+    requires { front ≤ length bytes.now }
+    ensures { result.now ≡ drop front bytes.now }
+{
+    &bytes[front as usize..]
+}
+
+/// What of the refused frame in front is refused, which stands at a place.
+#[tactic(auto, unfolding(crate::specs::Refusals::frame_refusal))]
+fn frame_refusal(frame: &[u8], place: u64) -> Option<Refusal>
+    requires frame { IsFrame frame.now }
+    requires near { place + length frame.now < 2 ^ 63 }
+    ensures { all_found result ≡ frame_refusal place frame.now }
+{
+    let body = frame_body(frame);
+    let start = place + NETLINK_HEADER_LEN as u64;
+    if is_link_type(NetlinkBuffer::new(frame).message_type()) {
+        return link_refusal(true, start, start, body);
+    }
+    Some(Refusal {
+        path: ArrayVec::new(),
+        place: None,
+        reason: Reason::CutCode(body.len()),
+    })
+}
+
+/// What of a capture's first faulty frame is refused, where its fault is a refused body, under a limit on the bytes of a
+/// frame and of its text: the first attribute, in the order of the bytes, that isn't accepted. None where the capture is
+/// legal or its first fault another one. It takes no memory.
+pub fn why(bytes: &[u8], limit: u32) -> Option<Refusal>
+    ensures { all_found result ≡ refusal limit bytes.now }
+{
+    faults_stand_at_frames();
+    refused_frames_are_whole();
+    let Err(CaptureFault { kind, offset }) = check(bytes, limit) else {
+        return None;
+    };
+    match kind {
+        FaultKind::Refused => frame_refusal(behind(bytes, offset), offset),
+        _ => None,
+    }
+}

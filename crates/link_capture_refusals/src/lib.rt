@@ -1,0 +1,12 @@
+// What of a refused body is refused.
+#![tactic(auto)]
+
+mod attribute;
+mod capture;
+pub mod laws;
+mod refusal;
+mod walk;
+
+pub use capture::why;
+pub use link_capture_refusal_rows::Reason;
+pub use refusal::Refusal;

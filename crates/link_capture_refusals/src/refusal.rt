@@ -1,0 +1,90 @@
+//! What is refused, and where.
+
+ghost use Rattle.std.specs.Prelude.{◌≡◌, ◌<◌, ◌+◌, length, map, Some};
+ghost use Rattle.link_capture_refusals.specs.Refusals.{found_at, named};
+ghost use Rattle.link_capture_refusals.specs.RefusalViews.{found};
+ghost use Rattle.link_capture_refusals.specs.RefusalWords.{behind_name, path_text, refusal_text};
+ghost use Rattle.std.specs.Fmt.{WritesOnOk, WritesStyledOnOk};
+
+use arrayvec::ArrayVec;
+use itoa::Buffer;
+use link_capture_refusal_rows::Reason;
+use std::fmt;
+
+/// As many attributes stand inside one another as this: link info, data and peer, the same of the peer, and an address.
+pub const DEPTH: usize = 7;
+
+/// What of a body is refused.
+#[derive(Clone, Debug, PartialEq, Eq, Drop)]
+pub struct Refusal {
+    /// The names of attributes from outside in (if_link.h and others).
+    pub path: ArrayVec<&'static str, DEPTH>,
+    /// In bytes from the capture's start: where the attribute, or what stands in its place, begins. NLMSG_ERROR and
+    /// NLMSG_DONE have none.
+    pub place: Option<u64>,
+    pub reason: Reason,
+}
+
+impl Refusal {
+    /// What stands in no attribute, at a place.
+    pub(crate) fn at(place: u64, reason: Reason) -> Self
+        ensures found { found result ≡ found_at place reason }
+        ensures bare { length result.path.items ≡ 0 }
+    {
+        Refusal {
+            path: ArrayVec::new(),
+            place: Some(place),
+            reason,
+        }
+    }
+
+    /// The same in an attribute with a name.
+    pub(crate) fn inside(mut self, name: &'static str) -> Self
+        requires { length self.path.items < 7 }
+        ensures found { found result ≡ named name.entry.now (found self) }
+        ensures longer { length result.path.items ≡ length self.path.items + 1 }
+    {
+        self.path.insert(0, name);
+        self
+    }
+}
+
+/// What stands behind a name.
+fn behind_name(rest: &[&'static str]) -> &'static str
+    ensures { result.now ≡ behind_name (map (λ n. n.now) rest.now) }
+{
+    if rest.is_empty() { ": " } else { " > " }
+}
+
+/// Writes names from outside in, and a colon where there are any.
+fn write_path<W: fmt::Write>(f: &mut fmt::Formatter<W>, path: &[&'static str]) -> fmt::Result
+    ensures writes { WritesOnOk W.write_str_gives f.old result (path_text (map (λ n. n.now) path.now)) f.new }
+    ensures styled { WritesStyledOnOk W.write_str_gives f.old result (path_text (map (λ n. n.now) path.now)) f.new }
+{
+    let mut left = path;
+    'names: while let [name, rest @ ..] = left {
+        f.write_str(name)?;
+        f.write_str(behind_name(rest))?;
+        left = rest;
+    }
+    Ok(())
+}
+
+// Whatever options a format gives, the words are the same.
+impl fmt::Display for Refusal {
+    ghost output = { λ r. Some (refusal_text (found r)) };
+
+    ghost styled_output = { λ r _. Some (refusal_text (found r)) };
+
+    fn fmt<W: fmt::Write>(&self, f: &mut fmt::Formatter<W>) -> fmt::Result {
+        write_path(f, self.path.as_slice())?;
+        fmt::Display::fmt(&self.reason, f)?;
+        match self.place {
+            Some(place) => {
+                f.write_str(" at ")?;
+                f.write_str(Buffer::new().format(place))
+            }
+            None => Ok(()),
+        }
+    }
+}

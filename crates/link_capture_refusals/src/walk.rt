@@ -1,0 +1,189 @@
+//! A walk to the first attribute that isn't accepted.
+
+ghost use Rattle.std.specs.Prelude.{◌≡◌, ◌≤◌, ◌<◌, ◌+◌, ◌^◌, cond, length, None, Some, IfSome};
+ghost use Rattle.attribute_checks.specs.Rows.{shape_of};
+ghost use Rattle.attribute_tables_grammar.specs.Shapes.{accepts};
+ghost use Rattle.link_capture_refusal_rows.specs.ReasonWords.{shape_reason};
+ghost use Rattle.link_capture_refusal_rows.specs.RefusalTables.{IsInside, IsTable, depth, inside_depth, listing};
+ghost use Rattle.link_capture_refusal_rows.specs.RowRules.{inside_rule, peer_of};
+ghost use Rattle.link_capture_refusals.specs.Refusals.{attribute_refusal, found_at, goes_on, inside_refusal, link_refusal};
+ghost use Rattle.link_capture_refusals.specs.Refusals.{list_refusal, no_attribute, peer_refusal, whole_refusal};
+ghost use Rattle.link_capture_refusals.specs.RefusalViews.{all_found, attribute_of};
+
+use crate::attribute::{Attribute, first_attribute};
+use crate::laws::{links_are_accepted, lists_are_accepted, lists_go_by_steps};
+use crate::refusal::Refusal;
+use attribute_checks::{Form, PeerSet, Shape, measure_shape};
+use attribute_tables_grammar::laws::measures_tell_rules;
+use link_capture_refusal_rows::laws::rows_are_the_tables;
+use link_capture_refusal_rows::{
+    Inside, Listed, Reason, family_table, has_empty_ports, is_kept, next_list, row_in, shape_reason,
+};
+use link_message_checks::LinkPeer;
+use netlink_packet_core::nla_align;
+use netlink_packet_core_attributes::view::read_u16;
+use netlink_packet_core_grammar::laws::first_attributes_are_within;
+
+/// The bytes of the header of a link (rtnetlink.h, `struct ifinfomsg`).
+const LINK_HEADER_LEN: usize = 16;
+
+/// Why no attribute begins these bytes.
+fn no_attribute(bytes: &[u8]) -> Reason
+    ensures { result ≡ no_attribute bytes.now }
+{
+    if bytes.len() < 4 {
+        Reason::CutHeader(bytes.len())
+    } else {
+        Reason::WrongLength(bytes.len(), read_u16(bytes, 0))
+    }
+}
+
+/// What of a value is refused, where the attribute begins at a place.
+fn value_refusal(shape: Shape, own: u64, payload: &[u8]) -> Option<Refusal>
+    ensures found { all_found result ≡ cond (accepts (shape_of shape) payload.now) None
+        (Some (found_at own (shape_reason shape (length payload.now)))) }
+    ensures bare { IfSome result (λ r. length r.path.items ≡ 0) }
+{
+    measures_tell_rules();
+    if measure_shape(shape, payload).is_some() {
+        return None;
+    }
+    Some(Refusal::at(own, shape_reason(shape, payload.len())))
+}
+
+/// What of a link is refused, which begins at a place: its header, or one of its attributes.
+#[cycle(refusal)]
+pub(crate) fn link_refusal(judged: bool, own: u64, place: u64, body: &[u8]) -> Option<Refusal>
+    requires near { place + length body.now < 2 ^ 63 }
+    ensures found { all_found result ≡ link_refusal list_refusal judged own place body.now }
+    ensures room { IfSome result (λ r. length r.path.items ≤ cond judged 7 4) }
+{
+    if body.len() < LINK_HEADER_LEN {
+        return Some(Refusal::at(own, Reason::CutLink(body.len())));
+    }
+    let list = Listed::new(Form::Any, family_table(body[0]), judged);
+    list_refusal(list, place + 16, &body[LINK_HEADER_LEN..])
+}
+
+/// What of a peer is refused, where the attribute begins at a place.
+#[cycle(refusal)]
+fn peer_refusal(judged: bool, own: u64, payload: &[u8]) -> Option<Refusal>
+    requires near { own + 4 + length payload.now < 2 ^ 63 }
+    ensures found { all_found result
+        ≡ cond ((peer_of judged).accepted payload.now) None (peer_refusal list_refusal own payload.now) }
+    ensures room { IfSome result (λ r. length r.path.items ≤ cond judged 4 0) }
+{
+    measures_tell_rules();
+    links_are_accepted();
+    if !judged || LinkPeer.measure_peer(payload).is_some() {
+        return None;
+    }
+    let found = link_refusal(false, own, own + 4, payload);
+    if found.is_some() {
+        return found;
+    }
+    if has_empty_ports(payload) {
+        return Some(Refusal::at(own, Reason::EmptyPorts));
+    }
+    Some(Refusal::at(own, Reason::Unfit))
+}
+
+/// What of a list is refused, where the attribute that holds it begins at a place.
+#[cycle(refusal)]
+fn whole_refusal(list: Listed<'_>, own: u64, payload: &[u8]) -> Option<Refusal>
+    requires table { IsTable list.table }
+    requires near { own + 4 + length payload.now < 2 ^ 63 }
+    ensures found { all_found result
+        ≡ whole_refusal list_refusal (listing list.entry) own payload.now }
+    ensures room { IfSome result
+        (λ r. length r.path.items ≤ depth list.entry.judged list.entry.table) }
+{
+    if !payload.is_empty() {
+        return list_refusal(list, own + 4, payload);
+    }
+    match list.form {
+        Form::NonEmpty | Form::Ports => Some(Refusal::at(own, Reason::EmptyList)),
+        Form::FirstAlone => Some(Refusal::at(own + 4, Reason::CutHeader(0))),
+        Form::Any | Form::OfKindOne => None,
+    }
+}
+
+/// What of a payload is refused, where the attribute begins at a place.
+#[cycle(refusal)]
+fn inside_refusal(judged: bool, inside: Inside, own: u64, payload: &[u8]) -> Option<Refusal>
+    requires inside { IsInside inside }
+    requires near { own + 4 + length payload.now < 2 ^ 63 }
+    ensures found { all_found result ≡ cond ((inside_rule judged inside).accepted payload.now) None
+        (inside_refusal list_refusal judged inside own payload.now) }
+    ensures room { IfSome result (λ r. length r.path.items ≤ inside_depth judged inside) }
+{
+    lists_are_accepted();
+    match inside {
+        Inside::Refused(reason) => Some(Refusal::at(own, reason)),
+        Inside::Value(shape) => value_refusal(shape, own, payload),
+        Inside::List(form, table) => whole_refusal(Listed::new(form, table, judged), own, payload),
+        Inside::Peer => peer_refusal(judged, own, payload),
+    }
+}
+
+/// What of an attribute is refused, which begins at a place.
+#[cycle(refusal)]
+fn attribute_refusal(list: Listed<'_>, place: u64, attribute: Attribute<'_>) -> Option<Refusal>
+    requires table { IsTable list.table }
+    requires near { place + 4 + length attribute.payload.now < 2 ^ 63 }
+    ensures found { all_found result ≡ attribute_refusal list_refusal (listing list.entry) place
+        (attribute_of attribute.entry) }
+    ensures room { IfSome result
+        (λ r. length r.path.items ≤ depth list.entry.judged list.entry.table) }
+{
+    rows_are_the_tables();
+    if !is_kept(list.form, attribute.kind) {
+        return None;
+    }
+    let Some((name, inside)) = row_in(list, attribute.kind % 0x4000) else {
+        return None;
+    };
+    match inside_refusal(list.judged, inside, place, attribute.payload) {
+        Some(found) => Some(found.inside(name)),
+        None => None,
+    }
+}
+
+/// The bytes that a list goes on with behind an attribute.
+fn goes_on(form: Form, after: &[u8]) -> &[u8]
+    ensures { result.now ≡ goes_on form after.now }
+{
+    match form {
+        Form::FirstAlone => &[],
+        Form::Any | Form::NonEmpty | Form::OfKindOne | Form::Ports => after,
+    }
+}
+
+/// What of a list is refused, whose bytes begin at a place.
+#[cycle(refusal)]
+fn list_refusal(list: Listed<'_>, place: u64, bytes: &[u8]) -> Option<Refusal>
+    requires table { IsTable list.table }
+    requires near { place + length bytes.now < 2 ^ 63 }
+    ensures found { all_found result ≡ list_refusal (listing list.entry) place bytes.now }
+    ensures room { IfSome result
+        (λ r. length r.path.items ≤ depth list.entry.judged list.entry.table) }
+{
+    first_attributes_are_within();
+    lists_go_by_steps();
+    let mut list = list;
+    let mut place = place;
+    let mut rest = bytes;
+    while !rest.is_empty() {
+        let Some((attribute, after)) = first_attribute(rest) else {
+            return Some(Refusal::at(place, no_attribute(rest)));
+        };
+        let found = attribute_refusal(list, place, attribute);
+        if found.is_some() {
+            return found;
+        }
+        list = next_list(list, attribute.kind, attribute.payload);
+        place += nla_align(4 + attribute.payload.len()) as u64;
+        rest = goes_on(list.form, after);
+    }
+    None
+}

@@ -14,7 +14,8 @@ use Rattle.link_capture_grammar.specs.Bodies.{Refusal, refused, empty_ports, unf
 use Rattle.link_capture_grammar.specs.Captures.{Judged, first_frame, next_texts, texts_after, texts_after_under, texts}
 use Rattle.link_capture_grammar.specs.Laws.{FramesAreJudged, FramesStandAlone, CapturesAreCounted, BodiesAreNormal, TextsTellMeanings}
 use Rattle.link_lines_values.specs.Flags.{named_flags}
-use Rattle.link_lines_texts.specs.Frames.{labelled, flag_names, type_text, header_line, body_lines, frame_lines}
+use Rattle.link_lines_texts.specs.Frames.{flag_names, type_text, header_line, body_lines, frame_lines}
+use Rattle.link_lines_texts.specs.Links.{labelled}
 use Rattle.link_lines_texts.specs.Captures.{lines_after, text_lines}
 use Rattle.link_lines_texts.specs.Laws.{LinesTellMeanings, LinesTellTexts}
 use Rattle.link_lines_texts.specs.Telling.{IsOwnFrame, StartsFrame, FramesAreTold}

@@ -14,12 +14,14 @@ use Rattle.link_lines_values.specs.declared.values.ShownBy.TheVariants.{Signed, 
 use Rattle.link_lines_values.specs.Bytes.{bytes_text}
 use Rattle.link_lines_values.specs.Values.{value_text}
 use Rattle.link_lines_values.specs.Laws.{BytesAreTold, DigitsAreTold, NumbersAreTold, ValuesStandOnALine}
-use Rattle.link_lines_texts.specs.Frames.{bytes_line, body_lines, code_lines, family_table, frame_lines, header_line, link_header_line, link_lines, type_text}
+use Rattle.link_lines_texts.specs.Frames.{bytes_line, body_lines, code_lines, frame_lines, header_line, link_lines, type_text}
+use Rattle.link_lines_texts.specs.Links.{family_table, link_header_line}
 use Rattle.link_lines_texts.specs.Lists.{list_lines}
 use Rattle.link_lines_texts.specs.Telling.{FramesAreTold, IsOwn, IsOwnFrame, IsShallow, ListsAreTold, StartsFrame}
 use Rattle.link_lines_texts.proofs.ByteParts.{first_bytes, later_bytes}
 use Rattle.link_lines_texts.proofs.LineCuts.{behind, cut_line}
-use Rattle.link_lines_texts.proofs.HeadersTold.{flags_part, header_told, link_header_told, type_starts}
+use Rattle.link_lines_texts.proofs.HeadersTold.{flags_part, header_told, type_starts}
+use Rattle.link_lines_texts.proofs.LinkHeadersTold.{link_header_told}
 
 -- ---- lines of bytes, and of codes
 
@@ -110,9 +112,9 @@ own_link h b a e =
 abbrev list_part : List ℕ → List ℕ
 list_part b = list_lines 1 (family_table (slice_index b 0)) (drop 16 b)
 
-link_lines_are : (b : List ℕ) → 16 ≤ length b → link_lines b ≡ link_header_line b ++ list_part b
+link_lines_are : (b : List ℕ) → 16 ≤ length b → link_lines b ≡ link_header_line 1 b ++ list_part b
 unfolding link_lines
-link_lines_are b h = ap (λ c. cond c (link_header_line b ++ list_part b) (bytes_line (codes "body") b)) (le-leb 16 (length b) h)
+link_lines_are b h = ap (λ c. cond c (link_header_line 1 b ++ list_part b) (bytes_line (codes "body") b)) (le-leb 16 (length b) h)
 
 shallow : (s : List ℕ) → StartsFrame s → IsShallow 1 s
 shallow s h r = no_space s (32 ∷ r) h
@@ -120,8 +122,8 @@ shallow s h r = no_space s (32 ∷ r) h
 link_told : ListsAreTold → DigitsAreTold → (p q s t : List ℕ) → AreBytes p → AreBytes q → IsOwnLink p → IsOwnLink q → StartsFrame s → StartsFrame t → link_lines p ++ s ≡ link_lines q ++ t → (p ≡ q) × (s ≡ t)
 link_told lists d p q s t a b h k i j e =
     let lines = sym (ap (λ z. z ++ s) (link_lines_are p h.size)) ∙ e ∙ ap (λ z. z ++ t) (link_lines_are q k.size) in
-    let shown = behind (link_header_line p) (list_part p) s (link_header_line q) (list_part q) t lines in
-    let same = link_header_told d p q (list_part p ++ s) (list_part q ++ t) a b h.size k.size shown in
+    let shown = behind (link_header_line 1 p) (list_part p) s (link_header_line 1 q) (list_part q) t lines in
+    let same = link_header_told d 1 p q (list_part p ++ s) (list_part q ++ t) a b h.size k.size shown in
     let other = subst (λ n. IsOwn (attributes_rule (family_of n)) (drop 16 q)) (sym same.family) k.attributes in
     let rest = same.rest ∙ ap (λ n. list_lines 1 (family_table n) (drop 16 q) ++ t) (sym same.family) in
     let r = lists (slice_index p 0) (drop 16 p) (drop 16 q) s t h.attributes other (shallow s i) (shallow t j) rest in

@@ -6,7 +6,7 @@ use Rattle.attribute_tables_grammar.specs.Tables.{Payload}
 use Rattle.link_message_grammar.specs.Body.{attributes_rule, list_rule_of}
 use Rattle.link_message_grammar.specs.LinkMessage.{Family, unspec, bridge, inet_6, other, link_table}
 use Rattle.link_lines_texts.specs.Coverage.{holds_shown}
-use Rattle.link_lines_texts.specs.Frames.{family_table}
+use Rattle.link_lines_texts.specs.Links.{family_table}
 use Rattle.link_lines_texts.specs.Laws.{RowsAreTold}
 use Rattle.link_lines_texts.specs.Telling.{ListsAreTold}
 use Rattle.link_lines_texts.specs.Titles.{Inside.Nested}

@@ -1,5 +1,5 @@
 -- The lines of a message: its header's, its link's header's, and those of its attributes.
-use Rattle.std.specs.Prelude.{ℕ, ◌==◌, ◌||◌, nat_le, cond, List, [], ◌∷◌, ◌++◌, length, take, drop, codes, decimal, slice_index}
+use Rattle.std.specs.Prelude.{ℕ, ◌==◌, ◌||◌, nat_le, false, cond, List, [], ◌∷◌, ◌++◌, length, take, drop, codes, decimal}
 use Rattle.netlink_packet_core_grammar.specs.Numbers.{u16_at, u32_at}
 use Rattle.link_capture_grammar.specs.Bodies.{is_link_type}
 use Rattle.link_lines_values.specs.declared.flags.TheConstants.{MESSAGE_FLAGS, MESSAGE_GET_FLAGS, MESSAGE_CREATE_FLAGS, MESSAGE_DELETE_FLAGS, MESSAGE_ACK_FLAGS}
@@ -9,8 +9,8 @@ use Rattle.link_lines_values.specs.Bytes.{bytes_text}
 use Rattle.link_lines_values.specs.Flags.{named_flags}
 use Rattle.link_lines_values.specs.Names.{Text, text_in, texts_of}
 use Rattle.link_lines_values.specs.Values.{value_text}
-use Rattle.link_lines_texts.specs.Links.{family_table, labelled, link_header_line}
-use Rattle.link_lines_texts.specs.Lists.{list_lines}
+use Rattle.link_lines_texts.specs.Links.{labelled, link_header_line}
+use Rattle.link_lines_texts.specs.Lists.{list_lines, of_link}
 
 unfoldable pub message_types : List Text
 message_types = texts_of (λ n. n.now) MESSAGE_TYPE.now
@@ -43,7 +43,7 @@ bytes_line name (b ∷ bytes) = codes "  " ++ (name ++ (bytes_text (b ∷ bytes)
 -- the body of a link message; one without its header, which no normal text has, is bytes
 unfoldable pub link_lines : List ℕ → List ℕ
 link_lines b =
-    cond (nat_le 16 (length b)) (link_header_line 1 b ++ list_lines 1 (family_table (slice_index b 0)) (drop 16 b)) (bytes_line (codes "body") b)
+    cond (nat_le 16 (length b)) (link_header_line 1 b ++ list_lines 1 (of_link false b) (drop 16 b)) (bytes_line (codes "body") b)
 
 -- the body of an ERROR or a DONE message: a code with a sign, and the bytes behind it; one without a code, which no normal text has, is bytes
 unfoldable pub code_lines : List ℕ → List ℕ

@@ -6,4 +6,3 @@ pub mod Links
 pub mod Lists
 pub mod Telling
 pub mod Titles
-pub mod Views

@@ -8,7 +8,7 @@ ghost use Rattle.link_lines_texts.specs.Frames.{type_text, flag_names, header_li
 ghost use Rattle.link_lines_texts.specs.Frames.{link_lines, bytes_line, code_lines};
 ghost use Rattle.link_lines_texts.specs.Frames.{body_lines, frame_lines};
 
-use crate::attributes::push_list;
+use crate::attributes::{Place, push_list};
 use crate::links::{
     LINK_HEADER_LEN, family_table, push_labelled_decimal, push_labelled_flags, push_link_header,
 };
@@ -93,7 +93,11 @@ fn push_link(body: &[u8], out: &mut Vec<u8>) -> Result<(), AllocError>
         return push_bytes_line(b"body", body, out);
     }
     push_link_header(1, body, out)?;
-    push_list(1, family_table(body[0]), &body[LINK_HEADER_LEN..], out)
+    let place = Place {
+        table: family_table(body[0]),
+        is_in_peer: false,
+    };
+    push_list(1, place, &body[LINK_HEADER_LEN..], out)
 }
 
 /// Appends the lines of the body of an ERROR or a DONE message: a code, and the bytes behind it.

@@ -10,7 +10,7 @@ use Rattle.link_lines_values.specs.Digits.{hex_number}
 use Rattle.link_lines_values.specs.Flags.{listed, named_flags, nameless, names_set}
 use Rattle.link_lines_values.specs.Names.{Text, bracketed, named_number, text_in}
 use Rattle.link_lines_values.specs.Laws.{DigitsAreTold, Ends}
-use Rattle.link_lines_texts.specs.Coverage.{is_word}
+use Rattle.link_lines_names.specs.Names.{is_word}
 use Rattle.link_lines_texts.specs.Frames.{flag_names, header_line, message_types, or_number, type_text}
 use Rattle.link_lines_texts.specs.Links.{labelled}
 use Rattle.link_lines_texts.specs.Telling.{StartsFrame}

@@ -12,7 +12,7 @@ use Rattle.link_message_grammar.specs.Laws.{BodiesAreHeadersAndAttributes}
 use Rattle.link_message_grammar.specs.LinkMessage.{Family, unspec, bridge, inet_6, other, link_table}
 use Rattle.link_lines_values.specs.Laws.{DigitsAreTold}
 use Rattle.link_lines_values.specs.declared.values.ShownBy.TheVariants.{Bytes}
-use Rattle.link_lines_names.specs.Behind.{Inside.Value, Inside.Peer, Inside.Nested}
+use Rattle.link_lines_names.specs.Behind.{Inside.Value, Inside.Peer as PeerInside, Inside.Nested}
 use Rattle.link_lines_texts.specs.Coverage.{holds_shown}
 use Rattle.link_lines_texts.specs.Laws.{RowsAreTold}
 use Rattle.link_lines_texts.specs.Links.{family_table, link_header_line}
@@ -25,7 +25,7 @@ use Rattle.link_lines_texts.proofs.TablesTold.{TableLaws, payload_told, settled}
 module _ (laws : TableLaws) (rows : RowsAreTold) where
   -- what a peer is shown as tells it
   abbrev PeersTold : Peer → Bool → Type 0
-  PeersTold peer in_peer = InsideTold in_peer (peer_rule peer) (settled in_peer Inside.Peer)
+  PeersTold peer in_peer = InsideTold in_peer (peer_rule peer) (settled in_peer PeerInside)
 
   -- the attributes of a family, under its table of names
   family_told : (peer : Peer) (in_peer : Bool) → PeersTold peer in_peer → (f : Family) (m : ℕ) → holds_shown (Payload.list any (link_table f)) (Some (Nested m)) ≡ true → NestedTold (list_rule_of peer f) (record { table = m; is_in_peer = in_peer })
@@ -56,9 +56,10 @@ module _ (laws : TableLaws) (rows : RowsAreTold) where
   unfolding link_peer
   own_peer parts p o =
       let r = body_rule bytes_peer in
-      own_link bytes_peer parts p o.bytes (and_parts (r.accepted p) (not (r.empty_ports p) && r.fits p) o.accepted).0 o.canonical
+      let fits = and_parts (r.accepted p && not (r.empty_ports p)) (r.fits p) o.accepted in
+      own_link bytes_peer parts p o.bytes (and_parts (r.accepted p) (not (r.empty_ports p)) fits.0).0 o.canonical
 
-  peer_lines : (level : ℕ) (p : List ℕ) → 16 ≤ length p → below level false Inside.Peer p ≡ link_part level true p
+  peer_lines : (level : ℕ) (p : List ℕ) → 16 ≤ length p → below level false PeerInside p ≡ link_part level true p
   peer_lines level p h = ap (λ b. cond b (link_header_line level p) [] ++ nested_lines level (cond b (Some (of_link true p, drop 16 p)) None)) (le-leb 16 (length p) h)
 
   peers_told : DigitsAreTold → BodiesAreHeadersAndAttributes bytes_peer → PeersTold link_peer false

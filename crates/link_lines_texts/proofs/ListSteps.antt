@@ -1,5 +1,5 @@
 -- The lines of a list go by its attributes, however many steps are allowed.
-use Rattle.std.proofs.Common.{◌≡◌, ℕ, zero, suc, ◌+◌, ◌≤◌, Bool, true, false, cond, List, [], ◌∷◌, ◌++◌, length, drop, Option, Some, None, refl, sym, ap, ◌∙◌, append_assoc, arith}
+use Rattle.std.proofs.Common.{◌≡◌, ℕ, zero, suc, ◌+◌, ◌≤◌, Bool, true, false, cond, List, [], ◌∷◌, ◌++◌, length, drop, Option, Some, None, refl, sym, ap, subst, ◌∙◌, append_assoc, arith}
 use Rattle.std.specs.Prelude.{⊤, nat_le}
 use Rattle.std.proofs.lemmas.List.{length-drop}
 use Rattle.netlink_packet_core_grammar.specs.Attributes.{Attribute, nla_align, attribute_length, first_attribute, proper_kind}
@@ -19,7 +19,7 @@ abbrev Agree : ℕ → ℕ → Type 0
 Agree m n = (level : ℕ) (place : Place) (c : Context) (bytes : List ℕ) → length bytes ≤ m → length bytes ≤ n → lines_within m level place c bytes ≡ lines_within n level place c bytes
 
 -- a list inside is no longer than what holds it
-abbrev Within : ℕ → Option (Place × List ℕ) → Type 0
+abbrev pub Within : ℕ → Option (Place × List ℕ) → Type 0
 Within n None = ⊤
 Within n (Some x) = length x.1 ≤ n
 
@@ -41,7 +41,7 @@ unfolding list_inside
 list_within place c e = titled_within place c (title_of place.table (proper_kind e.kind)) e
 
 module _ (w : FirstIsWithin) where
-  payload_within : (bytes : List ℕ) (e : Attribute) (rest : List ℕ) → first_attribute bytes ≡ Some (e, rest) → 4 + length e.payload ≤ length bytes
+  pub payload_within : (bytes : List ℕ) (e : Attribute) (rest : List ℕ) → first_attribute bytes ≡ Some (e, rest) → 4 + length e.payload ≤ length bytes
   payload_within bytes e rest h = w.within bytes e rest h
 
   pub rest_shorter : (bytes : List ℕ) (e : Attribute) (rest : List ℕ) → first_attribute bytes ≡ Some (e, rest) → 4 + length rest ≤ length bytes
@@ -50,6 +50,13 @@ module _ (w : FirstIsWithin) where
       let b = w.within bytes e rest h in
       let d = w.rest_length bytes e rest h in
       omega (arith, a, b, d)
+
+  -- a list in the first attribute is shorter than the bytes
+  pub list_shorter : (place : Place) (c : Context) (bytes : List ℕ) (e : Attribute) (rest : List ℕ) (x : Place × List ℕ) → first_attribute bytes ≡ Some (e, rest) → list_inside place c e ≡ Some x → 4 + length x.1 ≤ length bytes
+  list_shorter place c bytes e rest x h i =
+      let a = payload_within bytes e rest h in
+      let b : Within (length e.payload) (Some x) = subst (Within (length e.payload)) i (list_within place c e) in
+      omega (arith, a, b)
 
   same_inside : (m n level size : ℕ) (o : Option (Place × List ℕ)) → Agree m n → Within size o → size ≤ m → size ≤ n → inside_lines (λ l t d b. lines_within m l t d b) level o ≡ inside_lines (λ l t d b. lines_within n l t d b) level o
   same_inside m n level size None i w h k = refl

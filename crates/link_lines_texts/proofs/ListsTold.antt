@@ -44,13 +44,13 @@ InsideTold in_peer r i = (level : ℕ) (p q s t : List ℕ) → IsOwn r p → Is
 abbrev pub NestedTold : Rule → Place → Type 0
 NestedTold r m = (level : ℕ) (p q s t : List ℕ) → IsOwn r p → IsOwn r q → IsShallow level s → IsShallow level t → list_lines level m p ++ s ≡ list_lines level m q ++ t → (p ≡ q) × (s ≡ t)
 
--- the names of a table are words, an upper case letter first, what stands behind them is on their line, no two are equal, and none is a raw attribute's
+-- the names of a table are words, an upper case letter first, what stands behind them is on their line, no two are equal, and none is that of a raw attribute of another kind
 pub record NamesTold (m : ℕ) : Type 0 where
   pub word : (k : ℕ) (t : Name) → k < 65536 → title_of m k ≡ Some t → IsWord t.0
   pub upper : (k : ℕ) (t : Name) → k < 65536 → title_of m k ≡ Some t → Starts t.0 × (get_or t.0 0 0 < 97)
   pub line : (k : ℕ) (t : Name) → title_of m k ≡ Some t → is_inside_on_a_line t.1 ≡ true
   pub apart : (k l : ℕ) (t u : Name) → k < 65536 → l < 65536 → title_of m k ≡ Some t → title_of m l ≡ Some u → t.0 ≡ u.0 → k ≡ l
-  pub raw : (k l : ℕ) (t : Name) (n : Named Raw) → title_of m k ≡ Some t → raw_name m l ≡ Some n → t.0 ≡ n.0 → ⊥
+  pub raw : (k l : ℕ) (t : Name) (n : Named Raw) → title_of m k ≡ Some t → raw_name m l ≡ Some n → t.0 ≡ n.0 → k ≡ l
 
 -- where a row has a name, what stands behind it tells what the row holds
 pub record RowsTold (g : Grammar) (m : Place) : Type 0 where
@@ -183,13 +183,19 @@ first_kept : (a b : List ℕ) → Starts a → get_or (a ++ b) 0 0 ≡ get_or a 
 first_kept [] b h = absurd h
 first_kept (c ∷ a) b h = refl
 
--- no name of a row is that of a raw attribute, or the word in front of its number
-not_raw : RawAttributesAreTold → (m k l : ℕ) (names : NamesTold m) (t : Name) (s p : List ℕ) (o : Option (Named Raw)) → k < 65536 → title_of m k ≡ Some t → raw_name m l ≡ o → Ends s → t.0 ++ s ≡ named_text o l p → ⊥
-not_raw raw m k l names t s p None small h i ends e =
-    let upper = names.upper k t small h in
+proper_twice : (n : ℕ) → proper_kind (proper_kind n) ≡ proper_kind n
+proper_twice n = omega arith
+
+-- no attribute with a row is told as one without
+not_raw : RawAttributesAreTold → (m k l : ℕ) (names : NamesTold m) (t : Name) (s p : List ℕ) (o : Option (Named Raw)) → title_of m (proper_kind k) ≡ Some t → title_of m (proper_kind l) ≡ None → raw_name m l ≡ o → Ends s → t.0 ++ s ≡ named_text o l p → ⊥
+not_raw raw m k l names t s p None h none i ends e =
+    let upper = names.upper (proper_kind k) t (small_kind k) h in
     lower_apart (get_or t.0 0 0) 107 refl upper.1 (sym (first_kept t.0 s upper.0) ∙ ap (λ z. get_or z 0 0) e)
-not_raw raw m k l names t s p (Some n) small h i ends e =
-    names.raw k l t n h i (cut_word t.0 n.0 s (raw_payload n.1 p) (names.word k t small h) (name_of n.0 (raw.name m l n i)).0 ends (space_ends _ (raw.space n.1 p)) e).0
+not_raw raw m k l names t s p (Some n) h none i ends e =
+    let cut = cut_word t.0 n.0 s (raw_payload n.1 p) (names.word (proper_kind k) t (small_kind k) h) (name_of n.0 (raw.name m l n i)).0 ends (space_ends _ (raw.space n.1 p)) e in
+    let kinds : proper_kind k ≡ l = names.raw (proper_kind k) l t n h i cut.0 in
+    let both : Some t ≡ None = sym h ∙ ap (title_of m) (sym (proper_twice k) ∙ ap proper_kind kinds) ∙ none in
+    absurd cc
 
 written_typed : (r : Row) (k : ℕ) → r.is_typed ≡ true → written_kind r k ≡ proper_kind k + cond r.is_nested 0x8000 0
 written_typed r k h = ap (λ t. cond t (proper_kind k + cond r.is_nested 0x8000 0) k) h
@@ -231,10 +237,10 @@ module _ (values : ValuesStandOnALine) (raw : RawAttributesAreTold) (g : Grammar
       let r = raw.told m.table e.kind f.kind e.payload f.payload o.small v.small o.payload.bytes v.payload.bytes same in
       (same_attribute e f r.0 r.1, under)
   either_told level c e f x y None (Some u) h i o v sx sy same under =
-      absurd (not_raw raw m.table (proper_kind f.kind) e.kind names u (inside_text (known_inside m.is_in_peer c u.1) f.payload) e.payload (raw_name m.table e.kind) (small_kind f.kind) i refl
+      absurd (not_raw raw m.table f.kind e.kind names u (inside_text (known_inside m.is_in_peer c u.1) f.payload) e.payload (raw_name m.table e.kind) i h refl
       (inside_ends values (known_inside m.is_in_peer c u.1) f.payload) (sym same))
   either_told level c e f x y (Some t) None h i o v sx sy same under =
-      absurd (not_raw raw m.table (proper_kind e.kind) f.kind names t (inside_text (known_inside m.is_in_peer c t.1) e.payload) f.payload (raw_name m.table f.kind) (small_kind e.kind) h refl
+      absurd (not_raw raw m.table e.kind f.kind names t (inside_text (known_inside m.is_in_peer c t.1) e.payload) f.payload (raw_name m.table f.kind) h i refl
       (inside_ends values (known_inside m.is_in_peer c t.1) e.payload) same)
   either_told level c e f x y (Some t) (Some u) h i o v sx sy same under = titled_told level c e f x y t u h i o v sx sy same under
 

@@ -16,7 +16,7 @@ use Rattle.attribute_tables_grammar.specs.Peers.{Peer, peer_rule}
 use Rattle.attribute_tables_grammar.specs.Tables.{Payload, Table, Names, info_next, info_row, lacks_name, named, names_grammar, row_in, row_in_force, rule}
 use Rattle.link_lines_values.specs.declared.values.ShownBy.TheVariants as V
 use Rattle.link_lines_values.specs.Values.{Shown}
-use Rattle.link_lines_names.specs.Behind.{Inside, Inside.Value, Inside.Peer, Inside.Nested, Inside.Data, Inside.PortData, data_inside, known_inside, of_held, of_name, of_named, port_inside}
+use Rattle.link_lines_names.specs.Behind.{Inside, Inside.Value, Inside.Peer as PeerInside, Inside.Nested, Inside.Data, Inside.PortData, data_inside, known_inside, of_held, of_name, of_named, port_inside}
 use Rattle.link_lines_names.specs.Names.{all_titles}
 use Rattle.link_lines_texts.specs.declared.attributes.Place.{Place}
 use Rattle.link_lines_texts.specs.Coverage.{Kinds, all_listed, behind, data_kinds, has_row, holds_shown, is_in, is_info_kind, kind_inside, kinds_listed, names_shown, port_kinds, rows_shown, shape_tells}
@@ -42,7 +42,7 @@ nested_told in_peer r n told level p q x y o u sx sy same under = told level p q
 
 -- what stands behind a name that hangs on no name in force
 abbrev pub settled : Bool → Inside → Inside
-settled in_peer Peer = cond in_peer (Value V.Bytes) Peer
+settled in_peer PeerInside = cond in_peer (Value V.Bytes) PeerInside
 settled in_peer i = i
 
 -- ---- rows
@@ -55,7 +55,7 @@ row_is_there m k table t a e = found (is_in table) m k t a e
 known_alone : (in_peer : Bool) (s : Payload) (c : Context) (i : Inside) → holds_shown s (Some i) ≡ true → known_inside in_peer c i ≡ settled in_peer i
 known_alone in_peer s c (Value v) h = refl
 known_alone in_peer s c (Nested n) h = refl
-known_alone in_peer s c Peer h = refl
+known_alone in_peer s c PeerInside h = refl
 known_alone in_peer (Payload.plain s) c i h = absurd cc
 known_alone in_peer Payload.peer c i h = absurd cc
 known_alone in_peer (Payload.list form t) c i h = absurd cc
@@ -182,7 +182,7 @@ pub record TableLaws : Type 0 where
   pub lists : ListLaws
   pub shapes : ShapesAreTold
 
-module _ (laws : TableLaws) (peer : Peer) (in_peer : Bool) (peers : InsideTold in_peer (peer_rule peer) (settled in_peer Peer)) where
+module _ (laws : TableLaws) (peer : Peer) (in_peer : Bool) (peers : InsideTold in_peer (peer_rule peer) (settled in_peer PeerInside)) where
   abbrev place : ℕ → Place
   place n = record { table = n; is_in_peer = in_peer }
 
@@ -225,7 +225,7 @@ module _ (laws : TableLaws) (peer : Peer) (in_peer : Bool) (peers : InsideTold i
   mutual
     pub payload_told : (s : Payload) (i : Inside) → holds_shown s (Some i) ≡ true → InsideTold in_peer (rule peer s) (settled in_peer i)
     payload_told (Payload.plain s) (Value v) h = plain_told laws.shapes in_peer s v h
-    payload_told Payload.peer Peer h = peers
+    payload_told Payload.peer PeerInside h = peers
     payload_told (Payload.list form table) (Nested n) h = list_told form table n h (rows_told n table)
     payload_told (Payload.link_info form data' ports) (Nested n) h = info_list_told form data' ports n h (data_names_told data' data_kinds) (data_names_told ports port_kinds)
     payload_told s i h = absurd cc

@@ -2,14 +2,14 @@
 use Rattle.std.proofs.Common.{◌≡◌, ℕ, ◌-◌, ◌<◌, ◌≤◌, Bool, true, false, cond, List, [], ◌∷◌, length, Some, None, refl, sym, ap, subst, ◌∙◌, arith}
 use Rattle.std.specs.Prelude.{◌==◌, ◌&&◌, ◌||◌, not, nat_lt, get_or, bytes_eq}
 use Rattle.std.specs.List.{list_all}
-use Rattle.std.proofs.lemmas.Bool.{and_parts, eqb-true, le-ltb, ltb-false, not-true, true≢false}
+use Rattle.std.proofs.lemmas.Bool.{and_parts, eqb-true, le-ltb, ltb-false, true≢false}
 use Rattle.std.proofs.lemmas.List.{get_or_past}
 use Rattle.std.proofs.lemmas.Slice.Eq.{bytes_eq-Decides}
 use Rattle.attribute_checks.proofs.LookUps.{all_at}
-use Rattle.link_lines_names.specs.Names.{Named, Titled, all_titles, has_name, is_other, names_apart}
+use Rattle.link_lines_names.specs.Names.{Named, Titled, all_titles, has_name, names_apart}
 use Rattle.link_lines_names.specs.Raw.{Raw, geneve_titles, gre6_titles, gre_titles, link_titles as raw_link_titles, raw_lists, raw_name, raw_titles_of, table_titles, vf_titles, xfrm_titles}
 use Rattle.link_lines_names.proofs.Named.{apart_in, found_in, name_of}
-use Rattle.link_lines_texts.specs.Coverage.{has_line, in_each, raw_apart}
+use Rattle.link_lines_texts.specs.Coverage.{are_apart, has_line, in_each, raw_apart}
 use Rattle.link_lines_texts.specs.Titles.{Name, Title, data_titles, link_titles, nested_titles, title_of, titles_of}
 use Rattle.link_lines_texts.proofs.LineCuts.{IsWord, Starts}
 use Rattle.link_lines_texts.proofs.ListsTold.{NamesTold}
@@ -43,28 +43,25 @@ one_name m k l t u e f same = apart_in k l t u (titles_of m) (in_table names_apa
 
 -- ---- names of raw attributes
 
-abbrev apart_from : List Title → List (Titled Raw) → Bool
-apart_from ts us = all_titles (λ k n. all_titles (is_other n.0) ts) us
-
-picked : (m n : ℕ) (b : Bool) (x y : List (Titled Raw)) → (m == n) ≡ b → apart_from (titles_of n) x ≡ true → apart_from (titles_of m) y ≡ true → apart_from (titles_of m) (cond b x y) ≡ true
-picked m n true x y e h k = subst (λ z. apart_from (titles_of z) x ≡ true) (sym (eqb-true m n e)) h
+picked : (m n : ℕ) (b : Bool) (x y : List (Titled Raw)) → (m == n) ≡ b → are_apart (titles_of n) x ≡ true → are_apart (titles_of m) y ≡ true → are_apart (titles_of m) (cond b x y) ≡ true
+picked m n true x y e h k = subst (λ z. are_apart (titles_of z) x ≡ true) (sym (eqb-true m n e)) h
 picked m n false x y e h k = k
 
-picked_or : (m n : ℕ) (b c : Bool) (x y : List (Titled Raw)) → (m == n) ≡ b → apart_from (titles_of n) x ≡ true → apart_from (titles_of m) (cond c x y) ≡ true → apart_from (titles_of m) (cond (b || c) x y) ≡ true
-picked_or m n true c x y e h k = subst (λ z. apart_from (titles_of z) x ≡ true) (sym (eqb-true m n e)) h
+picked_or : (m n : ℕ) (b c : Bool) (x y : List (Titled Raw)) → (m == n) ≡ b → are_apart (titles_of n) x ≡ true → are_apart (titles_of m) (cond c x y) ≡ true → are_apart (titles_of m) (cond (b || c) x y) ≡ true
+picked_or m n true c x y e h k = subst (λ z. are_apart (titles_of z) x ≡ true) (sym (eqb-true m n e)) h
 picked_or m n false c x y e h k = k
 
 -- of the nine tables that have such names
 record TablesApart : Type 0 where
-  vf : apart_from (titles_of 11) vf_titles ≡ true
-  unspec : apart_from (titles_of 15) raw_link_titles ≡ true
-  bridge : apart_from (titles_of 16) raw_link_titles ≡ true
-  inet6 : apart_from (titles_of 17) raw_link_titles ≡ true
-  other : apart_from (titles_of 18) raw_link_titles ≡ true
-  geneve : apart_from (titles_of 23) geneve_titles ≡ true
-  gre : apart_from (titles_of 24) gre_titles ≡ true
-  gre6 : apart_from (titles_of 25) gre6_titles ≡ true
-  xfrm : apart_from (titles_of 39) xfrm_titles ≡ true
+  vf : are_apart (titles_of 11) vf_titles ≡ true
+  unspec : are_apart (titles_of 15) raw_link_titles ≡ true
+  bridge : are_apart (titles_of 16) raw_link_titles ≡ true
+  inet6 : are_apart (titles_of 17) raw_link_titles ≡ true
+  other : are_apart (titles_of 18) raw_link_titles ≡ true
+  geneve : are_apart (titles_of 23) geneve_titles ≡ true
+  gre : are_apart (titles_of 24) gre_titles ≡ true
+  gre6 : are_apart (titles_of 25) gre6_titles ≡ true
+  xfrm : are_apart (titles_of 39) xfrm_titles ≡ true
 
 tables_apart : TablesApart
 unfolding raw_titles_of table_titles
@@ -80,7 +77,7 @@ tables_apart =
     let i = and_parts (raw_apart 39) _ h.1 in
     record { vf = a.0; unspec = b.0; bridge = c.0; inet6 = d.0; other = e.0; geneve = f.0; gre = g.0; gre6 = h.0; xfrm = i.0 }
 
-in_tables : (m : ℕ) → apart_from (titles_of m) (table_titles m) ≡ true
+in_tables : (m : ℕ) → are_apart (titles_of m) (table_titles m) ≡ true
 unfolding table_titles
 in_tables m =
     let t = tables_apart in
@@ -102,29 +99,32 @@ past_tables n h =
     ∙ ap (λ b. cond b (get_or link_titles (n - 15) []) (get_or data_titles (n - 20) [])) (le-ltb n 20 (omega (arith, h)))
     ∙ get_or_past data_titles (n - 20) [] (omega (arith, h, no_rows))
 
-none_by : (u : Titled Raw) (us : List (Titled Raw)) → apart_from [] us ≡ true → apart_from [] (u ∷ us) ≡ true
+none_by : (u : Titled Raw) (us : List (Titled Raw)) → are_apart [] us ≡ true → are_apart [] (u ∷ us) ≡ true
 none_by (k, None) us h = h
 none_by (k, Some n) us h = h
 
-none_apart : (us : List (Titled Raw)) → apart_from [] us ≡ true
+none_apart : (us : List (Titled Raw)) → are_apart [] us ≡ true
 none_apart [] = refl
 none_apart (u ∷ us) = none_by u us (none_apart us)
 
-either_apart : (m : ℕ) (b : Bool) → nat_lt m 44 ≡ b → apart_from (titles_of m) (cond b (table_titles m) (get_or raw_lists (m - 44) [])) ≡ true
+either_apart : (m : ℕ) (b : Bool) → nat_lt m 44 ≡ b → are_apart (titles_of m) (cond b (table_titles m) (get_or raw_lists (m - 44) [])) ≡ true
 either_apart m true h = in_tables m
 either_apart m false h =
     let us = get_or raw_lists (m - 44) [] in
-    ap (λ ts. apart_from ts us) (past_tables m (ltb-false m 44 h)) ∙ none_apart us
+    ap (λ ts. are_apart ts us) (past_tables m (ltb-false m 44 h)) ∙ none_apart us
 
 all_apart : (m : ℕ) → raw_apart m ≡ true
 unfolding raw_titles_of
 all_apart m = either_apart m (nat_lt m 44) refl
 
-no_raw : (m k l : ℕ) (t : Name) (n : Named Raw) → title_of m k ≡ Some t → raw_name m l ≡ Some n → t.0 ≡ n.0 → ⊥
-no_raw m k l t n h i e =
-    let others = found_in (λ k n. all_titles (is_other n.0) (titles_of m)) l (raw_titles_of m) n (all_apart m) i in
-    let other : not (bytes_eq n.0 t.0) ≡ true = found (is_other n.0) m k t others h in
-    true≢false (sym ((bytes_eq-Decides n.0 t.0).1 (sym e)) ∙ not-true (bytes_eq n.0 t.0) other)
+one_kind : (k l : ℕ) (n t : List ℕ) (b : Bool) → bytes_eq n t ≡ b → t ≡ n → (not b || (k == l)) ≡ true → k ≡ l
+one_kind k l n t true h e a = eqb-true k l a
+one_kind k l n t false h e a = absurd (true≢false (sym ((bytes_eq-Decides n t).1 (sym e)) ∙ h))
+
+raw_kind : (m k l : ℕ) (t : Name) (n : Named Raw) → title_of m k ≡ Some t → raw_name m l ≡ Some n → t.0 ≡ n.0 → k ≡ l
+raw_kind m k l t n h i e =
+    let others = found_in (λ l n. all_titles (λ k t. not (bytes_eq n.0 t.0) || (k == l)) (titles_of m)) l (raw_titles_of m) n (all_apart m) i in
+    one_kind k l n.0 t.0 (bytes_eq n.0 t.0) refl e (found (λ k t. not (bytes_eq n.0 t.0) || (k == l)) m k t others h)
 
 pub names_told : (m : ℕ) → NamesTold m
 names_told m = record {
@@ -132,5 +132,5 @@ names_told m = record {
   upper = λ k t l e. (named m k t e).1;
   line = λ k t e. found has_line m k t (in_table (all_titles has_line) m refl all_on_lines) e;
   apart = λ k l t u i j. one_name m k l t u;
-  raw = no_raw m;
+  raw = raw_kind m;
 }

@@ -1,5 +1,5 @@
 -- Whether rows of names cover tables: each row has a name, behind which stands a text that tells its payload, and each name has a row.
-use Rattle.std.specs.Prelude.{ℕ, ◌==◌, ◌&&◌, ◌||◌, not, nat_le, Bool, true, false, cond, List, [], ◌∷◌, take, Option, Some, None}
+use Rattle.std.specs.Prelude.{ℕ, ◌==◌, ◌&&◌, ◌||◌, not, nat_le, Bool, true, false, cond, List, [], ◌∷◌, take, Option, Some, None, bytes_eq}
 use Rattle.std.specs.List.{list_all}
 use Rattle.attribute_checks.specs.declared.names.NameRow.{NameRow}
 use Rattle.attribute_tables_grammar.specs.Shapes.{Shape, exact, either, at_most, nonzero_byte, one_byte, truth_of_four, presence, text, raw, never, fixed_record, id_and_truth, resized}
@@ -12,8 +12,8 @@ use Rattle.link_lines_values.specs.Values.{Shown}
 use Rattle.link_info_checks.specs.declared.rows.TheConstants.{KINDS, PORT_KINDS}
 use Rattle.link_lines_names.specs.declared.behind.TheConstants.{NAMED_KINDS, NAMED_PORT_KINDS}
 use Rattle.link_lines_names.specs.Behind.{Inside, Inside.Value, Inside.Peer, Inside.Nested, is_inside_on_a_line, of_name}
-use Rattle.link_lines_names.specs.Names.{all_titles, is_other}
-use Rattle.link_lines_names.specs.Raw.{raw_titles_of}
+use Rattle.link_lines_names.specs.Names.{Titled, all_titles}
+use Rattle.link_lines_names.specs.Raw.{Raw, raw_titles_of}
 use Rattle.link_lines_texts.specs.Titles.{Name, Title, data_titles, link_titles, nested_titles, title_of, titles_of}
 
 -- ---- shapes
@@ -124,9 +124,13 @@ in_each f = list_all f nested_titles && (list_all f link_titles && list_all f da
 abbrev pub has_line : ℕ → Name → Bool
 has_line k n = is_inside_on_a_line n.1
 
--- no raw attribute of the table has the name of a row
+-- no raw attribute has the name of another kind's row
+abbrev pub are_apart : List Title → List (Titled Raw) → Bool
+are_apart ts us = all_titles (λ l n. all_titles (λ k t. not (bytes_eq n.0 t.0) || (k == l)) ts) us
+
+-- of a table
 abbrev pub raw_apart : ℕ → Bool
-raw_apart m = all_titles (λ k n. all_titles (is_other n.0) (titles_of m)) (raw_titles_of m)
+raw_apart m = are_apart (titles_of m) (raw_titles_of m)
 
 -- ---- tables: each row has a name, behind which its payload is told, and each name has a row
 

@@ -39,7 +39,7 @@ abbrev pub AcceptedFramesHaveLines : Type 0
 AcceptedFramesHaveLines = (limit : ℕ) (c : List ℕ) → limit < 2 ^ 32 → (0 < length (lines limit c)) ↔ ((frame : ℕ × List ℕ) × (first_frame limit c ≡ Ok frame))
 
 -- Each row of the tables of link messages, and of every table inside, has a name, behind which stands what tells the row's payload; each name is that of a row;
--- no two names of a table are equal, and none is that of a raw attribute.
+-- no two names of a table are equal, and none is that of a raw attribute of another kind.
 pub record RowsAreTold : Type 0 where
   pub unspec_told : holds_shown (Payload.list any (link_table unspec)) (Some (Nested 15)) ≡ true
   pub bridge_told : holds_shown (Payload.list any (link_table bridge)) (Some (Nested 16)) ≡ true

@@ -165,6 +165,7 @@ fn push_named<'a>(
     payload: &'a [u8],
     out: &mut Vec<u8>,
 ) -> Result<Option<(Place, &'a [u8])>, AllocError>
+    requires { level < 2 ^ 63 }
     ensures ok { OnOk result (out.new.items ≡ out.old.items ++ (name.now
         ++ (inside_text (inside_of (λ b. b.now) (λ t. t.now) (λ r. r.now) behind.entry) payload.now
         ++ 10 ∷ header_inside (level + 1) (inside_of (λ b. b.now) (λ t. t.now) (λ r. r.now) behind.entry) payload.now))) }
@@ -186,11 +187,12 @@ fn push_attribute<'a>(
     attribute: Attribute<'a>,
     out: &mut Vec<u8>,
 ) -> Result<Option<(Place, &'a [u8])>, AllocError>
+    requires { level < 2 ^ 63 }
     ensures ok { OnOk result (out.new.items ≡ out.old.items
-        ++ own_lines level place.entry (in_force force.entry.kind force.entry.port_kind)
+        ++ own_lines level place (in_force force.entry.kind force.entry.port_kind)
         (attribute_of attribute.entry.kind attribute.entry.payload)) }
     ensures list { IfOk result (λ found. option_map (λ f. (f.0, f.1.now)) found
-        ≡ list_inside place.entry (in_force force.entry.kind force.entry.port_kind)
+        ≡ list_inside place (in_force force.entry.kind force.entry.port_kind)
         (attribute_of attribute.entry.kind attribute.entry.payload)) }
 {
     push_indent(level, out)?;
@@ -211,7 +213,7 @@ pub(crate) fn push_list(
     out: &mut Vec<u8>,
 ) -> Result<(), AllocError>
     requires { level + length bytes.now < 2 ^ 63 }
-    ensures ok { OnOk result (out.new.items ≡ out.old.items ++ list_lines level place.entry bytes.now) }
+    ensures ok { OnOk result (out.new.items ≡ out.old.items ++ list_lines level place bytes.now) }
 {
     first_attributes_are_within();
     lists_go_by_steps();

@@ -52,7 +52,8 @@ pub fn accepted_frames_have_lines()
 }
 
 /// Each row of the tables of link messages, and of every table inside, has a name, behind which stands what tells the
-/// row's payload; each name is that of a row; no two names of a table are equal, and none is a raw attribute's.
+/// row's payload; each name is that of a row; no two names of a table are equal, and none is that of a raw attribute of
+/// another kind.
 pub fn rows_are_told()
     ensures { RowsAreTold }
 {}

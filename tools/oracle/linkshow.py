@@ -2,13 +2,13 @@
 """Lines of a capture, by the form that lines.md says.  Stands on linkoracle.py,
 and on names.tsv for what tables and records are called.
 
-    python3 linkshow.py [--limit N] [--form 1] [--without-numbers] [--only TYPE,..] < CAPTURE
+    python3 linkshow.py [--limit N] [--form 2] [--without-numbers] [--only TYPE,..] < CAPTURE
 
 Library: lines(capture, limit, stage, numbers, only, form) -> (text, first fault
 or None), why(capture, limit, stage) -> what is refused, where, and what it is.
 
-`form` is the number of the form (lines.md): 1 is the lines that the programs of
-this repository write, 2 the lines that they come to write.
+`form` is the number of the form (lines.md): 2 is the lines that the programs of
+this repository write, 3 the lines that they come to write.
 """
 import argparse
 import ipaddress
@@ -20,7 +20,7 @@ sys.path.insert(0, HERE)
 import linkoracle as o      # noqa: E402
 
 ROWS = {}                   # (table, kind) -> (name, show)
-FORM = 1                    # the form where none is told
+FORM = 2                    # the form where none is told
 NAMED = {}                  # (list of bytes, kind) -> (name, show, size)
 RECORDS = {}                # record -> [(field, size, show)]
 NUMBERS = {}                # number type -> {number: text}
@@ -236,7 +236,7 @@ def body_lines(depth, body, form):
 
 def flag_set(kind, form):
     """The names that fit a message's type."""
-    if form == 1 and kind not in o.LINK_TYPES and kind >= 16:
+    if form < 3 and kind not in o.LINK_TYPES and kind >= 16:
         return ""
     if kind == 2:
         return "Ack"
@@ -254,7 +254,7 @@ def frame_lines(f, numbers=True, form=FORM):
     if f.type in (o.ERROR, o.DONE):
         out.append(line(1, "code", str(int.from_bytes(body[:4], "little", signed=True))))
         rest = body[4:]
-        if form > 1 and f.type == o.ERROR and len(rest) >= 16:   # the request's header
+        if form > 2 and f.type == o.ERROR and len(rest) >= 16:   # the request's header
             kind, size = o.u16(rest, 4), o.u32(rest, 0)
             asked = "length %d %s flags %s" % (size, TYPES.get(kind, "type %d" % kind),
                                                number("x:NlmFlags" + flag_set(kind, form), rest[6:8]))
@@ -367,7 +367,7 @@ def main():
     ap = argparse.ArgumentParser()
     ap.add_argument("--limit", type=int, default=o.DEFAULT_LIMIT)
     ap.add_argument("--stage", default="peers")
-    ap.add_argument("--form", type=int, choices=(1, 2), default=FORM)
+    ap.add_argument("--form", type=int, choices=(1, 2, 3), default=FORM)
     ap.add_argument("--without-numbers", action="store_true")
     ap.add_argument("--only", type=read_only)
     a = ap.parse_args()

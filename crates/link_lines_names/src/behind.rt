@@ -106,10 +106,7 @@ fn data_behind(name: Option<&[u8]>) -> Behind
         ≡ data_inside (option_map (λ b. b.now) name.entry) }
 {
     match name {
-        Some(name) => of_named(
-            held_by_name(&NAMED_KINDS, name),
-            held_by_name(&KINDS, name),
-        ),
+        Some(name) => of_named(held_by_name(&NAMED_KINDS, name), held_by_name(&KINDS, name)),
         None => BehindBy::Value(ShownBy::Bytes),
     }
 }

@@ -202,7 +202,14 @@ fn push_attribute<'a>(
         return Ok(None);
     };
     let behind = known_behind(place.is_in_peer, force, behind);
-    push_named(level, place.is_in_peer, name, behind, attribute.payload, out)
+    push_named(
+        level,
+        place.is_in_peer,
+        name,
+        behind,
+        attribute.payload,
+        out,
+    )
 }
 
 /// Appends the lines of attributes that stand at a place, which begin at this level.

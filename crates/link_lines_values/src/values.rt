@@ -18,8 +18,8 @@ use crate::numbers::push_number;
 use crate::records::push_record;
 use std::alloc::AllocError;
 
-/// How a payload is shown, with numbers and records of those types, and names of flags as texts of numbers. A payload of a size that the form doesn't know is
-/// shown as its bytes.
+/// How a payload is shown, with numbers and records of those types; names of flags are texts of numbers too. A payload
+/// of a size that the form doesn't know is shown as its bytes.
 #[derive(Clone, Copy)]
 pub enum ShownBy<N, R> {
     /// A number of 1, 2, 4 or 8 bytes, the lowest byte first, with its name.
@@ -123,11 +123,7 @@ fn push_flags_or_bytes(
     }
 }
 
-fn push_named_flags(
-    names: &[FlagName],
-    payload: &[u8],
-    out: &mut Vec<u8>,
-) -> Result<(), AllocError>
+fn push_named_flags(names: &[FlagName], payload: &[u8], out: &mut Vec<u8>) -> Result<(), AllocError>
     ensures ok { OnOk result (out.new.items
         ≡ out.old.items ++ named_flags_value (texts_of (λ b. b.now) names.now) payload.now) }
 {

@@ -1,5 +1,5 @@
 -- The line of a link's header tells it.
-use Rattle.std.proofs.Common.{◌≡◌, ℕ, ◌+◌, ◌^◌, ◌<◌, ◌≤◌, List, [], ◌∷◌, ◌++◌, length, drop, refl, sym, ap, ◌∙◌, arith}
+use Rattle.std.proofs.Common.{◌≡◌, ℕ, ◌≤◌, List, [], ◌∷◌, ◌++◌, length, drop, refl, sym, ap, ◌∙◌, arith}
 use Rattle.std.specs.Prelude.{codes, decimal, slice_index}
 use Rattle.std.proofs.lemmas.List.{append_cancel_left}
 use Rattle.netlink_packet_core_grammar.specs.Bytes.{AreBytes}

@@ -1,6 +1,6 @@
 -- Lines tell the lists of link messages, and peers in them.
 use Rattle.std.proofs.Common.{◌≡◌, ℕ, ◌≤◌, Bool, true, false, cond, List, [], ◌++◌, length, drop, Some, None, refl, sym, ap, ◌∙◌}
-use Rattle.std.specs.Prelude.{◌==◌, ◌&&◌, not, nat_le}
+use Rattle.std.specs.Prelude.{◌==◌, ◌&&◌, not}
 use Rattle.std.proofs.lemmas.Bool.{and_parts, le-leb}
 use Rattle.attribute_tables_grammar.specs.Lists.{any}
 use Rattle.attribute_tables_grammar.specs.Peers.{Peer, bytes_peer, peer_rule}
@@ -12,12 +12,12 @@ use Rattle.link_message_grammar.specs.Laws.{BodiesAreHeadersAndAttributes}
 use Rattle.link_message_grammar.specs.LinkMessage.{Family, unspec, bridge, inet_6, other, link_table}
 use Rattle.link_lines_values.specs.Laws.{DigitsAreTold}
 use Rattle.link_lines_values.specs.declared.values.ShownBy.TheVariants.{Bytes}
-use Rattle.link_lines_names.specs.Behind.{Inside.Value, Inside.Peer as PeerInside, Inside.Nested}
+use Rattle.link_lines_names.specs.Behind.{Inside.Peer as PeerInside, Inside.Nested}
 use Rattle.link_lines_texts.specs.Coverage.{holds_shown}
 use Rattle.link_lines_texts.specs.Laws.{RowsAreTold}
 use Rattle.link_lines_texts.specs.Links.{family_table, link_header_line}
 use Rattle.link_lines_texts.specs.Lists.{nested_lines, of_link}
-use Rattle.link_lines_texts.specs.Telling.{IsOwn, ListsAreTold, ShapesAreTold}
+use Rattle.link_lines_texts.specs.Telling.{IsOwn, ListsAreTold}
 use Rattle.link_lines_texts.proofs.LinkBodiesTold.{FamiliesTold, IsOwnLink, link_part, link_told, own_link}
 use Rattle.link_lines_texts.proofs.ListsTold.{InsideTold, NestedTold, below}
 use Rattle.link_lines_texts.proofs.TablesTold.{TableLaws, payload_told, settled}

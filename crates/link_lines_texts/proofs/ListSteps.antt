@@ -7,7 +7,7 @@ use Rattle.netlink_packet_core_grammar.specs.Laws.{FirstIsWithin}
 use Rattle.attribute_tables_grammar.specs.Lists.{Context, nothing}
 use Rattle.link_lines_names.specs.Behind.{Inside, Inside.Peer, Inside.Nested, known_inside}
 use Rattle.link_lines_texts.specs.declared.attributes.Place.{Place}
-use Rattle.link_lines_texts.specs.Lists.{inside_lines, inside_list, lines_within, list_inside, list_lines, nested_lines, next_in, next_lines, of_link, own_lines, peer_list, rest_lines, titled_list}
+use Rattle.link_lines_texts.specs.Lists.{inside_lines, inside_list, lines_within, list_inside, list_lines, nested_lines, next_in, next_lines, of_link, own_lines, rest_lines, titled_list}
 use Rattle.link_lines_texts.specs.Titles.{Name, title_of}
 use Rattle.link_lines_texts.specs.Laws.{ListsGoBySteps}
 

@@ -16,11 +16,11 @@ use Rattle.attribute_tables_grammar.specs.Peers.{Peer, peer_rule}
 use Rattle.attribute_tables_grammar.specs.Tables.{Payload, Table, Names, info_next, info_row, lacks_name, named, names_grammar, row_in, row_in_force, rule}
 use Rattle.link_lines_values.specs.declared.values.ShownBy.TheVariants as V
 use Rattle.link_lines_values.specs.Values.{Shown}
-use Rattle.link_lines_names.specs.Behind.{Inside, Inside.Value, Inside.Peer as PeerInside, Inside.Nested, Inside.Data, Inside.PortData, data_inside, known_inside, of_held, of_name, of_named, port_inside}
+use Rattle.link_lines_names.specs.Behind.{Inside, Inside.Value, Inside.Peer as PeerInside, Inside.Nested, data_inside, known_inside, of_held, of_name, of_named, port_inside}
 use Rattle.link_lines_names.specs.Names.{all_titles}
 use Rattle.link_lines_texts.specs.declared.attributes.Place.{Place}
 use Rattle.link_lines_texts.specs.Coverage.{Kinds, all_listed, behind, data_kinds, has_row, holds_shown, is_in, is_info_kind, kind_inside, kinds_listed, names_shown, port_kinds, rows_shown, shape_tells}
-use Rattle.link_lines_texts.specs.Telling.{IsOwn, ShapesAreTold}
+use Rattle.link_lines_texts.specs.Telling.{ShapesAreTold}
 use Rattle.link_lines_texts.specs.Titles.{Name, info_titles, link_titles, own_titles, title_of, titles_of}
 use Rattle.link_lines_texts.proofs.ListsTold.{InsideTold, ListLaws, NestedTold, RowsTold, lists_told}
 use Rattle.link_lines_texts.proofs.TitlesTold.{found, names_told}

@@ -1,5 +1,5 @@
 -- Each row has a name that tells it, by computation.
-use Rattle.std.proofs.Common.{◌≡◌, true, List, [], ◌∷◌, Some, refl}
+use Rattle.std.proofs.Common.{◌≡◌, true, [], ◌∷◌, Some, refl}
 use Rattle.std.specs.List.{list_all}
 use Rattle.attribute_tables_grammar.specs.Lists.{any}
 use Rattle.attribute_tables_grammar.specs.Tables.{Payload}

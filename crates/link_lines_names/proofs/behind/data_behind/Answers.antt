@@ -1,4 +1,4 @@
-use Rattle.std.proofs.Common.{◌≡◌, ◌∙◌, sym, ap, option_map}
+use Rattle.std.proofs.Common.{◌∙◌, sym, ap, option_map}
 use Rattle.link_lines_names.specs.Behind.{data_inside, of_named}
 use Rattle.link_lines_names.proofs.behind.data_behind.Goals as goal
 

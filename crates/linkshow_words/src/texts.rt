@@ -10,7 +10,7 @@ pub const USAGE: &str =
     "usage: linkshow [--kernels] [--limit N] [FILE]; linkshow --help says more\n";
 
 /// The version of the program, and the number of the form of its lines.
-pub const VERSION: &str = "linkshow 0.1.0, lines 1\n";
+pub const VERSION: &str = "linkshow 0.1.0, lines 2\n";
 
 /// How the program is used.
 pub const HELP: &str = "usage: linkshow [--kernels] [--limit N] [FILE]

@@ -49,7 +49,7 @@ wants "captures that differ" 1 "" a b << 'END'
 @@ -1,4 +1,4 @@
  RTM_GETLINK flags 0x301 (REQUEST | ROOT | MATCH) seq 1526271540 port 0
    ifinfomsg family 0 (AF_UNSPEC) type 0 (netrom) index 0 flags 0x0 change 0x0
-   IFLA_EXT_MASK 0x9
+   IFLA_EXT_MASK 0x9 (Vf | SkipStats)
 -  IFLA_IFNAME "lo"
 +  IFLA_IFNAME "l1"
 END
@@ -79,7 +79,7 @@ wants "no messages, which is allowed" 1 "" --empty none a << 'END'
 @@ -0,0 +1,4 @@
 +RTM_GETLINK flags 0x301 (REQUEST | ROOT | MATCH) seq 1526271540 port 0
 +  ifinfomsg family 0 (AF_UNSPEC) type 0 (netrom) index 0 flags 0x0 change 0x0
-+  IFLA_EXT_MASK 0x9
++  IFLA_EXT_MASK 0x9 (Vf | SkipStats)
 +  IFLA_IFNAME "lo"
 END
 wants "no messages in both" 0 "" --empty none none < /dev/null

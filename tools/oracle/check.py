@@ -94,8 +94,8 @@ def broken_laws(capture, limit):
             yield "a normal text is at most 77 times as long"
         if spellings.spellings(text, limit)[0]:
             yield "a normal text has no spelling that kernels tell apart"
-    for form in (2, 3):
-        if linkshow.lines(capture, limit, form=form)[0] != linkshow.lines(text, GREATEST, form=form)[0]:
+    for numbers in (True, False):
+        if linkshow.lines(capture, limit, numbers=numbers)[0] != linkshow.lines(text, GREATEST, numbers=numbers)[0]:
             yield "lines are those of the normal text"
 
 
@@ -108,10 +108,9 @@ class LinesTell:
     def broken(self, capture, limit):
         for frame in o.read_capture(o.rules_for(), limit, capture)[0]:
             text = frame.text()
-            for form in (2, 3):
-                shown = form, "".join(linkshow.frame_lines(frame, form=form))
-                if self.texts.setdefault(shown, text) != text:
-                    yield "two messages with other texts have other lines"
+            shown = "".join(linkshow.frame_lines(frame))
+            if self.texts.setdefault(shown, text) != text:
+                yield "two messages with other texts have other lines"
 
 
 def broken_sameness(a, b, limit):

@@ -2,13 +2,10 @@
 """Lines of a capture, by the form that lines.md says.  Stands on linkoracle.py,
 and on names.tsv for what tables and records are called.
 
-    python3 linkshow.py [--limit N] [--form 2] [--without-numbers] [--only TYPE,..] < CAPTURE
+    python3 linkshow.py [--limit N] [--without-numbers] [--only TYPE,..] < CAPTURE
 
-Library: lines(capture, limit, stage, numbers, only, form) -> (text, first fault
-or None), why(capture, limit, stage) -> what is refused, where, and what it is.
-
-`form` is the number of the form (lines.md): 2 is the lines that the programs of
-this repository write, 3 the lines that they come to write.
+Library: lines(capture, limit, stage, numbers, only) -> (text, first fault or
+None), why(capture, limit, stage) -> what is refused, where, and what it is.
 """
 import argparse
 import ipaddress
@@ -20,7 +17,6 @@ sys.path.insert(0, HERE)
 import linkoracle as o      # noqa: E402
 
 ROWS = {}                   # (table, kind) -> (name, show)
-FORM = 2                    # the form where none is told
 NAMED = {}                  # (list of bytes, kind) -> (name, show, size)
 RECORDS = {}                # record -> [(field, size, show)]
 NUMBERS = {}                # number type -> {number: text}
@@ -165,11 +161,11 @@ def line(depth, name, text=""):
     return "  " * depth + name + (" " + text if text else "") + "\n"
 
 
-def named_bytes(table, e, form):
+def named_bytes(table, e):
     """An attribute that the normal text keeps as bytes with its whole kind,
     under the kernel's name where it has one: its value where it has the
     kernel's size, else `bytes` and the bytes."""
-    if form == 2 or (table, e.kind) not in NAMED:
+    if (table, e.kind) not in NAMED:
         return "kind 0x%04x" % e.kind, e.payload.hex()
     name, show, size = NAMED[table, e.kind]
     if show == "r":
@@ -189,33 +185,29 @@ def bytes_table(table, context, e):
     return None
 
 
-def entry_lines(depth, table, e, context, form):
+def entry_lines(depth, table, e, context):
     if e.row.raw:
-        return [line(depth, *named_bytes(table, e, form))]
+        return [line(depth, *named_bytes(table, e))]
     kind = o.proper(e.kind)
     name, show = ROWS[table, kind]
     if o.nested(e):
         inside = e.row.table.name
         if inside == "attributes":
             inside = bytes_table(table, context, e)
-        return [line(depth, name)] + list_lines(depth + 1, inside, o.kept(e), context[2], form)
+        return [line(depth, name)] + list_lines(depth + 1, inside, o.kept(e), context[2])
     if e.row is o.PEER:
-        if form == 2:
-            return [line(depth, name, o.body_text(e.inside).hex())]
-        return [line(depth, name)] + body_lines(depth + 1, e.inside, form)
+        return [line(depth, name)] + body_lines(depth + 1, e.inside)
     if e.row.code == "r" and show not in ("r", "h"):     # held as bytes here
         show = "r"
     if show == "by_size":       # iptunnel 8: N2 of ipip and sit, n4 of ip6tnl
         show = "x" if len(e.payload) == 4 else "X"
-    if form == 2 and show == "x:LinkExtentMask":
-        show = "x"
     return [line(depth, name, value(show, e.row.canonical(e.payload)))]
 
 
-def list_lines(depth, table, entries, family, form):
+def list_lines(depth, table, entries, family):
     out, kind, port_kind = [], None, None
     for e in entries:
-        out += entry_lines(depth, table, e, (kind, port_kind, family), form)
+        out += entry_lines(depth, table, e, (kind, port_kind, family))
         if table == "linkinfo" and e.row.code == "z":
             if o.proper(e.kind) == 1:
                 kind = o.as_text(e.payload)
@@ -224,14 +216,14 @@ def list_lines(depth, table, entries, family, form):
     return out
 
 
-def body_lines(depth, body, form):
+def body_lines(depth, body):
     layer = o.layer_written(body.layer)
     head = "family %s type %s index %d flags %s change %s" % (
         number("u:AddressFamily", bytes([body.family])),
         number("u:LinkLayerType", o.p16(layer)), body.index,
         number("x:LinkFlags", o.p32(body.flags)),
         number("x:LinkFlags", o.p32(body.mask)))
-    return [line(depth, "ifinfomsg", head)] + list_lines(depth, "link", body.entries, body.family, form)
+    return [line(depth, "ifinfomsg", head)] + list_lines(depth, "link", body.entries, body.family)
 
 
 def flag_set(kind):
@@ -241,13 +233,13 @@ def flag_set(kind):
     return ("Create", "Delete", "Get", "Create")[kind % 4] if kind >= 16 and kind in TYPES else ""
 
 
-def frame_lines(f, numbers=True, form=FORM):
+def frame_lines(f, numbers=True):
     flags = number("x:NlmFlags" + flag_set(f.type), o.p16(f.flags))
     told = "flags %s seq %d port %d" % (flags, f.sequence, f.port)
     out = [line(0, TYPES.get(f.type, "type %d" % f.type),
                 told if numbers else "flags " + flags)]
     if f.link is not None:
-        return out + body_lines(1, f.link, form)
+        return out + body_lines(1, f.link)
     body = f.plain_text()
     if f.type in (o.ERROR, o.DONE):
         out.append(line(1, "code", str(int.from_bytes(body[:4], "little", signed=True))))
@@ -266,10 +258,10 @@ def frame_lines(f, numbers=True, form=FORM):
     return out
 
 
-def lines(capture, limit=o.DEFAULT_LIMIT, stage="peers", numbers=True, only=None, form=FORM):
+def lines(capture, limit=o.DEFAULT_LIMIT, stage="peers", numbers=True, only=None):
     """only: the types of messages to show; None: all."""
     frames, bad = o.read_capture(o.rules_for(stage), limit, bytes(capture))
-    return "".join("".join(frame_lines(f, numbers, form)) for f in frames
+    return "".join("".join(frame_lines(f, numbers)) for f in frames
                    if only is None or f.type in only), bad
 
 
@@ -365,12 +357,11 @@ def main():
     ap = argparse.ArgumentParser()
     ap.add_argument("--limit", type=int, default=o.DEFAULT_LIMIT)
     ap.add_argument("--stage", default="peers")
-    ap.add_argument("--form", type=int, choices=(2, 3), default=FORM)
     ap.add_argument("--without-numbers", action="store_true")
     ap.add_argument("--only", type=read_only)
     a = ap.parse_args()
     capture = sys.stdin.buffer.read()
-    text, bad = lines(capture, a.limit, a.stage, not a.without_numbers, a.only, a.form)
+    text, bad = lines(capture, a.limit, a.stage, not a.without_numbers, a.only)
     sys.stdout.write(text)
     if bad is not None:
         more = why(capture, a.limit, a.stage)

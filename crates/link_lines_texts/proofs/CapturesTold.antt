@@ -18,7 +18,8 @@ use Rattle.link_capture_numbers.specs.Cleared.{numbers_cleared}
 use Rattle.link_capture_numbers.specs.Laws.{ClearedCapturesHaveClearedTexts}
 use Rattle.link_capture_numbers.proofs.Steps.{stopped}
 use Rattle.link_capture_numbers.proofs.ClearedCaptures.{behind}
-use Rattle.link_lines_texts.specs.Frames.{labelled, flag_names, type_text, numbers_text, header_line, body_lines, frame_lines}
+use Rattle.link_lines_texts.specs.Frames.{flag_names, type_text, numbers_text, header_line, body_lines, frame_lines}
+use Rattle.link_lines_texts.specs.Links.{labelled}
 use Rattle.link_lines_texts.specs.Captures.{Choice, everything, is_frame, lines_after, text_lines, without_numbers}
 use Rattle.link_lines_texts.specs.Laws.{LinesTellMeanings, LinesTellTexts, LinesWithoutNumbersTellClearedTexts}
 use Rattle.link_lines_texts.specs.Telling.{IsOwnFrame, StartsFrame, FramesAreTold, NumbersAreKnown}

@@ -1,25 +1,24 @@
 -- Lines tell frames, where they tell lists of attributes.
-use Rattle.std.proofs.Common.{◌≡◌, ℕ, ◌+◌, ◌*◌, ◌≤◌, Bool, true, false, cond, List, [], ◌∷◌, ◌++◌, length, take, drop, get_or, Ok, Err, refl, sym, ap, subst, ◌∙◌, append_assoc, arith, inl, inr}
-use Rattle.std.specs.Prelude.{◌==◌, ◌||◌, nat_le, codes, slice_index}
-use Rattle.std.proofs.lemmas.Bool.{and_parts, eqb-true, leb-true, ltb-false, le-leb, ne_eqb}
+use Rattle.std.proofs.Common.{◌≡◌, ℕ, ◌≤◌, Bool, true, false, cond, List, [], ◌∷◌, ◌++◌, length, take, drop, get_or, Ok, Err, refl, sym, ap, subst, ◌∙◌, append_assoc, arith, inl, inr}
+use Rattle.std.specs.Prelude.{◌==◌, ◌||◌, codes}
+use Rattle.std.proofs.lemmas.Bool.{eqb-true, ltb-false, le-leb, ne_eqb}
 use Rattle.std.proofs.lemmas.Bool.Decides.{eqb_tells}
-use Rattle.std.proofs.lemmas.List.{append_cancel_left, drop_at, length-append, length-drop, length-take, take-append-drop}
+use Rattle.std.proofs.lemmas.List.{append_cancel_left, length-drop, length-take, take-append-drop}
 use Rattle.netlink_packet_core_grammar.specs.Bytes.{AreBytes}
 use Rattle.netlink_packet_core_grammar.specs.Numbers.{u16_at}
-use Rattle.link_message_grammar.specs.Body.{attributes_rule, header_text, layer_type_text, is_listed, link_body, link_peer, family}
-use Rattle.link_message_grammar.specs.LinkMessage.{family_of}
+use Rattle.link_message_grammar.specs.Body.{link_body, link_peer}
 use Rattle.link_message_grammar.specs.Laws.{BodiesAreHeadersAndAttributes}
 use Rattle.link_capture_grammar.specs.Bodies.{error_text, done_text, refused, empty_ports, unfit, is_link_type, body_text, body_text_under, ruled_text}
 use Rattle.link_lines_values.specs.declared.values.ShownBy.TheVariants.{Signed, Bytes}
 use Rattle.link_lines_values.specs.Bytes.{bytes_text}
 use Rattle.link_lines_values.specs.Values.{value_text}
 use Rattle.link_lines_values.specs.Laws.{BytesAreTold, DigitsAreTold, NumbersAreTold, ValuesStandOnALine}
-use Rattle.link_lines_texts.specs.Frames.{behind_code, bytes_line, body_lines, code_lines, family_table, frame_lines, header_line, link_header_line, link_lines, request_line, type_text}
-use Rattle.link_lines_texts.specs.Lists.{list_lines}
-use Rattle.link_lines_texts.specs.Telling.{AreKnown, FramesAreTold, IsOwn, IsOwnFrame, IsShallow, ListsAreTold, NumbersAreKnown, StartsFrame}
+use Rattle.link_lines_texts.specs.Frames.{behind_code, bytes_line, body_lines, code_lines, frame_lines, header_line, link_lines, request_line, type_text}
+use Rattle.link_lines_texts.specs.Telling.{AreKnown, FramesAreTold, IsOwnFrame, IsShallow, ListsAreTold, NumbersAreKnown, StartsFrame}
 use Rattle.link_lines_texts.proofs.ByteParts.{first_bytes, later_bytes}
 use Rattle.link_lines_texts.proofs.LineCuts.{behind, cut_line}
-use Rattle.link_lines_texts.proofs.HeadersTold.{flags_part, header_told, link_header_told, request_told, type_starts}
+use Rattle.link_lines_texts.proofs.HeadersTold.{flags_part, header_told, request_told, type_starts}
+use Rattle.link_lines_texts.proofs.LinkBodiesTold.{IsOwnLink, link_part, link_told, own_link}
 
 -- ---- lines of bytes, and of codes
 
@@ -113,63 +112,29 @@ code_told numbers v n m told p q s t a b l o g h i j e =
 
 -- ---- a link's body
 
--- a body of a link that is its own text
-record IsOwnLink (b : List ℕ) : Type 0 where
-  size : 16 ≤ length b
-  second : slice_index b 1 ≡ 0
-  attributes : IsOwn (attributes_rule (family b)) (drop 16 b)
-
 ruled_is : (x y z : Bool) (p b : List ℕ) → cond x (cond y (Err empty_ports) (cond z (Ok p) (Err unfit))) (Err refused) ≡ Ok b → (x ≡ true) × (p ≡ b)
 ruled_is false y z p b e = absurd cc
 ruled_is true true z p b e = absurd cc
 ruled_is true false false p b e = absurd cc
 ruled_is true false true p b e = (refl, cc)
 
-two_long : (b : Bool) (x y u v : ℕ) → length (cond b (x ∷ y ∷ []) (u ∷ v ∷ [])) ≡ 2
-two_long true x y u v = refl
-two_long false x y u v = refl
-
-header_size : (b : List ℕ) → 16 ≤ length b → length (header_text b) ≡ 16
-header_size (x ∷ y ∷ u ∷ v ∷ b) l =
-    omega (arith, length-append (layer_type_text u v) (take 12 b), two_long (is_listed (u + 256 * v)) u v 255 255, length-take 12 b)
-header_size b l = absurd (omega arith)
-
-second_is : (b p : List ℕ) → 16 ≤ length b → header_text b ++ p ≡ b → slice_index b 1 ≡ 0
-second_is (x ∷ y ∷ u ∷ v ∷ b) p l e = sym (ap (λ l. get_or l 1 0) e)
-second_is b p l e = absurd (omega arith)
-
 -- a link's body that is its own text has a header that is, and attributes that are
-own_link : BodiesAreHeadersAndAttributes link_peer → (b : List ℕ) → AreBytes b → ruled_text link_body b ≡ Ok b → IsOwnLink b
-own_link h b a e =
-    let parts = h b in
-    let rule = attributes_rule (family b) in
+own_body : BodiesAreHeadersAndAttributes link_peer → (b : List ℕ) → AreBytes b → ruled_text link_body b ≡ Ok b → IsOwnLink link_peer b
+own_body h b a e =
     let r = ruled_is (link_body.accepted b) (link_body.empty_ports b) (link_body.fits b) (link_body.canonical b) b e in
-    let accepted = and_parts (nat_le 16 (length b)) (rule.accepted (drop 16 b)) (sym parts.accepted ∙ r.0) in
-    let size = leb-true 16 (length b) accepted.0 in
-    let text : header_text b ++ rule.canonical (drop 16 b) ≡ b = sym parts.canonical ∙ r.1 in
-    let list = rule.canonical (drop 16 b) in
-    let kept = sym (drop_at (header_text b) list 16 (header_size b size)) ∙ ap (drop 16) text in
-    record { size = size; second = second_is b _ size text; attributes = record { bytes = later_bytes 16 b a; accepted = accepted.1; canonical = kept } }
+    own_link link_peer h b a r.0 r.1
 
-abbrev list_part : List ℕ → List ℕ
-list_part b = list_lines 1 (family_table (slice_index b 0)) (drop 16 b)
-
-link_lines_are : (b : List ℕ) → 16 ≤ length b → link_lines b ≡ link_header_line b ++ list_part b
+link_lines_are : (b : List ℕ) → 16 ≤ length b → link_lines b ≡ link_part 1 false b
 unfolding link_lines
-link_lines_are b h = ap (λ c. cond c (link_header_line b ++ list_part b) (bytes_line (codes "body") b)) (le-leb 16 (length b) h)
+link_lines_are b h = ap (λ c. cond c (link_part 1 false b) (bytes_line (codes "body") b)) (le-leb 16 (length b) h)
 
 shallow : (s : List ℕ) → StartsFrame s → IsShallow 1 s
 shallow s h r = no_space s (32 ∷ r) h
 
-link_told : ListsAreTold → DigitsAreTold → (p q s t : List ℕ) → AreBytes p → AreBytes q → IsOwnLink p → IsOwnLink q → StartsFrame s → StartsFrame t → link_lines p ++ s ≡ link_lines q ++ t → (p ≡ q) × (s ≡ t)
-link_told lists d p q s t a b h k i j e =
+body_told : ListsAreTold → DigitsAreTold → (p q s t : List ℕ) → AreBytes p → AreBytes q → IsOwnLink link_peer p → IsOwnLink link_peer q → StartsFrame s → StartsFrame t → link_lines p ++ s ≡ link_lines q ++ t → (p ≡ q) × (s ≡ t)
+body_told lists d p q s t a b h k i j e =
     let lines = sym (ap (λ z. z ++ s) (link_lines_are p h.size)) ∙ e ∙ ap (λ z. z ++ t) (link_lines_are q k.size) in
-    let shown = behind (link_header_line p) (list_part p) s (link_header_line q) (list_part q) t lines in
-    let same = link_header_told d p q (list_part p ++ s) (list_part q ++ t) a b h.size k.size shown in
-    let other = subst (λ n. IsOwn (attributes_rule (family_of n)) (drop 16 q)) (sym same.family) k.attributes in
-    let rest = same.rest ∙ ap (λ n. list_lines 1 (family_table n) (drop 16 q) ++ t) (sym same.family) in
-    let r = lists (slice_index p 0) (drop 16 p) (drop 16 q) s t h.attributes other (shallow s i) (shallow t j) rest in
-    (same.bytes (h.second ∙ sym k.second) r.0, r.1)
+    link_told link_peer false lists d 1 p q s t a b h k (shallow s i) (shallow t j) lines
 
 -- ---- bodies by their type
 
@@ -253,7 +218,7 @@ lines_are numbers n p b c = lines_by p (code_lines numbers n p) (is_link_type n)
 
 other_by : Premises → (l : Bool) (p q s t : List ℕ) → AreBytes p → AreBytes q → cond l (ruled_text link_body p) (Ok p) ≡ Ok p → cond l (ruled_text link_body q) (Ok q) ≡ Ok q → StartsFrame s → StartsFrame t →
     cond l (link_lines p) (bytes_line (codes "body") p) ++ s ≡ cond l (link_lines q) (bytes_line (codes "body") q) ++ t → (p ≡ q) × (s ≡ t)
-other_by w true p q s t a b h k i j e = link_told w.lists w.digits p q s t a b (own_link w.parts p a h) (own_link w.parts q b k) i j e
+other_by w true p q s t a b h k i j e = body_told w.lists w.digits p q s t a b (own_body w.parts p a h) (own_body w.parts q b k) i j e
 other_by w false p q s t a b h k i j e = bytes_line_told w.bytes w.lines (codes "body") p q s t a b i j e
 
 others_told : Premises → (numbers : Bool) (n : ℕ) → (n ≡ 1 → ⊥) → (n ≡ 2 → ⊥) → (n ≡ 3 → ⊥) → BodiesOfTypeAreTold numbers n

@@ -10,8 +10,9 @@ use Rattle.link_lines_values.specs.Digits.{hex_number}
 use Rattle.link_lines_values.specs.Flags.{listed, named_flags, nameless, names_set}
 use Rattle.link_lines_values.specs.Names.{Text, bracketed, named_number, text_in}
 use Rattle.link_lines_values.specs.Laws.{DigitsAreTold, Ends}
-use Rattle.link_lines_texts.specs.Coverage.{is_word}
-use Rattle.link_lines_texts.specs.Frames.{address_families, flag_names, header_line, labelled, layer_types, link_flag_names, link_flags, link_header_line, link_numbers, message_types, numbers_text, or_number, request_line, type_text}
+use Rattle.link_lines_names.specs.Names.{is_word}
+use Rattle.link_lines_texts.specs.Frames.{flag_names, header_line, message_types, numbers_text, or_number, request_line, type_text}
+use Rattle.link_lines_texts.specs.Links.{labelled}
 use Rattle.link_lines_texts.specs.Telling.{AreKnown, HasNoNumbers, StartsFrame}
 use Rattle.link_lines_texts.proofs.ByteParts.{later_bytes}
 use Rattle.link_lines_texts.proofs.LineCuts.{IsWord, behind, cut_word, word_of}
@@ -27,14 +28,14 @@ listed_ends [] rest s h = h
 listed_ends (name ∷ names) rest s h = omega arith
 
 -- a number is told, with its name or without
-number_told : DigitsAreTold → (texts : List Text) (m n : ℕ) (s t : List ℕ) → m < 2 ^ 64 → n < 2 ^ 64 → Ends s → Ends t → named_number texts m ++ s ≡ named_number texts n ++ t → (m ≡ n) × (s ≡ t)
+pub number_told : DigitsAreTold → (texts : List Text) (m n : ℕ) (s t : List ℕ) → m < 2 ^ 64 → n < 2 ^ 64 → Ends s → Ends t → named_number texts m ++ s ≡ named_number texts n ++ t → (m ≡ n) × (s ≡ t)
 number_told d texts m n s t p q k l e =
     let name : ℕ → List ℕ = λ n. bracketed (text_in texts n) in
     let shown = behind (decimal m) (name m) s (decimal n) (name n) t e in
     let r = d.decimal_digits m n (name m ++ s) (name n ++ t) p q (bracket_ends _ s k) (bracket_ends _ t l) shown in
     (r.0, append_cancel_left (name m) s t (r.1 ∙ ap (λ n. name n ++ t) (sym r.0)))
 
-flags_told : DigitsAreTold → (set other : List Text) (m n : ℕ) (s t : List ℕ) → set ≡ other → m < 2 ^ 64 → n < 2 ^ 64 → Ends s → Ends t → named_flags set m ++ s ≡ named_flags other n ++ t → (m ≡ n) × (s ≡ t)
+pub flags_told : DigitsAreTold → (set other : List Text) (m n : ℕ) (s t : List ℕ) → set ≡ other → m < 2 ^ 64 → n < 2 ^ 64 → Ends s → Ends t → named_flags set m ++ s ≡ named_flags other n ++ t → (m ≡ n) × (s ≡ t)
 flags_told d set other m n s t same p q k l e =
     let names : List Text → ℕ → List ℕ = λ f n. listed (names_set f n) (nameless f n) in
     let shown = behind (hex_number m) (names set m) s (hex_number n) (names other n) t e in
@@ -117,16 +118,16 @@ type_starts n s = let all = message_types in starts_by all n (text_in all n) s (
 
 -- ---- numbers at places of bytes
 
-byte_at : (p : List ℕ) (i : ℕ) → AreBytes p → slice_index p i < 256
+pub byte_at : (p : List ℕ) (i : ℕ) → AreBytes p → slice_index p i < 256
 byte_at [] i a = omega arith
 byte_at (b ∷ p) zero a = a.0
 byte_at (b ∷ p) (suc i) a = byte_at p i a.1
 
-u16_small : (i : ℕ) (p : List ℕ) → AreBytes p → u16_at i p < 2 ^ 64
+pub u16_small : (i : ℕ) (p : List ℕ) → AreBytes p → u16_at i p < 2 ^ 64
 unfolding u16_at
 u16_small i p a = omega (arith, byte_at p i a, byte_at p (i + 1) a)
 
-u32_small : (i : ℕ) (p : List ℕ) → AreBytes p → u32_at i p < 2 ^ 64
+pub u32_small : (i : ℕ) (p : List ℕ) → AreBytes p → u32_at i p < 2 ^ 64
 unfolding u32_at
 u32_small i p a = omega (arith, byte_at p i a, byte_at p (i + 1) a, byte_at p (i + 2) a, byte_at p (i + 3) a)
 
@@ -183,12 +184,12 @@ skipped : (i n : ℕ) (p : List ℕ) → drop n (drop i p) ≡ drop (i + n) p
 skipped i n p = drop-drop n i p
 
 -- bytes from a place on are told by the number there and by the bytes behind it
-two_further : (i : ℕ) (p q : List ℕ) → AreBytes p → AreBytes q → i + 2 ≤ length p → i + 2 ≤ length q → u16_at i p ≡ u16_at i q → drop (i + 2) p ≡ drop (i + 2) q → drop i p ≡ drop i q
+pub two_further : (i : ℕ) (p q : List ℕ) → AreBytes p → AreBytes q → i + 2 ≤ length p → i + 2 ≤ length q → u16_at i p ≡ u16_at i q → drop (i + 2) p ≡ drop (i + 2) q → drop i p ≡ drop i q
 two_further i p q h k l m e r =
     two_told (drop i p) (drop i q) (later_bytes i p h) (later_bytes i q k) (omega (arith, length-drop i p)) (omega (arith, length-drop i q))
     (u16_after i p ∙ e ∙ sym (u16_after i q)) (skipped i 2 p ∙ r ∙ sym (skipped i 2 q))
 
-four_further : (i : ℕ) (p q : List ℕ) → AreBytes p → AreBytes q → i + 4 ≤ length p → i + 4 ≤ length q → u32_at i p ≡ u32_at i q → drop (i + 4) p ≡ drop (i + 4) q → drop i p ≡ drop i q
+pub four_further : (i : ℕ) (p q : List ℕ) → AreBytes p → AreBytes q → i + 4 ≤ length p → i + 4 ≤ length q → u32_at i p ≡ u32_at i q → drop (i + 4) p ≡ drop (i + 4) q → drop i p ≡ drop i q
 four_further i p q h k l m e r =
     four_told (drop i p) (drop i q) (later_bytes i p h) (later_bytes i q k) (omega (arith, length-drop i p)) (omega (arith, length-drop i q))
     (u32_after i p ∙ e ∙ sym (u32_after i q)) (skipped i 4 p ∙ r ∙ sym (skipped i 4 q))
@@ -289,88 +290,3 @@ request_told d n p q s t a b l m i j e =
     (behind (decimal (u32_at 0 p)) x s (decimal (u32_at 0 q)) y t (ap (drop 17) lines)) in
     let same = header_told d n p q s t a b l m i j (ap (drop 1) size.1) in
     (λ r. four_told p q a b (omega arith) (omega arith) size.0 (same.bytes r), same.rest)
-
--- ---- a link's header
-
-abbrev index_part : List ℕ → List ℕ
-index_part b = labelled (codes " index ") (decimal (u32_at 4 b))
-
-abbrev layer_part : List ℕ → List ℕ
-layer_part b = labelled (codes " type ") (named_number layer_types (u16_at 2 b)) ++ index_part b
-
-abbrev change_part : List ℕ → List ℕ
-change_part b = labelled (codes " change ") (named_flags link_flag_names (u32_at 12 b)) ++ 10 ∷ []
-
-numbers_are : (b : List ℕ) → link_numbers b ≡ labelled (codes "  ifinfomsg family ") (named_number address_families (slice_index b 0)) ++ layer_part b
-unfolding link_numbers
-numbers_are b = refl
-
-flags_are : (b : List ℕ) → link_flags b ≡ labelled (codes " flags ") (named_flags link_flag_names (u32_at 8 b)) ++ change_part b
-unfolding link_flags
-flags_are b = refl
-
-module _ (d : DigitsAreTold) (p q : List ℕ) (a : AreBytes p) (b : AreBytes q) where
-  change_told : (s t : List ℕ) → change_part p ++ s ≡ change_part q ++ t → (u32_at 12 p ≡ u32_at 12 q) × (s ≡ t)
-  change_told s t e =
-      let m = named_flags link_flag_names (u32_at 12 p) in
-      let n = named_flags link_flag_names (u32_at 12 q) in
-      let shown : m ++ 10 ∷ s ≡ n ++ 10 ∷ t = behind m (10 ∷ []) s n (10 ∷ []) t (ap (drop 8) e) in
-      let r = flags_told d link_flag_names link_flag_names _ _ (10 ∷ s) (10 ∷ t) refl (u32_small 12 p a) (u32_small 12 q b) (omega arith) (omega arith) shown in
-      (r.0, ap (drop 1) r.1)
-
-  link_flags_told : (s t : List ℕ) → link_flags p ++ s ≡ link_flags q ++ t → (u32_at 8 p ≡ u32_at 8 q) × (change_part p ++ s ≡ change_part q ++ t)
-  link_flags_told s t e =
-      let m = named_flags link_flag_names (u32_at 8 p) in
-      let n = named_flags link_flag_names (u32_at 8 q) in
-      let lines = sym (ap (λ z. z ++ s) (flags_are p)) ∙ e ∙ ap (λ z. z ++ t) (flags_are q) in
-      flags_told d link_flag_names link_flag_names _ _ (change_part p ++ s) (change_part q ++ t) refl (u32_small 8 p a) (u32_small 8 q b) (omega arith) (omega arith)
-      (behind m (change_part p) s n (change_part q) t (ap (drop 7) lines))
-
-  index_told : (s t : List ℕ) → Ends s → Ends t → index_part p ++ s ≡ index_part q ++ t → (u32_at 4 p ≡ u32_at 4 q) × (s ≡ t)
-  index_told s t i j e = d.decimal_digits _ _ s t (u32_small 4 p a) (u32_small 4 q b) i j (ap (drop 7) e)
-
-  layer_told : (s t : List ℕ) → layer_part p ++ s ≡ layer_part q ++ t → (u16_at 2 p ≡ u16_at 2 q) × (index_part p ++ s ≡ index_part q ++ t)
-  layer_told s t e =
-      let m = named_number layer_types (u16_at 2 p) in
-      let n = named_number layer_types (u16_at 2 q) in
-      number_told d layer_types _ _ (index_part p ++ s) (index_part q ++ t) (u16_small 2 p a) (u16_small 2 q b) (omega arith) (omega arith)
-      (behind m (index_part p) s n (index_part q) t (ap (drop 6) e))
-
-  family_told : (s t : List ℕ) → link_numbers p ++ s ≡ link_numbers q ++ t → (slice_index p 0 ≡ slice_index q 0) × (layer_part p ++ s ≡ layer_part q ++ t)
-  family_told s t e =
-      let m = named_number address_families (slice_index p 0) in
-      let n = named_number address_families (slice_index q 0) in
-      let lines = sym (ap (λ z. z ++ s) (numbers_are p)) ∙ e ∙ ap (λ z. z ++ t) (numbers_are q) in
-      number_told d address_families _ _ (layer_part p ++ s) (layer_part q ++ t)
-      (omega (arith, byte_at p 0 a)) (omega (arith, byte_at q 0 b)) (omega arith) (omega arith)
-      (behind m (layer_part p) s n (layer_part q) t (ap (drop 19) lines))
-
-flags_end : (b s : List ℕ) → Ends (link_flags b ++ s)
-unfolding link_flags
-flags_end b s = omega arith
-
--- two bodies of links with the same line of their headers, and what stands behind it
-pub record SameLink (p q s t : List ℕ) : Type 0 where
-  pub family : slice_index p 0 ≡ slice_index q 0
-  pub bytes : slice_index p 1 ≡ slice_index q 1 → drop 16 p ≡ drop 16 q → p ≡ q
-  pub rest : s ≡ t
-
-two_are : (p : List ℕ) → 2 ≤ length p → p ≡ slice_index p 0 ∷ slice_index p 1 ∷ drop 2 p
-two_are (a ∷ b ∷ p) l = refl
-two_are p l = absurd (omega arith)
-
-pub link_header_told : DigitsAreTold → (p q s t : List ℕ) → AreBytes p → AreBytes q → 16 ≤ length p → 16 ≤ length q → link_header_line p ++ s ≡ link_header_line q ++ t → SameLink p q s t
-link_header_told d p q s t a b l m e =
-    let f = family_told d p q a b _ _ (behind (link_numbers p) (link_flags p) s (link_numbers q) (link_flags q) t e) in
-    let y = layer_told d p q a b _ _ f.1 in
-    let x = index_told d p q a b (link_flags p ++ s) (link_flags q ++ t) (flags_end p s) (flags_end q t) y.1 in
-    let g = link_flags_told d p q a b s t x.1 in
-    let c = change_told d p q a b s t g.1 in
-    let numbers : drop 16 p ≡ drop 16 q → drop 2 p ≡ drop 2 q =
-    λ r. two_further 2 p q a b (omega arith) (omega arith) y.0 (four_further 4 p q a b (omega arith) (omega arith) x.0
-    (four_further 8 p q a b (omega arith) (omega arith) g.0 (four_further 12 p q a b (omega arith) (omega arith) c.0 r))) in
-    record {
-      family = f.0;
-      bytes = λ z r. let n = numbers r in two_are p (omega arith) ∙ (λ i. f.0 i ∷ z i ∷ n i) ∙ sym (two_are q (omega arith));
-      rest = c.1;
-    }

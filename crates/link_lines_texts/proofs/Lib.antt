@@ -5,6 +5,8 @@ pub mod FrameSteps
 pub mod FramesTold
 pub mod HeadersTold
 pub mod LineCuts
+pub mod LinkBodiesTold
+pub mod LinkHeadersTold
 pub mod LinksTold
 pub mod ListSteps
 pub mod ListsTold

@@ -273,6 +273,7 @@ shapes_told laws s (V.Number numbers) p q h o u e = let z = sized s is_size h in
 shapes_told laws s (V.BigEndian numbers) p q h o u e = let z = sized s is_size h in laws.numbers.big numbers p q o.bytes u.bytes (same_length s is_size p q z o u) (length_holds s is_size p z o) e
 shapes_told laws s V.Signed p q h o u e = let z = sized s (λ n. n == 4) h in laws.numbers.signed p q o.bytes u.bytes (length_is s 4 p z o) (length_is s 4 q z u) e
 shapes_told laws s V.Flags p q h o u e = let z = sized s is_size h in laws.numbers.flags p q o.bytes u.bytes (same_length s is_size p q z o u) (length_holds s is_size p z o) e
+shapes_told laws s (V.NamedFlags names) p q h o u e = let z = sized s is_size h in laws.numbers.named_flags names p q o.bytes u.bytes (same_length s is_size p q z o u) (length_holds s is_size p z o) e
 shapes_told laws s V.BigEndianFlags p q h o u e = let z = sized s is_size h in laws.settings.big p q o.bytes u.bytes (same_length s is_size p q z o u) (length_holds s is_size p z o) e
 shapes_told laws s V.FlagsBySize p q h o u e =
     let z = sized s (λ n. (n == 4) || (n == 2)) h in

@@ -1,17 +1,19 @@
 -- Names tell the rows that have them.
-use Rattle.std.proofs.Common.{◌≡◌, ℕ, ◌-◌, ◌<◌, ◌≤◌, Bool, true, false, cond, List, [], ◌∷◌, Option, Some, None, refl, sym, ap, ◌∙◌, arith}
-use Rattle.std.specs.Prelude.{◌==◌, ◌&&◌, not, nat_lt, nat_le, get_or, bytes_eq}
+use Rattle.std.proofs.Common.{◌≡◌, ℕ, ◌-◌, ◌<◌, ◌≤◌, Bool, true, false, cond, List, [], ◌∷◌, length, Some, None, refl, sym, ap, subst, ◌∙◌, arith}
+use Rattle.std.specs.Prelude.{◌==◌, ◌&&◌, ◌||◌, not, nat_lt, get_or, bytes_eq}
 use Rattle.std.specs.List.{list_all}
-use Rattle.std.proofs.lemmas.Bool.{and_parts, eqb-true, leb-true, ltb-true, not-true, true≢false}
-use Rattle.std.proofs.lemmas.Option.{same_Some}
+use Rattle.std.proofs.lemmas.Bool.{and_parts, eqb-true, le-ltb, ltb-false, true≢false}
+use Rattle.std.proofs.lemmas.List.{get_or_past}
 use Rattle.std.proofs.lemmas.Slice.Eq.{bytes_eq-Decides}
 use Rattle.attribute_checks.proofs.LookUps.{all_at}
-use Rattle.link_lines_texts.specs.Coverage.{all_titles, has_line, has_name, if_named, in_each, is_name, is_new, is_other, is_word, names_apart}
-use Rattle.link_lines_values.specs.Placed.{find}
+use Rattle.link_lines_names.specs.Names.{Named, Titled, all_titles, has_name, names_apart}
+use Rattle.link_lines_names.specs.Raw.{Raw, geneve_titles, gre6_titles, gre_titles, link_titles as raw_link_titles, raw_lists, raw_name, raw_titles_of, table_titles, vf_titles, xfrm_titles}
+use Rattle.link_lines_names.proofs.Named.{apart_in, found_in, name_of}
+use Rattle.link_lines_texts.specs.Coverage.{are_apart, has_line, in_each, raw_apart}
 use Rattle.link_lines_texts.specs.Titles.{Name, Title, data_titles, link_titles, nested_titles, title_of, titles_of}
-use Rattle.link_lines_texts.proofs.LineCuts.{IsWord, Starts, word_of}
+use Rattle.link_lines_texts.proofs.LineCuts.{IsWord, Starts}
 use Rattle.link_lines_texts.proofs.ListsTold.{NamesTold}
-use Rattle.link_lines_texts.proofs.Told.{all_are_apart, all_are_named, all_on_lines}
+use Rattle.link_lines_texts.proofs.Told.{all_are_apart, all_are_named, all_on_lines, all_raw_apart}
 
 -- ---- what holds in each table
 
@@ -27,59 +29,10 @@ in_table f m e h =
     chosen f (nat_lt m 15) (get_or nested_titles m []) (cond (nat_lt m 20) (get_or link_titles (m - 15) []) (get_or data_titles (m - 20) [])) (all_at f nested_titles m [] parts.0 e)
     (chosen f (nat_lt m 20) (get_or link_titles (m - 15) []) (get_or data_titles (m - 20) []) (all_at f link_titles (m - 15) [] more.0 e) (all_at f data_titles (m - 20) [] more.1 e))
 
--- ---- a name that is found
-
-found_by : (f : ℕ → Name → Bool) (k j : ℕ) (t : Name) (o more : Option Name) (b : Bool) → (j == k) ≡ b → if_named f (j, o) ≡ true → (more ≡ Some t → f k t ≡ true) → cond b o more ≡ Some t → f k t ≡ true
-found_by f k j t None more true h i rest e = absurd cc
-found_by f k j t (Some n) more true h i rest e = ap (f k) (sym (same_Some n t e)) ∙ ap (λ l. f l n) (sym (eqb-true j k h)) ∙ i
-found_by f k j t o more false h i rest e = rest e
-
-found_in : (f : ℕ → Name → Bool) (k : ℕ) (ts : List Title) (t : Name) → all_titles f ts ≡ true → find k ts ≡ Some t → f k t ≡ true
-found_in f k [] t h e = absurd cc
-found_in f k (x ∷ ts) t h e =
-    let parts = and_parts (if_named f x) (all_titles f ts) h in
-    found_by f k x.0 t x.1 (find k ts) (x.0 == k) refl parts.0 (found_in f k ts t parts.1) e
-
 -- what holds of all names of a table holds of it
 pub found : (f : ℕ → Name → Bool) (m k : ℕ) (t : Name) → all_titles f (titles_of m) ≡ true → title_of m k ≡ Some t → f k t ≡ true
 unfolding title_of
 found f m k t h e = found_in f k (titles_of m) t h e
-
--- ---- two kinds of one name
-
-not_other : (s : List ℕ) (n : Name) → s ≡ n.0 → not (bytes_eq s n.0) ≡ true → ⊥
-not_other s n e h = true≢false (sym ((bytes_eq-Decides s n.0).1 e) ∙ not-true (bytes_eq s n.0) h)
-
-taken : (l : ℕ) (n t u : Name) (ts : List Title) → n ≡ t → t.0 ≡ u.0 → all_titles (is_other n.0) ts ≡ true → find l ts ≡ Some u → ⊥
-taken l n t u ts same e h f = not_other n.0 u (ap (λ z. z.0) same ∙ e) (found_in (is_other n.0) l ts u h f)
-
-apart_by : (k l j : ℕ) (o : Option Name) (t u : Name) (ts : List Title) (a b : Bool) → (j == k) ≡ a → (j == l) ≡ b → is_new (j, o) ts ≡ true → t.0 ≡ u.0 → (find k ts ≡ Some t → find l ts ≡ Some u → k ≡ l) →
-    cond a o (find k ts) ≡ Some t → cond b o (find l ts) ≡ Some u → k ≡ l
-apart_by k l j o t u ts true true h i n e more f g = sym (eqb-true j k h) ∙ eqb-true j l i
-apart_by k l j None t u ts true false h i n e more f g = absurd cc
-apart_by k l j (Some x) t u ts true false h i n e more f g = absurd (taken l x t u ts (same_Some x t f) e n g)
-apart_by k l j None t u ts false true h i n e more f g = absurd cc
-apart_by k l j (Some x) t u ts false true h i n e more f g = absurd (taken k x u t ts (same_Some x u g) (sym e) n f)
-apart_by k l j o t u ts false false h i n e more f g = more f g
-
-apart_in : (k l : ℕ) (t u : Name) (ts : List Title) → names_apart ts ≡ true → t.0 ≡ u.0 → find k ts ≡ Some t → find l ts ≡ Some u → k ≡ l
-apart_in k l t u [] h e f g = absurd cc
-apart_in k l t u (x ∷ ts) h e f g =
-    let parts = and_parts (is_new x ts) (names_apart ts) h in
-    apart_by k l x.0 x.1 t u ts (x.0 == k) (x.0 == l) refl refl parts.0 e (apart_in k l t u ts parts.1 e) f g
-
--- ---- names of a table
-
-over_digits : (c : ℕ) → 65 ≤ c → 48 ≤ c
-over_digits c h = omega arith
-
-name_of : (s : List ℕ) → is_name s ≡ true → IsWord s × (Starts s × (get_or s 0 0 < 97))
-name_of [] h = absurd cc
-name_of (c ∷ s) h =
-    let parts = and_parts (nat_le 65 c) (nat_lt c 97 && is_word s) h in
-    let more = and_parts (nat_lt c 97) (is_word s) parts.1 in
-    let low = leb-true 65 c parts.0 in
-    ((over_digits c low, word_of s more.1), (low, ltb-true c 97 more.0))
 
 named : (m k : ℕ) (t : Name) → title_of m k ≡ Some t → IsWord t.0 × (Starts t.0 × (get_or t.0 0 0 < 97))
 named m k t e = name_of t.0 (found has_name m k t (in_table (all_titles has_name) m refl all_are_named) e)
@@ -88,5 +41,96 @@ one_name : (m k l : ℕ) (t u : Name) → title_of m k ≡ Some t → title_of m
 unfolding title_of
 one_name m k l t u e f same = apart_in k l t u (titles_of m) (in_table names_apart m refl all_are_apart) same e f
 
+-- ---- names of raw attributes
+
+picked : (m n : ℕ) (b : Bool) (x y : List (Titled Raw)) → (m == n) ≡ b → are_apart (titles_of n) x ≡ true → are_apart (titles_of m) y ≡ true → are_apart (titles_of m) (cond b x y) ≡ true
+picked m n true x y e h k = subst (λ z. are_apart (titles_of z) x ≡ true) (sym (eqb-true m n e)) h
+picked m n false x y e h k = k
+
+picked_or : (m n : ℕ) (b c : Bool) (x y : List (Titled Raw)) → (m == n) ≡ b → are_apart (titles_of n) x ≡ true → are_apart (titles_of m) (cond c x y) ≡ true → are_apart (titles_of m) (cond (b || c) x y) ≡ true
+picked_or m n true c x y e h k = subst (λ z. are_apart (titles_of z) x ≡ true) (sym (eqb-true m n e)) h
+picked_or m n false c x y e h k = k
+
+-- of the nine tables that have such names
+record TablesApart : Type 0 where
+  vf : are_apart (titles_of 11) vf_titles ≡ true
+  unspec : are_apart (titles_of 15) raw_link_titles ≡ true
+  bridge : are_apart (titles_of 16) raw_link_titles ≡ true
+  inet6 : are_apart (titles_of 17) raw_link_titles ≡ true
+  other : are_apart (titles_of 18) raw_link_titles ≡ true
+  geneve : are_apart (titles_of 23) geneve_titles ≡ true
+  gre : are_apart (titles_of 24) gre_titles ≡ true
+  gre6 : are_apart (titles_of 25) gre6_titles ≡ true
+  xfrm : are_apart (titles_of 39) xfrm_titles ≡ true
+
+tables_apart : TablesApart
+unfolding raw_titles_of table_titles
+tables_apart =
+    let a = and_parts (raw_apart 11) _ all_raw_apart in
+    let b = and_parts (raw_apart 15) _ a.1 in
+    let c = and_parts (raw_apart 16) _ b.1 in
+    let d = and_parts (raw_apart 17) _ c.1 in
+    let e = and_parts (raw_apart 18) _ d.1 in
+    let f = and_parts (raw_apart 23) _ e.1 in
+    let g = and_parts (raw_apart 24) _ f.1 in
+    let h = and_parts (raw_apart 25) _ g.1 in
+    let i = and_parts (raw_apart 39) _ h.1 in
+    record { vf = a.0; unspec = b.0; bridge = c.0; inet6 = d.0; other = e.0; geneve = f.0; gre = g.0; gre6 = h.0; xfrm = i.0 }
+
+in_tables : (m : ℕ) → are_apart (titles_of m) (table_titles m) ≡ true
+unfolding table_titles
+in_tables m =
+    let t = tables_apart in
+    picked m 11 (m == 11) vf_titles _ refl t.vf
+    (picked_or m 15 (m == 15) _ raw_link_titles _ refl t.unspec (picked_or m 16 (m == 16) _ raw_link_titles _ refl t.bridge
+    (picked_or m 17 (m == 17) _ raw_link_titles _ refl t.inet6 (picked m 18 (m == 18) raw_link_titles _ refl t.other
+    (picked m 23 (m == 23) geneve_titles _ refl t.geneve (picked m 24 (m == 24) gre_titles _ refl t.gre
+    (picked m 25 (m == 25) gre6_titles _ refl t.gre6 (picked m 39 (m == 39) xfrm_titles [] refl t.xfrm refl))))))))
+
+-- behind the tables stand lists, which have no rows
+no_rows : length data_titles ≡ 23
+unfolding data_titles
+no_rows = refl
+
+past_tables : (n : ℕ) → 44 ≤ n → titles_of n ≡ []
+unfolding titles_of
+past_tables n h =
+    ap (λ b. cond b (get_or nested_titles n []) (cond (nat_lt n 20) (get_or link_titles (n - 15) []) (get_or data_titles (n - 20) []))) (le-ltb n 15 (omega (arith, h)))
+    ∙ ap (λ b. cond b (get_or link_titles (n - 15) []) (get_or data_titles (n - 20) [])) (le-ltb n 20 (omega (arith, h)))
+    ∙ get_or_past data_titles (n - 20) [] (omega (arith, h, no_rows))
+
+none_by : (u : Titled Raw) (us : List (Titled Raw)) → are_apart [] us ≡ true → are_apart [] (u ∷ us) ≡ true
+none_by (k, None) us h = h
+none_by (k, Some n) us h = h
+
+none_apart : (us : List (Titled Raw)) → are_apart [] us ≡ true
+none_apart [] = refl
+none_apart (u ∷ us) = none_by u us (none_apart us)
+
+either_apart : (m : ℕ) (b : Bool) → nat_lt m 44 ≡ b → are_apart (titles_of m) (cond b (table_titles m) (get_or raw_lists (m - 44) [])) ≡ true
+either_apart m true h = in_tables m
+either_apart m false h =
+    let us = get_or raw_lists (m - 44) [] in
+    ap (λ ts. are_apart ts us) (past_tables m (ltb-false m 44 h)) ∙ none_apart us
+
+all_apart : (m : ℕ) → raw_apart m ≡ true
+unfolding raw_titles_of
+all_apart m = either_apart m (nat_lt m 44) refl
+
+one_kind : (k l : ℕ) (n t : List ℕ) (b : Bool) → bytes_eq n t ≡ b → t ≡ n → (not b || (k == l)) ≡ true → k ≡ l
+one_kind k l n t true h e a = eqb-true k l a
+one_kind k l n t false h e a = absurd (true≢false (sym ((bytes_eq-Decides n t).1 (sym e)) ∙ h))
+
+raw_kind : (m k l : ℕ) (t : Name) (n : Named Raw) → title_of m k ≡ Some t → raw_name m l ≡ Some n → t.0 ≡ n.0 → k ≡ l
+raw_kind m k l t n h i e =
+    let others = found_in (λ l n. all_titles (λ k t. not (bytes_eq n.0 t.0) || (k == l)) (titles_of m)) l (raw_titles_of m) n (all_apart m) i in
+    one_kind k l n.0 t.0 (bytes_eq n.0 t.0) refl e (found (λ k t. not (bytes_eq n.0 t.0) || (k == l)) m k t others h)
+
 pub names_told : (m : ℕ) → NamesTold m
-names_told m = record { word = λ k t l e. (named m k t e).0; upper = λ k t l e. (named m k t e).1; line = λ k t e. found has_line m k t (in_table (all_titles has_line) m refl all_on_lines) e; apart = λ k l t u i j. one_name m k l t u }
+names_told m = record {
+  word = λ k t l e. (named m k t e).0;
+  upper = λ k t l e. (named m k t e).1;
+  line = λ k t e. found has_line m k t (in_table (all_titles has_line) m refl all_on_lines) e;
+  apart = λ k l t u i j. one_name m k l t u;
+  raw = raw_kind m;
+}

@@ -1,12 +1,16 @@
 -- Each row has a name that tells it, by computation.
-use Rattle.std.proofs.Common.{◌≡◌, true, Some, refl}
+use Rattle.std.proofs.Common.{◌≡◌, true, [], ◌∷◌, Some, refl}
+use Rattle.std.specs.List.{list_all}
 use Rattle.attribute_tables_grammar.specs.Lists.{any}
 use Rattle.attribute_tables_grammar.specs.Tables.{Payload}
 use Rattle.link_message_grammar.specs.LinkMessage.{unspec, bridge, inet_6, other, link_table}
 use Rattle.link_message_grammar.specs.NestedTables.{settings}
-use Rattle.link_lines_texts.specs.Coverage.{all_titles, has_line, has_name, holds_shown, in_each, is_info_kind, names_apart}
+use Rattle.link_lines_names.specs.Behind.{Inside.Nested}
+use Rattle.link_lines_names.specs.Names.{all_titles, has_name, names_apart}
+use Rattle.link_lines_names.specs.Raw.{raw_titles_of, table_titles}
+use Rattle.link_lines_texts.specs.Coverage.{has_line, holds_shown, in_each, is_info_kind, raw_apart}
 use Rattle.link_lines_texts.specs.Laws.{RowsAreTold}
-use Rattle.link_lines_texts.specs.Titles.{Inside.Nested, data_titles, info_titles, link_rows, link_titles, nested_titles, own_titles, title_of, titles_of}
+use Rattle.link_lines_texts.specs.Titles.{data_titles, info_titles, link_rows, link_titles, nested_titles, own_titles, title_of, titles_of}
 
 unspec_is_told : holds_shown (Payload.list any (link_table unspec)) (Some (Nested 15)) ≡ true
 unfolding title_of titles_of nested_titles link_titles own_titles link_rows info_titles data_titles settings
@@ -40,5 +44,9 @@ pub all_are_apart : in_each names_apart ≡ true
 unfolding nested_titles link_titles own_titles link_rows info_titles data_titles
 all_are_apart = refl
 
+pub all_raw_apart : list_all raw_apart (11 ∷ 15 ∷ 16 ∷ 17 ∷ 18 ∷ 23 ∷ 24 ∷ 25 ∷ 39 ∷ []) ≡ true
+unfolding titles_of nested_titles link_titles own_titles link_rows info_titles data_titles raw_titles_of table_titles
+all_raw_apart = refl
+
 pub told : RowsAreTold
-told = record { unspec_told = unspec_is_told; bridge_told = bridge_is_told; inet6_told = inet6_is_told; other_told = other_is_told; named = all_are_named; on_lines = all_on_lines; info_named = info_is_named; apart = all_are_apart }
+told = record { unspec_told = unspec_is_told; bridge_told = bridge_is_told; inet6_told = inet6_is_told; other_told = other_is_told; named = all_are_named; on_lines = all_on_lines; info_named = info_is_named; apart = all_are_apart; raw = all_raw_apart }

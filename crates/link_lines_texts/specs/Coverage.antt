@@ -1,8 +1,7 @@
 -- Whether rows of names cover tables: each row has a name, behind which stands a text that tells its payload, and each name has a row.
-use Rattle.std.specs.Prelude.{ℕ, ◌==◌, ◌&&◌, ◌||◌, not, nat_le, nat_lt, Bool, true, false, cond, List, [], ◌∷◌, take, Option, Some, None, bytes_eq}
+use Rattle.std.specs.Prelude.{ℕ, ◌==◌, ◌&&◌, ◌||◌, not, nat_le, Bool, true, false, cond, List, [], ◌∷◌, take, Option, Some, None, bytes_eq}
 use Rattle.std.specs.List.{list_all}
 use Rattle.attribute_checks.specs.declared.names.NameRow.{NameRow}
-use Rattle.attribute_checks.specs.Names.{held_by_name}
 use Rattle.attribute_tables_grammar.specs.Shapes.{Shape, exact, either, at_most, nonzero_byte, one_byte, truth_of_four, presence, text, raw, never, fixed_record, id_and_truth, resized}
 use Rattle.attribute_tables_grammar.specs.Tables.{Payload, Payload.plain, Payload.peer, Payload.list, Payload.link_info, Table, Table.end, Table.row, Names, Names.others, Names.name, lacks_name}
 use Rattle.link_lines_values.specs.declared.fields.FieldShown.{FieldShown}
@@ -11,7 +10,11 @@ use Rattle.link_lines_values.specs.declared.values.ShownBy.TheVariants as V
 use Rattle.link_lines_values.specs.Records.{Field, fields_tell, total_size}
 use Rattle.link_lines_values.specs.Values.{Shown}
 use Rattle.link_info_checks.specs.declared.rows.TheConstants.{KINDS, PORT_KINDS}
-use Rattle.link_lines_texts.specs.Titles.{Inside, Inside.Value, Inside.Nested, Name, Title, data_titles, is_inside_on_a_line, link_titles, nested_titles, of_held, title_of, titles_of}
+use Rattle.link_lines_names.specs.declared.behind.TheConstants.{NAMED_KINDS, NAMED_PORT_KINDS}
+use Rattle.link_lines_names.specs.Behind.{Inside, Inside.Value, Inside.Peer, Inside.Nested, is_inside_on_a_line, of_name}
+use Rattle.link_lines_names.specs.Names.{Titled, all_titles}
+use Rattle.link_lines_names.specs.Raw.{Raw, raw_titles_of}
+use Rattle.link_lines_texts.specs.Titles.{Name, Title, data_titles, link_titles, nested_titles, title_of, titles_of}
 
 -- ---- shapes
 
@@ -92,6 +95,7 @@ shape_tells s (V.Number numbers) = is_sized (own_size s) is_size
 shape_tells s (V.BigEndian numbers) = is_sized (own_size s) is_size
 shape_tells s V.Signed = is_sized (own_size s) (λ n. n == 4)
 shape_tells s V.Flags = is_sized (own_size s) is_size
+shape_tells s (V.NamedFlags names) = is_sized (own_size s) is_size
 shape_tells s V.BigEndianFlags = is_sized (own_size s) is_size
 shape_tells s V.FlagsBySize = is_sized (own_size s) (λ n. (n == 4) || (n == 2))
 shape_tells s V.Truth = is_truth s
@@ -112,46 +116,21 @@ behind (Some n) = Some n.1
 
 -- ---- names
 
--- what holds of a kind and its name, where it has one
-abbrev pub if_named : (ℕ → Name → Bool) → Title → Bool
-if_named f (k, None) = true
-if_named f (k, Some n) = f k n
-
-abbrev pub all_titles : (ℕ → Name → Bool) → List Title → Bool
-all_titles f [] = true
-all_titles f (t ∷ ts) = if_named f t && all_titles f ts
-
 -- in each table
 abbrev pub in_each : (List Title → Bool) → Bool
 in_each f = list_all f nested_titles && (list_all f link_titles && list_all f data_titles)
-
--- upper case letters, digits and underscores, a letter first
-abbrev pub is_word : List ℕ → Bool
-is_word [] = true
-is_word (c ∷ s) = nat_le 48 c && is_word s
-
-abbrev pub is_name : List ℕ → Bool
-is_name [] = false
-is_name (c ∷ s) = nat_le 65 c && (nat_lt c 97 && is_word s)
-
-abbrev pub has_name : ℕ → Name → Bool
-has_name k n = is_name n.0
 
 -- what is shown behind it stands on one line
 abbrev pub has_line : ℕ → Name → Bool
 has_line k n = is_inside_on_a_line n.1
 
-abbrev pub is_other : List ℕ → ℕ → Name → Bool
-is_other s k n = not (bytes_eq s n.0)
+-- no raw attribute has the name of another kind's row
+abbrev pub are_apart : List Title → List (Titled Raw) → Bool
+are_apart ts us = all_titles (λ l n. all_titles (λ k t. not (bytes_eq n.0 t.0) || (k == l)) ts) us
 
-abbrev pub is_new : Title → List Title → Bool
-is_new (k, None) ts = true
-is_new (k, Some n) ts = all_titles (is_other n.0) ts
-
--- no two titles have one name
-abbrev pub names_apart : List Title → Bool
-names_apart [] = true
-names_apart (t ∷ ts) = is_new t ts && names_apart ts
+-- of a table
+abbrev pub raw_apart : ℕ → Bool
+raw_apart m = are_apart (titles_of m) (raw_titles_of m)
 
 -- ---- tables: each row has a name, behind which its payload is told, and each name has a row
 
@@ -167,24 +146,42 @@ is_in t k n = has_row t k
 abbrev pub is_info_kind : ℕ → Name → Bool
 is_info_kind k n = nat_le 1 k && nat_le k 5
 
--- each name in the table of kinds has a payload
+-- each name in a table of kinds has a payload
 abbrev pub kinds_listed : List NameRow → Names → Bool
 kinds_listed [] ns = true
 kinds_listed (r ∷ rs) ns = not (lacks_name (take r.0 r.1) ns) && kinds_listed rs ns
 
+-- data of kinds: those that are raw and have names, and all kinds
+pub record Kinds : Type 0 where
+  pub named : List NameRow
+  pub all : List NameRow
+
+abbrev pub data_kinds : Kinds
+data_kinds = record { named = NAMED_KINDS; all = KINDS }
+
+abbrev pub port_kinds : Kinds
+port_kinds = record { named = NAMED_PORT_KINDS; all = PORT_KINDS }
+
+abbrev pub all_listed : Kinds → Names → Bool
+all_listed kinds ns = kinds_listed kinds.named ns && kinds_listed kinds.all ns
+
+-- what the data under a name hold, as it is shown
+abbrev pub kind_inside : Kinds → List ℕ → Inside
+kind_inside kinds n = of_name (Some n) kinds.named kinds.all
+
 abbrev mutual
-  -- what stands behind a payload's name tells the payload: a value, or the attributes of its table; link info is table 19
+  -- what stands behind a payload's name tells the payload: a value, a peer, or the attributes of its table; link info is table 19
   pub holds_shown : Payload → Option Inside → Bool
   holds_shown (plain s) (Some (Value v)) = shape_tells s v
-  holds_shown peer (Some (Value v)) = shape_tells raw v
+  holds_shown peer (Some Peer) = true
   holds_shown (list form t) (Some (Nested n)) = not (n == 19) && (all_titles (is_in t) (titles_of n) && rows_shown n t)
-  holds_shown (link_info form data' ports) (Some (Nested n)) = (n == 19) && ((names_shown data' KINDS && kinds_listed KINDS data') && (names_shown ports PORT_KINDS && kinds_listed PORT_KINDS ports))
+  holds_shown (link_info form data' ports) (Some (Nested n)) = (n == 19) && ((names_shown data' data_kinds && all_listed data_kinds data') && (names_shown ports port_kinds && all_listed port_kinds ports))
   holds_shown s inside = false
 
   pub rows_shown : ℕ → Table → Bool
   rows_shown m end = true
   rows_shown m (row k nested s t) = holds_shown s (behind (title_of m k)) && rows_shown m t
 
-  pub names_shown : Names → List NameRow → Bool
+  pub names_shown : Names → Kinds → Bool
   names_shown others kinds = true
-  names_shown (name m s ns) kinds = holds_shown s (Some (of_held (held_by_name kinds m))) && names_shown ns kinds
+  names_shown (name m s ns) kinds = holds_shown s (Some (kind_inside kinds m)) && names_shown ns kinds

@@ -1,27 +1,19 @@
 -- The lines of a message: its header's, its link's header's, and those of its attributes.
-use Rattle.std.specs.Prelude.{ℕ, ◌==◌, ◌||◌, ◌&&◌, nat_le, Bool, true, false, cond, List, [], ◌∷◌, ◌++◌, length, take, drop, codes, decimal, slice_index}
+use Rattle.std.specs.Prelude.{ℕ, ◌==◌, ◌||◌, ◌&&◌, nat_le, Bool, true, false, cond, List, [], ◌∷◌, ◌++◌, length, take, drop, codes, decimal}
 use Rattle.netlink_packet_core_grammar.specs.Numbers.{u16_at, u32_at}
 use Rattle.link_capture_grammar.specs.Bodies.{is_link_type}
-use Rattle.link_lines_values.specs.declared.flags.TheConstants.{LINK_FLAGS, MESSAGE_FLAGS, MESSAGE_GET_FLAGS, MESSAGE_CREATE_FLAGS, MESSAGE_DELETE_FLAGS, MESSAGE_ACK_FLAGS}
-use Rattle.link_lines_values.specs.declared.number_texts.TheConstants.{ADDRESS_FAMILY, LINK_LAYER_TYPE, MESSAGE_TYPE}
+use Rattle.link_lines_values.specs.declared.flags.TheConstants.{MESSAGE_FLAGS, MESSAGE_GET_FLAGS, MESSAGE_CREATE_FLAGS, MESSAGE_DELETE_FLAGS, MESSAGE_ACK_FLAGS}
+use Rattle.link_lines_values.specs.declared.number_texts.TheConstants.{MESSAGE_TYPE}
 use Rattle.link_lines_values.specs.declared.values.ShownBy.TheVariants.{Signed}
 use Rattle.link_lines_values.specs.Bytes.{bytes_text}
 use Rattle.link_lines_values.specs.Flags.{named_flags}
-use Rattle.link_lines_values.specs.Names.{Text, named_number, text_in, texts_of}
+use Rattle.link_lines_values.specs.Names.{Text, text_in, texts_of}
 use Rattle.link_lines_values.specs.Values.{value_text}
-use Rattle.link_lines_texts.specs.Lists.{list_lines}
-
-unfoldable pub address_families : List Text
-address_families = texts_of (λ n. n.now) ADDRESS_FAMILY.now
-
-unfoldable pub layer_types : List Text
-layer_types = texts_of (λ n. n.now) LINK_LAYER_TYPE.now
+use Rattle.link_lines_texts.specs.Links.{labelled, link_header_line}
+use Rattle.link_lines_texts.specs.Lists.{list_lines, of_link}
 
 unfoldable pub message_types : List Text
 message_types = texts_of (λ n. n.now) MESSAGE_TYPE.now
-
-unfoldable pub link_flag_names : List Text
-link_flag_names = texts_of (λ n. n.now) LINK_FLAGS.now
 
 -- the types of requests that make or change what they name, remove it, and ask for it (rtnetlink.h)
 abbrev pub is_create : ℕ → Bool
@@ -47,9 +39,6 @@ or_number t (x ∷ name) = x ∷ name
 unfoldable pub type_text : ℕ → List ℕ
 type_text t = or_number t (text_in message_types t)
 
-abbrev pub labelled : List ℕ → List ℕ → List ℕ
-labelled label text = label ++ text
-
 -- sequence number and port number, which are left out where they aren't wanted
 abbrev pub numbers_text : Bool → List ℕ → List ℕ
 numbers_text false f = []
@@ -64,23 +53,6 @@ header_line numbers f =
 unfoldable pub request_line : Bool → List ℕ → List ℕ
 request_line numbers r = labelled (codes "  request length ") (decimal (u32_at 0 r)) ++ (32 ∷ header_line numbers r)
 
--- the table of the attributes of a link of an address family
-unfoldable pub family_table : ℕ → ℕ
-family_table n = cond (n == 0) 15 (cond (n == 7) 16 (cond (n == 10) 17 18))
-
--- family, type and index
-unfoldable pub link_numbers : List ℕ → List ℕ
-link_numbers b =
-    labelled (codes "  ifinfomsg family ") (named_number address_families (slice_index b 0)) ++ (labelled (codes " type ") (named_number layer_types (u16_at 2 b))
-    ++ labelled (codes " index ") (decimal (u32_at 4 b)))
-
--- flags and the mask of their change
-unfoldable pub link_flags : List ℕ → List ℕ
-link_flags b = labelled (codes " flags ") (named_flags link_flag_names (u32_at 8 b)) ++ (labelled (codes " change ") (named_flags link_flag_names (u32_at 12 b)) ++ 10 ∷ [])
-
-abbrev pub link_header_line : List ℕ → List ℕ
-link_header_line b = link_numbers b ++ link_flags b
-
 -- a name and bytes; no line of no bytes
 unfoldable pub bytes_line : List ℕ → List ℕ → List ℕ
 bytes_line name [] = []
@@ -89,7 +61,7 @@ bytes_line name (b ∷ bytes) = codes "  " ++ (name ++ (bytes_text (b ∷ bytes)
 -- the body of a link message; one without its header, which no normal text has, is bytes
 unfoldable pub link_lines : List ℕ → List ℕ
 link_lines b =
-    cond (nat_le 16 (length b)) (link_header_line b ++ list_lines 1 (family_table (slice_index b 0)) (drop 16 b)) (bytes_line (codes "body") b)
+    cond (nat_le 16 (length b)) (link_header_line 1 b ++ list_lines 1 (of_link false b) (drop 16 b)) (bytes_line (codes "body") b)
 
 -- what stands behind the code: of an ERROR message (netlink.h, struct nlmsgerr) the request's header, where it is there, and bytes
 unfoldable pub behind_code : Bool → ℕ → List ℕ → List ℕ

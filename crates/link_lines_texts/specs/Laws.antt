@@ -1,5 +1,6 @@
 -- The laws of lines, as the functions of `laws` state them.
-use Rattle.std.specs.Prelude.{◌≡◌, ℕ, ◌+◌, ◌^◌, ◌<◌, ◌↔◌, true, false, List, [], ◌++◌, length, take, drop, Some, None, Ok}
+use Rattle.std.specs.Prelude.{◌≡◌, ℕ, ◌+◌, ◌^◌, ◌<◌, ◌↔◌, true, false, List, [], ◌∷◌, ◌++◌, length, take, drop, Some, None, Ok}
+use Rattle.std.specs.List.{list_all}
 use Rattle.netlink_packet_core_grammar.specs.Attributes.{Attribute, nla_align, first_attribute}
 use Rattle.netlink_packet_core_grammar.specs.Bytes.{AreBytes}
 use Rattle.netlink_packet_core_grammar.specs.Frames.{frame_length}
@@ -8,18 +9,21 @@ use Rattle.attribute_tables_grammar.specs.Tables.{Payload}
 use Rattle.link_capture_grammar.specs.Captures.{first_frame, IsLegal, texts}
 use Rattle.link_capture_grammar.specs.Same.{SameCapture}
 use Rattle.link_message_grammar.specs.LinkMessage.{unspec, bridge, inet_6, other, link_table}
-use Rattle.link_lines_texts.specs.Coverage.{all_titles, has_line, has_name, holds_shown, in_each, is_info_kind, names_apart}
-use Rattle.link_lines_texts.specs.Lists.{own_line, table_inside, next_in, list_lines, nested_lines, rest_lines}
-use Rattle.link_lines_texts.specs.Titles.{Inside.Nested, titles_of}
+use Rattle.link_lines_texts.specs.Coverage.{has_line, holds_shown, in_each, is_info_kind, raw_apart}
+use Rattle.link_lines_texts.specs.declared.attributes.Place.{Place}
+use Rattle.link_lines_texts.specs.Lists.{list_inside, list_lines, nested_lines, next_in, own_lines, rest_lines}
+use Rattle.link_lines_names.specs.Behind.{Inside.Nested}
+use Rattle.link_lines_names.specs.Names.{all_titles, has_name, names_apart}
+use Rattle.link_lines_texts.specs.Titles.{titles_of}
 use Rattle.link_capture_numbers.specs.Cleared.{numbers_cleared}
 use Rattle.link_lines_texts.specs.Captures.{Choice, everything, is_frame, lines, shown_lines, text_lines, without_numbers}
 
 -- The lines of a list are those of its first attribute, of what it holds, and of the rest in the context that it leaves. Where no whole attribute stands,
 -- there are none.
 pub record ListsGoBySteps : Type 0 where
-  pub start : (level table : ℕ) (bytes : List ℕ) → list_lines level table bytes ≡ rest_lines level table nothing bytes
-  pub next : (level table : ℕ) (c : Context) (bytes : List ℕ) (e : Attribute) (after : List ℕ) → first_attribute bytes ≡ Some (e, after) → rest_lines level table c bytes ≡ own_line level table c e ++ (nested_lines (level + 1) (table_inside table c e) e.payload ++ rest_lines level table (next_in table c e) after)
-  pub none : (level table : ℕ) (c : Context) (bytes : List ℕ) → first_attribute bytes ≡ None → rest_lines level table c bytes ≡ []
+  pub start : (level : ℕ) (m : Place) (bytes : List ℕ) → list_lines level m bytes ≡ rest_lines level m nothing bytes
+  pub next : (level : ℕ) (m : Place) (c : Context) (bytes : List ℕ) (e : Attribute) (after : List ℕ) → first_attribute bytes ≡ Some (e, after) → rest_lines level m c bytes ≡ own_lines level m c e ++ (nested_lines (level + 1) (list_inside m c e) ++ rest_lines level m (next_in m.table c e) after)
+  pub none : (level : ℕ) (m : Place) (c : Context) (bytes : List ℕ) → first_attribute bytes ≡ None → rest_lines level m c bytes ≡ []
 
 -- bytes that begin with a whole frame have what is shown of it, and then the lines of what follows it and its padding; others have none
 pub record LinesGoByFrames : Type 0 where
@@ -35,7 +39,7 @@ abbrev pub AcceptedFramesHaveLines : Type 0
 AcceptedFramesHaveLines = (limit : ℕ) (c : List ℕ) → limit < 2 ^ 32 → (0 < length (lines everything limit c)) ↔ ((frame : ℕ × List ℕ) × (first_frame limit c ≡ Ok frame))
 
 -- Each row of the tables of link messages, and of every table inside, has a name, behind which stands what tells the row's payload; each name is that of a row;
--- and no two names of a table are equal.
+-- no two names of a table are equal, and none is that of a raw attribute of another kind.
 pub record RowsAreTold : Type 0 where
   pub unspec_told : holds_shown (Payload.list any (link_table unspec)) (Some (Nested 15)) ≡ true
   pub bridge_told : holds_shown (Payload.list any (link_table bridge)) (Some (Nested 16)) ≡ true
@@ -45,6 +49,7 @@ pub record RowsAreTold : Type 0 where
   pub on_lines : in_each (all_titles has_line) ≡ true
   pub info_named : all_titles is_info_kind (titles_of 19) ≡ true
   pub apart : in_each names_apart ≡ true
+  pub raw : list_all raw_apart (11 ∷ 15 ∷ 16 ∷ 17 ∷ 18 ∷ 23 ∷ 24 ∷ 25 ∷ 39 ∷ []) ≡ true
 
 -- Two captures have the same lines exactly where they have the same texts: for legal captures, where their normal texts are equal.
 abbrev pub LinesTellTexts : Type 0

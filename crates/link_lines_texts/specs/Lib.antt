@@ -2,7 +2,7 @@ pub mod Captures
 pub mod Coverage
 pub mod Frames
 pub mod Laws
+pub mod Links
 pub mod Lists
 pub mod Telling
 pub mod Titles
-pub mod Views

@@ -1,89 +1,99 @@
--- The lines of a list of attributes: one for each, and behind that of a list those of its own attributes, one level deeper.
-use Rattle.std.specs.Prelude.{ℕ, zero, suc, ◌+◌, ◌==◌, cond, List, [], ◌∷◌, ◌++◌, length, codes, Option, Some, None}
+-- The lines of a list of attributes: one for each, and behind that of a list those of its own attributes, one level deeper; behind that of a peer, the line of
+-- its header and those of its attributes.
+use Rattle.std.specs.Prelude.{ℕ, zero, suc, ◌+◌, ◌==◌, nat_le, Bool, true, cond, List, [], ◌∷◌, ◌++◌, length, drop, Option, Some, None, slice_index}
 use Rattle.netlink_packet_core_grammar.specs.Attributes.{Attribute, proper_kind, first_attribute}
-use Rattle.attribute_checks.specs.declared.names.NameRow.{NameRow}
-use Rattle.attribute_checks.specs.Names.{held_by_name}
 use Rattle.attribute_tables_grammar.specs.Lists.{Context, nothing}
 use Rattle.attribute_tables_grammar.specs.Tables.{info_next}
 use Rattle.link_lines_values.specs.Bytes.{bytes_text}
 use Rattle.link_lines_values.specs.Indents.{indent}
-use Rattle.link_lines_values.specs.Digits.{four_digits}
 use Rattle.link_lines_values.specs.Values.{value_text}
-use Rattle.link_lines_values.specs.declared.values.ShownBy.TheVariants.{Bytes}
-use Rattle.link_info_checks.specs.declared.rows.TheConstants.{KINDS, PORT_KINDS}
-use Rattle.link_lines_texts.specs.Titles.{Inside, Inside.Value, Inside.Nested, Inside.Data, Inside.PortData, Name, of_held, title_of}
+use Rattle.link_lines_names.specs.Behind.{Inside, Inside.Value, Inside.Peer, Inside.Nested, known_inside}
+use Rattle.link_lines_names.specs.Raw.{raw_text}
+use Rattle.link_lines_texts.specs.declared.attributes.Place.{Place}
+use Rattle.link_lines_texts.specs.Links.{family_table, link_header_line}
+use Rattle.link_lines_texts.specs.Titles.{Name, title_of}
 
 -- what is in force after an attribute: in link info, which is table 19, its names
 abbrev pub next_in : ℕ → Context → Attribute → Context
 next_in table c e = cond (table == 19) (info_next c (proper_kind e.kind) e.payload) c
 
--- what a name in force tells: a table, or bytes
-abbrev pub of_name : Option (List ℕ) → List NameRow → Inside
-of_name None kinds = Value Bytes
-of_name (Some n) kinds = of_held (held_by_name kinds n)
+-- where the attributes of a link stand, of a message or of a peer
+abbrev pub of_link : Bool → List ℕ → Place
+of_link in_peer b = record { table = family_table (slice_index b 0); is_in_peer = in_peer }
 
-unfoldable pub data_inside : Option (List ℕ) → Inside
-data_inside name = of_name name KINDS
-
-unfoldable pub port_inside : Option (List ℕ) → Inside
-port_inside name = of_name name PORT_KINDS
-
--- the same where names are in force
-abbrev pub known_inside : Context → Inside → Inside
-known_inside c Data = data_inside c.kind
-known_inside c PortData = port_inside c.port_kind
-known_inside c inside = inside
-
+-- on an attribute's own line: a value; a peer without a header, which no normal text has, is bytes
 abbrev pub inside_text : Inside → List ℕ → List ℕ
 inside_text (Value shown) p = value_text shown p
+inside_text Peer p = cond (nat_le 16 (length p)) [] (bytes_text p)
 inside_text inside p = []
 
+-- below it, of a peer, the line of its header
+abbrev pub header_inside : ℕ → Inside → List ℕ → List ℕ
+header_inside level Peer p = cond (nat_le 16 (length p)) (link_header_line level p) []
+header_inside level inside p = []
+
+abbrev pub peer_list : List ℕ → Option (Place × List ℕ)
+peer_list p = cond (nat_le 16 (length p)) (Some (of_link true p, drop 16 p)) None
+
+-- the table of the list in it
 abbrev pub inside_table : Inside → Option ℕ
 inside_table (Nested t) = Some t
 inside_table inside = None
 
--- an attribute without a row is told by its kind, flag bits and all, and its bytes
-abbrev pub titled_text : Context → Option Name → Attribute → List ℕ
-titled_text c None e = codes "kind " ++ (four_digits e.kind ++ bytes_text e.payload)
-titled_text c (Some t) e = t.0 ++ inside_text (known_inside c t.1) e.payload
+-- the list in it, and where that stands
+abbrev pub inside_list : Bool → Inside → List ℕ → Option (Place × List ℕ)
+inside_list in_peer (Nested t) p = Some (record { table = t; is_in_peer = in_peer }, p)
+inside_list in_peer Peer p = peer_list p
+inside_list in_peer inside p = None
 
--- the line of an attribute itself
-unfoldable pub own_line : ℕ → ℕ → Context → Attribute → List ℕ
-own_line level table c e = indent level ++ (titled_text c (title_of table (proper_kind e.kind)) e ++ 10 ∷ [])
+-- an attribute without a row is told as a raw one
+abbrev pub titled_text : Place → Context → Option Name → Attribute → List ℕ
+titled_text m c None e = raw_text m.table e.kind e.payload
+titled_text m c (Some t) e = t.0 ++ inside_text (known_inside m.is_in_peer c t.1) e.payload
 
-abbrev pub titled_table : Context → Option Name → Option ℕ
-titled_table c None = None
-titled_table c (Some t) = inside_table (known_inside c t.1)
+abbrev pub titled_header : ℕ → Place → Context → Option Name → Attribute → List ℕ
+titled_header level m c None e = []
+titled_header level m c (Some t) e = header_inside level (known_inside m.is_in_peer c t.1) e.payload
 
--- the table of the list in it, where it holds one
-unfoldable pub table_inside : ℕ → Context → Attribute → Option ℕ
-table_inside table c e = titled_table c (title_of table (proper_kind e.kind))
+-- the line of an attribute itself, and that of a peer's header below it
+unfoldable pub own_lines : ℕ → Place → Context → Attribute → List ℕ
+own_lines level m c e =
+    let title = title_of m.table (proper_kind e.kind) in
+    indent level ++ (titled_text m c title e ++ 10 ∷ titled_header (level + 1) m c title e)
+
+abbrev pub titled_list : Place → Context → Option Name → Attribute → Option (Place × List ℕ)
+titled_list m c None e = None
+titled_list m c (Some t) e = inside_list m.is_in_peer (known_inside m.is_in_peer c t.1) e.payload
+
+-- the list in it, where it holds one
+unfoldable pub list_inside : Place → Context → Attribute → Option (Place × List ℕ)
+list_inside m c e = titled_list m c (title_of m.table (proper_kind e.kind)) e
 
 -- the lines of what an attribute holds, by the lines of lists
-abbrev pub inside_lines : (ℕ → ℕ → Context → List ℕ → List ℕ) → ℕ → Option ℕ → List ℕ → List ℕ
-inside_lines list level None p = []
-inside_lines list level (Some t) p = list level t nothing p
+abbrev pub inside_lines : (ℕ → Place → Context → List ℕ → List ℕ) → ℕ → Option (Place × List ℕ) → List ℕ
+inside_lines list level None = []
+inside_lines list level (Some x) = list level x.0 nothing x.1
 
 -- the lines of the attribute in front, of what it holds, and of what follows it
-abbrev pub next_lines : (ℕ → ℕ → Context → List ℕ → List ℕ) → ℕ → ℕ → Context → Option (Attribute × List ℕ) → List ℕ
-next_lines list level table c None = []
-next_lines list level table c (Some x) =
-    own_line level table c x.0 ++ (inside_lines list (level + 1) (table_inside table c x.0) x.0.payload ++ list level table (next_in table c x.0) x.1)
+abbrev pub next_lines : (ℕ → Place → Context → List ℕ → List ℕ) → ℕ → Place → Context → Option (Attribute × List ℕ) → List ℕ
+next_lines list level m c None = []
+next_lines list level m c (Some x) =
+    own_lines level m c x.0 ++ (inside_lines list (level + 1) (list_inside m c x.0) ++ list level m (next_in m.table c x.0) x.1)
 
 -- the lines of attributes, in at most so many steps
-unfoldable pub lines_within : ℕ → ℕ → ℕ → Context → List ℕ → List ℕ
-lines_within zero level table c bytes = []
-lines_within (suc n) level table c bytes = next_lines (λ l t d b. lines_within n l t d b) level table c (first_attribute bytes)
+unfoldable pub lines_within : ℕ → ℕ → Place → Context → List ℕ → List ℕ
+lines_within zero level m c bytes = []
+lines_within (suc n) level m c bytes = next_lines (λ l t d b. lines_within n l t d b) level m c (first_attribute bytes)
 
--- the lines of a list of a table's attributes
-unfoldable pub list_lines : ℕ → ℕ → List ℕ → List ℕ
-list_lines level table bytes = lines_within (length bytes) level table nothing bytes
+-- the lines of a list of attributes that stands there
+unfoldable pub list_lines : ℕ → Place → List ℕ → List ℕ
+list_lines level m bytes = lines_within (length bytes) level m nothing bytes
 
--- the same of what a payload holds
-abbrev pub nested_lines : ℕ → Option ℕ → List ℕ → List ℕ
-nested_lines level None p = []
-nested_lines level (Some t) p = list_lines level t p
+-- the same of a list inside
+abbrev pub nested_lines : ℕ → Option (Place × List ℕ) → List ℕ
+nested_lines level None = []
+nested_lines level (Some x) = list_lines level x.0 x.1
 
 -- the lines of the rest of a list, in the context where it begins
-unfoldable pub rest_lines : ℕ → ℕ → Context → List ℕ → List ℕ
-rest_lines level table c bytes = lines_within (length bytes) level table c bytes
+unfoldable pub rest_lines : ℕ → Place → Context → List ℕ → List ℕ
+rest_lines level m c bytes = lines_within (length bytes) level m c bytes

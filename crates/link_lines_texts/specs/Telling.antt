@@ -9,8 +9,10 @@ use Rattle.link_message_grammar.specs.LinkMessage.{family_of}
 use Rattle.link_capture_grammar.specs.Bodies.{body_text}
 use Rattle.link_lines_values.specs.Values.{Shown, value_text}
 use Rattle.link_lines_texts.specs.Coverage.{shape_tells}
-use Rattle.link_lines_texts.specs.Frames.{family_table, frame_lines}
+use Rattle.link_lines_texts.specs.Frames.{frame_lines}
+use Rattle.link_lines_texts.specs.Links.{family_table}
 use Rattle.link_lines_values.specs.Indents.{indent}
+use Rattle.link_lines_texts.specs.declared.attributes.Place.{Place}
 use Rattle.link_lines_texts.specs.Lists.{list_lines}
 
 -- bytes that a rule accepts and leaves as they are
@@ -27,10 +29,14 @@ ShapesAreTold = (s : Shape) (v : Shown) (p q : List ℕ) → shape_tells s v ≡
 abbrev pub IsShallow : ℕ → List ℕ → Type 0
 IsShallow level s = (r : List ℕ) → s ≡ indent level ++ r → ⊥
 
+-- where the attributes of a link of an address family stand
+abbrev pub of_family : Bool → ℕ → Place
+of_family in_peer n = record { table = family_table n; is_in_peer = in_peer }
+
 -- Lists of a link's attributes that are their own text, of one address family, are equal where their lines are, whatever shallower lines follow.
 abbrev pub ListsAreTold : Type 0
-ListsAreTold = (n : ℕ) (p q s t : List ℕ) → IsOwn (attributes_rule (family_of n)) p → IsOwn (attributes_rule (family_of n)) q → IsShallow 1 s → IsShallow 1 t →
-    list_lines 1 (family_table n) p ++ s ≡ list_lines 1 (family_table n) q ++ t → (p ≡ q) × (s ≡ t)
+ListsAreTold = (level n : ℕ) (p q s t : List ℕ) → IsOwn (attributes_rule (family_of n)) p → IsOwn (attributes_rule (family_of n)) q → IsShallow level s → IsShallow level t →
+    list_lines level (of_family false n) p ++ s ≡ list_lines level (of_family false n) q ++ t → (p ≡ q) × (s ≡ t)
 
 -- the bytes of a frame without its padding, whose body is its own text
 pub record IsOwnFrame (f : List ℕ) : Type 0 where

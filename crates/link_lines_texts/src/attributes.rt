@@ -1,19 +1,21 @@
 //! The lines of attributes.
 
-ghost use Rattle.std.specs.Prelude.{◌≡◌, ◌<◌, ◌≤◌, ◌+◌, ◌^◌, ◌++◌, ◌∷◌, [], length, replicate, option_map, IfOk, OnOk};
+ghost use Rattle.std.specs.Prelude.{◌≡◌, ◌<◌, ◌≤◌, ◌+◌, ◌^◌, ◌++◌, ◌∷◌, [], true, length, replicate, option_map, IfOk, OnOk};
 ghost use Rattle.netlink_packet_core_grammar.specs.Attributes.{first_attribute, proper_kind};
 ghost use Rattle.attribute_tables_grammar.specs.Tables.{info_next};
-ghost use Rattle.link_lines_texts.specs.Titles.{inside_of, of_held};
 ghost use Rattle.link_lines_values.specs.Indents.{indent};
-ghost use Rattle.link_lines_texts.specs.Lists.{next_in, data_inside, port_inside, known_inside, inside_text};
-ghost use Rattle.link_lines_texts.specs.Lists.{inside_table, own_line, table_inside, list_lines};
-ghost use Rattle.link_lines_texts.specs.Views.{in_force, attribute_of};
+ghost use Rattle.link_lines_names.specs.Behind.{Inside, Inside.Peer, inside_of, known_inside};
+ghost use Rattle.link_lines_names.specs.Views.{attribute_of, in_force};
+ghost use Rattle.link_lines_texts.specs.Lists.{header_inside, inside_list, inside_table, inside_text, list_inside};
+ghost use Rattle.link_lines_texts.specs.Lists.{list_lines, next_in, own_lines, peer_list};
 
 use crate::laws::lists_go_by_steps;
-use crate::titles::{Behind, BehindBy, DATA, LINK_INFO, title_of};
-use attribute_checks::{Held, held_by_name};
-use link_info_checks::{KINDS, PORT_KINDS};
-use link_lines_values::{ShownBy, push_bytes, push_four_digits, push_indent, push_value};
+use crate::links::{LINK_HEADER_LEN, family_table, push_link_header};
+use crate::titles::title_of;
+use link_lines_names::{
+    Behind, BehindBy, DATA, InForce, LINK_INFO, RAW_LISTS, known_behind, push_raw,
+};
+use link_lines_values::{push_bytes, push_indent, push_value};
 use netlink_packet_core::{NlaBuffer, skip_first};
 use netlink_packet_core_grammar::laws::{first_attributes_are_viewed, first_attributes_are_within};
 use netlink_packet_core_numbers::without_nul;
@@ -24,6 +26,13 @@ use std::alloc::AllocError;
 pub(crate) struct Attribute<'a> {
     kind: u16,
     payload: &'a [u8],
+}
+
+/// Where attributes stand: the table of their kinds, and whether they are a peer's.
+#[derive(Clone, Copy)]
+pub(crate) struct Place {
+    pub(crate) table: usize,
+    pub(crate) is_in_peer: bool,
 }
 
 /// The attribute that begins the bytes, and what comes after its padding.
@@ -40,13 +49,6 @@ fn first_attribute(bytes: &[u8]) -> Option<(Attribute<'_>, &[u8])>
         payload: view.value(),
     };
     Some((attribute, skip_first(bytes)))
-}
-
-/// The kind and the port kind in force.
-#[derive(Clone, Copy)]
-struct InForce<'a> {
-    kind: Option<&'a [u8]>,
-    port_kind: Option<&'a [u8]>,
 }
 
 /// What is in force after an attribute of link info.
@@ -84,116 +86,141 @@ fn next_force<'a>(table: usize, force: InForce<'a>, attribute: Attribute<'a>) ->
     }
 }
 
-/// What data hold, as it stands behind a name.
-fn of_held(held: Held) -> Behind
-    ensures { inside_of (λ b. b.now) (λ t. t.now) (λ r. r.now) result ≡ of_held held }
-{
-    match held {
-        Held::List(form, table) => BehindBy::DataList(form, table),
-        Held::Plain(_) | Held::Peer | Held::LinkInfo => BehindBy::Value(ShownBy::Bytes),
-    }
-}
-
-/// What the data of a kind of link hold.
-#[tactic(auto, unfolding(crate::specs::Lists::data_inside))]
-fn data_behind(name: Option<&[u8]>) -> Behind
-    ensures { inside_of (λ b. b.now) (λ t. t.now) (λ r. r.now) result
-        ≡ data_inside (option_map (λ b. b.now) name.entry) }
-{
-    match name {
-        Some(name) => of_held(held_by_name(&KINDS, name)),
-        None => BehindBy::Value(ShownBy::Bytes),
-    }
-}
-
-/// What the data of a kind of port hold.
-#[tactic(auto, unfolding(crate::specs::Lists::port_inside))]
-fn port_behind(name: Option<&[u8]>) -> Behind
-    ensures { inside_of (λ b. b.now) (λ t. t.now) (λ r. r.now) result
-        ≡ port_inside (option_map (λ b. b.now) name.entry) }
-{
-    match name {
-        Some(name) => of_held(held_by_name(&PORT_KINDS, name)),
-        None => BehindBy::Value(ShownBy::Bytes),
-    }
-}
-
-/// What stands behind a name where names are in force.
-fn known_behind(force: InForce<'_>, behind: Behind) -> Behind
-    ensures { inside_of (λ b. b.now) (λ t. t.now) (λ r. r.now) result
-        ≡ known_inside (in_force force.entry.kind force.entry.port_kind)
-        (inside_of (λ b. b.now) (λ t. t.now) (λ r. r.now) behind.entry) }
-{
-    match behind {
-        BehindBy::Data => data_behind(force.kind),
-        BehindBy::PortData => port_behind(force.port_kind),
-        _ => behind,
-    }
-}
-
-/// Appends what stands behind an attribute's name. The answer is the table of the list in it, where it holds one.
-fn push_behind(
-    behind: Behind,
-    payload: &[u8],
-    out: &mut Vec<u8>,
-) -> Result<Option<usize>, AllocError>
+/// Appends what stands behind an attribute's name on its line.
+fn push_behind(behind: Behind, payload: &[u8], out: &mut Vec<u8>) -> Result<(), AllocError>
     ensures ok { OnOk result (out.new.items ≡ out.old.items
         ++ inside_text (inside_of (λ b. b.now) (λ t. t.now) (λ r. r.now) behind.entry) payload.now) }
-    ensures table { IfOk result (λ table. table ≡ inside_table (inside_of (λ b. b.now) (λ t. t.now) (λ r. r.now) behind.entry)) }
 {
     match behind {
-        BehindBy::Value(shown) => push_value(shown, payload, out)?,
-        BehindBy::Peer => push_bytes(payload, out)?,
-        BehindBy::List(_, table) => return Ok(Some(usize::from(table))),
-        BehindBy::DataList(_, table) => return Ok(Some(DATA + usize::from(table))),
-        BehindBy::LinkInfo => return Ok(Some(LINK_INFO)),
-        BehindBy::Data | BehindBy::PortData => {}
+        BehindBy::Value(shown) => push_value(shown, payload, out),
+        BehindBy::Peer if payload.len() < LINK_HEADER_LEN => push_bytes(payload, out),
+        _ => Ok(()),
     }
-    Ok(None)
 }
 
-/// Appends the line of an attribute. The answer is the table of the list in it, where it holds one.
-#[tactic(auto, unfolding(crate::specs::Lists::own_line, crate::specs::Lists::table_inside))]
-fn push_line(
+/// Appends the line of a peer's header, below the peer's name. The answer is the list of the peer's attributes. A peer
+/// without a header, which no normal text has, is bytes.
+fn open_peer<'a>(
     level: usize,
-    table: usize,
-    force: InForce<'_>,
-    attribute: Attribute<'_>,
+    payload: &'a [u8],
     out: &mut Vec<u8>,
-) -> Result<Option<usize>, AllocError>
+) -> Result<Option<(Place, &'a [u8])>, AllocError>
+    ensures ok { OnOk result (out.new.items ≡ out.old.items ++ header_inside level Inside.Peer payload.now) }
+    ensures list { IfOk result (λ found. option_map (λ f. (f.0, f.1.now)) found ≡ peer_list payload.now) }
+{
+    if payload.len() < LINK_HEADER_LEN {
+        return Ok(None);
+    }
+    push_link_header(level, payload, out)?;
+    let place = Place {
+        table: family_table(payload[0]),
+        is_in_peer: true,
+    };
+    Ok(Some((place, &payload[LINK_HEADER_LEN..])))
+}
+
+/// The table of the list behind a name, where one stands there.
+fn table_behind(behind: Behind) -> Option<usize>
+    ensures { result ≡ inside_table (inside_of (λ b. b.now) (λ t. t.now) (λ r. r.now) behind.entry) }
+{
+    match behind {
+        BehindBy::List(_, table) => Some(usize::from(table)),
+        BehindBy::DataList(_, table) => Some(DATA + usize::from(table)),
+        BehindBy::RawList(list) => Some(RAW_LISTS + usize::from(list)),
+        BehindBy::LinkInfo => Some(LINK_INFO),
+        _ => None,
+    }
+}
+
+/// Appends what stands below an attribute's line and above its list. The answer is that list, where it holds one.
+fn open_list<'a>(
+    level: usize,
+    is_in_peer: bool,
+    behind: Behind,
+    payload: &'a [u8],
+    out: &mut Vec<u8>,
+) -> Result<Option<(Place, &'a [u8])>, AllocError>
     ensures ok { OnOk result (out.new.items ≡ out.old.items
-        ++ own_line level table (in_force force.entry.kind force.entry.port_kind)
+        ++ header_inside level (inside_of (λ b. b.now) (λ t. t.now) (λ r. r.now) behind.entry) payload.now) }
+    ensures list { IfOk result (λ found. option_map (λ f. (f.0, f.1.now)) found
+        ≡ inside_list is_in_peer (inside_of (λ b. b.now) (λ t. t.now) (λ r. r.now) behind.entry) payload.now) }
+{
+    if let BehindBy::Peer = behind {
+        return open_peer(level, payload, out);
+    }
+    let Some(table) = table_behind(behind) else {
+        return Ok(None);
+    };
+    let place = Place { table, is_in_peer };
+    Ok(Some((place, payload)))
+}
+
+/// Appends an attribute that has a name: its line, and the line of a peer's header below it. The answer is the list in
+/// it, where it holds one.
+fn push_named<'a>(
+    level: usize,
+    is_in_peer: bool,
+    name: &[u8],
+    behind: Behind,
+    payload: &'a [u8],
+    out: &mut Vec<u8>,
+) -> Result<Option<(Place, &'a [u8])>, AllocError>
+    requires { level < 2 ^ 63 }
+    ensures ok { OnOk result (out.new.items ≡ out.old.items ++ (name.now
+        ++ (inside_text (inside_of (λ b. b.now) (λ t. t.now) (λ r. r.now) behind.entry) payload.now
+        ++ 10 ∷ header_inside (level + 1) (inside_of (λ b. b.now) (λ t. t.now) (λ r. r.now) behind.entry) payload.now))) }
+    ensures list { IfOk result (λ found. option_map (λ f. (f.0, f.1.now)) found
+        ≡ inside_list is_in_peer (inside_of (λ b. b.now) (λ t. t.now) (λ r. r.now) behind.entry) payload.now) }
+{
+    out.extend_from_slice(name)?;
+    push_behind(behind, payload, out)?;
+    out.extend_from_slice(b"\n")?;
+    open_list(level + 1, is_in_peer, behind, payload, out)
+}
+
+/// Appends the lines of an attribute itself. The answer is the list in it, where it holds one.
+#[tactic(auto, unfolding(crate::specs::Lists::own_lines, crate::specs::Lists::list_inside))]
+fn push_attribute<'a>(
+    level: usize,
+    place: Place,
+    force: InForce<'_>,
+    attribute: Attribute<'a>,
+    out: &mut Vec<u8>,
+) -> Result<Option<(Place, &'a [u8])>, AllocError>
+    requires { level < 2 ^ 63 }
+    ensures ok { OnOk result (out.new.items ≡ out.old.items
+        ++ own_lines level place (in_force force.entry.kind force.entry.port_kind)
         (attribute_of attribute.entry.kind attribute.entry.payload)) }
-    ensures table { IfOk result (λ found. found
-        ≡ table_inside table (in_force force.entry.kind force.entry.port_kind)
+    ensures list { IfOk result (λ found. option_map (λ f. (f.0, f.1.now)) found
+        ≡ list_inside place (in_force force.entry.kind force.entry.port_kind)
         (attribute_of attribute.entry.kind attribute.entry.payload)) }
 {
     push_indent(level, out)?;
-    let found = match title_of(table, attribute.kind % 0x4000) {
-        Some((name, behind)) => {
-            out.extend_from_slice(name)?;
-            push_behind(known_behind(force, behind), attribute.payload, out)?
-        }
-        None => {
-            out.extend_from_slice(b"kind ")?;
-            push_four_digits(attribute.kind, out)?;
-            push_bytes(attribute.payload, out)?;
-            None
-        }
+    let Some((name, behind)) = title_of(place.table, attribute.kind % 0x4000) else {
+        push_raw(place.table, attribute.kind, attribute.payload, out)?;
+        out.extend_from_slice(b"\n")?;
+        return Ok(None);
     };
-    out.extend_from_slice(b"\n")?;
-    Ok(found)
+    let behind = known_behind(place.is_in_peer, force, behind);
+    push_named(
+        level,
+        place.is_in_peer,
+        name,
+        behind,
+        attribute.payload,
+        out,
+    )
 }
 
-/// Appends the lines of the attributes of a table, which begin at this level.
+/// Appends the lines of attributes that stand at a place, which begin at this level.
 pub(crate) fn push_list(
     level: usize,
-    table: usize,
+    place: Place,
     bytes: &[u8],
     out: &mut Vec<u8>,
 ) -> Result<(), AllocError>
     requires { level + length bytes.now < 2 ^ 63 }
-    ensures ok { OnOk result (out.new.items ≡ out.old.items ++ list_lines level table bytes.now) }
+    ensures ok { OnOk result (out.new.items ≡ out.old.items ++ list_lines level place bytes.now) }
 {
     first_attributes_are_within();
     lists_go_by_steps();
@@ -203,11 +230,11 @@ pub(crate) fn push_list(
         port_kind: None,
     };
     while let Some((attribute, after)) = first_attribute(rest) {
-        let found = push_line(level, table, force, attribute, out)?;
-        force = next_force(table, force, attribute);
+        let found = push_attribute(level, place, force, attribute, out)?;
+        force = next_force(place.table, force, attribute);
         rest = after;
-        if let Some(inside) = found {
-            push_list(level + 1, inside, attribute.payload, out)?;
+        if let Some((inside, list)) = found {
+            push_list(level + 1, inside, list, out)?;
         }
     }
     Ok(())

@@ -1,13 +1,13 @@
 //! The titles of the data of links and of ports.
 
 use crate::list_titles;
-use crate::titles::BehindBy::{DataList as List, Peer, Value};
 use crate::titles::Title;
 use attribute_checks::Form::Any;
 use link_info_checks::{
     amt, bareudp, batadv, geneve, gre, gre6, gtp, ip4_tunnel, ip6_tunnel, ipoib, ipvlan, macsec,
     macvlan, macvlan_address, netkit, rmnet, veth, vrf, vti, vxcan, vxlan, wwan, xfrm,
 };
+use link_lines_names::BehindBy::{DataList as List, Peer, Value};
 use link_lines_values::ShownBy::{
     Address, BigEndian, BigEndianFlags, Flags, FlagsAndMask, FlagsBySize, HardwareAddress, Number,
     OptionalByte, PortRange, Presence, Signed, Text, Truth,

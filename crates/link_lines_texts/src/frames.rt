@@ -3,24 +3,21 @@
 ghost use Rattle.std.specs.Prelude.{◌≡◌, ◌<◌, ◌≤◌, ◌^◌, ◌++◌, true, false, length, drop, decimal, OnOk, IfSome, IfNone};
 ghost use Rattle.netlink_packet_core_grammar.specs.Attributes.{nla_align};
 ghost use Rattle.netlink_packet_core.specs.Frames.{frame_length};
-ghost use Rattle.link_lines_values.specs.Flags.{named_flags};
-ghost use Rattle.link_lines_values.specs.Names.{named_number, texts_of};
-ghost use Rattle.link_lines_texts.specs.Frames.{labelled, type_text, flag_names, numbers_text, header_line, request_line, family_table, link_flag_names};
-ghost use Rattle.link_lines_texts.specs.Frames.{link_numbers, link_flags, link_lines, bytes_line, behind_code, code_lines};
+ghost use Rattle.link_lines_values.specs.Names.{texts_of};
+ghost use Rattle.link_lines_texts.specs.Frames.{type_text, flag_names, numbers_text, header_line, request_line};
+ghost use Rattle.link_lines_texts.specs.Frames.{link_lines, bytes_line, behind_code, code_lines};
 ghost use Rattle.link_lines_texts.specs.Frames.{body_lines, frame_lines};
 
-use crate::attributes::push_list;
+use crate::attributes::{Place, push_list};
+use crate::links::{
+    LINK_HEADER_LEN, family_table, push_labelled_decimal, push_labelled_flags, push_link_header,
+};
 use link_lines_values::{
-    ADDRESS_FAMILY, FlagName, FlagNames, LINK_FLAGS, LINK_LAYER_TYPE, MESSAGE_ACK_FLAGS,
-    MESSAGE_CREATE_FLAGS, MESSAGE_DELETE_FLAGS, MESSAGE_FLAGS, MESSAGE_GET_FLAGS, MESSAGE_TYPE,
-    NumberText, ShownBy, push_bytes, push_decimal, push_flags, push_name, push_number, push_value,
+    FlagNames, MESSAGE_ACK_FLAGS, MESSAGE_CREATE_FLAGS, MESSAGE_DELETE_FLAGS, MESSAGE_FLAGS,
+    MESSAGE_GET_FLAGS, MESSAGE_TYPE, ShownBy, push_bytes, push_decimal, push_name, push_value,
 };
 use netlink_packet_core::{NETLINK_HEADER_LEN, NLMSG_DONE, NLMSG_ERROR, NetlinkBuffer, nla_align};
-use netlink_packet_core_attributes::view::{read_u16, read_u32};
 use std::alloc::AllocError;
-
-/// The bytes of the header of a link (rtnetlink.h, `struct ifinfomsg`).
-const LINK_HEADER_LEN: usize = 16;
 
 /// The bytes of the code in front of the body of a DONE or an ERROR message.
 const CODE_LEN: usize = 4;
@@ -52,43 +49,6 @@ fn push_type(message_type: u16, out: &mut Vec<u8>) -> Result<(), AllocError>
     }
     out.extend_from_slice(b"type ")?;
     push_decimal(message_type as u64, out)
-}
-
-/// Appends a label, and a number with its text.
-fn push_labelled(
-    label: &[u8],
-    texts: &[NumberText],
-    number: u32,
-    out: &mut Vec<u8>,
-) -> Result<(), AllocError>
-    ensures ok { OnOk result (out.new.items
-        ≡ out.old.items ++ labelled label.now (named_number (texts_of (λ b. b.now) texts.now) number)) }
-{
-    out.extend_from_slice(label)?;
-    push_number(texts, number as u64, out)
-}
-
-/// Appends a label and a number.
-fn push_labelled_decimal(label: &[u8], number: u32, out: &mut Vec<u8>) -> Result<(), AllocError>
-    ensures ok { OnOk result (out.new.items
-        ≡ out.old.items ++ labelled label.now (decimal number)) }
-{
-    out.extend_from_slice(label)?;
-    push_decimal(number as u64, out)
-}
-
-/// Appends a label and flags.
-fn push_labelled_flags(
-    label: &[u8],
-    names: &[FlagName],
-    flags: u32,
-    out: &mut Vec<u8>,
-) -> Result<(), AllocError>
-    ensures ok { OnOk result (out.new.items
-        ≡ out.old.items ++ labelled label.now (named_flags (texts_of (λ b. b.now) names.now) flags)) }
-{
-    out.extend_from_slice(label)?;
-    push_flags(names, flags as u64, out)
 }
 
 /// Appends the sequence and the port number of a message, where they are wanted.
@@ -138,50 +98,6 @@ fn push_request(numbers: bool, header: &[u8], out: &mut Vec<u8>) -> Result<(), A
     push_header(numbers, header, out)
 }
 
-/// The table of the attributes of a link of an address family, by the interpreter's number.
-#[tactic(auto, unfolding(crate::specs::Frames::family_table))]
-fn family_table(family: u8) -> usize
-    ensures { result ≡ family_table family }
-{
-    match family {
-        0 => 15,
-        7 => 16,
-        10 => 17,
-        _ => 18,
-    }
-}
-
-/// Appends the family, the type and the index of a link (rtnetlink.h, `struct ifinfomsg`).
-#[tactic(auto, unfolding(crate::specs::Frames::link_numbers))]
-fn push_link_numbers(body: &[u8], out: &mut Vec<u8>) -> Result<(), AllocError>
-    requires { 16 ≤ length body.now }
-    ensures ok { OnOk result (out.new.items ≡ out.old.items ++ link_numbers body.now) }
-{
-    push_labelled(b"  ifinfomsg family ", ADDRESS_FAMILY, body[0] as u32, out)?;
-    push_labelled(b" type ", LINK_LAYER_TYPE, read_u16(body, 2) as u32, out)?;
-    push_labelled_decimal(b" index ", read_u32(body, 4), out)
-}
-
-/// Appends a label and flags of a link.
-#[tactic(auto, unfolding(crate::specs::Frames::link_flag_names))]
-fn push_labelled_link_flags(label: &[u8], flags: u32, out: &mut Vec<u8>) -> Result<(), AllocError>
-    ensures ok { OnOk result (out.new.items
-        ≡ out.old.items ++ labelled label.now (named_flags link_flag_names flags)) }
-{
-    push_labelled_flags(label, LINK_FLAGS, flags, out)
-}
-
-/// Appends the flags of a link, and the mask of their change.
-#[tactic(auto, unfolding(crate::specs::Frames::link_flags))]
-fn push_link_flags(body: &[u8], out: &mut Vec<u8>) -> Result<(), AllocError>
-    requires { 16 ≤ length body.now }
-    ensures ok { OnOk result (out.new.items ≡ out.old.items ++ link_flags body.now) }
-{
-    push_labelled_link_flags(b" flags ", read_u32(body, 8), out)?;
-    push_labelled_link_flags(b" change ", read_u32(body, 12), out)?;
-    out.extend_from_slice(b"\n")
-}
-
 /// Appends a line of a name and bytes, where there are any.
 #[tactic(auto, unfolding(crate::specs::Frames::bytes_line))]
 fn push_bytes_line(name: &[u8], bytes: &[u8], out: &mut Vec<u8>) -> Result<(), AllocError>
@@ -204,9 +120,12 @@ fn push_link(body: &[u8], out: &mut Vec<u8>) -> Result<(), AllocError>
     if body.len() < LINK_HEADER_LEN {
         return push_bytes_line(b"body", body, out);
     }
-    push_link_numbers(body, out)?;
-    push_link_flags(body, out)?;
-    push_list(1, family_table(body[0]), &body[LINK_HEADER_LEN..], out)
+    push_link_header(1, body, out)?;
+    let place = Place {
+        table: family_table(body[0]),
+        is_in_peer: false,
+    };
+    push_list(1, place, &body[LINK_HEADER_LEN..], out)
 }
 
 /// Appends the lines of what stands behind the code of an ERROR or a DONE message.

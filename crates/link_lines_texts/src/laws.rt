@@ -6,17 +6,20 @@ ghost use Rattle.link_lines_texts.specs.Laws.{LinesWithoutNumbersTellClearedText
 ghost use Rattle.link_lines_texts.specs.Laws.{ListsGoBySteps, RowsAreTold};
 ghost use Rattle.link_lines_texts.specs.Telling.{FramesAreTold, ListsAreTold, ShapesAreTold};
 
+use attribute_tables_grammar::laws::peers_that_are_bytes_are_lawful;
 use link_capture_grammar::laws::{
     bodies_are_normal, captures_are_counted, frames_are_judged, frames_stand_alone,
     texts_tell_meanings,
 };
 use link_capture_numbers::laws::cleared_captures_have_cleared_texts;
+use link_lines_names::laws::raw_attributes_are_told;
 use link_lines_values::laws::{
     address_sizes_are_told, addresses_are_told, bytes_are_told, digits_are_told, numbers_are_told,
     records_are_told, settings_are_told, values_stand_on_a_line,
 };
 use link_message_grammar::laws::{
-    bodies_are_headers_and_attributes, bodies_are_lawful, link_peer_is_lawful,
+    bodies_are_headers_and_attributes, bodies_are_lawful, body_laws_hold_for_any_peers,
+    link_peer_is_lawful,
 };
 use netlink_packet_core_grammar::laws::{
     first_attributes_are_within, texts_are_cut_again, written_attributes_come_first,
@@ -51,7 +54,8 @@ pub fn accepted_frames_have_lines()
 }
 
 /// Each row of the tables of link messages, and of every table inside, has a name, behind which stands what tells the
-/// row's payload; each name is that of a row; and no two names of a table are equal.
+/// row's payload; each name is that of a row; no two names of a table are equal, and none is that of a raw attribute of
+/// another kind.
 pub fn rows_are_told()
     ensures { RowsAreTold }
 {}
@@ -72,8 +76,11 @@ pub fn shapes_are_told()
 pub fn lists_are_told()
     ensures { ListsAreTold }
 {
-    bytes_are_told();
+    body_laws_hold_for_any_peers();
+    digits_are_told();
     first_attributes_are_within();
+    peers_that_are_bytes_are_lawful();
+    raw_attributes_are_told();
     rows_are_told();
     shapes_are_told();
     texts_are_cut_again();

@@ -5,6 +5,7 @@ mod attributes;
 mod data_titles;
 mod frames;
 pub mod laws;
+mod links;
 mod message_titles;
 mod titles;
 

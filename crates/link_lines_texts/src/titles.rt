@@ -6,30 +6,8 @@ ghost use Rattle.link_lines_texts.specs.Titles.{data_titles, info_titles, link_r
 ghost use Rattle.link_lines_texts.specs.Titles.{said, title_of, titles_of, viewed};
 
 use crate::{data_titles, message_titles};
-use attribute_checks::Form;
-use link_lines_values::{Shown, look_up};
-
-/// What stands behind an attribute's name, with forms of that type.
-#[derive(Clone, Copy)]
-pub enum BehindBy<S> {
-    /// The value of the payload.
-    Value(S),
-    /// The other end of a pair, as bytes.
-    Peer,
-    /// Below it, the attributes of the table of link messages with that number.
-    List(Form, u8),
-    /// Below it, the attributes of the table of link info with that number.
-    DataList(Form, u8),
-    /// Below it, the attributes of link info.
-    LinkInfo,
-    /// The same of the table that the kind in force tells.
-    Data,
-    /// The same of the table that the port kind in force tells.
-    PortData,
-}
-
-/// What stands behind an attribute's name.
-pub type Behind = BehindBy<Shown>;
+use link_lines_names::{Behind, DATA, LINK, LINK_INFO};
+use link_lines_values::look_up;
 
 /// A name, and what stands behind it.
 pub type Name = (&'static [u8], Behind);
@@ -91,14 +69,49 @@ macro_rules! own_title {
     };
 }
 
-/// The first table of links, which stand behind those of what attributes hold.
-pub const LINK: usize = 15;
+/// Those of bridges, whose attributes are raw and have the names of ports and of bridges.
+#[macro_export]
+macro_rules! bridge_titles {
+    ($($kind:tt $(-> $name:literal, $held:expr)? $(=> $nested_name:literal, $nested:expr)? $(, $said:expr)*;)*) => {
+        [$($crate::bridge_title!($kind $(-> $name)?),)*]
+    };
+}
 
-/// The table of link info, which stands behind those of link messages.
-pub const LINK_INFO: usize = 19;
+/// The title of a kind of bridges, where it goes by the family.
+#[macro_export]
+macro_rules! bridge_title {
+    (12 -> $name:literal) => {
+        $crate::title!(12 -> $name, RawList(BRIDGE_PORT_LIST))
+    };
+    (26 -> $name:literal) => {
+        $crate::title!(26 -> $name, RawList(BRIDGE_SPECIFIC_LIST))
+    };
+    ($kind:tt $(-> $name:literal)?) => {
+        ($kind, None)
+    };
+}
 
-/// The first table of the data of links.
-pub const DATA: usize = 20;
+/// Those of IPv6, where what IFLA_PROTINFO holds is raw and has names.
+#[macro_export]
+macro_rules! inet6_titles {
+    ($($kind:tt $(-> $name:literal, $held:expr)? $(=> $nested_name:literal, $nested:expr)? $(, $said:expr)*;)*) => {
+        [$($crate::inet6_title!($kind $(-> $name)? $(, $said)*),)*]
+    };
+}
+
+/// The title of a kind of IPv6, where it goes by the family.
+#[macro_export]
+macro_rules! inet6_title {
+    (12 -> $name:literal) => {
+        $crate::title!(12 -> $name, RawList(INET6_PROTOCOL_LIST))
+    };
+    (26, $name:expr, $shape:expr, $shown:expr) => {
+        (26, Some(($name, Value($shown))))
+    };
+    ($kind:tt $($said:tt)*) => {
+        ($kind, None)
+    };
+}
 
 /// The titles of one of the tables of what attributes of links hold.
 #[tactic(auto, unfolding(crate::specs::Titles::nested_titles))]

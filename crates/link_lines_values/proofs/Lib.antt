@@ -7,6 +7,7 @@ mod NumbersTold
 mod ValuesTold
 mod RecordsTold
 mod OneLine
+mod SizedTold
 mod SizesTold
 pub mod Deeper
 pub mod Places

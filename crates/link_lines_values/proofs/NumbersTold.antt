@@ -10,8 +10,9 @@ use Rattle.std.proofs.lemmas.Bool.Decides.{nat_tests}
 use Rattle.netlink_packet_core_grammar.specs.Bytes.{AreBytes}
 use Rattle.attribute_tables_grammar.specs.Shapes.{number}
 use Rattle.link_lines_values.specs.Digits.{big_endian, hex_number, is_number, signed_text}
+use Rattle.link_lines_values.specs.Flags.{listed, named_flags, nameless, names_set}
 use Rattle.link_lines_values.specs.Laws.{DigitsAreTold, Ends, NumbersAreTold}
-use Rattle.link_lines_values.specs.Values.{number_value, big_endian_value, flags_value, signed_value}
+use Rattle.link_lines_values.specs.Values.{number_value, big_endian_value, flags_value, named_flags_value, signed_value}
 use Rattle.link_lines_values.specs.Names.{Text, bracketed, named_number, text_in}
 
 -- ---- digits end where a smaller byte stands
@@ -147,6 +148,18 @@ flags p q a b l h e =
     let n = hex_told (number p) (number q) [] [] (small p a h) (small q b k) (record {}) (record {}) (ap (λ x. drop 1 x ++ []) same) in
     number_told p q a b l n.0
 
+names_end : (names : List (List ℕ)) (rest : ℕ) → Ends (listed names rest)
+names_end [] rest = record {}
+names_end (name ∷ names) rest = omega arith
+
+named_flags_told : (names : List Text) (p q : List ℕ) → AreBytes p → AreBytes q → length p ≡ length q → is_number p ≡ true → named_flags_value names p ≡ named_flags_value names q → p ≡ q
+named_flags_told names p q a b l h e =
+    let k = same_size p q l h in
+    let same = shown_by (is_number p) (is_number q) (32 ∷ named_flags names (number p)) (32 ∷ named_flags names (number q)) _ _ h k e in
+    let more : ℕ → List ℕ = λ n. listed (names_set names n) (nameless names n) in
+    let n = hex_told (number p) (number q) (more (number p)) (more (number q)) (small p a h) (small q b k) (names_end _ _) (names_end _ _) (ap (drop 1) same) in
+    number_told p q a b l n.0
+
 -- ---- numbers with a sign
 
 -- no digits begin with a minus
@@ -179,7 +192,7 @@ signed p q a b l k e =
     number_told p q a b (l ∙ sym k) n.0
 
 pub numbers_told : NumbersAreTold
-numbers_told = record { little = little; big = big; signed = signed; flags = flags }
+numbers_told = record { little = little; big = big; signed = signed; flags = flags; named_flags = named_flags_told }
 
 pub digits_are : DigitsAreTold
 digits_are = record { decimal_digits = decimal_told; hex_digits = hex_told }

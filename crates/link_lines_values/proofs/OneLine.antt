@@ -1,9 +1,9 @@
 -- A value's text stands on one line, behind a space.
 use Rattle.std.proofs.Common.{◌≡◌, ℕ, zero, suc, ◌+◌, ◌-◌, ◌/◌, ◌%◌, ◌≤◌, Bool, true, false, List, [], ◌∷◌, ◌++◌, length, take, drop, refl, arith}
-use Rattle.std.specs.Prelude.{◌==◌, ◌&&◌, ◌||◌, codes, cond, flat_map, max, nat_le, nat_lt, slice_index}
+use Rattle.std.specs.Prelude.{◌==◌, ◌&&◌, ◌||◌, bit_and, codes, cond, flat_map, max, nat_le, nat_lt, slice_index}
 use Rattle.std.specs.Char.{digit_char}
 use Rattle.std.specs.Fmt.{decimal, digits}
-use Rattle.std.specs.List.{list_all}
+use Rattle.std.specs.List.{AllByRecursion, list_all}
 use Rattle.std.specs.Net.Addr.{octets_of, segments_of}
 use Rattle.std.specs.Net.Text.{compressed_text, dotted_text, groups_text, hex, hex_groups_text, ipv4_text, ipv6_text, leading_zero_digits, longest_zero_run}
 use Rattle.std.proofs.lemmas.Bool.{and_parts, leb-true}
@@ -15,6 +15,7 @@ use Rattle.link_lines_values.specs.declared.fields.FieldShown.TheVariants as F
 use Rattle.link_lines_values.specs.declared.values.ShownBy.TheVariants as S
 use Rattle.link_lines_values.specs.Bytes.{address_text, bytes_text, colon_byte, colons, count_without_zeros, escaped, hardware_text, hex_text, is_zero, quoted, truth_text}
 use Rattle.link_lines_values.specs.Digits.{big_endian, hex_byte, hex_number, is_number, signed_text}
+use Rattle.link_lines_values.specs.Flags.{listed, named_flags, nameless, nameless_text, names_set, opened, separated}
 use Rattle.link_lines_values.specs.Laws.{IsBehindASpace, IsLine, ValuesStandOnALine}
 use Rattle.link_lines_values.specs.Names.{Text, bracketed, named_number, text_in}
 use Rattle.link_lines_values.specs.Records.{Field, field_text, field_value, fields_text, record_text, total_size}
@@ -179,6 +180,39 @@ bracketed_line (c ∷ name) h =
 named_line : (texts : List Text) (n : ℕ) → are_lines texts ≡ true → IsLine (named_number texts n)
 named_line texts n h = lines_joined (decimal n) (bracketed (text_in texts n)) (decimal_line n) (bracketed_line (text_in texts n) (text_line texts n h))
 
+-- each of some names stands on a line
+abbrev AllLines : List (List ℕ) → Type 0
+AllLines names = AllByRecursion IsLine names
+
+chosen_lines : (t : Bool) (a b : List (List ℕ)) → AllLines a → AllLines b → AllLines (cond t a b)
+chosen_lines true a b h k = h
+chosen_lines false a b h k = k
+
+set_lines : (names : List Text) (n : ℕ) → are_lines names ≡ true → AllLines (names_set names n)
+set_lines [] n h = record {}
+set_lines (r ∷ rs) n h =
+    let parts = and_parts (is_line r.1) (are_lines rs) h in
+    let rest = set_lines rs n parts.1 in
+    chosen_lines (bit_and n r.0 == 0) (names_set rs n) (r.1 ∷ names_set rs n) rest (tested r.1 parts.0, rest)
+
+separated_line : (names : List (List ℕ)) → AllLines names → IsLine (separated names)
+separated_line [] h = record {}
+separated_line (name ∷ names) h =
+    lines_joined (codes " | ") (name ++ separated names) (tested (codes " | ") refl) (lines_joined name (separated names) h.0 (separated_line names h.1))
+
+nameless_line : (n : ℕ) → IsLine (nameless_text n)
+nameless_line n = either_line (n == 0) [] (codes " | " ++ hex_number n) (record {}) (lines_joined (codes " | ") (hex_number n) (tested (codes " | ") refl) (hex_line n))
+
+listed_line : (names : List (List ℕ)) (rest : ℕ) → AllLines names → IsLine (listed names rest)
+listed_line [] rest h = record {}
+listed_line (name ∷ names) rest h =
+    let last = lines_joined (nameless_text rest) (codes ")") (nameless_line rest) (tested (codes ")") refl) in
+    let inner = lines_joined name (separated names) h.0 (separated_line names h.1) in
+    lines_joined (opened (name ∷ names)) (nameless_text rest ++ codes ")") (lines_joined (codes " (") (name ++ separated names) (tested (codes " (") refl) inner) last
+
+flags_line : (names : List Text) (n : ℕ) → are_lines names ≡ true → IsLine (named_flags names n)
+flags_line names n h = lines_joined (hex_number n) (listed (names_set names n) (nameless names n)) (hex_line n) (listed_line (names_set names n) (nameless names n) (set_lines names n h))
+
 -- ---- records
 
 field_value_line : (v : FieldShown) (p : List ℕ) → IsLine (field_value v p)
@@ -243,6 +277,7 @@ line (S.Number texts) p h = value_line (is_number p) (named_number texts (number
 line (S.BigEndian texts) p h = value_line (is_number p) (named_number texts (big_endian p)) p (named_line texts (big_endian p) h)
 line S.Signed p h = value_line (length p == 4) (signed_text (number p)) p (signed_line (number p))
 line S.Flags p h = value_line (is_number p) (hex_number (number p)) p (hex_line (number p))
+line (S.NamedFlags names) p h = value_line (is_number p) (named_flags names (number p)) p (flags_line names (number p) h)
 line S.BigEndianFlags p h = value_line (is_number p) (hex_number (big_endian p)) p (hex_line (big_endian p))
 line S.FlagsBySize p h = flags_by_size_line p
 line S.Truth p h = (omega arith, truth_line p)
@@ -307,6 +342,7 @@ space (S.Number texts) p = value_space (is_number p) (named_number texts (number
 space (S.BigEndian texts) p = value_space (is_number p) (named_number texts (big_endian p)) p
 space S.Signed p = value_space (length p == 4) (signed_text (number p)) p
 space S.Flags p = value_space (is_number p) (hex_number (number p)) p
+space (S.NamedFlags names) p = value_space (is_number p) (named_flags names (number p)) p
 space S.BigEndianFlags p = value_space (is_number p) (hex_number (big_endian p)) p
 space S.FlagsBySize p = other_space (length p == 4) (length p == 2) (hex_number (number p)) (hex_number (big_endian p)) p
 space S.Truth p = refl

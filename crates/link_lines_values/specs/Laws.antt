@@ -1,5 +1,5 @@
 -- What a text tells of the bytes it is of, as the functions of `laws` state it.
-use Rattle.std.specs.Prelude.{◌≡◌, ℕ, ◌^◌, ◌<◌, ◌≤◌, Bool, true, List, [], ◌∷◌, ◌++◌, ⊤, length, take, drop}
+use Rattle.std.specs.Prelude.{◌≡◌, ℕ, ◌^◌, ◌<◌, ◌≤◌, Bool, true, List, [], ◌∷◌, ◌++◌, ⊤, codes, length, take, drop}
 use Rattle.std.specs.Fmt.{decimal}
 use Rattle.std.specs.List.{AllByRecursion}
 use Rattle.attribute_tables_grammar.specs.Shapes.{number}
@@ -11,7 +11,7 @@ use Rattle.link_lines_values.specs.Bytes.{address_text, bytes_text, hardware_tex
 use Rattle.link_lines_values.specs.Digits.{hex_number, is_number}
 use Rattle.link_lines_values.specs.Names.{Text}
 use Rattle.link_lines_values.specs.Records.{Field, fields_tell, record_text, total_size}
-use Rattle.link_lines_values.specs.Values.{Shown, is_shown_on_a_line, value_text, number_value, big_endian_value, signed_value, flags_value, big_endian_flags_value, flags_and_mask_value, optional_byte_value, port_range_value, sized_flags_value}
+use Rattle.link_lines_values.specs.Values.{Shown, is_shown_on_a_line, tells_sized, value_text, number_value, big_endian_value, signed_value, flags_value, named_flags_value, big_endian_flags_value, flags_and_mask_value, optional_byte_value, port_range_value, sized_flags_value}
 
 -- nothing, or a byte under the digits: a space, a bracket, a newline
 abbrev pub Ends : List ℕ → Type 0
@@ -49,6 +49,7 @@ pub record NumbersAreTold : Type 0 where
   pub big : (texts : List Text) (p q : List ℕ) → AreBytes p → AreBytes q → length p ≡ length q → is_number p ≡ true → big_endian_value texts p ≡ big_endian_value texts q → p ≡ q
   pub signed : (p q : List ℕ) → AreBytes p → AreBytes q → length p ≡ 4 → length q ≡ 4 → signed_value p ≡ signed_value q → p ≡ q
   pub flags : (p q : List ℕ) → AreBytes p → AreBytes q → length p ≡ length q → is_number p ≡ true → flags_value p ≡ flags_value q → p ≡ q
+  pub named_flags : (names : List Text) (p q : List ℕ) → AreBytes p → AreBytes q → length p ≡ length q → is_number p ≡ true → named_flags_value names p ≡ named_flags_value names q → p ≡ q
 
 -- Addresses of one size are told by their text.
 pub record AddressesAreTold : Type 0 where
@@ -88,3 +89,8 @@ pub record HoldsFields (fs : List Field) (p : List ℕ) : Type 0 where
 -- Records of one size are told by their text, whether fields that are zero are left out or not.
 abbrev pub RecordsAreTold : Type 0
 RecordsAreTold = (sparse : Bool) (fs : List Field) (p q : List ℕ) → fields_tell fs ≡ true → HoldsFields fs p → HoldsFields fs q → length p ≡ length q → record_text sparse fs p ≡ record_text sparse fs q → p ≡ q
+
+-- Payloads of so many bytes are told by a value that tells their size. None begins as bytes behind the word `bytes` do.
+pub record SizedValuesAreTold : Type 0 where
+  pub told : (n : ℕ) (shown : Shown) (p q : List ℕ) → tells_sized n shown ≡ true → AreBytes p → AreBytes q → length p ≡ n → length q ≡ n → value_text shown p ≡ value_text shown q → p ≡ q
+  pub apart : (n : ℕ) (shown : Shown) (p s : List ℕ) → tells_sized n shown ≡ true → AreBytes p → length p ≡ n → value_text shown p ≡ codes " bytes" ++ s → ⊥

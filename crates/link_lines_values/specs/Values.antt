@@ -8,10 +8,11 @@ use Rattle.link_lines_values.specs.declared.values.ShownBy.{ShownBy}
 use Rattle.link_lines_values.specs.declared.values.ShownBy.TheVariants as S
 use Rattle.link_lines_values.specs.Digits.{big_endian, is_number, hex_number, signed_text}
 use Rattle.link_lines_values.specs.Bytes.{address_text, bytes_text, hardware_text, quoted, truth_text}
+use Rattle.link_lines_values.specs.Flags.{named_flags}
 use Rattle.link_lines_values.specs.Names.{Text, named_number, texts_of}
-use Rattle.link_lines_values.specs.Records.{Field, fields_of, record_text}
+use Rattle.link_lines_values.specs.Records.{Field, fields_of, is_size, record_text}
 
--- how a payload is shown: numbers with their texts, records with their fields
+-- how a payload is shown: numbers with their texts, flags with their names, records with their fields
 abbrev pub Shown : Type 0
 Shown = ShownBy (List Text) (List Field)
 
@@ -21,6 +22,7 @@ seen f g h (S.Number texts) = S.Number (texts_of f (g texts))
 seen f g h (S.BigEndian texts) = S.BigEndian (texts_of f (g texts))
 seen f g h S.Signed = S.Signed
 seen f g h S.Flags = S.Flags
+seen f g h (S.NamedFlags names) = S.NamedFlags (texts_of f (g names))
 seen f g h S.BigEndianFlags = S.BigEndianFlags
 seen f g h S.FlagsBySize = S.FlagsBySize
 seen f g h S.Truth = S.Truth
@@ -51,9 +53,13 @@ abbrev pub hex_or_bytes : Option ℕ → List ℕ → List ℕ
 hex_or_bytes (Some n) p = 32 ∷ hex_number n
 hex_or_bytes None p = bytes_text p
 
--- sets of flags of 1, 2, 4 or 8 bytes, whose bits have no names here
+-- sets of flags of 1, 2, 4 or 8 bytes, whose bits have no names
 abbrev pub flags_value : List ℕ → List ℕ
 flags_value p = cond (is_number p) (32 ∷ hex_number (number p)) (bytes_text p)
+
+-- those with names
+abbrev pub named_flags_value : List Text → List ℕ → List ℕ
+named_flags_value names p = cond (is_number p) (32 ∷ named_flags names (number p)) (bytes_text p)
 
 abbrev pub big_endian_flags_value : List ℕ → List ℕ
 big_endian_flags_value p = cond (is_number p) (32 ∷ hex_number (big_endian p)) (bytes_text p)
@@ -86,6 +92,7 @@ value_text (S.Number texts) p = number_value texts p
 value_text (S.BigEndian texts) p = big_endian_value texts p
 value_text S.Signed p = signed_value p
 value_text S.Flags p = flags_value p
+value_text (S.NamedFlags names) p = named_flags_value names p
 value_text S.BigEndianFlags p = big_endian_flags_value p
 value_text S.FlagsBySize p = sized_flags_value p
 value_text S.Truth p = 32 ∷ truth_text p
@@ -108,6 +115,19 @@ is_line s = list_all (nat_le 32) s
 abbrev pub is_shown_on_a_line : Shown → Bool
 is_shown_on_a_line (S.Number texts) = list_all (λ t. is_line t.1) texts
 is_shown_on_a_line (S.BigEndian texts) = list_all (λ t. is_line t.1) texts
+is_shown_on_a_line (S.NamedFlags names) = list_all (λ t. is_line t.1) names
 is_shown_on_a_line (S.Record fields) = list_all (λ f. is_line f.0) fields
 is_shown_on_a_line (S.SparseRecord fields) = list_all (λ f. is_line f.0) fields
 is_shown_on_a_line shown = true
+
+-- ---- whether a value tells payloads of so many bytes
+
+abbrev pub tells_sized : ℕ → Shown → Bool
+tells_sized n (S.Number texts) = is_size n
+tells_sized n (S.BigEndian texts) = is_size n
+tells_sized n S.Signed = n == 4
+tells_sized n S.Flags = is_size n
+tells_sized n S.Presence = n == 0
+tells_sized n S.HardwareAddress = true
+tells_sized n S.FlagsAndMask = n == 8
+tells_sized n shown = false

@@ -36,6 +36,18 @@ pub const LINK_FLAGS: FlagNames = &[
     (0x40000, b"Echo"),
 ];
 
+/// What is asked for of links (rtnetlink.h: RTEXT_FILTER_*).
+pub const LINK_EXTENT_MASK: FlagNames = &[
+    (0x1, b"Vf"),
+    (0x2, b"Brvlan"),
+    (0x4, b"BrvlanCompressed"),
+    (0x8, b"SkipStats"),
+    (0x10, b"Mrp"),
+    (0x20, b"CfmConfig"),
+    (0x40, b"CfmStatus"),
+    (0x80, b"Mst"),
+];
+
 /// The flags of any message, and behind them those of some.
 macro_rules! message_flags {
     ($($flag:expr),*) => {

@@ -1,7 +1,8 @@
 //! Laws of the definitions: each function does nothing, and what it states holds of all values.
 
 ghost use Rattle.link_lines_values.specs.Laws.{AddressesAreTold, AddressSizesAreTold, BytesAreTold, DigitsAreTold};
-ghost use Rattle.link_lines_values.specs.Laws.{NumbersAreTold, RecordsAreTold, SettingsAreTold, ValuesStandOnALine};
+ghost use Rattle.link_lines_values.specs.Laws.{NumbersAreTold, RecordsAreTold, SettingsAreTold, SizedValuesAreTold};
+ghost use Rattle.link_lines_values.specs.Laws.{ValuesStandOnALine};
 
 /// Bytes in hex, with or without colons, are told by their text, and bytes in quotes up to a NUL at the end.
 pub fn bytes_are_told()
@@ -43,3 +44,13 @@ pub fn records_are_told()
 pub fn values_stand_on_a_line()
     ensures { ValuesStandOnALine }
 {}
+
+/// Payloads of one size are told by their value where its form knows the size, and no such value reads as bytes behind
+/// the word `bytes`.
+pub fn sized_values_are_told()
+    ensures { SizedValuesAreTold }
+{
+    bytes_are_told();
+    numbers_are_told();
+    settings_are_told();
+}

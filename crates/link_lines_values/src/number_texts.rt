@@ -30,6 +30,17 @@ pub const GRE_ENCAP_TYPE: Numbers = &[(0, b"none"), (1, b"fou"), (2, b"gue")];
 /// Directions of ERSPAN (if_link.h: IFLA_GRE_ERSPAN_DIR).
 pub const ER_SPAN_DIR: Numbers = &[(0, b"ingress"), (1, b"egress")];
 
+/// Modes of bonds (if_bonding.h: BOND_MODE_*).
+pub const BOND_MODE: Numbers = &[
+    (0, b"balance-rr"),
+    (1, b"active-backup"),
+    (2, b"balance-xor"),
+    (3, b"broadcast"),
+    (4, b"802.3ad"),
+    (5, b"balance-tlb"),
+    (6, b"balance-alb"),
+];
+
 /// Modes of ipvlan (if_link.h: IPVLAN_MODE_*).
 pub const IP_VLAN_MODE: Numbers = &[(0, b"l2"), (1, b"l3"), (2, b"l3s")];
 

@@ -4,7 +4,7 @@ ghost use Rattle.std.specs.Prelude.{◌≡◌, ◌++◌, ◌∷◌, codes, OnOk}
 ghost use Rattle.link_lines_values.specs.Bytes.{truth_text};
 ghost use Rattle.link_lines_values.specs.Digits.{hex_number};
 ghost use Rattle.link_lines_values.specs.Values.{big_endian_flags_value, big_endian_value, flags_and_mask_value};
-ghost use Rattle.link_lines_values.specs.Values.{flags_value, hex_or_bytes, number_value, optional_byte_value};
+ghost use Rattle.link_lines_values.specs.Values.{flags_value, hex_or_bytes, named_flags_value, number_value, optional_byte_value};
 ghost use Rattle.link_lines_values.specs.Names.{texts_of};
 ghost use Rattle.link_lines_values.specs.Values.{port_range_value, seen, signed_value, sized_flags_value, value_text};
 
@@ -12,13 +12,14 @@ use crate::addresses::push_address;
 use crate::bytes::{push_bytes, push_hardware_address, push_text, push_truth};
 use crate::digits::{big_endian, little_endian, push_decimal, push_hex, push_signed};
 use crate::fields::Fields;
+use crate::flags::{FlagName, push_flags};
 use crate::number_texts::{NumberText, Numbers};
 use crate::numbers::push_number;
 use crate::records::push_record;
 use std::alloc::AllocError;
 
-/// How a payload is shown, with numbers and records of those types. A payload of a size that the form doesn't know is
-/// shown as its bytes.
+/// How a payload is shown, with numbers and records of those types; names of flags are texts of numbers too. A payload
+/// of a size that the form doesn't know is shown as its bytes.
 #[derive(Clone, Copy)]
 pub enum ShownBy<N, R> {
     /// A number of 1, 2, 4 or 8 bytes, the lowest byte first, with its name.
@@ -29,7 +30,9 @@ pub enum ShownBy<N, R> {
     Signed,
     /// Flags of 1, 2, 4 or 8 bytes, the lowest byte first.
     Flags,
-    /// The same, the highest byte first.
+    /// The same, with the names of their bits.
+    NamedFlags(N),
+    /// Flags without names, the highest byte first.
     BigEndianFlags,
     /// Flags of 4 bytes, the lowest byte first, or of 2 bytes, the highest byte first (if_tunnel.h:
     /// IFLA_IPTUN_FLAGS).
@@ -58,7 +61,7 @@ pub enum ShownBy<N, R> {
     SparseRecord(R),
 }
 
-/// How a payload is shown: numbers with their texts, records with their fields.
+/// How a payload is shown: numbers with their texts, flags with their names, records with their fields.
 pub type Shown = ShownBy<Numbers, Fields>;
 
 fn push_number_value(
@@ -118,6 +121,17 @@ fn push_flags_or_bytes(
         }
         None => push_bytes(payload, out),
     }
+}
+
+fn push_named_flags(names: &[FlagName], payload: &[u8], out: &mut Vec<u8>) -> Result<(), AllocError>
+    ensures ok { OnOk result (out.new.items
+        ≡ out.old.items ++ named_flags_value (texts_of (λ b. b.now) names.now) payload.now) }
+{
+    let Some(flags) = little_endian(payload) else {
+        return push_bytes(payload, out);
+    };
+    out.extend_from_slice(b" ")?;
+    push_flags(names, flags, out)
 }
 
 fn push_sized_flags(payload: &[u8], out: &mut Vec<u8>) -> Result<(), AllocError>
@@ -199,6 +213,7 @@ pub fn push_value(shown: Shown, payload: &[u8], out: &mut Vec<u8>) -> Result<(),
         ShownBy::BigEndian(texts) => push_big_endian_value(texts, payload, out),
         ShownBy::Signed => push_signed_value(payload, out),
         ShownBy::Flags => push_flags_or_bytes(little_endian(payload), payload, out),
+        ShownBy::NamedFlags(names) => push_named_flags(names, payload, out),
         ShownBy::BigEndianFlags => push_flags_or_bytes(big_endian(payload), payload, out),
         ShownBy::FlagsBySize => push_sized_flags(payload, out),
         ShownBy::Truth => push_truth_value(payload, out),

@@ -216,7 +216,7 @@ macro_rules! link {
             $($specific)*
             27, b"IFLA_GROUP", Exact(4), Number(PLAIN);
             28, b"IFLA_NET_NS_FD", Exact(4), Signed;
-            29, b"IFLA_EXT_MASK", Exact(4), Flags;
+            29, b"IFLA_EXT_MASK", Exact(4), NamedFlags(LINK_EXTENT_MASK);
             30, b"IFLA_PROMISCUITY", Exact(4), Number(PLAIN);
             31, b"IFLA_NUM_TX_QUEUES", Exact(4), Number(PLAIN);
             32, b"IFLA_NUM_RX_QUEUES", Exact(4), Number(PLAIN);

@@ -1,9 +1,22 @@
-use Rattle.std.proofs.Common.{◌≡◌, ◌+◌, ◌++◌, Some, None, ap, sym, ◌∙◌, append-nil, arith, rules}
+use Rattle.std.proofs.Common.{◌≡◌, ◌+◌, ◌++◌, List, ℕ, Option, Some, None, option_map, Bor, ap, sym, ◌∙◌, append-nil, arith, rules}
 use Rattle.netlink_packet_core_grammar.specs.Attributes.{Attribute}
-use Rattle.link_lines_texts.specs.Lists.{own_line, nested_lines, table_inside, list_lines, rest_lines}
-use Rattle.link_lines_texts.specs.Views.{in_force}
-use Rattle.link_lines_texts.proofs.ListSteps.{going, rest_shorter}
+use Rattle.link_lines_names.specs.Views.{in_force}
+use Rattle.link_lines_texts.specs.declared.attributes.Place.{Place}
+use Rattle.link_lines_texts.specs.Lists.{list_inside, list_lines, nested_lines, own_lines, rest_lines}
+use Rattle.link_lines_texts.proofs.ListSteps.{going, list_shorter, rest_shorter}
 use Rattle.link_lines_texts.proofs.attributes.+push_list.Goals as goal
+
+-- a list that was found, and where it stands
+abbrev viewed : Option (Place × Bor (List ℕ)) → Option (Place × List ℕ)
+viewed o = option_map (λ f. (f.0, f.1.now)) o
+
+pub push_list-requires : goal.push_list-requires
+push_list-requires t c =
+    let e : Attribute = record { kind = c.in-Some.attribute.kind; payload = c.in-Some.attribute.payload.now } in
+    let now = in_force c.loop-attribute.force.kind c.loop-attribute.force.port_kind in
+    let tells : list_inside c.args.place now e ≡ Some (c.in-Some-found.inside, c.in-Some-found.list.now) = sym c.in_ok-found.ensures.list ∙ ap viewed c.in-Some-found.is in
+    let s = list_shorter c.first_attributes_are_within.ensures c.args.place now c.loop-attribute.rest.now e c.in-Some.after.now (c.in-Some-found.inside, c.in-Some-found.list.now) c.in-Some.ensures tells in
+    (omega (arith, s, c.loop-attribute.invariant.within), omega (arith, s, c.loop-attribute.invariant.within, c.requires))
 
 pub loop-attribute-smaller-in-Continue-branch-2 : goal.loop-attribute-smaller-in-Continue-branch-2
 loop-attribute-smaller-in-Continue-branch-2 t c =
@@ -16,17 +29,17 @@ loop-attribute-preserved-in-Continue-branch-2 t c =
     let e : Attribute = record { kind = c.in-Some.attribute.kind; payload = c.in-Some.attribute.payload.now } in
     let now = in_force c.loop-attribute.force.kind c.loop-attribute.force.port_kind in
     let before = c.loop-attribute.out.items in
-    let own : c.push_line.new.out.items ≡ before ++ own_line c.args.level c.args.table now e = c.in_ok-found.ensures.ok in
-    let tells : table_inside c.args.table now e ≡ Some c.in-Some-found.inside = sym c.in_ok-found.ensures.table ∙ c.in-Some-found.is in
-    let inside : c.push_list.new.out.items ≡ c.push_line.new.out.items ++ list_lines (c.args.level + 1) c.in-Some-found.inside e.payload = c.in_ok-push_list.ensures.ok in
+    let lines = list_lines (c.args.level + 1) c.in-Some-found.inside c.in-Some-found.list.now in
+    let own : c.push_attribute.new.out.items ≡ before ++ own_lines c.args.level c.args.place now e = c.in_ok-found.ensures.ok in
+    let tells : list_inside c.args.place now e ≡ Some (c.in-Some-found.inside, c.in-Some-found.list.now) = sym c.in_ok-found.ensures.list ∙ ap viewed c.in-Some-found.is in
+    let inside : c.push_list.new.out.items ≡ c.push_attribute.new.out.items ++ lines = c.in_ok-push_list.ensures.ok in
     let s = rest_shorter c.first_attributes_are_within.ensures c.loop-attribute.rest.now e c.in-Some.after.now c.in-Some.ensures in
     record {
       within = omega (arith, s, c.loop-attribute.invariant.within);
       so_far =
-          ap (λ d. c.push_list.new.out.items ++ rest_lines c.args.level c.args.table d c.in-Some.after.now) c.next_force-force.ensures
-          ∙ going c.lists_go_by_steps.ensures c.args.level c.args.table now c.loop-attribute.rest.now e c.in-Some.after.now before c.push_list.new.out.items _ c.in-Some.ensures c.loop-attribute.invariant.so_far
-          (inside ∙ ap (λ z. z ++ list_lines (c.args.level + 1) c.in-Some-found.inside e.payload) own
-          ∙ ap (λ o. (before ++ own_line c.args.level c.args.table now e) ++ nested_lines (c.args.level + 1) o e.payload) (sym tells));
+          ap (λ d. c.push_list.new.out.items ++ rest_lines c.args.level c.args.place d c.in-Some.after.now) c.next_force-force.ensures
+          ∙ going c.lists_go_by_steps.ensures c.args.level c.args.place now c.loop-attribute.rest.now e c.in-Some.after.now before c.push_list.new.out.items _ c.in-Some.ensures c.loop-attribute.invariant.so_far
+          (inside ∙ ap (λ z. z ++ lines) own ∙ ap (λ o. (before ++ own_lines c.args.level c.args.place now e) ++ nested_lines (c.args.level + 1) o) (sym tells));
     }
 
 pub loop-attribute-smaller : goal.loop-attribute-smaller
@@ -40,15 +53,15 @@ loop-attribute-preserved t c =
     let e : Attribute = record { kind = c.in-Some.attribute.kind; payload = c.in-Some.attribute.payload.now } in
     let now = in_force c.loop-attribute.force.kind c.loop-attribute.force.port_kind in
     let before = c.loop-attribute.out.items in
-    let own : c.push_line.new.out.items ≡ before ++ own_line c.args.level c.args.table now e = c.in_ok-found.ensures.ok in
+    let own : c.push_attribute.new.out.items ≡ before ++ own_lines c.args.level c.args.place now e = c.in_ok-found.ensures.ok in
     let nothing : c.in_ok-found.found ≡ None = search rules in
-    let tells : table_inside c.args.table now e ≡ None = sym c.in_ok-found.ensures.table ∙ nothing in
+    let tells : list_inside c.args.place now e ≡ None = sym c.in_ok-found.ensures.list ∙ ap viewed nothing in
     let s = rest_shorter c.first_attributes_are_within.ensures c.loop-attribute.rest.now e c.in-Some.after.now c.in-Some.ensures in
     record {
       within = omega (arith, s, c.loop-attribute.invariant.within);
       so_far =
-          ap (λ d. c.push_line.new.out.items ++ rest_lines c.args.level c.args.table d c.in-Some.after.now) c.next_force-force.ensures
-          ∙ going c.lists_go_by_steps.ensures c.args.level c.args.table now c.loop-attribute.rest.now e c.in-Some.after.now before c.push_line.new.out.items _ c.in-Some.ensures c.loop-attribute.invariant.so_far
-          (own ∙ sym (append-nil (before ++ own_line c.args.level c.args.table now e))
-          ∙ ap (λ o. (before ++ own_line c.args.level c.args.table now e) ++ nested_lines (c.args.level + 1) o e.payload) (sym tells));
+          ap (λ d. c.push_attribute.new.out.items ++ rest_lines c.args.level c.args.place d c.in-Some.after.now) c.next_force-force.ensures
+          ∙ going c.lists_go_by_steps.ensures c.args.level c.args.place now c.loop-attribute.rest.now e c.in-Some.after.now before c.push_attribute.new.out.items _ c.in-Some.ensures c.loop-attribute.invariant.so_far
+          (own ∙ sym (append-nil (before ++ own_lines c.args.level c.args.place now e))
+          ∙ ap (λ o. (before ++ own_lines c.args.level c.args.place now e) ++ nested_lines (c.args.level + 1) o) (sym tells));
     }

@@ -1,7 +1,8 @@
 use Rattle.std.proofs.Common.{◌≡◌, ◌++◌, ◌∷◌, [], codes, decimal, ap, ◌∙◌}
 use Rattle.std.proofs.lemmas.Result.{on_ok_weaker}
 use Rattle.netlink_packet_core_grammar.specs.Numbers.{u32_at}
-use Rattle.link_lines_texts.specs.Frames.{header_line, labelled, request_line}
+use Rattle.link_lines_texts.specs.Frames.{header_line, request_line}
+use Rattle.link_lines_texts.specs.Links.{labelled}
 use Rattle.link_lines_texts.proofs.LineCuts.{three_parts}
 use Rattle.link_lines_texts.proofs.frames.push_request.Goals as goal
 

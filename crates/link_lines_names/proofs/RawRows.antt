@@ -1,0 +1,68 @@
+-- Each name of a raw attribute is a word of its own, and what stands behind it tells the payload, by computation.
+use Rattle.std.proofs.Common.{◌≡◌, ℕ, ◌-◌, Bool, true, false, cond, List, [], ◌∷◌, Some, refl}
+use Rattle.std.specs.Prelude.{◌==◌, ◌&&◌, ◌||◌, nat_lt, get_or}
+use Rattle.std.specs.List.{list_all}
+use Rattle.std.proofs.lemmas.Bool.{and_parts}
+use Rattle.attribute_checks.proofs.LookUps.{all_at}
+use Rattle.link_lines_values.specs.Values.{is_shown_on_a_line, tells_sized}
+use Rattle.link_lines_names.specs.declared.raw.RawBy.TheVariants as R
+use Rattle.link_lines_names.specs.Names.{Named, Titled, all_titles, has_name, names_apart}
+use Rattle.link_lines_names.specs.Raw.{Raw, geneve_titles, gre6_titles, gre_titles, link_titles, raw_lists, raw_name, raw_titles_of, table_titles, vf_titles, xfrm_titles}
+use Rattle.link_lines_names.proofs.Named.{found_in}
+
+-- what stands behind a name tells the payload, on one line
+abbrev pub raw_tells : Raw → Bool
+raw_tells R.Bytes = true
+raw_tells (R.Sized n v) = tells_sized n v && is_shown_on_a_line v
+
+abbrev has_told : ℕ → Named Raw → Bool
+has_told k n = raw_tells n.1
+
+-- ---- what holds in each list
+
+abbrev in_each : (List (Titled Raw) → Bool) → Bool
+in_each f =
+    list_all f raw_lists && list_all f (vf_titles ∷ link_titles ∷ geneve_titles ∷ gre_titles ∷
+    gre6_titles ∷ xfrm_titles ∷ [])
+
+all_are_named : in_each (all_titles has_name) ≡ true
+unfolding raw_lists
+all_are_named = refl
+
+all_are_told : in_each (all_titles has_told) ≡ true
+unfolding raw_lists
+all_are_told = refl
+
+all_are_apart : in_each names_apart ≡ true
+unfolding raw_lists
+all_are_apart = refl
+
+chosen : (f : List (Titled Raw) → Bool) (b : Bool) (x y : List (Titled Raw)) → f x ≡ true → f y ≡ true → f (cond b x y) ≡ true
+chosen f true x y h k = h
+chosen f false x y h k = k
+
+in_list : (f : List (Titled Raw) → Bool) (m : ℕ) → f [] ≡ true → in_each f ≡ true → f (raw_titles_of m) ≡ true
+unfolding raw_titles_of table_titles
+in_list f m e h =
+    let parts = and_parts (list_all f raw_lists) _ h in
+    let a = and_parts (f vf_titles) _ parts.1 in
+    let b = and_parts (f link_titles) _ a.1 in
+    let c = and_parts (f geneve_titles) _ b.1 in
+    let d = and_parts (f gre_titles) _ c.1 in
+    let g = and_parts (f gre6_titles) _ d.1 in
+    let i = and_parts (f xfrm_titles) true g.1 in
+    chosen f (nat_lt m 44) (table_titles m) (get_or raw_lists (m - 44) [])
+    (chosen f (m == 11) vf_titles _ a.0
+    (chosen f (m == 15 || (m == 16 || (m == 17 || m == 18))) link_titles _ b.0
+    (chosen f (m == 23) geneve_titles _ c.0 (chosen f (m == 24) gre_titles _ d.0
+    (chosen f (m == 25) gre6_titles _ g.0 (chosen f (m == 39) xfrm_titles [] i.0 e))))))
+    (all_at f raw_lists (m - 44) [] parts.0 e)
+
+pub raw_named : (m k : ℕ) (n : Named Raw) → raw_name m k ≡ Some n → has_name k n ≡ true
+raw_named m k n h = found_in has_name k (raw_titles_of m) n (in_list (all_titles has_name) m refl all_are_named) h
+
+pub raw_told : (m k : ℕ) (n : Named Raw) → raw_name m k ≡ Some n → raw_tells n.1 ≡ true
+raw_told m k n h = found_in has_told k (raw_titles_of m) n (in_list (all_titles has_told) m refl all_are_told) h
+
+pub raw_apart : (m : ℕ) → names_apart (raw_titles_of m) ≡ true
+raw_apart m = in_list names_apart m refl all_are_apart

@@ -1,0 +1,19 @@
+-- Rows in code and what they say.
+use Rattle.std.proofs.Common.{◌≡◌, ℕ, Bool, true, false, cond, List, [], ◌∷◌, Option, refl, ap, ◌∙◌}
+use Rattle.std.specs.Prelude.{◌==◌, option_map}
+use Rattle.link_lines_values.specs.Placed.{find}
+use Rattle.link_lines_names.specs.Names.{Titled, named_of, titles_in}
+
+module _ {N A B : Type 0} (f : N → List ℕ) (g : A → B) where
+  picked : (b : Bool) (o : Option (N × A)) (k : ℕ) (ts : List (ℕ × Option (N × A))) → option_map (named_of f g) (find k ts) ≡ find k (titles_in f g ts) →
+      option_map (named_of f g) (cond b o (find k ts)) ≡ cond b (option_map (named_of f g) o) (find k (titles_in f g ts))
+  picked true o k ts h = refl
+  picked false o k ts h = h
+
+  said_at : (k : ℕ) (ts : List (ℕ × Option (N × A))) → option_map (named_of f g) (find k ts) ≡ find k (titles_in f g ts)
+  said_at k [] = refl
+  said_at k (t ∷ ts) = picked (t.0 == k) t.1 k ts (said_at k ts)
+
+  -- a look-up in code, as the rows say it
+  pub at_kind : (k : ℕ) (r : Option (N × A)) (ts : List (ℕ × Option (N × A))) (us : List (Titled B)) → r ≡ find k ts → titles_in f g ts ≡ us → option_map (named_of f g) r ≡ find k us
+  at_kind k r ts us h e = ap (option_map (named_of f g)) h ∙ said_at k ts ∙ ap (find k) e

@@ -1,0 +1,77 @@
+-- The names of raw attributes, and what is shown of them.
+use Rattle.std.specs.Prelude.{ℕ, ◌-◌, ◌==◌, ◌||◌, nat_lt, cond, List, [], ◌∷◌, ◌++◌, Option, Some, None, codes, get_or, length, map}
+use Rattle.link_lines_values.specs.declared.fields.FieldOf.{FieldOf}
+use Rattle.link_lines_values.specs.declared.values.ShownBy.{ShownBy}
+use Rattle.link_lines_values.specs.Bytes.{bytes_text}
+use Rattle.link_lines_values.specs.Digits.{four_digits}
+use Rattle.link_lines_values.specs.Placed.{find}
+use Rattle.link_lines_values.specs.Values.{Shown, seen, value_text}
+use Rattle.link_lines_names.specs.declared.raw.RawBy.{RawBy}
+use Rattle.link_lines_names.specs.declared.raw.RawBy.TheVariants as R
+use Rattle.link_lines_names.specs.declared.raw_names.TheConstants.{VLAN_NAMES, BRIDGE_NAMES, BOND_NAMES, TUN_NAMES, CAN_NAMES, HSR_NAMES, DSA_NAMES, BRIDGE_PORT_NAMES, BOND_PORT_NAMES, BRIDGE_SPECIFIC_NAMES, INET6_PROTOCOL_NAMES, LINK_NAMES, VF_NAMES, GENEVE_NAMES, GRE_NAMES, GRE6_NAMES, XFRM_NAMES}
+use Rattle.link_lines_names.specs.Names.{Named, Titled, titles_in}
+
+-- how a raw payload is shown
+abbrev pub Raw : Type 0
+Raw = RawBy Shown
+
+-- what a form in code says
+abbrev pub raw_of : {N T S : Type 0} → (N → List ℕ) → (T → List (ℕ × N)) → (S → List (FieldOf N)) → RawBy (ShownBy T S) → Raw
+raw_of f g h R.Bytes = R.Bytes
+raw_of f g h (R.Sized n shown) = R.Sized n (seen f g h shown)
+
+-- what rows in code say
+abbrev pub raw_said : {N T S : Type 0} → (N → List ℕ) → (T → List (ℕ × N)) → (S → List (FieldOf N)) → List (ℕ × Option (N × RawBy (ShownBy T S))) → List (Titled Raw)
+raw_said f g h ts = titles_in f (raw_of f g h) ts
+
+-- the names in lists of raw attributes: data of vlan, bridge, bond, tun, can, hsr and dsa, port data of bridge and bond, and of bridges and IPv6
+unfoldable pub raw_lists : List (List (Titled Raw))
+raw_lists =
+    map (λ b. raw_said (λ n. n.now) (λ t. t.now) (λ r. r.now) b.now)
+    (VLAN_NAMES ∷ BRIDGE_NAMES ∷ BOND_NAMES ∷ TUN_NAMES ∷ CAN_NAMES ∷ HSR_NAMES ∷ DSA_NAMES ∷
+    BRIDGE_PORT_NAMES ∷ BOND_PORT_NAMES ∷ BRIDGE_SPECIFIC_NAMES ∷ INET6_PROTOCOL_NAMES ∷ [])
+
+-- the names of kinds for which a table has no row
+abbrev pub vf_titles : List (Titled Raw)
+vf_titles = raw_said (λ n. n.now) (λ t. t.now) (λ r. r.now) VF_NAMES.now
+
+abbrev pub link_titles : List (Titled Raw)
+link_titles = raw_said (λ n. n.now) (λ t. t.now) (λ r. r.now) LINK_NAMES.now
+
+abbrev pub geneve_titles : List (Titled Raw)
+geneve_titles = raw_said (λ n. n.now) (λ t. t.now) (λ r. r.now) GENEVE_NAMES.now
+
+abbrev pub gre_titles : List (Titled Raw)
+gre_titles = raw_said (λ n. n.now) (λ t. t.now) (λ r. r.now) GRE_NAMES.now
+
+abbrev pub gre6_titles : List (Titled Raw)
+gre6_titles = raw_said (λ n. n.now) (λ t. t.now) (λ r. r.now) GRE6_NAMES.now
+
+abbrev pub xfrm_titles : List (Titled Raw)
+xfrm_titles = raw_said (λ n. n.now) (λ t. t.now) (λ r. r.now) XFRM_NAMES.now
+
+unfoldable pub table_titles : ℕ → List (Titled Raw)
+table_titles n =
+    cond (n == 11) vf_titles (cond (n == 15 || (n == 16 || (n == 17 || n == 18))) link_titles
+    (cond (n == 23) geneve_titles (cond (n == 24) gre_titles (cond (n == 25) gre6_titles (cond (n == 39) xfrm_titles [])))))
+
+-- the names in a table, or in a list of raw attributes, which are numbered behind the tables
+unfoldable pub raw_titles_of : ℕ → List (Titled Raw)
+raw_titles_of n = cond (nat_lt n 44) (table_titles n) (get_or raw_lists (n - 44) [])
+
+-- the name of a kind, of which all 16 bits count
+abbrev pub raw_name : ℕ → ℕ → Option (Named Raw)
+raw_name table kind = find kind (raw_titles_of table)
+
+-- a value where the payload has the kernel's size
+abbrev pub raw_payload : Raw → List ℕ → List ℕ
+raw_payload R.Bytes p = bytes_text p
+raw_payload (R.Sized n shown) p = cond (length p == n) (value_text shown p) (codes " bytes" ++ bytes_text p)
+
+-- under its name, or its kind as a number
+abbrev pub named_text : Option (Named Raw) → ℕ → List ℕ → List ℕ
+named_text None kind p = codes "kind " ++ (four_digits kind ++ bytes_text p)
+named_text (Some n) kind p = n.0 ++ raw_payload n.1 p
+
+unfoldable pub raw_text : ℕ → ℕ → List ℕ → List ℕ
+raw_text table kind p = named_text (raw_name table kind) kind p

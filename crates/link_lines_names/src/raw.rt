@@ -1,0 +1,161 @@
+//! Raw attributes, which a normal text keeps as bytes under all 16 bits of their kind: the kernel's names of them, and
+//! their values where the payload has the kernel's size.
+
+ghost use Rattle.std.specs.Prelude.{◌≡◌, ◌++◌, true, [], codes, get_or, option_map, OnOk};
+ghost use Rattle.link_lines_names.specs.Names.{named_of};
+ghost use Rattle.link_lines_names.specs.Raw.{raw_lists, raw_name, raw_of, raw_payload, raw_said, raw_text};
+ghost use Rattle.link_lines_names.specs.Raw.{raw_titles_of, table_titles};
+ghost use Rattle.link_lines_values.specs.Bytes.{bytes_text};
+ghost use Rattle.link_lines_values.specs.Digits.{four_digits};
+ghost use Rattle.link_lines_values.specs.Placed.{are_dense};
+
+use crate::behind::RAW_LISTS;
+use crate::raw_names;
+use link_lines_values::{Shown, look_up, push_bytes, push_four_digits, push_value};
+use std::alloc::AllocError;
+
+/// How the payload of a raw attribute is shown, with forms of that type.
+#[derive(Clone, Copy)]
+pub enum RawBy<S> {
+    /// As bytes.
+    Bytes,
+    /// By its value where it has that many bytes, or else as bytes behind the word `bytes`.
+    Sized(u8, S),
+}
+
+/// How the payload of a raw attribute is shown.
+pub type Raw = RawBy<Shown>;
+
+/// The name of a raw attribute, and how its payload is shown.
+pub type RawName = (&'static [u8], Raw);
+
+/// A kind, and its name where raw attributes of that kind have one.
+pub type RawTitle = (u16, Option<RawName>);
+
+/// The name of a kind.
+#[macro_export]
+macro_rules! raw_title {
+    ($kind:literal) => {
+        ($kind, None)
+    };
+    ($kind:literal, $name:literal) => {
+        ($kind, Some(($name, Bytes)))
+    };
+    ($kind:literal, $name:literal, $size:literal, $shown:expr) => {
+        ($kind, Some(($name, Sized($size, $shown))))
+    };
+}
+
+/// The names of a list.
+#[macro_export]
+macro_rules! raw_titles {
+    ($($kind:literal $(, $name:literal $(, $size:literal, $shown:expr)?)?;)*) => {
+        [$($crate::raw_title!($kind $(, $name $(, $size, $shown)?)?),)*]
+    };
+}
+
+/// The names in a list of raw attributes, by its number.
+#[tactic(auto, unfolding(crate::specs::Raw::raw_lists))]
+fn list_titles(list: usize) -> &'static [RawTitle]
+    ensures titles { raw_said (λ b. b.now) (λ t. t.now) (λ r. r.now) result.now ≡ get_or raw_lists list [] }
+    ensures dense { are_dense result.now ≡ true }
+{
+    match list {
+        0 => raw_names::VLAN_NAMES,
+        1 => raw_names::BRIDGE_NAMES,
+        2 => raw_names::BOND_NAMES,
+        3 => raw_names::TUN_NAMES,
+        4 => raw_names::CAN_NAMES,
+        5 => raw_names::HSR_NAMES,
+        6 => raw_names::DSA_NAMES,
+        7 => raw_names::BRIDGE_PORT_NAMES,
+        8 => raw_names::BOND_PORT_NAMES,
+        9 => raw_names::BRIDGE_SPECIFIC_NAMES,
+        10 => raw_names::INET6_PROTOCOL_NAMES,
+        _ => &[],
+    }
+}
+
+/// The names of kinds for which a table has no row.
+#[tactic(auto, unfolding(crate::specs::Raw::table_titles))]
+fn table_titles(table: usize) -> &'static [RawTitle]
+    ensures titles { raw_said (λ b. b.now) (λ t. t.now) (λ r. r.now) result.now ≡ table_titles table }
+    ensures dense { are_dense result.now ≡ true }
+{
+    match table {
+        11 => raw_names::VF_NAMES,
+        15..=18 => raw_names::LINK_NAMES,
+        23 => raw_names::GENEVE_NAMES,
+        24 => raw_names::GRE_NAMES,
+        25 => raw_names::GRE6_NAMES,
+        39 => raw_names::XFRM_NAMES,
+        _ => &[],
+    }
+}
+
+/// The names of raw attributes in a table, or in a list that holds nothing else.
+#[tactic(auto, unfolding(crate::specs::Raw::raw_titles_of))]
+fn raw_titles_of(table: usize) -> &'static [RawTitle]
+    ensures titles { raw_said (λ b. b.now) (λ t. t.now) (λ r. r.now) result.now ≡ raw_titles_of table }
+    ensures dense { are_dense result.now ≡ true }
+{
+    if table < RAW_LISTS {
+        table_titles(table)
+    } else {
+        list_titles(table - RAW_LISTS)
+    }
+}
+
+/// The name of a raw attribute's kind, of which all 16 bits count.
+fn raw_name(table: usize, kind: u16) -> Option<RawName>
+    ensures { option_map (named_of (λ b. b.now) (raw_of (λ b. b.now) (λ t. t.now) (λ r. r.now))) result ≡ raw_name table kind }
+{
+    look_up(raw_titles_of(table), kind)
+}
+
+/// Appends the payload of a raw attribute that has a name.
+fn push_raw_payload(raw: Raw, payload: &[u8], out: &mut Vec<u8>) -> Result<(), AllocError>
+    ensures ok { OnOk result (out.new.items
+        ≡ out.old.items ++ raw_payload (raw_of (λ b. b.now) (λ t. t.now) (λ r. r.now) raw.entry) payload.now) }
+{
+    match raw {
+        RawBy::Bytes => push_bytes(payload, out),
+        RawBy::Sized(size, shown) => {
+            if payload.len() == usize::from(size) {
+                return push_value(shown, payload, out);
+            }
+            out.extend_from_slice(b" bytes")?;
+            push_bytes(payload, out)
+        }
+    }
+}
+
+/// Appends a raw attribute by its kind.
+fn push_unnamed(kind: u16, payload: &[u8], out: &mut Vec<u8>) -> Result<(), AllocError>
+    ensures ok { OnOk result (out.new.items
+        ≡ out.old.items ++ (codes "kind " ++ (four_digits kind ++ bytes_text payload.now))) }
+{
+    out.extend_from_slice(b"kind ")?;
+    push_four_digits(kind, out)?;
+    push_bytes(payload, out)
+}
+
+/// Appends a raw attribute of a table: its kind's name, and the value where the payload has the kernel's size, else the
+/// bytes; or the kind as a number, and the bytes.
+#[tactic(auto, unfolding(crate::specs::Raw::raw_text))]
+pub fn push_raw(
+    table: usize,
+    kind: u16,
+    payload: &[u8],
+    out: &mut Vec<u8>,
+) -> Result<(), AllocError>
+    ensures ok { OnOk result (out.new.items ≡ out.old.items ++ raw_text table kind payload.now) }
+{
+    match raw_name(table, kind) {
+        Some((name, raw)) => {
+            out.extend_from_slice(name)?;
+            push_raw_payload(raw, payload, out)
+        }
+        None => push_unnamed(kind, payload, out),
+    }
+}

@@ -1,0 +1,38 @@
+-- The line of a link's header, in a message and in a peer.
+use Rattle.std.specs.Prelude.{ℕ, ◌==◌, cond, List, [], ◌∷◌, ◌++◌, codes, decimal, slice_index}
+use Rattle.netlink_packet_core_grammar.specs.Numbers.{u16_at, u32_at}
+use Rattle.link_lines_values.specs.declared.flags.TheConstants.{LINK_FLAGS}
+use Rattle.link_lines_values.specs.declared.number_texts.TheConstants.{ADDRESS_FAMILY, LINK_LAYER_TYPE}
+use Rattle.link_lines_values.specs.Flags.{named_flags}
+use Rattle.link_lines_values.specs.Indents.{indent}
+use Rattle.link_lines_values.specs.Names.{Text, named_number, texts_of}
+
+unfoldable pub address_families : List Text
+address_families = texts_of (λ n. n.now) ADDRESS_FAMILY.now
+
+unfoldable pub layer_types : List Text
+layer_types = texts_of (λ n. n.now) LINK_LAYER_TYPE.now
+
+unfoldable pub link_flag_names : List Text
+link_flag_names = texts_of (λ n. n.now) LINK_FLAGS.now
+
+abbrev pub labelled : List ℕ → List ℕ → List ℕ
+labelled label text = label ++ text
+
+-- the table of the attributes of a link of an address family
+unfoldable pub family_table : ℕ → ℕ
+family_table n = cond (n == 0) 15 (cond (n == 7) 16 (cond (n == 10) 17 18))
+
+-- family, type and index
+unfoldable pub link_numbers : List ℕ → List ℕ
+link_numbers b =
+    labelled (codes "ifinfomsg family ") (named_number address_families (slice_index b 0)) ++ (labelled (codes " type ") (named_number layer_types (u16_at 2 b))
+    ++ labelled (codes " index ") (decimal (u32_at 4 b)))
+
+-- flags and the mask of their change
+unfoldable pub link_flags : List ℕ → List ℕ
+link_flags b = labelled (codes " flags ") (named_flags link_flag_names (u32_at 8 b)) ++ (labelled (codes " change ") (named_flags link_flag_names (u32_at 12 b)) ++ 10 ∷ [])
+
+-- the line of a header, at a level
+abbrev pub link_header_line : ℕ → List ℕ → List ℕ
+link_header_line level b = indent level ++ (link_numbers b ++ link_flags b)

@@ -1,0 +1,116 @@
+//! The header of a link, in a message and in a peer.
+
+ghost use Rattle.std.specs.Prelude.{◌≡◌, ◌<◌, ◌≤◌, ◌^◌, ◌++◌, length, decimal, OnOk};
+ghost use Rattle.link_lines_values.specs.Flags.{named_flags};
+ghost use Rattle.link_lines_values.specs.Indents.{indent};
+ghost use Rattle.link_lines_values.specs.Names.{named_number, texts_of};
+ghost use Rattle.link_lines_texts.specs.Links.{family_table, labelled, link_flag_names, link_flags, link_header_line, link_numbers};
+
+use link_lines_values::{
+    ADDRESS_FAMILY, FlagName, LINK_FLAGS, LINK_LAYER_TYPE, NumberText, push_decimal, push_flags,
+    push_indent, push_number,
+};
+use netlink_packet_core_attributes::view::{read_u16, read_u32};
+use std::alloc::AllocError;
+
+/// The bytes of the header of a link (rtnetlink.h, `struct ifinfomsg`).
+pub(crate) const LINK_HEADER_LEN: usize = 16;
+
+/// Appends a label, and a number with its text.
+fn push_labelled(
+    label: &[u8],
+    texts: &[NumberText],
+    number: u32,
+    out: &mut Vec<u8>,
+) -> Result<(), AllocError>
+    ensures ok { OnOk result (out.new.items
+        ≡ out.old.items ++ labelled label.now (named_number (texts_of (λ b. b.now) texts.now) number)) }
+{
+    out.extend_from_slice(label)?;
+    push_number(texts, number as u64, out)
+}
+
+/// Appends a label and a number.
+pub(crate) fn push_labelled_decimal(
+    label: &[u8],
+    number: u32,
+    out: &mut Vec<u8>,
+) -> Result<(), AllocError>
+    ensures ok { OnOk result (out.new.items
+        ≡ out.old.items ++ labelled label.now (decimal number)) }
+{
+    out.extend_from_slice(label)?;
+    push_decimal(number as u64, out)
+}
+
+/// Appends a label and flags.
+pub(crate) fn push_labelled_flags(
+    label: &[u8],
+    names: &[FlagName],
+    flags: u32,
+    out: &mut Vec<u8>,
+) -> Result<(), AllocError>
+    ensures ok { OnOk result (out.new.items
+        ≡ out.old.items ++ labelled label.now (named_flags (texts_of (λ b. b.now) names.now) flags)) }
+{
+    out.extend_from_slice(label)?;
+    push_flags(names, flags as u64, out)
+}
+
+/// The table of the attributes of a link of an address family, by the interpreter's number.
+#[tactic(auto, unfolding(crate::specs::Links::family_table))]
+pub(crate) fn family_table(family: u8) -> usize
+    ensures { result ≡ family_table family }
+{
+    match family {
+        0 => 15,
+        7 => 16,
+        10 => 17,
+        _ => 18,
+    }
+}
+
+/// Appends the family, the type and the index of a link (rtnetlink.h, `struct ifinfomsg`).
+#[tactic(auto, unfolding(crate::specs::Links::link_numbers))]
+fn push_link_numbers(body: &[u8], out: &mut Vec<u8>) -> Result<(), AllocError>
+    requires { 16 ≤ length body.now }
+    ensures ok { OnOk result (out.new.items ≡ out.old.items ++ link_numbers body.now) }
+{
+    push_labelled(b"ifinfomsg family ", ADDRESS_FAMILY, body[0] as u32, out)?;
+    push_labelled(b" type ", LINK_LAYER_TYPE, read_u16(body, 2) as u32, out)?;
+    push_labelled_decimal(b" index ", read_u32(body, 4), out)
+}
+
+/// Appends a label and flags of a link.
+#[tactic(auto, unfolding(crate::specs::Links::link_flag_names))]
+fn push_labelled_link_flags(label: &[u8], flags: u32, out: &mut Vec<u8>) -> Result<(), AllocError>
+    ensures ok { OnOk result (out.new.items
+        ≡ out.old.items ++ labelled label.now (named_flags link_flag_names flags)) }
+{
+    push_labelled_flags(label, LINK_FLAGS, flags, out)
+}
+
+/// Appends the flags of a link, and the mask of their change.
+#[tactic(auto, unfolding(crate::specs::Links::link_flags))]
+fn push_link_flags(body: &[u8], out: &mut Vec<u8>) -> Result<(), AllocError>
+    requires { 16 ≤ length body.now }
+    ensures ok { OnOk result (out.new.items ≡ out.old.items ++ link_flags body.now) }
+{
+    push_labelled_link_flags(b" flags ", read_u32(body, 8), out)?;
+    push_labelled_link_flags(b" change ", read_u32(body, 12), out)?;
+    out.extend_from_slice(b"\n")
+}
+
+/// Appends the line of the header of a link, at a level (rtnetlink.h, `struct ifinfomsg`).
+pub(crate) fn push_link_header(
+    level: usize,
+    body: &[u8],
+    out: &mut Vec<u8>,
+) -> Result<(), AllocError>
+    requires { 16 ≤ length body.now }
+    ensures ok { OnOk result (out.new.items ≡ out.old.items ++ link_header_line level body.now) }
+{
+    push_indent(level, out)?;
+    push_link_numbers(body, out)?;
+    push_link_flags(body, out)
+}

@@ -1,7 +1,7 @@
 -- Lines tell frames, where they tell lists of attributes.
 use Rattle.std.proofs.Common.{◌≡◌, ℕ, ◌≤◌, Bool, true, false, cond, List, [], ◌∷◌, ◌++◌, length, take, drop, get_or, Ok, Err, refl, sym, ap, subst, ◌∙◌, append_assoc, arith, inl, inr}
-use Rattle.std.specs.Prelude.{◌==◌, ◌||◌, codes}
-use Rattle.std.proofs.lemmas.Bool.{eqb-true, ltb-false, le-leb, ne_eqb}
+use Rattle.std.specs.Prelude.{◌==◌, ◌||◌, nat_le, codes}
+use Rattle.std.proofs.lemmas.Bool.{eqb-true, leb-true, ltb-false, le-leb, ne_eqb}
 use Rattle.std.proofs.lemmas.Bool.Decides.{eqb_tells}
 use Rattle.std.proofs.lemmas.List.{append_cancel_left, length-drop, length-take, take-append-drop}
 use Rattle.netlink_packet_core_grammar.specs.Bytes.{AreBytes}

@@ -25,3 +25,10 @@ pub use Rattle.link_capture_spellings.specs.SpellingLists
 pub use Rattle.link_capture_spellings.specs.Spellings
 pub use Rattle.link_capture_spellings.specs.SpellingLaws
 pub use Rattle.link_capture_numbers.specs.Cleared
+pub use Rattle.link_capture_refusal_rows.specs.ReasonWords
+pub use Rattle.link_capture_refusal_rows.specs.RefusalTables
+pub use Rattle.link_capture_refusal_rows.specs.RowRules
+pub use Rattle.link_capture_refusals.specs.Refusals
+pub use Rattle.link_capture_refusals.specs.RefusalLaws
+pub use Rattle.link_capture_refusals.specs.RefusalViews
+pub use Rattle.link_capture_refusals.specs.RefusalWords

@@ -16,7 +16,7 @@ pub use link_capture_messages::{
 pub use link_capture_numbers::clear_numbers;
 pub use link_capture_numbers::laws::cleared_captures_have_cleared_texts;
 pub use link_capture_reader::{CaptureReader, normalize_bytes};
-pub use link_capture_refusals::laws::refused_bodies_are_told;
-pub use link_capture_refusals::{Reason, Refusal, why};
+pub use link_capture_refusals::laws::{refused_bodies_are_told, refused_frames_stand_alone};
+pub use link_capture_refusals::{Reason, Refusal, why, why_frame};
 pub use link_capture_spelling_rows::{PlacedSpelling, Spelling};
 pub use link_capture_spellings::{Spellings, spelling};

@@ -4,7 +4,8 @@ ghost use Rattle.std.specs.Prelude.{◌≡◌, ◌<◌, [], get_or, ℕ, List, o
 ghost use Rattle.attribute_checks.specs.Rows.{form_of};
 ghost use Rattle.attribute_tables_grammar.specs.Lists as Lists;
 ghost use Rattle.attribute_tables_grammar.specs.Tables.{info_next};
-ghost use Rattle.link_capture_refusal_rows.specs.RefusalTables.{IsTable, IsInside, IsLower, data_row, data_rows, find, message_row, message_rows};
+ghost use Rattle.link_capture_refusal_rows.specs.RefusalTables.{IsInside, IsLower, IsTable, data_row, data_rows, find};
+ghost use Rattle.link_capture_refusal_rows.specs.RefusalTables.{message_row, message_rows};
 ghost use Rattle.link_capture_refusal_rows.specs.RefusalTables.{data_inside, family_number, family_table, info_row, kind_inside};
 ghost use Rattle.link_capture_refusal_rows.specs.RefusalTables.{listing, message_inside, port_inside, row_in};
 ghost use Rattle.link_capture_refusal_rows.specs.RefusalTables.{statistics_inside, whole};

@@ -1,5 +1,5 @@
 -- Nothing is refused of a list exactly where its rule accepts it.
-use Rattle.std.proofs.Common.{◌≡◌, ℕ, zero, suc, ◌+◌, ◌<◌, ◌≤◌, Bool, true, false, cond, List, [], ◌∷◌, length, drop, Option, Some, None, refl, sym, ap, subst, ◌∙◌, arith}
+use Rattle.std.proofs.Common.{◌≡◌, ℕ, zero, suc, ◌+◌, ◌≤◌, Bool, true, false, cond, List, [], ◌∷◌, length, drop, Option, Some, None, refl, sym, ap, ◌∙◌, arith}
 use Rattle.std.specs.Prelude.{◌&&◌, nat_le, nat_lt, is_none, option_map, slice_index}
 use Rattle.netlink_packet_core_grammar.specs.Attributes.{Attribute, nla_align, attribute_length, first_attribute, proper_kind}
 use Rattle.netlink_packet_core_grammar.specs.Laws.{FirstIsWithin}
@@ -16,7 +16,7 @@ use Rattle.link_capture_refusal_rows.specs.declared.tables.Inside.TheVariants as
 use Rattle.link_capture_refusal_rows.specs.declared.tables.Table.{Table}
 use Rattle.link_capture_refusal_rows.specs.declared.reason.Reason.TheVariants as R
 use Rattle.link_capture_refusal_rows.specs.RefusalTables.{Listing, family_table, row_in, whole}
-use Rattle.link_capture_refusal_rows.specs.RowRules.{LinksAreTables, RowsAreTheTables, behind, grammar_at, grammar_of, is_accepted, peer_of, row_rule}
+use Rattle.link_capture_refusal_rows.specs.RowRules.{LinksAreTables, RowsAreTheTables, behind, grammar_at, is_accepted, peer_of, row_rule}
 use Rattle.link_capture_refusals.specs.Refusals.{Found, ListRefusal, attribute_refusal, found_at, goes_on, inside_refusal, link_refusal, list_refusal, named, next_refusal, or_else, refusal_within, row_refusal, whole_refusal}
 use Rattle.link_capture_refusals.specs.RefusalLaws.{LinksAreAccepted, ListsAreAccepted}
 use Rattle.std.proofs.lemmas.Bool.{ltb-true, ltb-false, le-leb, lt-leb}

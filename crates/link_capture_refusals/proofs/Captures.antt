@@ -1,14 +1,14 @@
 -- Something is refused of a capture exactly where its first fault is a refused body.
-use Rattle.std.proofs.Common.{◌≡◌, ℕ, ◌+◌, ◌-◌, ◌<◌, ◌≤◌, Bool, true, false, cond, List, [], drop, take, length, Option, Some, None, Ok, Err, Result, refl, sym, ap, subst, ◌∙◌, arith, length-drop}
-use Rattle.std.specs.Prelude.{◌&&◌, min, IsSome, is_none, nat_eq, nat_le, nat_lt}
+use Rattle.std.proofs.Common.{◌≡◌, ℕ, ◌+◌, ◌-◌, Bool, true, false, cond, List, [], drop, take, length, Option, Some, None, Ok, Err, Result, refl, sym, ap, subst, ◌∙◌, arith}
+use Rattle.std.specs.Prelude.{min, IsSome, is_none, nat_eq, nat_le, nat_lt}
 use Rattle.std.proofs.lemmas.Bool.{and_parts, leb-true, ltb-false, ne_eqb}
 use Rattle.std.proofs.lemmas.List.{length-take}
 use Rattle.netlink_packet_core_grammar.specs.Frames.{IsFrame, frame_body, frame_length, frame_type}
 use Rattle.netlink_packet_core_grammar.specs.Laws.{FirstIsWithin}
 use Rattle.attribute_tables_grammar.specs.Rules.{Rule}
-use Rattle.link_message_grammar.specs.Body.{body_rule, link_body, link_peer}
+use Rattle.link_message_grammar.specs.Body.{link_body}
 use Rattle.link_capture_grammar.specs.Bodies.{Refusal, refused, empty_ports, unfit, body_text, body_text_under, done_text, error_text, is_link_type, ruled_text}
-use Rattle.link_capture_grammar.specs.Captures.{Judged, fault_of, first_fault, first_frame, first_frame_under, judged_text}
+use Rattle.link_capture_grammar.specs.Captures.{Judged, first_fault, first_frame, first_frame_under, judged_text}
 use Rattle.link_capture_grammar.specs.Laws.{CapturesGoByFrames}
 use Rattle.link_capture_grammar.specs.declared.fault.CaptureFault.{CaptureFault}
 use Rattle.link_capture_grammar.specs.declared.fault.FaultKind.{FaultKind}

@@ -4,3 +4,4 @@ pub mod Going
 pub mod Words
 pub mod Places
 pub mod Captures
+pub mod Alone

@@ -1,5 +1,5 @@
 -- What is refused of a list goes by its attributes, however many steps are allowed.
-use Rattle.std.proofs.Common.{◌≡◌, ℕ, zero, suc, ◌+◌, ◌≤◌, Bool, false, cond, List, [], ◌∷◌, drop, length, Option, Some, None, refl, sym, ap, ◌∙◌, arith, length-drop}
+use Rattle.std.proofs.Common.{◌≡◌, ℕ, zero, suc, ◌+◌, ◌≤◌, Bool, false, cond, List, [], ◌∷◌, drop, length, Option, Some, None, refl, ap, ◌∙◌, arith, length-drop}
 use Rattle.std.specs.Prelude.{nat_lt, option_map, slice_index}
 use Rattle.netlink_packet_core_grammar.specs.Attributes.{Attribute, nla_align, attribute_length, first_attribute, proper_kind}
 use Rattle.netlink_packet_core_grammar.specs.Laws.{FirstIsWithin}
@@ -12,7 +12,7 @@ use Rattle.link_capture_refusal_rows.specs.declared.tables.Inside.TheVariants as
 use Rattle.link_capture_refusal_rows.specs.declared.reason.Reason.TheVariants as R
 use Rattle.link_capture_refusal_rows.specs.RefusalTables.{Listing, family_table, row_in, whole}
 use Rattle.link_capture_refusal_rows.specs.RowRules.{behind, is_accepted}
-use Rattle.link_capture_refusals.specs.Refusals.{Found, ListRefusal, attribute_refusal, found_at, goes_on, inside_refusal, link_refusal, list_refusal, named, next_refusal, or_else, peer_refusal, refusal_within, row_refusal, whole_refusal}
+use Rattle.link_capture_refusals.specs.Refusals.{ListRefusal, attribute_refusal, found_at, goes_on, inside_refusal, link_refusal, list_refusal, named, next_refusal, or_else, refusal_within, row_refusal, whole_refusal}
 use Rattle.link_capture_refusals.specs.RefusalLaws.{ListsGoBySteps}
 
 -- two ways agree on lists of so many bytes

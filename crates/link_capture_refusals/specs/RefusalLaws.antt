@@ -1,5 +1,5 @@
 -- The laws of refusals, as the functions of `laws` state them.
-use Rattle.std.specs.Prelude.{◌≡◌, ℕ, ◌+◌, ◌≤◌, Bool, cond, List, [], ◌∷◌, drop, is_none, IsSome, Option, Some, None}
+use Rattle.std.specs.Prelude.{◌≡◌, ℕ, ◌+◌, ◌≤◌, Bool, cond, List, [], ◌∷◌, ◌++◌, drop, is_none, IsSome, Option, Some, None}
 use Rattle.netlink_packet_core_grammar.specs.Attributes.{first_attribute}
 use Rattle.netlink_packet_core_grammar.specs.Frames.{IsFrame, frame_length, frame_type}
 use Rattle.attribute_tables_grammar.specs.Lists.{list_rule}
@@ -12,7 +12,7 @@ use Rattle.link_capture_grammar.specs.declared.fault.FaultKind.TheVariants.{Refu
 use Rattle.link_capture_refusal_rows.specs.declared.tables.Table.{Table}
 use Rattle.link_capture_refusal_rows.specs.RefusalTables.{Listing, whole}
 use Rattle.link_capture_refusal_rows.specs.RowRules.{grammar_at, peer_of}
-use Rattle.link_capture_refusals.specs.Refusals.{Found, link_refusal, list_refusal, next_refusal, refusal, whole_refusal}
+use Rattle.link_capture_refusals.specs.Refusals.{Found, frame_refusal, link_refusal, list_refusal, next_refusal, refusal, whole_refusal}
 
 -- What is refused of a list is that of its first attribute, or else of what follows it; of no bytes nothing is.
 pub record ListsGoBySteps : Type 0 where
@@ -45,3 +45,7 @@ pub record RefusedBodiesAreTold : Type 0 where
   pub told : (limit place : ℕ) (c : List ℕ) → first_fault limit c ≡ Some (record { kind = Refused; offset = place }) → IsSome (refusal limit c)
   pub stands : (limit : ℕ) (c : List ℕ) (f : Found) → refusal limit c ≡ Some f →
       (place : ℕ) × (first_fault limit c ≡ Some (record { kind = Refused; offset = place })) × StandsIn place (drop place c) f
+
+-- What is refused of a frame hangs on its own bytes.
+abbrev pub RefusedFramesStandAlone : Type 0
+RefusedFramesStandAlone = (place : ℕ) (c d : List ℕ) → IsFrame c → frame_refusal place (c ++ d) ≡ frame_refusal place c

@@ -1,5 +1,5 @@
 -- What is found in code.
-use Rattle.std.specs.Prelude.{ℕ, List, Option, map, option_map}
+use Rattle.std.specs.Prelude.{Option, map, option_map}
 use Rattle.netlink_packet_core_grammar.specs.Attributes.{Attribute}
 use Rattle.link_capture_refusals.specs.Refusals.{Found}
 use Rattle.link_capture_refusals.specs.declared.attribute.Attribute as declared

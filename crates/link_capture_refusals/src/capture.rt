@@ -39,9 +39,10 @@ fn behind(bytes: &[u8], front: u64) -> &[u8]
     &bytes[front as usize..]
 }
 
-/// What of the refused frame in front is refused, which stands at a place.
+/// What of the frame in front is refused, which stands at a place of a capture, in bytes, and whose fault is a refused
+/// body. It takes no memory. Whatever follows the frame changes nothing (`refused_frames_stand_alone`).
 #[tactic(auto, unfolding(crate::specs::Refusals::frame_refusal))]
-fn frame_refusal(frame: &[u8], place: u64) -> Option<Refusal>
+pub fn why_frame(frame: &[u8], place: u64) -> Option<Refusal>
     requires frame { IsFrame frame.now }
     requires near { place + length frame.now < 2 ^ 63 }
     ensures { all_found result ≡ frame_refusal place frame.now }
@@ -70,7 +71,7 @@ pub fn why(bytes: &[u8], limit: u32) -> Option<Refusal>
         return None;
     };
     match kind {
-        FaultKind::Refused => frame_refusal(behind(bytes, offset), offset),
+        FaultKind::Refused => why_frame(behind(bytes, offset), offset),
         _ => None,
     }
 }

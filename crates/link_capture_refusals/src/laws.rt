@@ -1,12 +1,12 @@
 //! Facts of the definitions. A function here calls nothing but laws of the crates below.
 
 ghost use Rattle.link_capture_refusals.specs.RefusalLaws.{LinksAreAccepted, ListsAreAccepted, ListsGoBySteps};
-ghost use Rattle.link_capture_refusals.specs.RefusalLaws.{RefusedBodiesAreTold, RefusedFramesAreWhole};
+ghost use Rattle.link_capture_refusals.specs.RefusalLaws.{RefusedBodiesAreTold, RefusedFramesAreWhole, RefusedFramesStandAlone};
 
 use attribute_tables_grammar::laws::{measures_go_by_steps, measures_tell_rules};
 use link_capture_grammar::laws::captures_go_by_frames;
 use link_capture_refusal_rows::laws::{links_are_tables, rows_are_the_tables};
-use netlink_packet_core_grammar::laws::first_attributes_are_within;
+use netlink_packet_core_grammar::laws::{first_attributes_are_within, numbers_stand_alone};
 
 /// What is refused of a list is that of its first attribute, or else of what follows it.
 #[tactic(auto, using(crate::proofs::ListSteps::steps))]
@@ -55,4 +55,12 @@ pub fn refused_bodies_are_told()
     captures_go_by_frames();
     first_attributes_are_within();
     links_are_accepted();
+}
+
+/// What is refused of a frame hangs on its own bytes, whatever follows it.
+#[tactic(auto, using(crate::proofs::Alone::alone))]
+pub fn refused_frames_stand_alone()
+    ensures { RefusedFramesStandAlone }
+{
+    numbers_stand_alone();
 }

@@ -7,6 +7,6 @@ pub mod laws;
 mod refusal;
 mod walk;
 
-pub use capture::why;
+pub use capture::{why, why_frame};
 pub use link_capture_refusal_rows::Reason;
 pub use refusal::Refusal;

@@ -13,7 +13,8 @@ pub const USAGE: &str =
 pub const VERSION: &str = "linkshow 0.1.0, lines 2\n";
 
 /// How the program is used.
-pub const HELP: &str = "usage: linkshow [--without-numbers] [--only TYPE,..] [--kernels] [--limit N] [FILE]
+pub const HELP: &str =
+    "usage: linkshow [--without-numbers] [--only TYPE,..] [--kernels] [--limit N] [FILE]
        linkshow --help
        linkshow --version
 

@@ -62,7 +62,7 @@ wants "another sequence number" 1 "" a later << 'END'
 -RTM_GETLINK flags 0x301 (REQUEST | ROOT | MATCH) seq 1526271540 port 0
 +RTM_GETLINK flags 0x301 (REQUEST | ROOT | MATCH) seq 67305985 port 0
    ifinfomsg family 0 (AF_UNSPEC) type 0 (netrom) index 0 flags 0x0 change 0x0
-   IFLA_EXT_MASK 0x9
+   IFLA_EXT_MASK 0x9 (Vf | SkipStats)
    IFLA_IFNAME "lo"
 END
 wants "another sequence number, without numbers" 0 "" --without-numbers a later < /dev/null

@@ -195,10 +195,10 @@ wants "lines: a fault behind the first piece" 2 "cut frame at 67200" $((1400 * l
 for words in "--limit 15" "48 48" "--limit"; do
     # shellcheck disable=SC2086
     run $words < "$request"
-    wants "lines: wrong words: '$words'" 3 "usage: linkshow [--kernels] [--limit N] [FILE]; linkshow --help says more" 0
+    wants "lines: wrong words: '$words'" 3 "usage: linkshow [--without-numbers] [--only TYPE,..] [--kernels] [--limit N] [FILE]; linkshow --help says more" 0
 done
 run $'\xff' < "$request"
-wants "lines: a word that is no text" 3 "usage: linkshow [--kernels] [--limit N] [FILE]; linkshow --help says more" 0
+wants "lines: a word that is no text" 3 "usage: linkshow [--without-numbers] [--only TYPE,..] [--kernels] [--limit N] [FILE]; linkshow --help says more" 0
 run < "$work"
 wants "lines: a directory can't be read" 2 "read failed at 0" 0
 : > "$work/text"

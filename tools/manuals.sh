@@ -36,7 +36,7 @@ for program in linkcap linkshow; do
     [ "$(synopsis $program)" = "$(usage $program)" ] \
         || fault "man/$program.1 has '$(synopsis $program)', the source '$(usage $program)'"
     for option in $(grep -oE -- '--[a-z][a-z-]+' <<< "$(usage $program)"); do
-        offered "$program" -- | grep -qx -- "$option" || fault "man/linkcap.bash: $program has $option"
+        grep -qx -- "$option" <<< "$(offered "$program" --)" || fault "man/linkcap.bash: $program has $option"
     done
 done
 [ "$(offered linkcap n)" = norm ] || fault "man/linkcap.bash: linkcap n is norm"

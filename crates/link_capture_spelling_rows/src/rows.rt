@@ -4,7 +4,8 @@ ghost use Rattle.std.specs.Prelude.{◌≡◌, ◌≤◌, length};
 ghost use Rattle.netlink_packet_core_grammar.specs.Attributes.{proper_kind};
 ghost use Rattle.link_capture_spelling_rows.specs.SpellingRows.{told_if, over_one_byte, over_one_word, has_nul, is_long_alias};
 ghost use Rattle.link_capture_spelling_rows.specs.SpellingRows.{link_spelling, is_flag, value_spelling, data_spelling};
-ghost use Rattle.link_capture_spelling_rows.specs.SpellingRows.{payload_spelling, is_strict, nested_spelling, bit_spelling, header_spelling};
+ghost use Rattle.link_capture_spelling_rows.specs.SpellingRows.{payload_spelling, is_strict, nested_spelling};
+ghost use Rattle.link_capture_spelling_rows.specs.SpellingRows.{bit_spelling, header_spelling};
 
 use crate::placed::Spelling;
 use crate::tables::{Data, Table};

@@ -41,9 +41,9 @@ fn push_all(
 ///
 /// `bytes` is any byte string, read as netlink messages of which each starts at a multiple of 4. `limit` is the
 /// greatest length in bytes that a message, read or in its normal text, may have; `options` say what is shown. Where
-/// the capture is legal, `out` gains the lines of its normal text. Otherwise the answer is the first fault with its place, and `out` gains the
-/// lines of the messages before it. For want of memory the place is that of some message: what stands before it is
-/// legal, and its lines are written. Want of memory for the lines themselves is told at 0.
+/// the capture is legal, `out` gains the lines of its normal text. Otherwise the answer is the first fault with its
+/// place, and `out` gains the lines of the messages before it. For want of memory the place is that of some message:
+/// what stands before it is legal, and its lines are written. Want of memory for the lines themselves is told at 0.
 ///
 /// Memory is wanting only where what stands at the place is accepted, or the message there is cut: so never of no bytes,
 /// nor where the first message has another fault than being cut.
@@ -80,7 +80,9 @@ pub fn show_bytes(
     // What follows a legal capture whose size is a multiple of 4 is shown by itself.
     ensures joined { IsLegal limit bytes.now → length bytes.now % 4 ≡ 0
         → (more : List ℕ)
-        → lines (choice_of options.entry) limit (bytes.now ++ more) ≡ lines (choice_of options.entry) limit bytes.now ++ lines (choice_of options.entry) limit more }
+        → lines (choice_of options.entry) limit (bytes.now ++ more)
+        ≡ lines (choice_of options.entry) limit bytes.now
+        ++ lines (choice_of options.entry) limit more }
 {
     texts_are_normal();
     texts_tell_meanings();

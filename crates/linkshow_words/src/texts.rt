@@ -83,7 +83,8 @@ pub fn advice(first: &[u8]) -> &'static str
     if is_pcap(first) {
         "linkshow: this is a pcap file: samples/pcap_to_capture.py makes a capture of it\n"
     } else if is_pcapng(first) {
-        "linkshow: this is a pcapng file: tshark -r FILE -F pcap -w OTHER makes a pcap file of it, and samples/pcap_to_capture.py a capture of that\n"
+        "linkshow: this is a pcapng file: tshark -r FILE -F pcap -w OTHER makes a pcap file of it, \
+         and samples/pcap_to_capture.py a capture of that\n"
     } else {
         ""
     }

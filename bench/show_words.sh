@@ -142,6 +142,23 @@ wants "no messages, with notes" 0 "no messages" "$work/nothing"
 cat "$request" <(head -c 20 "$request") > "$work/cut"
 run "$work/cut"
 wants "lines before a fault are written" 2 "cut frame at 48" "$lines"
+# A link whose IFLA_MTU has 3 bytes, alone; behind 1,365 requests, so that it lies across pieces of 65,536 bytes; and a
+# NLMSG_DONE of 2 bytes.
+{ printf '\x28\0\0\0\x10\0\0\0'; head -c 24 /dev/zero; printf '\7\0\4\0\1\2\3\0'; } > "$work/odd"
+run "$work/odd"
+wants "what of a body is refused" 2 "refused body at 0: IFLA_MTU: a payload of 3 bytes at 32" "$work/nothing"
+run --kernels --only error < "$work/odd"
+wants "what of a body is refused, with notes" 2 "refused body at 0: IFLA_MTU: a payload of 3 bytes at 32" "$work/nothing"
+{ for _ in $(seq 1365); do cat "$request"; done; cat "$work/odd"; } > "$work/pieces"
+for _ in $(seq 1365); do cat "$lines"; done > "$work/all"
+run "$work/pieces"
+wants "what of a body across pieces is refused" 2 "refused body at 65520: IFLA_MTU: a payload of 3 bytes at 65552" "$work/all"
+(head -c 65530 "$work/pieces"; sleep 0.2; tail -c +65531 "$work/pieces") | "$program" > "$work/text" 2> "$work/told"
+status=${PIPESTATUS[1]}
+wants "the same from a pipe that waits" 2 "refused body at 65520: IFLA_MTU: a payload of 3 bytes at 65552" "$work/all"
+printf '\x12\0\0\0\3\0\0\0\0\0\0\0\0\0\0\0\0\0' > "$work/done"
+run "$work/done"
+wants "a refused body without a place" 2 "refused body at 0: a body of 2 bytes" "$work/nothing"
 pcap="linkshow: this is a pcap file: samples/pcap_to_capture.py makes a capture of it"
 for magic in a1b2c3d4 d4c3b2a1 a1b23c4d 4d3cb2a1; do
     { printf "\\x${magic:0:2}\\x${magic:2:2}\\x${magic:4:2}\\x${magic:6:2}"; head -c 20 /dev/zero; } > "$work/pcap"

@@ -63,6 +63,7 @@ all_answers() {
     step "C, $name: norm in pieces" answers pieces norm_vectors "$@"
     step "C, $name: same" answers same same_vectors "$@"
     step "C, $name: show" answers show show_vectors "$@"
+    step "C, $name: why" answers why refusal_vectors "$@"
 }
 
 shown_symbols() {

@@ -11,8 +11,8 @@
  *   `length` bytes that nobody writes to during the call; a buffer `out` is `room` bytes that may be written, and hold
  *   any values. What is written overlaps nothing that is read or written by the same call. Lengths are under 2^63.
  *   Nothing is kept of a pointer after the call.
- * - Memory. linkcap_normalize, linkcap_normalize_some, linkcap_show and linkcap_show_with call malloc, realloc and free, and have freed
- *   all when they return. The others take no memory. Where malloc or realloc answers null, the answer is
+ * - Memory. linkcap_normalize, linkcap_normalize_some, linkcap_show, linkcap_show_with and linkcap_why call malloc,
+ *   realloc and free, and have freed all when they return. The others take no memory. Where malloc or realloc answers null, the answer is
  *   LINKCAP_NO_MEMORY, or the one that wanted no memory; no call ends the process. The three functions come from one
  *   allocator, and align a block as C's do.
  * - Threads. Calls share nothing: any number may run at once in different threads, also over the same capture.
@@ -111,7 +111,7 @@ uint32_t linkcap_measure(const uint8_t *capture, size_t length, uint32_t limit, 
  * LINKCAP_NO_MEMORY    nothing is written. What stands before the fault's place is legal.
  *
  * Behind what is written, out stays as it was. A text is at most 77 times as long as its capture, mostly as long.
- * Memory is taken for the text, and for the last message where it is cut.
+ * Memory is taken for the text.
  */
 uint32_t linkcap_normalize(const uint8_t *capture, size_t length, uint32_t limit, uint8_t *out, size_t room,
                            uint64_t *written, struct linkcap_fault *fault);
@@ -166,6 +166,22 @@ uint32_t linkcap_show_with(const uint8_t *capture, size_t length, uint32_t limit
  * has the length; or LINKCAP_WRONG where the kind or the side is none. It takes no memory.
  */
 uint32_t linkcap_fault_text(const struct linkcap_fault *fault, uint8_t *out, size_t room, uint64_t *written);
+
+/*
+ * What of a refused body is refused, where the first fault is LINKCAP_REFUSED: the attribute's names from outside in, why
+ * it isn't accepted, and where, in ASCII, as `IFLA_LINKINFO > IFLA_INFO_DATA > IFLA_VRF_TABLE: a payload of 3 bytes at 60`.
+ *
+ * LINKCAP_FAULT        the words are written to the front of out, their length to *written, and to *place where the
+ *                      attribute begins, in bytes from the capture's start: UINT64_MAX for NLMSG_ERROR and NLMSG_DONE.
+ * LINKCAP_OK           the capture is legal, or its first fault is another one. Nothing is written.
+ * LINKCAP_WRONG        a limit under 16.
+ * LINKCAP_NO_ROOM      out has less room than the words want: nothing is written, and *written has their length.
+ * LINKCAP_NO_MEMORY    there is no memory for the words. Nothing is written.
+ *
+ * No null byte is written behind the words.
+ */
+uint32_t linkcap_why(const uint8_t *capture, size_t length, uint32_t limit, uint8_t *out, size_t room,
+                     uint64_t *written, uint64_t *place);
 
 /* LINKCAP_VERSION of the library. */
 uint32_t linkcap_version(void);

@@ -45,13 +45,13 @@ def same(one, other, limit):
 def show(capture, kernels):
     text, bad = linkshow.lines(capture)
     notes = ["note: %s at %d" % found for found in spellings.spellings(capture)[0]] if kernels else []
-    return (2 if bad else 0), text.encode(), notes + ([o.display(bad)] if bad else [])
+    reason = linkshow.why(capture)
+    return (2 if bad else 0), text.encode(), notes + ([o.display(bad) + (": " + reason if reason else "")] if bad else [])
 
 
-def fault_alone(lines):
-    """Lines of standard error without what follows a fault's words, and without `no messages`."""
-    plain = [line.split(": ")[0] if not line.startswith(("note: ", "first: ", "second: ")) else line for line in lines]
-    return [line for line in plain if line != "no messages"]
+def faults_and_notes(lines):
+    """Lines of standard error without those of empty captures and of files of other forms."""
+    return [line for line in lines if line != "no messages" and not line.startswith("linkshow: ")]
 
 
 def differences(folder, limit, capture, stored):
@@ -67,7 +67,7 @@ def differences(folder, limit, capture, stored):
                 (["linkshow"], show(capture, False)),
                 (["linkshow", "--kernels"], show(capture, True))):
             status, out, errors = run(folder, words, capture)
-            if (status, out, fault_alone(errors)) != wanted:
+            if (status, out, faults_and_notes(errors)) != wanted:
                 yield words[:2], (status, out[:200], errors[:3]), (wanted[0], wanted[1][:200], wanted[2][:3])
 
 

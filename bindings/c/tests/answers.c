@@ -1,7 +1,8 @@
 /*
- * Answers stored vectors, a line each on standard input, as the programs norm_vectors, same_vectors and show_vectors do:
+ * Answers stored vectors, a line each on standard input, as the programs norm_vectors, same_vectors, show_vectors and
+ * refusal_vectors do:
  *
- *     answers norm|pieces|same|show < crates/norm_vectors/stdin
+ *     answers norm|pieces|same|show|why < crates/norm_vectors/stdin
  *
  * `pieces` gives each capture in pieces of 1, 7 and 100 bytes, in turn, and writes what `norm` writes.
  */
@@ -211,6 +212,39 @@ static void answer_show(struct bytes capture, uint32_t limit)
     free(lines.at);
 }
 
+/* linkcap_why in the form of the calls that write. The place is told in the words, too. */
+static uint32_t why(const uint8_t *capture, size_t length, uint32_t limit, uint8_t *out, size_t room, uint64_t *written,
+                    struct linkcap_fault *fault)
+{
+    uint64_t place = 0, told = UINT64_MAX;
+    uint32_t status = linkcap_why(capture, length, limit, out, room, written, &place);
+    if (status == LINKCAP_FAULT) {
+        char words[512] = "";
+        if (*written < sizeof words)
+            memcpy(words, out, *written);
+        char *at = strstr(words, " at ");
+        if (at)
+            told = strtoull(at + 4, NULL, 10);
+        if (told != place)
+            fail("another place than the words'");
+        if (linkcap_check(capture, length, limit, fault) != LINKCAP_FAULT || fault->kind != LINKCAP_REFUSED)
+            fail("a reason, and no refused body");
+    }
+    return status;
+}
+
+static void answer_why(struct bytes capture, uint32_t limit)
+{
+    uint32_t status;
+    struct linkcap_fault fault;
+    struct bytes words = write_all(why, capture, limit, &status, &fault);
+    if (status == LINKCAP_FAULT)
+        printf("%.*s\n", (int)words.length, (const char *)words.at);
+    else
+        printf("nothing\n");
+    free(words.at);
+}
+
 int main(int argc, char **argv)
 {
     static const size_t sizes[] = {1, 7, 100};
@@ -230,13 +264,15 @@ int main(int argc, char **argv)
             answer_norm(capture, limit, sizes[cases % 3]);
         } else if (strcmp(what, "show") == 0) {
             answer_show(capture, limit);
+        } else if (strcmp(what, "why") == 0) {
+            answer_why(capture, limit);
         } else if (strcmp(what, "same") == 0) {
             word++;
             struct bytes other = read_hex(&word);
             answer_same(capture, other, limit);
             free(other.at);
         } else {
-            fail("norm, pieces, same or show?");
+            fail("norm, pieces, same, show or why?");
         }
         free(capture.at);
     }

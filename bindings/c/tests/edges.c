@@ -239,6 +239,33 @@ static uint32_t by_some(const uint8_t *capture, size_t length, uint32_t most, ui
     return status;
 }
 
+/* linkcap_why in the form of the calls that write: want of memory is told at 0, as there is a fault. */
+static uint32_t why(const uint8_t *capture, size_t length, uint32_t most, uint8_t *out, size_t room, uint64_t *written,
+                    struct linkcap_fault *fault)
+{
+    uint64_t place;
+    *fault = (struct linkcap_fault){LINKCAP_MEMORY, 0, 0};
+    return linkcap_why(capture, length, most, out, room, written, &place);
+}
+
+/* A link whose IFLA_MTU has 3 bytes. */
+static long test_why(void)
+{
+    static const char words[] = "IFLA_MTU: a payload of 3 bytes at 32";
+    uint8_t link[40] = {40, 0, 0, 0, 16}, none[1] = {UNTOUCHED}, out[64];
+    struct bytes capture = {link, sizeof link};
+    uint64_t length = 7, place = 7;
+    link[32] = 7;
+    link[34] = 4;
+    assert(linkcap_why(link, sizeof link, limit, out, sizeof out, &length, &place) == LINKCAP_FAULT);
+    assert(length == strlen(words) && memcmp(out, words, length) == 0 && place == 32);
+    assert(linkcap_why(link, sizeof link, 15, none, 1, &length, &place) == LINKCAP_WRONG);
+    assert(linkcap_why(link, sizeof link - 1, limit, none, 1, &length, &place) == LINKCAP_OK);
+    assert(linkcap_why(none, 0, limit, none, 0, &length, &place) == LINKCAP_OK && none[0] == UNTOUCHED);
+    test_room(why, capture, capture.length, LINKCAP_FAULT, 1);
+    return test_refused(why, capture, capture.length);
+}
+
 struct work {
     struct bytes capture, text, lines;
 };
@@ -306,6 +333,7 @@ int main(int argc, char **argv)
     long lacking = 0;
     test_nothing();
     test_words();
+    lacking += test_why();
     for (int i = 1; i < argc; i++) {
         struct bytes capture = read_file(argv[i]);
         size_t in_the_last = capture.length - 8;

@@ -9,8 +9,8 @@ Calls may run in threads at once. They must not run in a child that a process wi
 The work is done by the library liblinkcap.so, in this package or found by the loader; the environment may name its
 folder in LINKCAP_LIB_DIR. docs/other-languages.md of linkcap is the page for callers.
 """
-from ._calls import DEFAULT_LIMIT, Measure, Reader, check, lines, measure, normalize, same
+from ._calls import DEFAULT_LIMIT, Measure, Reader, Refusal, check, lines, measure, normalize, same, why
 from ._fault import Fault, Kind
 from ._golden import golden
 
-__all__ = ["DEFAULT_LIMIT", "Fault", "Kind", "Measure", "Reader", "check", "golden", "lines", "measure", "normalize", "same"]
+__all__ = ["DEFAULT_LIMIT", "Fault", "Kind", "Measure", "Reader", "Refusal", "check", "golden", "lines", "measure", "normalize", "same", "why"]

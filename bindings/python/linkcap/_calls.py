@@ -26,6 +26,15 @@ class Measure(NamedTuple):
     text_len: int
 
 
+class Refusal(NamedTuple):
+    """What of a refused body is refused."""
+
+    #: the attribute's names from outside in, why it isn't accepted, and where
+    words: str
+    #: where the attribute begins, in bytes from the capture's start; None for NLMSG_ERROR and NLMSG_DONE
+    offset: Optional[int]
+
+
 class _Scratch(threading.local):
     """What calls of one thread write to, and where it is."""
 
@@ -153,6 +162,30 @@ def lines(capture: Capture, limit: int = DEFAULT_LIMIT, *, numbers: bool = True,
         return ""
     at, length = types.buffer_info()
     return _write(_show_with, capture, limit, not numbers, at or _native.SOMEWHERE, length).decode("ascii")
+
+
+def why(capture: Capture, limit: int = DEFAULT_LIMIT) -> Optional[Refusal]:
+    """What of a refused body is refused, where a capture's first fault is `Kind.REFUSED`; else None.
+
+    >>> why(bytes.fromhex("28000000100000000000000000000000") + bytes(16) + bytes.fromhex("0700040001020300"))
+    Refusal(words='IFLA_MTU: a payload of 3 bytes at 32', offset=32)
+    """
+    if not 0 <= limit < 1 << 32:
+        raise _no_limit()
+    scratch, place = _scratch, ctypes.c_uint64()
+    call, place_at = _native.library.linkcap_why, ctypes.addressof(place)
+    with _native.Borrowed(capture) as given:
+        room, free, words = scratch.of_room(1024)
+        status = call(given.at, given.length, limit, room, free, scratch.size_at, place_at)
+        if status == _native.NO_ROOM:
+            room, free, words = scratch.of_room(scratch.size.value)
+            status = call(given.at, given.length, limit, room, free, scratch.size_at, place_at)
+    if status == _native.OK:
+        return None
+    if status != _native.FAULT:
+        raise _refuse(status, scratch)
+    offset = None if place.value == (1 << 64) - 1 else place.value
+    return Refusal(words[:scratch.size.value].tobytes().decode("ascii"), offset)
 
 
 class Reader:

@@ -74,6 +74,7 @@ def _load() -> ctypes.CDLL:
         "linkcap_same": [*capture, *capture, number, address],
         "linkcap_show": [*capture, number, *capture, address, address],
         "linkcap_show_with": [*capture, number, ctypes.c_bool, *capture, *capture, address, address],
+        "linkcap_why": [*capture, number, *capture, address, address],
         "linkcap_fault_text": [address, *capture, address],
     }.items():
         getattr(library, call).argtypes = arguments

@@ -98,6 +98,19 @@ class Vectors(unittest.TestCase):
                 answers.append(fault.written.decode() + str(fault) + "\n")
         self.assertTrue("".join(answers) == stored)
 
+    def test_why(self):
+        cases, stored = vectors("refusal_vectors")
+        answers = []
+        for limit, capture in cases:
+            found = linkcap.why(capture, limit)
+            answers.append(found.words if found else "nothing")
+            if found:
+                self.assertEqual(found.words.endswith(f" at {found.offset}"), found.offset is not None)
+                with self.assertRaises(linkcap.Fault) as raised:
+                    linkcap.check(capture, limit)
+                self.assertEqual(raised.exception.kind, linkcap.Kind.REFUSED)
+        self.assertEqual(answers, stored.splitlines())
+
 
 class Edges(unittest.TestCase):
     def test_nothing(self):
@@ -110,7 +123,7 @@ class Edges(unittest.TestCase):
 
     def test_limits(self):
         for limit in (15, 0, -1, 1 << 32):
-            for call in (linkcap.check, linkcap.measure, linkcap.normalize, linkcap.lines):
+            for call in (linkcap.check, linkcap.measure, linkcap.normalize, linkcap.lines, linkcap.why):
                 with self.assertRaises(ValueError):
                     call(b"", limit)
             with self.assertRaises(ValueError):

@@ -85,5 +85,14 @@ extern "C" {
         written: &mut u64,
         fault: &mut Fault,
     ) -> u32;
+    pub fn linkcap_why(
+        capture: *const u8,
+        length: usize,
+        limit: u32,
+        out: *mut u8,
+        room: usize,
+        written: &mut u64,
+        place: &mut u64,
+    ) -> u32;
     pub fn linkcap_fault_text(fault: &Fault, out: *mut u8, room: usize, written: &mut u64) -> u32;
 }

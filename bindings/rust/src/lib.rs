@@ -130,3 +130,42 @@ pub fn same(first: &[u8], second: &[u8], limit: u32) -> Result<bool, Error> {
         status => Err(Error::of(status, fault, Vec::new())),
     }
 }
+
+/// What of a refused body is refused. It is displayed as its words.
+#[derive(Clone, Debug, PartialEq, Eq)]
+pub struct Refusal {
+    /// The attribute's names from outside in, why it isn't accepted, and where.
+    pub words: String,
+    /// Where the attribute begins, in bytes from the capture's start. NLMSG_ERROR and NLMSG_DONE have none.
+    pub offset: Option<u64>,
+}
+
+impl std::fmt::Display for Refusal {
+    fn fmt(&self, f: &mut std::fmt::Formatter<'_>) -> std::fmt::Result {
+        f.pad(&self.words)
+    }
+}
+
+/// What of a refused body is refused, where a capture's first fault is [`Kind::Refused`]; else None.
+pub fn why(capture: &[u8], limit: u32) -> Result<Option<Refusal>, Error> {
+    let mut place = 0;
+    // Safety: both pointers have the lengths that are told, and lie apart.
+    let call = |out, room, written: &mut u64, _: &mut ffi::Fault| unsafe {
+        match ffi::linkcap_why(capture.as_ptr(), capture.len(), limit, out, room, written, &mut place) {
+            ffi::OK => {
+                *written = 0;
+                ffi::OK
+            }
+            // Words, and no fault.
+            ffi::FAULT => ffi::OK,
+            status => status,
+        }
+    };
+    let words = write(call, 256)?;
+    if words.is_empty() {
+        return Ok(None);
+    }
+    // Words are ASCII.
+    let words = String::from_utf8(words).unwrap_or_default();
+    Ok(Some(Refusal { words, offset: (place != u64::MAX).then_some(place) }))
+}

@@ -113,6 +113,24 @@ fn show_vectors() {
 }
 
 #[test]
+fn refusal_vectors() {
+    let stored = text("crates/refusal_vectors/stdout");
+    let cases = cases("refusal_vectors");
+    assert_eq!(stored.lines().count(), cases.len());
+    for ((limit, captures), line) in cases.iter().zip(stored.lines()) {
+        match linkcap::why(&captures[0], *limit).expect("memory") {
+            None => assert_eq!(line, "nothing"),
+            Some(found) => {
+                assert_eq!(found.to_string(), line);
+                assert_eq!(found.offset, line.rsplit_once(" at ").and_then(|(_, place)| place.parse().ok()));
+                let error = linkcap::check(&captures[0], *limit).expect_err("a refused body");
+                assert_eq!(error.fault().map(|fault| fault.kind), Some(Kind::Refused));
+            }
+        }
+    }
+}
+
+#[test]
 fn edges() {
     assert!(linkcap::is_known_version());
     assert_eq!(linkcap::normalize(&[], 16), Ok(Vec::new()));
@@ -124,6 +142,7 @@ fn edges() {
         assert_eq!(linkcap::measure(&[], limit), Err(Error::Limit));
         assert_eq!(linkcap::normalize(&[], limit), Err(Error::Limit));
         assert_eq!(linkcap::lines(&[], limit), Err(Error::Limit));
+        assert_eq!(linkcap::why(&[], limit), Err(Error::Limit));
         assert_eq!(linkcap::same(&[], &[], limit), Err(Error::Limit));
         assert!(matches!(Reader::new(limit), Err(Error::Limit)));
     }

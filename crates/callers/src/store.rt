@@ -36,7 +36,7 @@ fn normal_text(alloc: Global, capture: &[u8], limit: u32) -> Result<Vec<u8>, Cap
     if !capture.is_empty() {
         sameness_goes_by_frames();
         frames_stand_alone();
-        normalize_bytes(alloc, capture, limit, &mut text)?;
+        normalize_bytes(capture, limit, &mut text)?;
     }
     Ok(text)
 }

@@ -25,8 +25,8 @@ pub enum Command<'a> {
     },
 }
 
-/// Reads a limit: digits that write a number from 16 to 4294967295.
-fn read_limit(word: &str) -> Option<u32>
+/// Reads a limit: digits that write a number from 16 to 4294967295, without a sign. None of any other word.
+pub fn read_limit(word: &str) -> Option<u32>
     ensures some { IfSome result (λ n. IsLimitWord word.now × (n ≡ digits_value 10 word.now)) }
     ensures none { IfNone result (IsLimitWord word.now → ⊥) }
 {

@@ -4,15 +4,14 @@ ghost use Rattle.std.specs.Prelude.{◌≡◌, ◌≢◌, ◌≤◌, ◌<◌, �
 ghost use Rattle.link_capture_grammar.specs.Captures.{first_fault, texts, IsLegal, StopsAt};
 ghost use Rattle.link_capture_grammar.specs.Same.{SameCapture};
 ghost use Rattle.link_capture_reader.specs.Joined.{IsJoined};
-ghost use Rattle.link_capture_reader.specs.Readers.{WantsMemory};
+ghost use Rattle.link_capture_reader.specs.Readers.{LacksRoomAt};
 
-use super::reader::CaptureReader;
+use super::frames::push_frames;
 use link_capture_grammar::fault::{CaptureFault, FaultKind};
 use link_capture_grammar::laws::{
-    faults_stand_at_frames, joined_captures_are_legal, joined_captures_have_joined_texts,
-    texts_are_legal, texts_are_normal, texts_are_small, texts_mean_the_same,
+    joined_captures_are_legal, joined_captures_have_joined_texts, texts_are_legal,
+    texts_are_normal, texts_are_small, texts_mean_the_same,
 };
-use std::alloc::Global;
 
 /// Writes the normal text of a capture at the end of `out`.
 ///
@@ -20,12 +19,7 @@ use std::alloc::Global;
 /// greatest length in bytes that a message, read or written, may have. Where the capture is legal, `out` gains its
 /// normal text. Otherwise the answer is the first fault with its place, and `out` gains the texts of the messages
 /// before it; for want of memory the place is that of some message, and what stands before it is legal.
-pub fn normalize_bytes(
-    alloc: Global,
-    bytes: &[u8],
-    limit: u32,
-    out: &mut Vec<u8>,
-) -> Result<(), CaptureFault>
+pub fn normalize_bytes(bytes: &[u8], limit: u32, out: &mut Vec<u8>) -> Result<(), CaptureFault>
     requires { 16 ≤ limit }
     // It succeeds on legal captures alone, and writes their normal text.
     ensures legal { OnOk result ((first_fault limit bytes.now ≡ None)
@@ -45,9 +39,9 @@ pub fn normalize_bytes(
         (λ fault. fault.kind ≡ FaultKind.Memory → StopsAt limit bytes.now fault.offset
         × (out.new.items ≡ out.old.items ++ texts limit (take fault.offset bytes.now))) }
     // Memory is wanting only for the text of an accepted frame, where `out` had less room than it and the texts before
-    // it want, or to keep the bytes of a cut frame.
+    // it want.
     ensures room { IfErr result
-        (λ fault. fault.kind ≡ FaultKind.Memory → WantsMemory limit bytes.now fault.offset out.old) }
+        (λ fault. fault.kind ≡ FaultKind.Memory → LacksRoomAt limit bytes.now fault.offset out.old) }
     // A legal capture and its normal text mean the same.
     ensures same { IsLegal limit bytes.now → SameCapture limit bytes.now (texts limit bytes.now) }
     // A normal text is at most 77 times as long.
@@ -56,14 +50,11 @@ pub fn normalize_bytes(
     ensures joined { IsLegal limit bytes.now → length bytes.now % 4 ≡ 0
         → IsJoined limit bytes.now }
 {
-    faults_stand_at_frames();
     texts_are_legal();
     texts_are_normal();
     texts_mean_the_same();
     texts_are_small();
     joined_captures_are_legal();
     joined_captures_have_joined_texts();
-    let mut reader = CaptureReader::new(alloc, limit);
-    reader.feed(bytes, out)?;
-    reader.finish()
+    push_frames(bytes, limit, out)
 }

@@ -152,4 +152,12 @@ impl CaptureReader {
     {
         self.kept.len()
     }
+
+    /// The bytes of the cut frame that have come: none where none is cut, and after a fault.
+    pub fn kept_bytes(&self) -> &[u8]
+        ensures value { result.now ≡ self.now.kept }
+        ensures failed { IfSome self.now.failed (λ _. result.now ≡ []) }
+    {
+        self.kept.as_slice()
+    }
 }

@@ -1,9 +1,9 @@
 //! Why something is refused.
 
-ghost use Rattle.std.specs.Fmt.{WritesOnOk, WritesStyledOnOk};
-ghost use Rattle.std.specs.Prelude.{◌≡◌, Some};
+ghost use Rattle.std.specs.Prelude.{◌≡◌, ◌+◌, ◌≤◌, Some, length};
 ghost use Rattle.link_capture_refusal_rows.specs.ReasonWords.{counted, words, shape_reason};
 
+use arrayvec::ArrayString;
 use attribute_checks::Shape;
 use itoa::Buffer;
 use std::fmt;
@@ -48,21 +48,65 @@ pub fn shape_reason(shape: Shape, size: usize) -> Reason
     }
 }
 
-/// Writes a number in decimal between two texts.
-fn write_count<W: fmt::Write>(
-    f: &mut fmt::Formatter<W>,
-    before: &str,
-    count: usize,
-    behind: &str,
-) -> fmt::Result
-    ensures writes { WritesOnOk W.write_str_gives f.old result
-        (counted before.now count behind.now) f.new }
-    ensures styled { WritesStyledOnOk W.write_str_gives f.old result
-        (counted before.now count behind.now) f.new }
+/// A text alone.
+fn plain(text: &str) -> ArrayString<160>
+    requires { length text.now ≤ 64 }
+    ensures text { result.bytes ≡ text.now }
+    ensures short { length result.bytes ≤ 64 }
 {
-    f.write_str(before)?;
-    f.write_str(Buffer::new().format(count))?;
-    f.write_str(behind)
+    let mut words = ArrayString::new();
+    words.push_str(text);
+    words
+}
+
+/// A number in decimal between two texts.
+fn counted(before: &str, count: usize, behind: &str) -> ArrayString<160>
+    requires { length before.now + length behind.now ≤ 64 }
+    ensures text { result.bytes ≡ counted before.now count behind.now }
+    ensures short { length result.bytes ≤ 104 }
+{
+    let mut digits = Buffer::new();
+    let mut words = ArrayString::new();
+    words.push_str(before);
+    words.push_str(digits.format(count));
+    words.push_str(behind);
+    words
+}
+
+/// The words of a length over what is left, or under 4.
+fn wrong_length(left: usize, length: u16) -> ArrayString<160>
+    ensures { result.bytes ≡ words (Reason.WrongLength left length) }
+{
+    let mut digits = Buffer::new();
+    let mut words = counted(
+        "no attribute: ",
+        left,
+        " bytes are left, and its length is ",
+    );
+    words.push_str(digits.format(length));
+    words
+}
+
+impl Reason {
+    /// What is told of it, in ASCII. It takes no memory.
+    pub fn text(self) -> ArrayString<160>
+        ensures { result.bytes ≡ words self }
+    {
+        match self {
+            Reason::PayloadSize(size) => counted("a payload of ", size, " bytes"),
+            Reason::NotUtf8 => plain("a text that isn't UTF-8"),
+            Reason::EmptyList => plain("an empty list"),
+            Reason::NoKind => plain("no IFLA_INFO_KIND is in force"),
+            Reason::NoPortKind => plain("no IFLA_INFO_SLAVE_KIND is in force"),
+            Reason::NoPayload => plain("no payload is accepted under this kind of link"),
+            Reason::CutHeader(left) => counted("no attribute: ", left, " bytes are left"),
+            Reason::WrongLength(left, length) => wrong_length(left, length),
+            Reason::CutLink(size) => counted("a header of ", size, " bytes"),
+            Reason::EmptyPorts => plain("ports of which nothing is kept"),
+            Reason::Unfit => plain("an attribute of the text is over 65535 bytes"),
+            Reason::CutCode(size) => counted("a body of ", size, " bytes"),
+        }
+    }
 }
 
 // Whatever options a format gives, the words are the same.
@@ -72,29 +116,6 @@ impl fmt::Display for Reason {
     ghost styled_output = { λ r _. Some (words r) };
 
     fn fmt<W: fmt::Write>(&self, f: &mut fmt::Formatter<W>) -> fmt::Result {
-        match self {
-            Reason::PayloadSize(size) => write_count(f, "a payload of ", *size, " bytes"),
-            Reason::NotUtf8 => f.write_str("a text that isn't UTF-8"),
-            Reason::EmptyList => f.write_str("an empty list"),
-            Reason::NoKind => f.write_str("no IFLA_INFO_KIND is in force"),
-            Reason::NoPortKind => f.write_str("no IFLA_INFO_SLAVE_KIND is in force"),
-            Reason::NoPayload => f.write_str("no payload is accepted under this kind of link"),
-            Reason::CutHeader(left) => {
-                write_count(f, "no attribute: ", *left, " bytes are left")
-            }
-            Reason::WrongLength(left, length) => {
-                write_count(
-                    f,
-                    "no attribute: ",
-                    *left,
-                    " bytes are left, and its length is ",
-                )?;
-                f.write_str(Buffer::new().format(*length))
-            }
-            Reason::CutLink(size) => write_count(f, "a header of ", *size, " bytes"),
-            Reason::EmptyPorts => f.write_str("ports of which nothing is kept"),
-            Reason::Unfit => f.write_str("an attribute of the text is over 65535 bytes"),
-            Reason::CutCode(size) => write_count(f, "a body of ", *size, " bytes"),
-        }
+        f.write_str(self.text().as_str())
     }
 }

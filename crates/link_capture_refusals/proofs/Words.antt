@@ -6,7 +6,7 @@ use Rattle.link_capture_refusals.specs.RefusalWords.{behind_name, path_text}
 abbrev texts : List (Bor (List ℕ)) → List (List ℕ)
 texts ns = map (λ n. n.now) ns
 
-cut : (left : List (Bor (List ℕ))) (d : Bor (List ℕ)) → 1 ≤ length left →
+pub cut : (left : List (Bor (List ℕ))) (d : Bor (List ℕ)) → 1 ≤ length left →
     path_text (texts left) ≡ (get_or left 0 d).now ++ (behind_name (texts (take (length left - 1) (drop 1 left))) ++ path_text (texts (take (length left - 1) (drop 1 left))))
 cut [] d m = absurd (omega arith)
 cut (x ∷ more) d m = ap (λ t. x.now ++ (behind_name (texts t) ++ path_text (texts t))) (sym (take_rest (x ∷ more) 1))

@@ -9,4 +9,4 @@ mod walk;
 
 pub use capture::{why, why_frame};
 pub use link_capture_refusal_rows::Reason;
-pub use refusal::Refusal;
+pub use refusal::{Refusal, behind_name};

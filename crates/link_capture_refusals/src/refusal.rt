@@ -1,12 +1,13 @@
 //! What is refused, and where.
 
-ghost use Rattle.std.specs.Prelude.{◌≡◌, ◌<◌, ◌+◌, length, map, Some};
+ghost use Rattle.std.specs.Prelude.{◌≡◌, ◌≤◌, ◌<◌, ◌+◌, ◌++◌, length, map, Some};
+ghost use Rattle.link_capture_refusal_rows.specs.ReasonWords.{words};
 ghost use Rattle.link_capture_refusals.specs.Refusals.{found_at, named};
 ghost use Rattle.link_capture_refusals.specs.RefusalViews.{found};
-ghost use Rattle.link_capture_refusals.specs.RefusalWords.{behind_name, path_text, refusal_text};
+ghost use Rattle.link_capture_refusals.specs.RefusalWords.{behind_name, path_text, place_text, refusal_text};
 ghost use Rattle.std.specs.Fmt.{WritesOnOk, WritesStyledOnOk};
 
-use arrayvec::ArrayVec;
+use arrayvec::{ArrayString, ArrayVec};
 use itoa::Buffer;
 use link_capture_refusal_rows::Reason;
 use std::fmt;
@@ -47,10 +48,23 @@ impl Refusal {
         self.path.insert(0, name);
         self
     }
+
+    /// What is told behind the names: why, and the place where there is one. It takes no memory.
+    pub fn reason_text(&self) -> ArrayString<256>
+        ensures { result.bytes ≡ words self.now.reason ++ place_text self.now.place }
+    {
+        let mut text = ArrayString::new();
+        text.push_str(self.reason.text().as_str());
+        if let Some(place) = self.place {
+            text.push_str(" at ");
+            text.push_str(Buffer::new().format(place));
+        }
+        text
+    }
 }
 
-/// What stands behind a name.
-fn behind_name(rest: &[&'static str]) -> &'static str
+/// What is told behind a name, in front of the names that stand inside it.
+pub fn behind_name(rest: &[&'static str]) -> &'static str
     ensures { result.now ≡ behind_name (map (λ n. n.now) rest.now) }
 {
     if rest.is_empty() { ": " } else { " > " }
@@ -78,13 +92,6 @@ impl fmt::Display for Refusal {
 
     fn fmt<W: fmt::Write>(&self, f: &mut fmt::Formatter<W>) -> fmt::Result {
         write_path(f, self.path.as_slice())?;
-        fmt::Display::fmt(&self.reason, f)?;
-        match self.place {
-            Some(place) => {
-                f.write_str(" at ")?;
-                f.write_str(Buffer::new().format(place))
-            }
-            None => Ok(()),
-        }
+        f.write_str(self.reason_text().as_str())
     }
 }

@@ -1,5 +1,5 @@
 -- A capture that is there whole.
-use Rattle.std.proofs.Common.{◌≡◌, ◌≢◌, ℕ, ◌^◌, ◌<◌, ◌≤◌, inl, inr, Some, None, List, [], ◌∷◌, ◌++◌, length, take, drop, Result, Ok, Err, OnOk, IfErr, refl, sym, ap, ◌∙◌, arith}
+use Rattle.std.proofs.Common.{◌≡◌, ◌≢◌, ℕ, ◌<◌, ◌≤◌, inl, inr, Some, None, List, [], ◌∷◌, ◌++◌, length, take, drop, Result, Ok, Err, OnOk, IfErr, refl, sym, ap, ◌∙◌, arith}
 use Rattle.std.specs.Prelude.{Vec}
 use Rattle.std.proofs.lemmas.Bool.{cases_lt}
 use Rattle.std.proofs.lemmas.List.{append-nil, length-append, take-append-drop}
@@ -8,7 +8,7 @@ use Rattle.link_capture_grammar.specs.declared.fault.CaptureFault.{CaptureFault}
 use Rattle.link_capture_grammar.specs.declared.fault.FaultKind.TheVariants.{Memory}
 use Rattle.link_capture_grammar.specs.Captures.{Judged, first_fault, first_frame, texts, fault_after_under, HeaderStands, IsLegal, StopsAt}
 use Rattle.link_capture_grammar.specs.Laws.{CapturesGoByFrames, FramesStandAlone, PrefixTexts}
-use Rattle.link_capture_reader.specs.Readers.{WantsMemory}
+use Rattle.link_capture_reader.specs.Readers.{LacksRoomAt}
 use Rattle.link_lines_texts.specs.Captures.{Choice, text_lines, lines}
 use Rattle.link_lines_texts.specs.Laws.{LinesAreJoined}
 use Rattle.link_lines.specs.Outcomes.{WantsMemoryAt}
@@ -82,12 +82,11 @@ front_stands go frames limit c l =
 
 -- and memory may be wanting for its text
 pub texts_wanted : CapturesGoByFrames link_body → (limit : ℕ) (c : List ℕ) → 0 < length (texts limit c) → WantsMemoryAt limit c 0
-texts_wanted go limit c l = inl (front_accepted go limit c (first_frame limit c) refl l)
+texts_wanted go limit c l = front_accepted go limit c (first_frame limit c) refl l
 
 -- an accepted frame for whose text there was less room
-pub memory_wanted : {Z : Type 0} → (limit : ℕ) (c : List ℕ) (at : ℕ) (old : Vec ℕ Z) → WantsMemory limit c at old → WantsMemoryAt limit c at
-memory_wanted limit c at old (inl lacks) = inl ((lacks.0, lacks.1), lacks.2)
-memory_wanted limit c at old (inr cut) = inr cut
+pub memory_wanted : {Z : Type 0} → (limit : ℕ) (c : List ℕ) (at : ℕ) (old : Vec ℕ Z) → LacksRoomAt limit c at old → WantsMemoryAt limit c at
+memory_wanted limit c at old lacks = ((lacks.0, lacks.1), lacks.2)
 
 legal_nil : (limit : ℕ) → IsLegal limit []
 unfolding fault_after_under

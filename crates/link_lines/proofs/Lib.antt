@@ -1,3 +1,4 @@
 pub mod Joined
 pub mod Progress
+pub mod Refusing
 pub mod Gathered

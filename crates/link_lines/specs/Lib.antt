@@ -1,4 +1,5 @@
 pub mod Options
+pub mod Refused
 pub mod Outcomes
 pub use Rattle.link_lines_texts.specs.Captures
 pub use Rattle.link_capture_engine.specs.Devices

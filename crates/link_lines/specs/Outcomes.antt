@@ -1,17 +1,18 @@
 -- What an answer says of the bytes that were read and of the lines that were written.
-use Rattle.std.specs.Prelude.{◌≡◌, ℕ, ◌+◌, ◌-◌, ◌^◌, ◌<◌, ◌≤◌, ◌⊎◌, min, List, length, take, drop, Option, Some, Result, Ok, Err}
+use Rattle.std.specs.Prelude.{◌≡◌, ℕ, ◌+◌, ◌-◌, ◌^◌, ◌≤◌, min, List, length, take, drop, Option, Some, Result, Ok, Err}
 use Rattle.std.specs.Io.KnownBytes.{Consumes, Appends}
 use Rattle.link_capture_grammar.specs.declared.fault.FaultKind.{FaultKind}
 use Rattle.link_capture_grammar.specs.declared.fault.FaultKind.TheVariants.{Cut, Memory, Read, Write, TooLong, Failed}
-use Rattle.link_capture_grammar.specs.declared.fault.CaptureFault.{CaptureFault}
 use Rattle.link_capture_grammar.specs.Captures.{first_fault, first_frame, IsLegal}
 use Rattle.link_capture_engine.specs.Outcomes.{IsOpen, IsPrefix}
+use Rattle.link_capture_refusals.specs.RefusalViews.{all_found}
 use Rattle.link_lines_texts.specs.Captures.{Choice, lines}
+use Rattle.link_lines.specs.Refused.{refusal_told}
+use Rattle.link_lines.specs.declared.refused.ShowFault.{ShowFault}
 
--- Why memory was wanting at this place: what stands there is accepted, and its text had to be written; or the frame there is cut, and its
--- bytes had to be kept.
+-- Why memory was wanting at this place: what stands there is accepted, and its text had to be written.
 abbrev pub WantsMemoryAt : ℕ → List ℕ → ℕ → Type 0
-WantsMemoryAt limit c at = ((frame : ℕ × List ℕ) × (first_frame limit (drop at c) ≡ Ok frame)) ⊎ (first_frame limit (drop at c) ≡ Err Cut)
+WantsMemoryAt limit c at = (frame : ℕ × List ℕ) × (first_frame limit (drop at c) ≡ Ok frame)
 
 -- The first bytes of s, so many of them as `at` says, have no fault or a cut frame, and w are their lines.
 pub record ShowsFront (o : Choice) (limit : ℕ) (s w : List ℕ) (at : ℕ) : Type 0 where
@@ -37,14 +38,15 @@ ShownAt o ended read_failed write_failed limit s w TooLong at = PassesLength o l
 ShownAt o ended read_failed write_failed limit s w Failed at = ⊥
 ShownAt o ended read_failed write_failed limit s w kind at = (first_fault limit s ≡ Some (record { kind = kind; offset = at })) × (w ≡ lines o limit s)
 
--- s was read, w was written, and this is answered
-abbrev pub Shown : Choice → Type 0 → Type 0 → Type 0 → ℕ → List ℕ → List ℕ → Result (Unit {0}) CaptureFault → Type 0
+-- s was read, w was written, and this is answered: of a refused body with what of it is refused
+abbrev pub Shown : Choice → Type 0 → Type 0 → Type 0 → ℕ → List ℕ → List ℕ → Result (Unit {0}) ShowFault → Type 0
 Shown o ended read_failed write_failed limit s w (Ok x) = ended × IsLegal limit s × (w ≡ lines o limit s)
-Shown o ended read_failed write_failed limit s w (Err fault) = ShownAt o ended read_failed write_failed limit s w fault.kind fault.offset
+Shown o ended read_failed write_failed limit s w (Err e) =
+    ShownAt o ended read_failed write_failed limit s w e.fault.kind e.fault.offset × (all_found e.refusal ≡ refusal_told s e.fault.kind e.fault.offset)
 
 -- What was read has left the source, which had the first bytes and has the second. What was written has come to the
 -- sink, which held the third and holds the fourth.
 abbrev pub Shows : Choice → Option (List ℕ) → Option (List ℕ) → Option (List ℕ) → Option (List ℕ)
-    → Type 0 → Type 0 → Type 0 → ℕ → Result (Unit {0}) CaptureFault → Type 0
+    → Type 0 → Type 0 → Type 0 → ℕ → Result (Unit {0}) ShowFault → Type 0
 Shows o from left held holds ended read_failed write_failed limit result =
     (s w : List ℕ) × Consumes from left s × Appends held holds w × Shown o ended read_failed write_failed limit s w result

@@ -1,34 +1,44 @@
 //! From a source to a sink.
 
-ghost use Rattle.std.specs.Prelude.{◌≤◌};
+ghost use Rattle.std.specs.Prelude.{◌≡◌, ◌≤◌};
 ghost use Rattle.link_capture_engine.specs.Devices.{Rises, TellsItsEnd};
 ghost use Rattle.link_lines.specs.Options.{choice_of};
 ghost use Rattle.link_lines.specs.Outcomes.{Shows};
+ghost use Rattle.link_lines.specs.Refused.{alone};
 
 use crate::lines::push_lines;
 use crate::options::LineOptions;
+use crate::refused::{ShowFault, keep, told};
 use link_capture_engine::{Sink, Source, write_all};
 use link_capture_grammar::fault::{CaptureFault, FaultKind};
-use link_capture_grammar::laws::texts_of_a_prefix_stay;
+use link_capture_grammar::laws::{captures_go_by_frames, texts_of_a_prefix_stay};
 use link_capture_reader::CaptureReader;
+use link_capture_refusals::laws::refused_frames_are_whole;
 use link_lines_texts::laws::lines_are_joined;
 use std::alloc::Global;
+
+/// A fault of this kind at a place.
+fn fault_at(kind: FaultKind, offset: u64) -> ShowFault
+    ensures { result ≡ alone (record { kind = kind; offset = offset }) }
+{
+    ShowFault::from(CaptureFault { kind, offset })
+}
 
 /// Reads a capture to its end, in pieces of at most 65,536 bytes, and writes its lines as the frames come.
 ///
 /// `limit` is the greatest length in bytes that a message, read or in its normal text, may have. It is done where the
-/// source told its end and the capture is legal. Otherwise the answer is the capture's first fault with its place; a
-/// failed read at the number of bytes read; a failed write at the number of bytes taken; want of memory at a frame, or,
-/// for the lines of a piece, at the number of bytes accepted before the piece; or `TooLong` at the number of bytes
-/// accepted. Before any fault but a failed write and want of memory for lines, the lines of the frames before it are
-/// written.
+/// source told its end and the capture is legal. Otherwise the answer is the capture's first fault with its place, and
+/// what of a refused body is refused; a failed read at the number of bytes read; a failed write at the number of bytes
+/// taken; want of memory at a frame, or, for a piece or its lines, at the number of bytes accepted before it; or
+/// `TooLong` at the number of bytes accepted. Before any fault but a failed write and want of memory for a piece, the
+/// lines of the frames before it are written.
 pub fn show<S: Source, K: Sink>(
     alloc: Global,
     source: &mut S,
     sink: &mut K,
     limit: u32,
     options: LineOptions<'_>,
-) -> Result<(), CaptureFault>
+) -> Result<(), ShowFault>
     requires { 16 ≤ limit }
     ensures { Shows (choice_of options.entry) (S.to_come source.old) (S.to_come source.new)
         (K.holds sink.old) (K.holds sink.new)
@@ -37,32 +47,36 @@ pub fn show<S: Source, K: Sink>(
         (Rises (K.failures sink.old) (K.failures sink.new)) limit result }
 {
     texts_of_a_prefix_stay();
+    captures_go_by_frames();
+    refused_frames_are_whole();
     lines_are_joined();
     let mut reader = CaptureReader::new(alloc, limit);
     let mut buffer = [0u8; 65536];
+    let mut front = Vec::new(alloc);
     let mut texts = Vec::new(alloc);
     let mut lines = Vec::new(alloc);
     let mut written = 0u64;
     'pieces: loop {
         let accepted = reader.accepted();
         let Ok(size) = source.read(&mut buffer) else {
-            return Err(CaptureFault {
-                kind: FaultKind::Read,
-                offset: accepted,
-            });
+            return Err(fault_at(FaultKind::Read, accepted));
         };
         if size == 0 {
-            return reader.finish();
+            return Ok(reader.finish()?);
         }
-        let fed = reader.feed(&buffer[..size], &mut texts);
+        let piece = &buffer[..size];
+        if keep(&mut front, reader.kept_bytes(), piece).is_err() {
+            return Err(fault_at(FaultKind::Memory, accepted));
+        }
+        let start = accepted - front.len() as u64;
+        let fed = reader.feed(piece, &mut texts);
         if push_lines(texts.as_slice(), options, &mut lines).is_err() {
-            return Err(CaptureFault {
-                kind: FaultKind::Memory,
-                offset: accepted,
-            });
+            return Err(fault_at(FaultKind::Memory, accepted));
         }
         written = write_all(sink, lines.as_slice(), written)?;
-        fed?;
+        if let Err(fault) = fed {
+            return Err(told(fault, start, &mut front, piece));
+        }
         texts.clear();
         lines.clear();
     }

@@ -4,6 +4,7 @@
 mod engine;
 mod lines;
 mod options;
+mod refused;
 mod whole;
 
 pub use engine::show;
@@ -14,6 +15,8 @@ pub use link_capture_engine::{
 };
 pub use link_capture_grammar::fault::{CaptureFault, FaultKind};
 pub use link_capture_reader::{CaptureReader, normalize_bytes};
+pub use link_capture_refusals::{Reason, Refusal};
 pub use link_lines_texts::laws;
 pub use options::LineOptions;
+pub use refused::ShowFault;
 pub use whole::show_bytes;

@@ -45,8 +45,8 @@ fn push_all(
 /// place, and `out` gains the lines of the messages before it. For want of memory the place is that of some message:
 /// what stands before it is legal, and its lines are written. Want of memory for the lines themselves is told at 0.
 ///
-/// Memory is wanting only where what stands at the place is accepted, or the message there is cut: so never of no bytes,
-/// nor where the first message has another fault than being cut.
+/// Memory is wanting only where what stands at the place is accepted: so never of no bytes, nor where the first message
+/// has a fault.
 pub fn show_bytes(
     alloc: Global,
     bytes: &[u8],
@@ -69,7 +69,7 @@ pub fn show_bytes(
     ensures memory { IfErr result
         (λ fault. fault.kind ≡ FaultKind.Memory → StopsAt limit bytes.now fault.offset
         × (out.new.items ≡ out.old.items ++ lines (choice_of options.entry) limit (take fault.offset bytes.now))) }
-    // Memory is wanting only where what stands at the place is accepted, or the frame there is cut.
+    // Memory is wanting only where what stands at the place is accepted.
     ensures cause { IfErr result
         (λ fault. fault.kind ≡ FaultKind.Memory → WantsMemoryAt limit bytes.now fault.offset) }
     // A capture and its texts have the same lines.
@@ -92,7 +92,7 @@ pub fn show_bytes(
     texts_of_a_prefix_stay();
     lines_are_joined();
     let mut texts = Vec::new(alloc);
-    let shown = normalize_bytes(alloc, bytes, limit, &mut texts);
+    let shown = normalize_bytes(bytes, limit, &mut texts);
     if push_all(alloc, texts.as_slice(), options, out).is_err() {
         return Err(CaptureFault {
             kind: FaultKind::Memory,

@@ -18,10 +18,6 @@ pub record IsUsed (limit : ℕ) (last : Bool) (c : List ℕ) (used size : ℕ) :
 abbrev pub HasText : ℕ → List ℕ → List ℕ → Type 0
 HasText limit rest text = (n : ℕ) × (first_frame limit rest ≡ Ok (n, text))
 
--- why memory may be wanting: the frame in front is accepted, or it is cut, and its bytes had to be kept
-abbrev pub MayWantMemory : ℕ → List ℕ → Type 0
-MayWantMemory limit rest = ((text : List ℕ) × HasText limit rest text) ⊎ (first_frame limit rest ≡ Err Cut)
-
 -- the frame in front is accepted, and its padding isn't all there
 abbrev pub LacksPadding : ℕ → List ℕ → Type 0
 LacksPadding limit rest = (n : ℕ) × (text : List ℕ) × (first_frame limit rest ≡ Ok (n, text)) × (length rest < nla_align n)

@@ -1,5 +1,5 @@
 -- Faults as C is told of them.
-use Rattle.std.specs.Prelude.{ℕ, Bool, cond}
+use Rattle.std.specs.Prelude.{ℕ, ◌-◌, ◌^◌, Bool, cond, Option, None, Some}
 use Rattle.link_capture_grammar.specs.declared.fault.FaultKind.{FaultKind}
 use Rattle.link_capture_grammar.specs.declared.fault.FaultKind.TheVariants.{Cut, ShortLength, OverLimit, Refused, EmptyPorts, Unfit, TextOverLimit, Memory, Read, Write, TooLong, Failed}
 use Rattle.link_capture_grammar.specs.declared.fault.CaptureFault.{CaptureFault}
@@ -27,3 +27,8 @@ side_number second = cond second 2 1
 -- a fault with this number of its side
 abbrev pub told : ℕ → CaptureFault → LinkcapFault
 told side fault = record { kind = kind_number fault.kind; side = side; offset = fault.offset }
+
+-- the number for a place: the greatest where there is none
+abbrev pub place_number : Option ℕ → ℕ
+place_number None = 2 ^ 64 - 1
+place_number (Some place) = place

@@ -4,6 +4,7 @@
 mod comparing;
 mod judging;
 mod pieces;
+mod refusing;
 mod room;
 mod statuses;
 mod streaming;

@@ -10,7 +10,7 @@ ghost use Rattle.link_lines.specs.Captures.{everything, lines};
 ghost use Rattle.link_lines.specs.Options.{choice_of};
 ghost use Rattle.linkcap_c.specs.Buffers.{Holds};
 ghost use Rattle.linkcap_c.specs.Choices.{asked};
-ghost use Rattle.linkcap_c.specs.Pieces.{MayWantMemory};
+ghost use Rattle.linkcap_c.specs.Pieces.{HasText};
 ghost use Rattle.linkcap_c.specs.Told.{told};
 
 use crate::room::hand_over;
@@ -77,8 +77,8 @@ pub extern "C" fn linkcap_normalize(
     ensures wanted { result ≡ 4
         → size.new ≡ min (length (texts limit capture.now)) (2 ^ 64 - 1) }
     ensures memory { result ≡ 5 → (fault.new.kind ≡ 8) × StopsAt limit capture.now fault.new.offset }
-    // Memory is wanting only for the text of an accepted frame, or to keep the bytes of a cut one.
-    ensures cause { result ≡ 5 → MayWantMemory limit (drop fault.new.offset capture.now) }
+    // Memory is wanting only for the text of an accepted frame.
+    ensures cause { result ≡ 5 → (text : List ℕ) × HasText limit (drop fault.new.offset capture.now) text }
     ensures kept { (result ≡ 3) ⊎ (result ≡ 4) ⊎ (result ≡ 5) → out.new ≡ out.old }
     ensures place { result ≡ 2
         → (fault.new.offset < length capture.now) × (fault.new.offset % 4 ≡ 0) }
@@ -99,7 +99,7 @@ pub extern "C" fn linkcap_normalize(
         return WRONG;
     }
     let mut text = Vec::new(alloc);
-    match normalize_bytes(alloc, capture, limit, &mut text) {
+    match normalize_bytes(capture, limit, &mut text) {
         Ok(()) => hand_over(text.as_slice(), OK, out, size),
         Err(found) => {
             *fault = of_one(found);

@@ -11,17 +11,15 @@ ghost use Rattle.linkcap_program.specs.Runs.{Answers, NormAnswer, SameAnswer, Us
 ghost use Rattle.linkcap_program.specs.Comparisons.{Compares, IsUnread};
 
 mod comparing;
-mod environment;
 mod files;
 mod lines;
 mod normalizing;
 
 pub use comparing::{answer_same, compare};
-use environment::words;
 pub use files::FileSystem;
 use files::HostFiles;
 use lines::tell;
-use link_capture_commands::{Command, read_words};
+use link_capture_commands::{Command, read_words, words};
 use link_capture_engine::{ReadSource, WriteSink};
 pub use normalizing::{answer_norm, norm};
 use std::alloc::Global;

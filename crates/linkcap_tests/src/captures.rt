@@ -21,7 +21,7 @@ fn shown(alloc: Global, texts: &[u8], outcome: Result<(), CaptureFault>) -> Resu
 fn normalized(alloc: Global, capture: &str, limit: u32) -> Result<String, Fail> {
     let bytes = decode(alloc, capture).map_err(|_| Fail::from("not hex"))?;
     let mut out = Vec::new(alloc);
-    let outcome = normalize_bytes(alloc, bytes.as_slice(), limit.max(16), &mut out);
+    let outcome = normalize_bytes(bytes.as_slice(), limit.max(16), &mut out);
     shown(alloc, out.as_slice(), outcome)
 }
 

@@ -1,9 +1,11 @@
 -- What has come to a sink.
-use Rattle.std.proofs.Common.{◌≡◌, ◌≤◌, ◌<◌, ℕ, ◌-◌, Bool, List, [], ◌∷◌, ◌++◌, true, false, length, take, drop, get_or, Bor, refl, sym, ap, subst, ◌∙◌, append_assoc, append-nil, arith}
+use Rattle.std.proofs.Common.{◌≡◌, ◌≤◌, ◌<◌, ℕ, ◌-◌, Bool, List, [], ◌∷◌, ◌++◌, true, false, length, map, take, drop, get_or, Bor, refl, sym, ap, subst, ◌∙◌, append_assoc, append-nil, arith}
 use Rattle.std.proofs.lemmas.List.{take-append-drop, take_rest}
 use Rattle.std.proofs.KnownBytes.{Appends-nil, Appends-trans}
 use Rattle.std.specs.Io.KnownBytes.{Appends}
 use Rattle.link_capture_engine.specs.Devices.{Rises}
+use Rattle.link_capture_refusals.specs.RefusalWords.{behind_name, path_text}
+use Rattle.link_capture_refusals.proofs.Words.{cut}
 use Rattle.linkshow_program.specs.Devices.{SinkState}
 use Rattle.linkshow_program.specs.Telling.{IsTold, texts_joined}
 
@@ -11,15 +13,55 @@ use Rattle.linkshow_program.specs.Telling.{IsTold, texts_joined}
 pub untold : (before after : SinkState) (bytes text : List ℕ) (n : ℕ) → bytes ≡ text → Rises before.failures after.failures → Appends before.holds after.holds (take n bytes) → IsTold before after text false
 untold before after bytes text n e r a = (r, (take n bytes, (drop n bytes, sym e ∙ sym (take-append-drop n bytes)), a))
 
--- The front of texts has come to a sink that didn't fail, and these are left.
-pub record Told (before now : SinkState) (left texts : List (Bor (List ℕ))) : Type 0 where
+-- The front of a text has come to a sink that didn't fail, and the rest is left.
+pub record Come (before now : SinkState) (left text : List ℕ) : Type 0 where
   pub front : List ℕ
   pub came : Appends before.holds now.holds front
   pub same : now.failures ≡ before.failures
-  pub whole : front ++ texts_joined left ≡ texts_joined texts
+  pub whole : front ++ left ≡ text
+
+pub come_none : (before : SinkState) (text : List ℕ) → Come before before text text
+come_none before text = record { front = []; came = Appends-nil before.holds; same = refl; whole = refl }
+
+-- one more piece has come
+pub come_more : (before now next : SinkState) (left piece more text : List ℕ) → Come before now left text → left ≡ piece ++ more → IsTold now next piece true → Come before next more text
+come_more before now next left piece more text c e i = record {
+  front = c.front ++ piece;
+  came = Appends-trans before.holds now.holds next.holds c.front piece c.came i.0;
+  same = i.1 ∙ c.same;
+  whole = append_assoc c.front piece more ∙ ap (λ z. c.front ++ z) (sym e) ∙ c.whole;
+}
+
+-- all of it has come
+pub come_all : (before now : SinkState) (left text : List ℕ) → Come before now left text → left ≡ [] → IsTold before now text true
+come_all before now left text c e = (subst (Appends before.holds now.holds) (sym (append-nil c.front) ∙ ap (λ z. c.front ++ z) (sym e) ∙ c.whole) c.came, c.same)
+
+-- the sink failed inside a piece
+pub come_failed : (before now next : SinkState) (left piece more text : List ℕ) → Come before now left text → left ≡ piece ++ more → IsTold now next piece false → IsTold before next text false
+come_failed before now next left piece more text c e i =
+    let front : List ℕ = i.1.0 in
+    let rest : List ℕ = i.1.1.0 in
+    let whole : text ≡ (c.front ++ front) ++ (rest ++ more) =
+    sym c.whole ∙ ap (λ z. c.front ++ z) (e ∙ ap (λ z. z ++ more) i.1.1.1 ∙ append_assoc front rest more) ∙ sym (append_assoc c.front front (rest ++ more)) in
+    (subst (λ n. Rises n next.failures) c.same i.0, (c.front ++ front, (rest ++ more, whole), Appends-trans before.holds now.holds next.holds c.front front c.came i.1.2))
+
+-- one text has come, and then another; or the first hasn't
+pub told_then : (before between after : SinkState) (first second : List ℕ) (r : Bool) → IsTold before between first true → IsTold between after second r → IsTold before after (first ++ second) r
+told_then before between after first second true f s = (Appends-trans before.holds between.holds after.holds first second f.0 s.0, s.1 ∙ f.1)
+told_then before between after first second false f s =
+    come_failed before between after second second [] (first ++ second) (come_more before before between (first ++ second) first second (first ++ second) (come_none before (first ++ second)) refl f) (sym (append-nil second)) s
+
+pub told_no_more : (before after : SinkState) (first second : List ℕ) → IsTold before after first false → IsTold before after (first ++ second) false
+told_no_more before after first second f = come_failed before before after (first ++ second) first second (first ++ second) (come_none before (first ++ second)) refl f
+
+-- ---- texts, one behind the other
+
+-- These texts are left of others.
+abbrev pub Told : SinkState → SinkState → List (Bor (List ℕ)) → List (Bor (List ℕ)) → Type 0
+Told before now left texts = Come before now (texts_joined left) (texts_joined texts)
 
 pub told_none : (before : SinkState) (texts : List (Bor (List ℕ))) → Told before before texts texts
-told_none before texts = record { front = []; came = Appends-nil before.holds; same = refl; whole = refl }
+told_none before texts = come_none before (texts_joined texts)
 
 texts_cut : (left : List (Bor (List ℕ))) (d : Bor (List ℕ)) → 1 ≤ length left → texts_joined left ≡ (get_or left 0 d).now ++ texts_joined (take (length left - 1) (drop 1 left))
 texts_cut [] d m = absurd (omega arith)
@@ -27,39 +69,43 @@ texts_cut (x ∷ more) d m = ap (λ t. x.now ++ texts_joined t) (sym (take_rest 
 
 -- one more text has come
 pub told_more : (before now next : SinkState) (left texts : List (Bor (List ℕ))) (d : Bor (List ℕ)) → 1 ≤ length left → Told before now left texts → IsTold now next (get_or left 0 d).now true → Told before next (take (length left - 1) (drop 1 left)) texts
-told_more before now next left texts d m t i = record {
-  front = t.front ++ (get_or left 0 d).now;
-  came = Appends-trans before.holds now.holds next.holds t.front (get_or left 0 d).now t.came i.0;
-  same = i.1 ∙ t.same;
-  whole = append_assoc t.front (get_or left 0 d).now _ ∙ ap (λ z. t.front ++ z) (sym (texts_cut left d m)) ∙ t.whole;
-}
+told_more before now next left texts d m t i = come_more before now next (texts_joined left) (get_or left 0 d).now _ (texts_joined texts) t (texts_cut left d m) i
+
+none_left : (left : List (Bor (List ℕ))) → length left < 1 → texts_joined left ≡ []
+none_left [] m = refl
+none_left (x ∷ more) m = absurd (omega arith)
 
 -- all of them have come
 pub told_all : (before now : SinkState) (left texts : List (Bor (List ℕ))) → length left < 1 → Told before now left texts → IsTold before now (texts_joined texts) true
-told_all before now [] texts m t = (subst (Appends before.holds now.holds) (sym (append-nil t.front) ∙ t.whole) t.came, t.same)
-told_all before now (x ∷ more) texts m t = absurd (omega arith)
+told_all before now left texts m t = come_all before now (texts_joined left) (texts_joined texts) t (none_left left m)
 
 -- the sink failed inside a text
 pub told_failed : (before now next : SinkState) (left texts : List (Bor (List ℕ))) (d : Bor (List ℕ)) → 1 ≤ length left → Told before now left texts → IsTold now next (get_or left 0 d).now false → IsTold before next (texts_joined texts) false
-told_failed before now next left texts d m t i =
-    let more : List ℕ = texts_joined (take (length left - 1) (drop 1 left)) in
-    let front : List ℕ = i.1.0 in
-    let rest : List ℕ = i.1.1.0 in
-    let cut : (get_or left 0 d).now ≡ front ++ rest = i.1.1.1 in
-    let whole : texts_joined texts ≡ (t.front ++ front) ++ (rest ++ more) =
-    sym t.whole ∙ ap (λ z. t.front ++ z) (texts_cut left d m ∙ ap (λ z. z ++ more) cut ∙ append_assoc front rest more) ∙ sym (append_assoc t.front front (rest ++ more)) in
-    (subst (λ n. Rises n next.failures) t.same i.0, (t.front ++ front, (rest ++ more, whole), Appends-trans before.holds now.holds next.holds t.front front t.came i.1.2))
+told_failed before now next left texts d m t i = come_failed before now next (texts_joined left) (get_or left 0 d).now _ (texts_joined texts) t (texts_cut left d m) i
 
--- one text has come, and then another; or the first hasn't
-pub told_then : (before between after : SinkState) (first second : List ℕ) (r : Bool) → IsTold before between first true → IsTold between after second r → IsTold before after (first ++ second) r
-told_then before between after first second true f s = (Appends-trans before.holds between.holds after.holds first second f.0 s.0, s.1 ∙ f.1)
-told_then before between after first second false f s =
-    let front : List ℕ = s.1.0 in
-    let whole : first ++ second ≡ (first ++ front) ++ s.1.1.0 = ap (λ z. first ++ z) s.1.1.1 ∙ sym (append_assoc first front s.1.1.0) in
-    (subst (λ n. Rises n after.failures) f.1 s.0, (first ++ front, (s.1.1.0, whole), Appends-trans before.holds between.holds after.holds first front f.0 s.1.2))
+-- ---- names from outside in
 
-pub told_no_more : (before after : SinkState) (first second : List ℕ) → IsTold before after first false → IsTold before after (first ++ second) false
-told_no_more before after first second f =
-    let front : List ℕ = f.1.0 in
-    let whole : first ++ second ≡ front ++ (f.1.1.0 ++ second) = ap (λ z. z ++ second) f.1.1.1 ∙ append_assoc front f.1.1.0 second in
-    (f.0, (front, (f.1.1.0 ++ second, whole), f.1.2))
+abbrev path_left : List (Bor (List ℕ)) → List ℕ
+path_left names = path_text (map (λ n. n.now) names)
+
+path_step : (left : List (Bor (List ℕ))) (d sign : Bor (List ℕ)) → 1 ≤ length left → sign.now ≡ behind_name (map (λ n. n.now) (take (length left - 1) (drop 1 left))) →
+    path_left left ≡ texts_joined (get_or left 0 d ∷ sign ∷ []) ++ path_left (take (length left - 1) (drop 1 left))
+path_step left d sign m e =
+    let rest = path_left (take (length left - 1) (drop 1 left)) in
+    let name = (get_or left 0 d).now in
+    cut left d m ∙ ap (λ z. name ++ (z ++ rest)) (sym e) ∙ sym (append_assoc name sign.now rest) ∙ ap (λ z. (name ++ z) ++ rest) (sym (append-nil sign.now))
+
+pub path_more : (before now next : SinkState) (left path : List (Bor (List ℕ))) (d sign : Bor (List ℕ)) → 1 ≤ length left → sign.now ≡ behind_name (map (λ n. n.now) (take (length left - 1) (drop 1 left))) → Come before now (path_left left) (path_left path) → IsTold now next (texts_joined (get_or left 0 d ∷ sign ∷ [])) true →
+    Come before next (path_left (take (length left - 1) (drop 1 left))) (path_left path)
+path_more before now next left path d sign m e c i = come_more before now next (path_left left) _ _ (path_left path) c (path_step left d sign m e) i
+
+pub path_failed : (before now next : SinkState) (left path : List (Bor (List ℕ))) (d sign : Bor (List ℕ)) → 1 ≤ length left → sign.now ≡ behind_name (map (λ n. n.now) (take (length left - 1) (drop 1 left))) → Come before now (path_left left) (path_left path) → IsTold now next (texts_joined (get_or left 0 d ∷ sign ∷ [])) false →
+    IsTold before next (path_left path) false
+path_failed before now next left path d sign m e c i = come_failed before now next (path_left left) _ _ (path_left path) c (path_step left d sign m e) i
+
+no_name : (left : List (Bor (List ℕ))) → length left < 1 → path_left left ≡ []
+no_name [] m = refl
+no_name (x ∷ left) m = absurd (omega (arith, m))
+
+pub path_all : (before now : SinkState) (left path : List (Bor (List ℕ))) → length left < 1 → Come before now (path_left left) (path_left path) → IsTold before now (path_left path) true
+path_all before now left path m c = come_all before now (path_left left) (path_left path) c (no_name left m)

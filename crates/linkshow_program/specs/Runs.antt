@@ -6,7 +6,6 @@ use Rattle.link_capture_grammar.specs.declared.fault.CaptureFault.{CaptureFault}
 use Rattle.link_capture_grammar.specs.declared.fault.FaultKind.{FaultKind}
 use Rattle.link_capture_grammar.specs.declared.fault.FaultKind.TheVariants.{Read, Write}
 use Rattle.link_capture_grammar.specs.Faults.{fault_text}
-use Rattle.link_capture_commands.specs.Commands.{status_of}
 use Rattle.link_capture_engine.specs.Devices.{Rises, TellsItsEnd}
 use Rattle.link_capture_engine.specs.Outcomes.{ReadFault}
 use Rattle.link_capture_spelling_rows.specs.declared.placed.PlacedSpelling.{PlacedSpelling}
@@ -14,6 +13,8 @@ use Rattle.link_capture_spelling_rows.specs.SpellingWords.{placed_text}
 use Rattle.link_capture_spellings.specs.Spellings.{spellings}
 use Rattle.link_lines.specs.Captures.{Choice}
 use Rattle.link_lines.specs.Outcomes.{Shows}
+use Rattle.link_lines.specs.Refused.{fault_words}
+use Rattle.link_lines.specs.declared.refused.ShowFault.{ShowFault}
 use Rattle.linkshow_words.specs.declared.words.Options.{Options}
 use Rattle.linkshow_words.specs.declared.words.Asked.{Asked}
 use Rattle.linkshow_words.specs.declared.words.Asked.TheVariants.{Help, Version, Show}
@@ -34,9 +35,9 @@ abbrev pub name_told : Option (List ℕ) → Bool → List ℕ
 name_told (Some name) true = codes "linkshow: " ++ (name ++ codes ": ")
 name_told file unread = []
 
--- of a fault: its words and its place, and behind them what helps where the capture begins with these bytes
-abbrev pub fault_told : Option (List ℕ) → List ℕ → CaptureFault → List ℕ
-fault_told file first fault = name_told file (is_unread fault.kind) ++ (fault_text fault ++ (10 ∷ advice first))
+-- of a fault: its words and its place, what of a refused body is refused, and behind them what helps where the capture begins with these bytes
+abbrev pub fault_told : Option (List ℕ) → List ℕ → ShowFault → List ℕ
+fault_told file first e = name_told file (is_unread e.fault.kind) ++ (fault_words e ++ (10 ∷ advice first))
 
 -- of a capture of which no byte was read
 abbrev pub nothing_read : List ℕ → List ℕ
@@ -44,9 +45,14 @@ nothing_read [] = codes "no messages" ++ 10 ∷ []
 nothing_read (x ∷ more) = []
 
 -- of a capture that was shown, which begins with these bytes
-abbrev pub told_of : Option (List ℕ) → List ℕ → Result ⊤ CaptureFault → List ℕ
+abbrev pub told_of : Option (List ℕ) → List ℕ → Result ⊤ ShowFault → List ℕ
 told_of file first (Ok x) = nothing_read first
-told_of file first (Err fault) = fault_told file first fault
+told_of file first (Err e) = fault_told file first e
+
+-- the program's status
+abbrev pub status_of : Result ⊤ ShowFault → ℕ
+status_of (Ok x) = 0
+status_of (Err e) = 2
 
 -- of a file that couldn't be opened
 abbrev pub unopened : List ℕ → ErrorKind → List ℕ
@@ -61,7 +67,7 @@ chosen o = record { numbers = not o.without_numbers; only = option_map (λ types
 -- a capture was shown, and this is told of it, with this status
 abbrev pub ShowAnswer : Choice → Run → Option (List ℕ) → ℕ → ℕ → Type 0
 ShowAnswer ch r file limit status =
-    (outcome : Result ⊤ CaptureFault)
+    (outcome : Result ⊤ ShowFault)
     × Shows ch r.from.to_come r.left.to_come r.held.holds r.holds.holds (TellsItsEnd r.from.ends_told r.left.ends_told r.left.to_come)
     (Rises r.from.failures r.left.failures) (Rises r.held.failures r.holds.failures) limit outcome
     × Tells r.told r.tells (told_of file r.first outcome) × (status ≡ status_of outcome)
@@ -77,7 +83,7 @@ notes_text [] = []
 notes_text (x ∷ xs) = note_text x ++ notes_text xs
 
 -- what was read is shown as a source that never fails is
-abbrev pub ShowsWhole : Choice → List ℕ → SinkState → SinkState → ℕ → Result ⊤ CaptureFault → Type 0
+abbrev pub ShowsWhole : Choice → List ℕ → SinkState → SinkState → ℕ → Result ⊤ ShowFault → Type 0
 ShowsWhole ch s held holds limit outcome =
     (left : Option (List ℕ)) × (old new : ℕ) × Shows ch (Some s) left held.holds holds.holds (TellsItsEnd old new left) (Rises 0 0) (Rises held.failures holds.failures) limit outcome
 
@@ -85,10 +91,10 @@ ShowsWhole ch s held holds limit outcome =
 abbrev pub NotesAnswer : Choice → Run → Type 0 → Option (List ℕ) → ℕ → ℕ → Type 0
 NotesAnswer ch r unwritten file limit status =
     (s : List ℕ) × Consumes r.from.to_come r.left.to_come s × (
-    (TellsItsEnd r.from.ends_told r.left.ends_told r.left.to_come × ((outcome : Result ⊤ CaptureFault) × ShowsWhole ch s r.held r.holds limit outcome
+    (TellsItsEnd r.from.ends_told r.left.ends_told r.left.to_come × ((outcome : Result ⊤ ShowFault) × ShowsWhole ch s r.held r.holds limit outcome
     × TellsBoth r.told r.tells (notes_text (spellings limit s)) (told_of file r.first outcome) × (status ≡ status_of outcome)))
     ⊎ ((fault : CaptureFault) × ReadFault r.from.failures r.left.failures s fault.kind × (fault.offset ≡ length s) × unwritten
-    × Tells r.told r.tells (told_of file r.first (Err fault)) × (status ≡ 2))
+    × Tells r.told r.tells (told_of file r.first (Err (record { fault = fault; refusal = None }))) × (status ≡ 2))
     )
 
 -- ---- the words

@@ -8,19 +8,19 @@ ghost use Rattle.linkshow_words.specs.declared.texts.TheConstants as Texts;
 ghost use Rattle.linkshow_program.specs.Devices.{source_state, sink_state, run_of};
 ghost use Rattle.linkshow_program.specs.Runs.{Answers, CaptureAnswer, FileAnswer, PrintAnswer, UsageAnswer, chosen};
 
-mod environment;
 mod files;
 mod first_kept;
 mod lines;
 mod notes;
 mod printing;
+mod refusals;
 mod showing;
 
-use environment::words;
 pub use files::Files;
 use files::HostFiles;
 pub use first_kept::FirstKept;
 use lines::tell;
+use link_capture_commands::words;
 use link_capture_engine::{ReadSource, Sink, Source, WriteSink};
 use linkshow_words::{Asked, HELP, Options, USAGE, VERSION, read_words};
 pub use notes::answer_notes;

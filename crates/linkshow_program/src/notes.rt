@@ -12,7 +12,7 @@ use super::lines::{note, tell};
 use super::showing::{line_options, report};
 use link_capture_engine::{Sink, SliceSource, Source, read_all};
 use link_capture_spellings::spelling;
-use link_lines::show;
+use link_lines::{ShowFault, show};
 use linkshow_words::Options;
 use std::alloc::Global;
 use std::process::ExitCode;
@@ -66,6 +66,11 @@ pub fn answer_notes<S: Source, K: Sink, E: Sink>(
             );
             report(errors, options.file, source.first(), outcome)
         }
-        Err(fault) => report(errors, options.file, source.first(), Err(fault)),
+        Err(fault) => report(
+            errors,
+            options.file,
+            source.first(),
+            Err(ShowFault::from(fault)),
+        ),
     }
 }

@@ -2,18 +2,18 @@
 
 ghost use Rattle.std.specs.Prelude.{◌≡◌, ◌≤◌, ◌++◌, option_map};
 ghost use Rattle.std.specs.Process.{exit_status};
-ghost use Rattle.link_capture_commands.specs.Commands.{status_of};
 ghost use Rattle.link_lines.specs.Options.{choice_of};
 ghost use Rattle.linkshow_program.specs.Devices.{source_state, sink_state, run_of};
 ghost use Rattle.linkshow_program.specs.Telling.{IsTold, Tells};
-ghost use Rattle.linkshow_program.specs.Runs.{chosen, ShowAnswer, fault_told, is_unread, name_told, nothing_read, told_of, unopened};
+ghost use Rattle.linkshow_program.specs.Runs.{chosen, fault_told, is_unread, name_told, nothing_read, status_of, told_of};
+ghost use Rattle.linkshow_program.specs.Runs.{ShowAnswer, unopened};
 
 use super::first_kept::FirstKept;
 use super::lines::{tell, tell_all};
-use link_capture_commands::status_norm;
+use super::refusals::tell_words;
 use link_capture_engine::{Sink, Source};
-use link_capture_grammar::fault::{CaptureFault, FaultKind};
-use link_lines::{LineOptions, show};
+use link_capture_grammar::fault::FaultKind;
+use link_lines::{LineOptions, ShowFault, show};
 use linkshow_words::{Options, advice, cause};
 use std::alloc::Global;
 use std::io::ErrorKind;
@@ -43,20 +43,18 @@ fn tell_name<E: Sink>(errors: &mut E, file: Option<&str>, is_unread: bool) -> bo
 
 /// Tells a fault in a line, of a file that couldn't be read by its name, and behind it what helps where the capture is a
 /// file of another form.
-fn tell_fault<E: Sink>(
-    errors: &mut E,
-    file: Option<&str>,
-    first: &[u8],
-    fault: CaptureFault,
-) -> bool
+fn tell_fault<E: Sink>(errors: &mut E, file: Option<&str>, first: &[u8], found: &ShowFault) -> bool
     ensures { IsTold (sink_state E.holds E.failures errors.old)
         (sink_state E.holds E.failures errors.new)
-        (fault_told (option_map (λ name. name.now) file.entry) first.now fault) result }
+        (fault_told (option_map (λ name. name.now) file.entry) first.now found.now) result }
 {
-    if !tell_name(errors, file, is_unread(fault.kind)) {
+    if !tell_name(errors, file, is_unread(found.fault.kind)) {
         return false;
     }
-    tell_all(errors, &[fault.text().as_str(), "\n", advice(first)])
+    if !tell_words(errors, found) {
+        return false;
+    }
+    tell_all(errors, &["\n", advice(first)])
 }
 
 /// Tells that the file of a name can't be opened, and why.
@@ -86,7 +84,7 @@ pub(crate) fn report<E: Sink>(
     errors: &mut E,
     file: Option<&str>,
     first: &[u8],
-    outcome: Result<(), CaptureFault>,
+    outcome: Result<(), ShowFault>,
 ) -> ExitCode
     ensures status { exit_status result ≡ status_of outcome }
     ensures told { Tells (sink_state E.holds E.failures errors.old)
@@ -96,11 +94,11 @@ pub(crate) fn report<E: Sink>(
     match outcome {
         Ok(()) => {
             tell(errors, nothing_read(first));
-            ExitCode::from(status_norm(&outcome))
+            ExitCode::from(0)
         }
-        Err(fault) => {
-            tell_fault(errors, file, first, fault);
-            ExitCode::from(status_norm(&outcome))
+        Err(found) => {
+            tell_fault(errors, file, first, &found);
+            ExitCode::from(2)
         }
     }
 }

@@ -1,12 +1,10 @@
 //! The words behind the program's name.
 
 ghost use Rattle.std.specs.Prelude.{◌≡◌, ◌≤◌, [], map, IfSome, IfNone, string_bytes};
-ghost use Rattle.std.specs.Str.Parse.{digits_value};
-ghost use Rattle.link_capture_commands.specs.Commands.{IsLimitWord};
 ghost use Rattle.linkshow_words.specs.Words.{word_of, defaults, Awaited.Nothing, Gives, Asks, HasLimit};
 
 use crate::types::{Types, read_types};
-use link_capture_commands::DEFAULT_LIMIT;
+use link_capture_commands::{DEFAULT_LIMIT, read_limit};
 
 /// How a capture is to be shown.
 #[derive(Clone, Debug, PartialEq, Eq, Drop)]
@@ -72,21 +70,6 @@ fn word_of(word: &str) -> Word
         Word::Wrong
     } else {
         Word::Name
-    }
-}
-
-/// Reads a limit: digits that write a number from 16 to 4294967295.
-fn read_limit(word: &str) -> Option<u32>
-    ensures some { IfSome result (λ n. IsLimitWord word.now × (n ≡ digits_value 10 word.now)) }
-    ensures none { IfNone result (IsLimitWord word.now → ⊥) }
-{
-    let bytes = word.as_bytes();
-    if !bytes.is_empty() && bytes[0] == b'+' {
-        return None;
-    }
-    match word.parse::<u32>() {
-        Ok(limit) if limit >= 16 => Some(limit),
-        _ => None,
     }
 }
 

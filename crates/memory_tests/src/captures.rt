@@ -19,7 +19,7 @@ const CAPTURE: [u8; 96] = [
 #[test]
 fn a_whole_capture(rt: HostRuntime) -> Result<(), Fail> {
     let mut out = Vec::new(rt.alloc());
-    match normalize_bytes(rt.alloc(), &CAPTURE, 1000, &mut out) {
+    match normalize_bytes(&CAPTURE, 1000, &mut out) {
         Ok(()) => {
             assert!(rt; out.as_slice() == CAPTURE.as_slice());
             println!(rt; "normalize_bytes: ok")?;

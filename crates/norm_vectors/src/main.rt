@@ -60,7 +60,7 @@ fn answer_case(alloc: Global, case: &Case) -> Result<String, AllocError>
         (λ line. string_bytes line ≡ answer case.now.limit case.now.capture.items) }
 {
     let mut text = Vec::new(alloc);
-    let outcome = normalize_bytes(alloc, case.capture.as_slice(), case.limit, &mut text);
+    let outcome = normalize_bytes(case.capture.as_slice(), case.limit, &mut text);
     if outcome.is_err_and(|fault| fault.kind == FaultKind::Memory) {
         return Err(AllocError);
     }
@@ -163,7 +163,7 @@ fn agrees(alloc: Global, case: &Case) -> bool
     requires { 16 ≤ case.now.limit }
 {
     let mut text = Vec::new(alloc);
-    let whole = normalize_bytes(alloc, case.capture.as_slice(), case.limit, &mut text);
+    let whole = normalize_bytes(case.capture.as_slice(), case.limit, &mut text);
     if check(case.capture.as_slice(), case.limit) != whole {
         return false;
     }

@@ -50,7 +50,7 @@ fn agrees_with_its_text(alloc: Global, capture: &[u8], limit: u32) -> bool
     requires { 16 ≤ limit }
 {
     let mut text = Vec::new(alloc);
-    if normalize_bytes(alloc, capture, limit, &mut text).is_err() {
+    if normalize_bytes(capture, limit, &mut text).is_err() {
         return same(capture, capture, limit).is_err();
     }
     same(capture, capture, limit) == Ok(true) && same(capture, text.as_slice(), limit) == Ok(true)

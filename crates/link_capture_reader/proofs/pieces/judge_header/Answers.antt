@@ -1,8 +1,7 @@
 -- the header in front of what was kept and what came
-use Rattle.std.proofs.Common.{◌≡◌, ◌≢◌, ◌++◌, Ok, Err, length, take, sym, ap, subst, ◌∙◌, arith, length-append, length-take}
+use Rattle.std.proofs.Common.{◌++◌, Err, sym, ap, ◌∙◌, arith, length-append}
 use Rattle.netlink_packet_core_grammar.specs.Frames.{frame_length}
-use Rattle.link_capture_grammar.specs.Captures.{IsOfFrames, first_frame}
-use Rattle.link_capture_grammar.specs.declared.fault.FaultKind.TheVariants.{Cut}
+use Rattle.link_capture_grammar.specs.Captures.{first_frame}
 use Rattle.link_capture_reader.proofs.CutFrames.{header_stands, header_cut, header_refused}
 use Rattle.link_capture_reader.proofs.pieces.judge_header.Goals as goal
 

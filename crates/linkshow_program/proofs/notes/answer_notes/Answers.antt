@@ -1,11 +1,12 @@
 use Rattle.std.proofs.Common.{◌≡◌, ℕ, List, Some, Err, refl, subst, ◌∙◌, inl, inr}
 use Rattle.std.specs.Prelude.{option_map}
+use Rattle.std.specs.Process.{exit_status}
 use Rattle.link_capture_engine.specs.Devices.{Rises, TellsItsEnd}
 use Rattle.link_capture_spellings.specs.Spellings.{spellings}
 use Rattle.link_lines.specs.Outcomes.{Shows}
-use Rattle.linkshow_program.specs.Devices.{sink_state}
+use Rattle.linkshow_program.specs.Devices.{kept_first, sink_state}
 use Rattle.linkshow_program.specs.Telling.{Tells}
-use Rattle.linkshow_program.specs.Runs.{chosen, notes_text, told_of}
+use Rattle.linkshow_program.specs.Runs.{chosen, notes_text, status_of, told_of}
 use Rattle.linkshow_program.proofs.notes.answer_notes.Goals as goal
 
 pub returns-in-Ok : goal.returns-in-Ok
@@ -43,5 +44,7 @@ returns-in-Ok g c =
 pub returns-in-Err : goal.returns-in-Err
 returns-in-Err g c =
     let read = c.in-Err.ensures in
-    let Told : List ℕ → Type 0 = λ x. Tells (sink_state g.E.Sink.holds g.E.Sink.failures c.args.errors.now) (sink_state g.E.Sink.holds g.E.Sink.failures c.report-in-Err.new.errors) (told_of (option_map (λ name. name.now) c.args.options.now.file) x (Err c.in-Err.fault)) in
-    (read.0, read.1, inr (c.in-Err.fault, read.2.0, read.2.1, refl, subst Told c.first-in-Err.ensures c.report-in-Err.ensures.told, c.report-in-Err.ensures.status))
+    let file = option_map (λ name. name.now) c.args.options.now.file in
+    let told = subst (λ x. Tells (sink_state g.E.Sink.holds g.E.Sink.failures c.args.errors.now) (sink_state g.E.Sink.holds g.E.Sink.failures c.report-in-Err.new.errors) (told_of file x (Err c.from.result))) c.first-in-Err.ensures c.report-in-Err.ensures.told in
+    let alone = subst (λ e. Tells (sink_state g.E.Sink.holds g.E.Sink.failures c.args.errors.now) (sink_state g.E.Sink.holds g.E.Sink.failures c.report-in-Err.new.errors) (told_of file (kept_first c.read_all.new.source) (Err e))) c.from.ensures told in
+    (read.0, read.1, inr (c.in-Err.fault, read.2.0, read.2.1, refl, alone, subst (λ e. exit_status c.report-in-Err.result ≡ status_of (Err e)) c.from.ensures c.report-in-Err.ensures.status))

@@ -2,17 +2,8 @@ use Rattle.std.proofs.Common.{refl, rules, true}
 use Rattle.std.proofs.Output.{has_written_styled_append, has_written_styled_of_eq}
 use Rattle.link_capture_refusals.proofs.refusal.RefusalDisplay.fmt.Goals as goal
 
-pub returns-in_ok-write_str-in-Some-clause-styled : goal.returns-in_ok-write_str-in-Some-clause-styled
-returns-in_ok-write_str-in-Some-clause-styled g c = λ flush ok.
+pub returns-clause-styled : goal.returns-clause-styled
+returns-clause-styled g c = λ flush ok.
     let first = c.in_ok-write_path.ensures.styled flush (refl {a = true}) in
-    let second = c.in_ok-fmt.ensures.styled first.flush (refl {a = true}) in
-    let third = c.in_ok-write_str-in-Some.ensures.styled second.flush (refl {a = true}) in
-    let fourth = c.write_str-in-Some.ensures.styled third.flush ok in
-    has_written_styled_of_eq _ _ _ _ _ (search rules)
-    (has_written_styled_append _ _ _ _ _ _ first (has_written_styled_append _ _ _ _ _ _ second (has_written_styled_append _ _ _ _ _ _ third fourth)))
-
-pub returns-in-None-clause-styled : goal.returns-in-None-clause-styled
-returns-in-None-clause-styled g c = λ flush ok.
-    let first = c.in_ok-write_path.ensures.styled flush (refl {a = true}) in
-    let second = c.in_ok-fmt.ensures.styled first.flush (refl {a = true}) in
+    let second = c.write_str.ensures.styled first.flush ok in
     has_written_styled_of_eq _ _ _ _ _ (search rules) (has_written_styled_append _ _ _ _ _ _ first second)

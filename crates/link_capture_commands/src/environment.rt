@@ -37,6 +37,6 @@ impl Alloc for BehindName<'_> {
 
 /// The words behind the program's name, which itself need be no text. None where a word is no text, or there is no
 /// memory for them.
-pub(crate) fn words(rt: &HostRuntime) -> Option<Vec<String>> {
+pub fn words(rt: &HostRuntime) -> Option<Vec<String>> {
     env::args(&BehindName { rt }).ok()?.collect(rt.alloc()).ok()
 }

@@ -1,0 +1,107 @@
+//! A fault, and what of a refused body is refused.
+
+ghost use Rattle.std.specs.Prelude.{◌≡◌, ◌+◌, ◌-◌, ◌^◌, ◌<◌, ◌≤◌, ◌++◌, ℕ, List, Some, length, vec_capacity, OnOk};
+ghost use Rattle.std.specs.Fmt.{WritesOnOk, WritesStyledOnOk};
+ghost use Rattle.link_capture_grammar.specs.declared.fault.FaultKind.{FaultKind};
+ghost use Rattle.link_capture_refusals.specs.RefusalViews.{all_found};
+ghost use Rattle.link_lines.specs.Refused.{StandsIn, alone, fault_words, refusal_told};
+
+use attribute_checks::append;
+use link_capture_grammar::fault::{CaptureFault, FaultKind};
+use link_capture_refusals::{Refusal, why_frame};
+use std::alloc::AllocError;
+use std::fmt;
+
+/// Why a capture isn't shown to its end.
+#[derive(Clone, Debug, PartialEq, Eq, Drop)]
+pub struct ShowFault {
+    /// What is wrong, and where.
+    pub fault: CaptureFault,
+    /// What of a refused body is refused: None of another fault, or where 2^63 bytes or more were read.
+    pub refusal: Option<Refusal>,
+}
+
+impl From<CaptureFault> for ShowFault {
+    ghost from_gives = { λ fault e. e ≡ alone fault };
+
+    fn from(fault: CaptureFault) -> ShowFault {
+        ShowFault {
+            fault,
+            refusal: None,
+        }
+    }
+}
+
+// Whatever options a format gives, the words are the same.
+impl fmt::Display for ShowFault {
+    ghost output = { λ e. Some (fault_words e) };
+
+    ghost styled_output = { λ e _. Some (fault_words e) };
+
+    fn fmt<W: fmt::Write>(&self, f: &mut fmt::Formatter<W>) -> fmt::Result {
+        f.write_str(self.fault.text().as_str())?;
+        match &self.refusal {
+            Some(refusal) => {
+                f.write_str(": ")?;
+                fmt::Display::fmt(refusal, f)
+            }
+            None => Ok(()),
+        }
+    }
+}
+
+/// Keeps the bytes of a cut frame, if there are any, and makes room for those of a piece behind them.
+pub(crate) fn keep(front: &mut Vec<u8>, kept: &[u8], piece: &[u8]) -> Result<(), AllocError>
+    ensures kept { OnOk result (front.new.items ≡ kept.now) }
+    ensures room { OnOk result (0 < length kept.now
+        → length kept.now + length piece.now ≤ vec_capacity front.new) }
+{
+    front.clear();
+    if kept.is_empty() {
+        return Ok(());
+    }
+    front.reserve(kept.len() + piece.len())?;
+    append(kept, front);
+    Ok(())
+}
+
+/// What of the frame with a fault is refused, of bytes that stand at `start` and have it.
+fn refusal_at(fault: CaptureFault, start: u64, bytes: &[u8]) -> Option<Refusal>
+    requires { fault.kind ≡ FaultKind.Refused → StandsIn start bytes.now fault.offset }
+    ensures { (before : List ℕ) → length before ≡ start
+        → all_found result ≡ refusal_told (before ++ bytes.now) fault.kind fault.offset }
+{
+    match fault.kind {
+        FaultKind::Refused => {
+            if start + bytes.len() as u64 >= 1 << 63 {
+                return None;
+            }
+            why_frame(&bytes[(fault.offset - start) as usize..], fault.offset)
+        }
+        _ => None,
+    }
+}
+
+/// A fault that came with a piece, where the bytes of the frame that was cut before it are kept, and stand at `start`.
+pub(crate) fn told(fault: CaptureFault, start: u64, front: &mut Vec<u8>, piece: &[u8]) -> ShowFault
+    requires frame { fault.kind ≡ FaultKind.Refused
+        → StandsIn start (front.old.items ++ piece.now) fault.offset }
+    requires room { 0 < length front.old.items
+        → length front.old.items + length piece.now ≤ vec_capacity front.old }
+    ensures fault { result.fault ≡ fault }
+    ensures refusal { (before : List ℕ) → length before ≡ start
+        → all_found result.refusal
+        ≡ refusal_told (before ++ (front.old.items ++ piece.now)) fault.kind fault.offset }
+{
+    if front.is_empty() {
+        return ShowFault {
+            fault,
+            refusal: refusal_at(fault, start, piece),
+        };
+    }
+    append(piece, front);
+    ShowFault {
+        fault,
+        refusal: refusal_at(fault, start, front.as_slice()),
+    }
+}

@@ -1,0 +1,56 @@
+//! The words of a fault, and of what of a refused body is refused.
+
+ghost use Rattle.std.specs.Prelude.{◌≡◌, map};
+ghost use Rattle.link_capture_refusals.specs.RefusalWords.{path_text};
+ghost use Rattle.link_lines.specs.Refused.{fault_words, refusal_words};
+ghost use Rattle.linkshow_program.specs.Devices.{sink_state};
+ghost use Rattle.linkshow_program.specs.Telling.{IsTold};
+
+use super::lines::{tell, tell_all};
+use link_capture_engine::Sink;
+use link_capture_refusals::{Refusal, behind_name};
+use link_lines::ShowFault;
+
+/// Tells names from outside in, and a colon where there are any.
+fn tell_path<E: Sink>(errors: &mut E, path: &[&'static str]) -> bool
+    ensures { IsTold (sink_state E.holds E.failures errors.old)
+        (sink_state E.holds E.failures errors.new)
+        (path_text (map (λ n. n.now) path.now)) result }
+{
+    let mut left = path;
+    'names: while let [name, rest @ ..] = left {
+        if !tell_all(errors, &[name, behind_name(rest)]) {
+            return false;
+        }
+        left = rest;
+    }
+    true
+}
+
+/// Tells what is refused behind a colon, where something is.
+fn tell_refusal<E: Sink>(errors: &mut E, refusal: &Option<Refusal>) -> bool
+    ensures { IsTold (sink_state E.holds E.failures errors.old)
+        (sink_state E.holds E.failures errors.new) (refusal_words refusal.now) result }
+{
+    let Some(refusal) = refusal else {
+        return true;
+    };
+    if !tell(errors, ": ") {
+        return false;
+    }
+    if !tell_path(errors, refusal.path.as_slice()) {
+        return false;
+    }
+    tell(errors, refusal.reason_text().as_str())
+}
+
+/// Tells the words of a fault, its place, and what of a refused body is refused.
+pub(crate) fn tell_words<E: Sink>(errors: &mut E, found: &ShowFault) -> bool
+    ensures { IsTold (sink_state E.holds E.failures errors.old)
+        (sink_state E.holds E.failures errors.new) (fault_words found.now) result }
+{
+    if !tell(errors, found.fault.text().as_str()) {
+        return false;
+    }
+    tell_refusal(errors, &found.refusal)
+}

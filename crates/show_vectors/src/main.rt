@@ -144,7 +144,9 @@ fn agrees(alloc: Global, case: &Case) -> Result<bool, AllocError>
     );
     let mut sink = VecSink::new(alloc);
     let mut source = SliceSource::new(case.capture.as_slice());
-    let shown = show(alloc, &mut source, &mut sink, case.limit, case.options());
+    let shown = show(alloc, &mut source, &mut sink, case.limit, case.options()).map_err(
+        |found| found.fault,
+    );
     if shown != whole || sink.bytes() != lines.as_slice() {
         return Ok(false);
     }

@@ -12,6 +12,7 @@ DEFAULT_LIMIT = 1048576
 #: any bytes-like object whose bytes lie side by side
 Capture = Union[bytes, bytearray, memoryview]
 
+_OK = _native.OK
 _KEPT = 1 << 20  # the greatest room that a thread keeps for later calls
 
 
@@ -58,8 +59,22 @@ def _room(length: int) -> "Tuple[int, int, memoryview]":
     return ctypes.addressof(buffer), length, memoryview(buffer).cast("B")
 
 
-_scratch = _Scratch()
+class _Small(threading.local):
+    """The arguments of one thread's calls over small captures."""
+
+    def __init__(self) -> None:
+        self.text = (ctypes.c_char * (2 * _SMALL))()
+        self.length, self.other, self.size = ctypes.c_size_t(), ctypes.c_size_t(), ctypes.c_uint64()
+        self.fault = _native.FaultStruct()
+        self.fault_at = ctypes.c_void_p(ctypes.addressof(self.fault))
+        out = ctypes.c_void_p(ctypes.addressof(self.text)), ctypes.c_size_t(2 * _SMALL)
+        self.writing = (self.length, *out, ctypes.c_void_p(ctypes.addressof(self.size)), self.fault_at, self.text, self.size)
+
+
+_SMALL = 4096  # the length of a small capture
+_scratch, _small = _Scratch(), _Small()
 _check, _same = _native.library.linkcap_check, _native.library.linkcap_same
+_check_small, _same_small, _normalize_small = map(_native.small, ("linkcap_check", "linkcap_same", "linkcap_normalize"))
 
 
 def _refuse(status: int, scratch: _Scratch, written: bytes = b"") -> Exception:
@@ -77,6 +92,11 @@ def _no_limit() -> Exception:
 
 def check(capture: Capture, limit: int = DEFAULT_LIMIT) -> None:
     """Returns where a capture is legal; else raises its first `Fault`."""
+    if type(capture) is bytes and len(capture) <= _SMALL and 0 <= limit < 1 << 32:
+        small = _small
+        small.length.value = len(capture)
+        if _check_small(capture, small.length, limit, small.fault_at) == _OK:
+            return
     if not 0 <= limit < 1 << 32:
         raise _no_limit()
     scratch = _scratch
@@ -127,6 +147,11 @@ _normalize, _show, _show_with = _native.library.linkcap_normalize, _native.libra
 
 def normalize(capture: Capture, limit: int = DEFAULT_LIMIT) -> bytes:
     """The normal text of a legal capture; else raises its first `Fault`, whose `written` are the texts before it."""
+    if type(capture) is bytes and len(capture) <= _SMALL and 0 <= limit < 1 << 32:
+        length, out, room, size_at, fault_at, text, size = _small.writing
+        length.value = len(capture)
+        if _normalize_small(capture, length, limit, out, room, size_at, fault_at) == _OK:
+            return text[:size.value]
     return _write(_normalize, capture, limit)
 
 
@@ -138,7 +163,14 @@ def same(first: Capture, second: Capture, limit: int = DEFAULT_LIMIT) -> bool:
     if not 0 <= limit < 1 << 32:
         raise _no_limit()
     scratch = _scratch
-    if type(first) is bytes and type(second) is bytes:
+    if type(first) is bytes and type(second) is bytes and len(first) + len(second) <= _SMALL:
+        small = _small
+        small.length.value, small.other.value = len(first), len(second)
+        status = _same_small(first, small.length, second, small.other, limit, small.fault_at)
+        if status <= _native.DIFFERENT:
+            return status == _OK
+        status = _same(first, len(first), second, len(second), limit, scratch.fault_at)
+    elif type(first) is bytes and type(second) is bytes:
         status = _same(first, len(first), second, len(second), limit, scratch.fault_at)
     else:
         with _native.Borrowed(first) as one, _native.Borrowed(second) as other:

@@ -85,3 +85,11 @@ def _load() -> ctypes.CDLL:
 
 
 library = _load()
+
+
+def small(call: str):
+    """A call for captures so small that it needs no more than microseconds: it keeps the interpreter's lock, and takes its
+    arguments as ctypes objects, of which nothing has to be made anew."""
+    quick = ctypes.PyDLL(library._name)[call]
+    quick.restype = ctypes.c_uint32
+    return quick

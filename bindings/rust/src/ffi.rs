@@ -64,15 +64,6 @@ extern "C" {
         limit: u32,
         fault: &mut Fault,
     ) -> u32;
-    pub fn linkcap_show(
-        capture: *const u8,
-        length: usize,
-        limit: u32,
-        out: *mut u8,
-        room: usize,
-        written: &mut u64,
-        fault: &mut Fault,
-    ) -> u32;
     pub fn linkcap_show_with(
         capture: *const u8,
         length: usize,

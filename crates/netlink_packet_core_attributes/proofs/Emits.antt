@@ -8,6 +8,7 @@ use Rattle.std.proofs.lemmas.Bool.{true_from_ne_false}
 use borrow.Rule.Slice.PartMut.{put_mid}
 use Rattle.netlink_packet_core_grammar.specs.Attributes.{nla_align, Attribute, attribute_length, attribute_text, list_text}
 use Rattle.netlink_packet_core_grammar.specs.Fits.{attribute_fits}
+use Rattle.netlink_packet_core_grammar.specs.Numbers.{u16_at}
 use Rattle.netlink_packet_core_attributes.specs.Lists.{text_by, size_by, all_fit_by}
 
 pub emitted : (at n : ℕ) (front text init buf new : List ℕ) → length front ≡ at → buf ≡ front ++ drop at init → new ≡ text ++ drop n (drop at buf) → put_mid at (length buf - at) buf new ≡ (front ++ text) ++ drop (at + n) init
@@ -45,3 +46,8 @@ pub room-at : {V : Type 0} (entry : V → Attribute) (xs : List V) (i : ℕ) (v 
 room-at entry xs i v l h =
     let k : size_by entry (take i xs) + nla_align (attribute_length (entry (get_or xs i v))) ≤ size_by entry xs = sum_by_more_le (λ y. nla_align (attribute_length (entry y))) xs i v l in
     rw (sym h) at k
+
+-- the header of an attribute that was written tells its length
+pub told_by_header : (e : Attribute) (text : List ℕ) → u16_at 0 (attribute_text e ++ text) ≡ attribute_length e
+unfolding u16_at attribute_text
+told_by_header e text = omega arith

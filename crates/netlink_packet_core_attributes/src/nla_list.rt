@@ -103,7 +103,9 @@ pub fn emit_all<N: Nla>(items: &[N], buffer: &mut [u8])
 {
     let mut at = 0usize;
     for item in items {
-        item.emit(&mut buffer[at..]);
-        at += item.buffer_len();
+        let rest = &mut buffer[at..];
+        item.emit(rest);
+        // The header that was written tells the size, so the value isn't asked for it again.
+        at += nla_align(read_u16(rest, 0) as usize);
     }
 }

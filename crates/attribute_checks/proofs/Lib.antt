@@ -5,4 +5,5 @@ pub mod NameRows
 pub mod OwnText
 pub mod SameShapes
 pub mod WriteSteps
+pub mod FrontSteps
 pub mod Sameness

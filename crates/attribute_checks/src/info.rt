@@ -15,12 +15,11 @@ ghost use Rattle.attribute_checks.specs.Sameness.{attribute_of};
 
 use crate::attribute::{Attribute, first_attribute, is_own_attribute};
 use crate::measure::{measure_held, with_attribute};
-use crate::room::{append_header, append_padding};
 use crate::rows::{Held, Shape};
 use crate::same::same_held;
 use crate::shapes::{Measured, NOTHING_YET};
 use crate::tables::{TableSet, WriteSet};
-use crate::write::{plan, write_held};
+use crate::write::write_attribute;
 use attribute_tables_grammar::laws::{
     attributes_are_compared, measures_go_by_steps, names_are_looked_up, own_texts_go_by_steps,
     sameness_goes_by_steps, texts_are_written_by_steps, what_is_kept_goes_by_steps,
@@ -188,16 +187,8 @@ pub fn write_info<T: NameSet + WriteSet>(set: &T, bytes: &[u8], out: &mut Vec<u8
         let Some(held) = info_held(set, force, kind) else {
             unreachable!();
         };
-        let Some(plan) = plan(set, held, attribute.payload) else {
-            unreachable!();
-        };
-        append_header(
-            info_kind(set, force, attribute.kind),
-            plan.size as usize,
-            out,
-        );
-        write_held(set, plan.held, attribute.payload, out);
-        append_padding(plan.size as usize, out);
+        let written_kind = info_kind(set, force, attribute.kind);
+        write_attribute(set, held, written_kind, attribute.payload, out);
         force = next_force(force, kind, attribute.payload);
         rest = after;
     }

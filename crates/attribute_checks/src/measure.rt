@@ -1,10 +1,11 @@
 //! Measures of lists, without a typed value.
 
-ghost use Rattle.std.specs.Prelude.{◌≡◌, ◌<◌, ◌+◌, ◌*◌, ◌^◌, ◌&&◌, ℕ, true, false, option_map, IfSome};
+ghost use Rattle.std.specs.Prelude.{◌≡◌, ◌<◌, ◌+◌, ◌*◌, ◌^◌, ◌&&◌, ℕ, true, false, cond, option_map, IfSome};
 ghost use Rattle.attribute_tables_grammar.specs.Lists.{is_kept, first_alone, list_rule};
 ghost use Rattle.attribute_tables_grammar.specs.LookUps.{payload_rule};
 ghost use Rattle.attribute_tables_grammar.specs.Walks.{measure, plus, with_header, dropped, closed};
 ghost use Rattle.attribute_checks.specs.Rows.{is_below, payload_of, form_of};
+ghost use Rattle.attribute_checks.specs.Fronts.{IsOwnFront};
 ghost use Rattle.attribute_checks.specs.Measures.{view, rows_of};
 
 use crate::attribute::{Attribute, first_attribute, is_own_attribute};
@@ -92,26 +93,47 @@ pub fn measure_held<T: TableSet>(set: &T, held: Held, bytes: &[u8]) -> Option<Me
         Held::Plain(shape) => measure_shape(shape, bytes),
         Held::Peer => set.measure_peer(bytes),
         Held::LinkInfo => set.measure_info(bytes),
-        Held::List(form, table) => measure_list(set, form, table, bytes),
+        Held::List(form, table) => match walk_list(set, form, table, bytes) {
+            Some(walked) => Some(walked.found),
+            None => None,
+        },
     }
 }
 
-// Whether bytes are a list of this form under a table, and its measure.
+/// What is found of a list in one walk.
+#[derive(Clone, Copy)]
+pub struct Walked {
+    /// The measure of the whole list.
+    pub found: Measured,
+    /// How many bytes in front are known to be their own text, up to the end of an attribute.
+    pub front: usize,
+}
+
+// How far the front goes that is known to be its own text, where it goes up to an end as long as all is.
+fn front_after(front: usize, is_own: bool, end: usize) -> usize
+    ensures { result ≡ cond is_own end front }
+{
+    if is_own { end } else { front }
+}
+
+/// Whether bytes are a list of this form under a table, its measure, and how far from its front it is its own text.
 #[cycle(measure)]
-fn measure_list<T: TableSet>(set: &T, form: Form, table: u8, bytes: &[u8]) -> Option<Measured>
+pub fn walk_list<T: TableSet>(set: &T, form: Form, table: u8, bytes: &[u8]) -> Option<Walked>
     requires { table < T.count }
-    ensures measure { option_map view result
+    ensures measure { option_map (λ w. view w.found) result
         ≡ measure (list_rule (form_of form) (rows_of T.peer (T.tables table))) bytes.now }
     ensures own { IfSome result
-        (λ m. m.is_own ≡ true
+        (λ w. w.found.is_own ≡ true
         → (list_rule (form_of form) (rows_of T.peer (T.tables table))).canonical bytes.now ≡ bytes.now) }
+    ensures front { IfSome result
+        (λ w. IsOwnFront (list_rule (form_of form) (rows_of T.peer (T.tables table))) bytes.now w.front) }
 {
     measures_go_by_steps();
     measures_tell_rules();
     own_texts_go_by_steps();
     first_attributes_are_within();
     match form {
-        Form::FirstAlone => return measure_first(set, table, bytes),
+        Form::FirstAlone => return walk_first(set, table, bytes),
         Form::NonEmpty | Form::Ports => {
             if bytes.is_empty() {
                 return None;
@@ -120,6 +142,7 @@ fn measure_list<T: TableSet>(set: &T, form: Form, table: u8, bytes: &[u8]) -> Op
         Form::Any | Form::OfKindOne => {}
     }
     let mut total = NOTHING_YET;
+    let mut front = 0usize;
     let mut rest = bytes;
     while !rest.is_empty() {
         let Some((attribute, after)) = first_attribute(rest) else {
@@ -132,23 +155,29 @@ fn measure_list<T: TableSet>(set: &T, form: Form, table: u8, bytes: &[u8]) -> Op
             };
             let is_own = is_own_attribute(rest, attribute, after);
             total = with_attribute(total, inside, is_own & (found.kind == attribute.kind));
+            front = front_after(front, total.is_own, bytes.len() - after.len());
         } else {
             total = with_dropped(total);
         }
         rest = after;
     }
-    Some(close(form, total))
+    let found = close(form, total);
+    match form {
+        Form::Any => Some(Walked { found, front }),
+        _ => Some(Walked { found, front: 0 }),
+    }
 }
 
-// Whether bytes begin with an attribute of a table, and the measure of that one alone.
+// Whether bytes begin with an attribute of a table, and the measure of that one alone; no front of theirs is told.
 #[cycle(measure)]
-fn measure_first<T: TableSet>(set: &T, table: u8, bytes: &[u8]) -> Option<Measured>
+fn walk_first<T: TableSet>(set: &T, table: u8, bytes: &[u8]) -> Option<Walked>
     requires { table < T.count }
-    ensures measure { option_map view result
+    ensures measure { option_map (λ w. view w.found) result
         ≡ measure (list_rule first_alone (rows_of T.peer (T.tables table))) bytes.now }
     ensures own { IfSome result
-        (λ m. m.is_own ≡ true
+        (λ w. w.found.is_own ≡ true
         → (list_rule first_alone (rows_of T.peer (T.tables table))).canonical bytes.now ≡ bytes.now) }
+    ensures front { IfSome result (λ w. w.front ≡ 0) }
 {
     measures_go_by_steps();
     measures_tell_rules();
@@ -163,5 +192,8 @@ fn measure_first<T: TableSet>(set: &T, table: u8, bytes: &[u8]) -> Option<Measur
     };
     let is_own = is_own_attribute(bytes, attribute, after);
     let is_whole = is_own & ((found.kind == attribute.kind) & after.is_empty());
-    Some(with_attribute(NOTHING_YET, inside, is_whole))
+    Some(Walked {
+        found: with_attribute(NOTHING_YET, inside, is_whole),
+        front: 0,
+    })
 }

@@ -1,6 +1,6 @@
 //! Bytes at the end of a vector that has room for them.
 
-ghost use Rattle.std.specs.Prelude.{◌≡◌, ◌≤◌, ◌+◌, ◌-◌, ◌++◌, length, vec_capacity};
+ghost use Rattle.std.specs.Prelude.{◌≡◌, ◌≤◌, ◌+◌, ◌-◌, ◌++◌, length, take, drop, vec_capacity};
 ghost use Rattle.netlink_packet_core_grammar.specs.Attributes.{attribute_header, nla_align, zeros};
 
 /// Appends bytes.
@@ -25,17 +25,18 @@ pub fn append_zeros(count: usize, out: &mut Vec<u8>)
     }
 }
 
-/// Appends the header of an attribute with a payload of this size: length and kind, 2 bytes each,
-/// lowest byte first (netlink.h, struct nlattr).
-pub fn append_header(kind: u16, size: usize, out: &mut Vec<u8>)
+/// Writes the header of an attribute with a payload of this size over the four bytes at a place: length and kind, 2
+/// bytes each, lowest byte first (netlink.h, struct nlattr).
+pub fn write_header(at: usize, kind: u16, size: usize, out: &mut Vec<u8>)
+    requires place { at + 4 ≤ length out.old.items }
     requires size { 4 + size ≤ 65535 }
-    requires room { length out.old.items + 4 ≤ vec_capacity out.old }
-    ensures text { out.new.items ≡ out.old.items ++ attribute_header (4 + size) kind }
+    ensures text { out.new.items
+        ≡ take at out.old.items ++ (attribute_header (4 + size) kind ++ drop (at + 4) out.old.items) }
     ensures room { vec_capacity out.old ≤ vec_capacity out.new }
 {
     let [a, b] = (4 + size as u16).to_le_bytes();
     let [c, d] = kind.to_le_bytes();
-    append(&[a, b, c, d], out);
+    out.as_mut_slice()[at..at + 4].copy_from_slice(&[a, b, c, d]);
 }
 
 /// Appends the zeros behind a payload of this size.

@@ -2,6 +2,8 @@
 use Rattle.std.specs.Prelude.{◌≡◌, ℕ, ◌+◌, ◌≤◌, ◌<◌, true, List, [], length, Result, Ok, Err, Vec, vec_capacity}
 use Rattle.netlink_packet_core_grammar.specs.Attributes.{nla_align}
 use Rattle.netlink_packet_core_grammar.specs.Frames.{IsFrame, frame_type, frame_body, frame_text}
+use Rattle.link_message_grammar.specs.Body.{link_peer}
+use Rattle.link_message_checks.specs.Fronts.{IsBodyFront}
 use Rattle.link_capture_grammar.specs.Bodies.{Refusal, body_text}
 use Rattle.link_capture_grammar.specs.Captures.{first_frame, texts}
 use Rattle.link_capture_grammar.specs.Numbers.{attributes, frame_attributes, frames}
@@ -32,6 +34,7 @@ pub record IsFrameText (limit : ℕ) (c : List ℕ) (m : FrameText) : Type 0 whe
   pub aligned : m.text_len ≡ nla_align m.size
   pub attributes : m.attributes ≡ frame_attributes c
   pub own : m.is_own ≡ true → body ≡ frame_body c
+  pub front : IsBodyFront link_peer (frame_body c) m.front
 
 -- the text of a body that has one
 abbrev pub written : Result (List ℕ) Refusal → List ℕ

@@ -1,7 +1,8 @@
 //! What the bodies of frames are written as, by the types of their messages.
 
 ghost use Rattle.std.specs.Prelude.{◌≡◌, ◌≤◌, ◌+◌, ◌++◌, true, length, is_ok, vec_capacity, IfOk, IfErr, Ok, Err};
-ghost use Rattle.link_message_grammar.specs.Body.{link_body};
+ghost use Rattle.link_message_grammar.specs.Body.{link_body, link_peer};
+ghost use Rattle.link_message_checks.specs.Fronts.{IsBodyFront};
 ghost use Rattle.link_capture_grammar.specs.Bodies.{body_text, done_text, error_text, ruled_text};
 ghost use Rattle.link_capture_grammar.specs.Captures.{faulty};
 ghost use Rattle.link_capture_grammar.specs.Numbers.{body_attributes};
@@ -9,10 +10,10 @@ ghost use Rattle.link_capture_grammar.specs.Same.{done_body};
 ghost use Rattle.link_capture_checks.specs.Measures.{IsBodyText, written};
 
 use crate::texts::BodyText;
-use attribute_checks::append;
+use attribute_checks::{Walked, append};
 use attribute_tables_grammar::laws::measures_tell_rules;
 use link_capture_grammar::fault::FaultKind;
-use link_message_checks::{measure_body as measure_link_body, write_body};
+use link_message_checks::{walk_body, write_body};
 use netlink_packet_core::{NLMSG_DONE, NLMSG_ERROR, NLMSG_NOOP};
 
 /// The bytes of the code in front of the body of a DONE or an ERROR message.
@@ -30,18 +31,21 @@ pub(crate) fn with_code(body: &[u8]) -> &[u8]
 
 // A body that is written as it stands.
 fn kept(body: &[u8]) -> BodyText
-    ensures { IsBodyText body.now (Ok body.now) 0 result }
+    ensures text { IsBodyText body.now (Ok body.now) 0 result }
+    ensures front { result.front ≡ 0 }
 {
     BodyText {
         len: body.len() as u128,
         attributes: 0,
         is_own: true,
+        front: 0,
     }
 }
 
 // The body of an ERROR message: a code and more.
 fn measure_error(body: &[u8]) -> Result<BodyText, FaultKind>
     ensures ok { IfOk result (λ m. IsBodyText body.now (error_text body.now) 0 m) }
+    ensures front { IfOk result (λ m. m.front ≡ 0) }
     ensures err { IfErr result (λ kind. faulty (error_text body.now) ≡ Err kind) }
 {
     if body.len() < CODE_LEN {
@@ -54,6 +58,7 @@ fn measure_error(body: &[u8]) -> Result<BodyText, FaultKind>
 // The body of a DONE message: a code and more, or nothing, which is the code 0.
 fn measure_done(body: &[u8]) -> Result<BodyText, FaultKind>
     ensures ok { IfOk result (λ m. IsBodyText body.now (done_text body.now) 0 m) }
+    ensures front { IfOk result (λ m. m.front ≡ 0) }
     ensures err { IfErr result (λ kind. faulty (done_text body.now) ≡ Err kind) }
 {
     if body.is_empty() {
@@ -61,6 +66,7 @@ fn measure_done(body: &[u8]) -> Result<BodyText, FaultKind>
             len: CODE_LEN as u128,
             attributes: 0,
             is_own: false,
+            front: 0,
         });
     }
     measure_error(body)
@@ -70,10 +76,11 @@ fn measure_done(body: &[u8]) -> Result<BodyText, FaultKind>
 fn measure_link(body: &[u8]) -> Result<BodyText, FaultKind>
     ensures ok { IfOk result
         (λ m. IsBodyText body.now (ruled_text link_body body.now) (link_body.attributes body.now) m) }
+    ensures front { IfOk result (λ m. IsBodyFront link_peer body.now m.front) }
     ensures err { IfErr result (λ kind. faulty (ruled_text link_body body.now) ≡ Err kind) }
 {
     measures_tell_rules();
-    let Some(found) = measure_link_body(body) else {
+    let Some(Walked { found, front }) = walk_body(body) else {
         return Err(FaultKind::Refused);
     };
     if found.empty_ports {
@@ -86,6 +93,7 @@ fn measure_link(body: &[u8]) -> Result<BodyText, FaultKind>
         len: found.text_len,
         attributes: found.attributes,
         is_own: found.is_own,
+        front,
     })
 }
 
@@ -93,6 +101,7 @@ fn measure_link(body: &[u8]) -> Result<BodyText, FaultKind>
 pub(crate) fn measure_body(message_type: u16, body: &[u8]) -> Result<BodyText, FaultKind>
     ensures ok { IfOk result (λ m. IsBodyText body.now (body_text message_type body.now)
         (body_attributes message_type body.now) m) }
+    ensures front { IfOk result (λ m. IsBodyFront link_peer body.now m.front) }
     ensures err { IfErr result (λ kind. faulty (body_text message_type body.now) ≡ Err kind) }
 {
     match message_type {
@@ -100,6 +109,7 @@ pub(crate) fn measure_body(message_type: u16, body: &[u8]) -> Result<BodyText, F
             len: 0,
             attributes: 0,
             is_own: false,
+            front: 0,
         }),
         NLMSG_ERROR => measure_error(body),
         NLMSG_DONE => measure_done(body),
@@ -109,10 +119,18 @@ pub(crate) fn measure_body(message_type: u16, body: &[u8]) -> Result<BodyText, F
     }
 }
 
-/// Appends the text of a body that has one, for which there has to be room.
-pub(crate) fn push_body(message_type: u16, body: &[u8], is_own: bool, out: &mut Vec<u8>)
+/// Appends the text of a body that has one, of which so many bytes in front are known to be written as they stand where it
+/// is a link message's, for which there has to be room.
+pub(crate) fn push_body(
+    message_type: u16,
+    body: &[u8],
+    is_own: bool,
+    front: usize,
+    out: &mut Vec<u8>,
+)
     requires text { is_ok (body_text message_type body.now) ≡ true }
     requires own { is_own ≡ true → body_text message_type body.now ≡ Ok body.now }
+    requires front { IsBodyFront link_peer body.now front }
     requires room { length out.old.items + length (written (body_text message_type body.now))
         ≤ vec_capacity out.old }
     ensures text { out.new.items ≡ out.old.items ++ written (body_text message_type body.now) }
@@ -126,7 +144,7 @@ pub(crate) fn push_body(message_type: u16, body: &[u8], is_own: bool, out: &mut 
         NLMSG_ERROR => append(body, out),
         NLMSG_DONE => append(with_code(body), out),
         // RTM_NEWLINK, RTM_DELLINK, RTM_GETLINK and RTM_SETLINK (rtnetlink.h)
-        16..=19 => write_body(body, out),
+        16..=19 => write_body(body, front, out),
         _ => append(body, out),
     }
 }

@@ -4,6 +4,8 @@ ghost use Rattle.std.specs.Prelude.{◌≡◌, ◌≢◌, ◌≤◌, ◌<◌, �
 ghost use Rattle.std.specs.Prelude.{is_ok, vec_capacity, IfOk, IfErr, OnErr, Ok, Err};
 ghost use Rattle.netlink_packet_core_grammar.specs.Attributes.{nla_align};
 ghost use Rattle.netlink_packet_core.specs.Frames.{IsFrame, frame_length, frame_type, frame_body, frame_text};
+ghost use Rattle.link_message_grammar.specs.Body.{link_peer};
+ghost use Rattle.link_message_checks.specs.Fronts.{IsBodyFront};
 ghost use Rattle.link_capture_grammar.specs.Bodies.{body_text};
 ghost use Rattle.link_capture_grammar.specs.Captures.{IsOfFrames, Judged, first_frame, tested};
 ghost use Rattle.link_capture_checks.specs.Measures.{IsFrameText, LacksRoom, written};
@@ -61,6 +63,7 @@ pub fn measure_frame(bytes: &[u8], limit: u32) -> Result<FrameText, FaultKind>
         len: body_len,
         attributes,
         is_own,
+        front,
     } = measure_body(message_type, body(bytes))?;
     if body_len > (limit as usize - NETLINK_HEADER_LEN) as u128 {
         return Err(FaultKind::TextOverLimit);
@@ -72,16 +75,18 @@ pub fn measure_frame(bytes: &[u8], limit: u32) -> Result<FrameText, FaultKind>
         text_len: nla_align(size),
         attributes,
         is_own,
+        front,
     })
 }
 
 // Appends the text of the frame in front, whose body has one, with this size in its header, for which there has to be
 // room.
-fn push_text(bytes: &[u8], size: u32, is_own: bool, out: &mut Vec<u8>)
+fn push_text(bytes: &[u8], size: u32, is_own: bool, front: usize, out: &mut Vec<u8>)
     requires frame { IsFrame bytes.now }
     requires text { is_ok (body_text (frame_type bytes.now) (frame_body bytes.now)) ≡ true }
     requires own { is_own ≡ true
         → body_text (frame_type bytes.now) (frame_body bytes.now) ≡ Ok (frame_body bytes.now) }
+    requires front { IsBodyFront link_peer (frame_body bytes.now) front }
     requires size { size
         ≡ 16 + length (written (body_text (frame_type bytes.now) (frame_body bytes.now))) }
     requires room { length out.old.items + nla_align size ≤ vec_capacity out.old }
@@ -92,7 +97,7 @@ fn push_text(bytes: &[u8], size: u32, is_own: bool, out: &mut Vec<u8>)
     append(&size.to_le_bytes(), out);
     append(&bytes[4..NETLINK_HEADER_LEN], out);
     let message_type = NetlinkBuffer::new(bytes).message_type();
-    push_body(message_type, body(bytes), is_own, out);
+    push_body(message_type, body(bytes), is_own, front, out);
     let size = size as usize;
     append_zeros(nla_align(size) - size, out);
 }
@@ -118,11 +123,12 @@ pub fn push_frame(bytes: &[u8], limit: u32, out: &mut Vec<u8>) -> Result<usize, 
         size,
         text_len,
         is_own,
+        front,
         ..
     } = measure_frame(bytes, limit)?;
     let Ok(()) = out.reserve(text_len) else {
         return Err(FaultKind::Memory);
     };
-    push_text(bytes, size as u32, is_own, out);
+    push_text(bytes, size as u32, is_own, front, out);
     Ok(len)
 }

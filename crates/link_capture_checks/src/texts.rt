@@ -9,6 +9,8 @@ pub(crate) struct BodyText {
     pub attributes: u64,
     /// Whether it is known to be the body as it stands; it may be so besides.
     pub is_own: bool,
+    /// How many bytes in front are known to be written as they stand, where it is a link message's; 0 in others.
+    pub front: usize,
 }
 
 /// What a frame is written as.
@@ -24,6 +26,8 @@ pub struct FrameText {
     pub attributes: u64,
     /// Whether the body is known to be written as it stands; it may be so besides.
     pub is_own: bool,
+    /// How many bytes in front of a link message's body are known to be written as they stand; 0 in others.
+    pub front: usize,
 }
 
 /// The numbers of a legal capture.

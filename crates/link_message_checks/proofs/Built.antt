@@ -1,5 +1,5 @@
 -- The constant rows are the tables.
-use Rattle.std.proofs.Common.{◌≡◌, ℕ, true, List, [], ◌∷◌, get_or, map, refl}
+use Rattle.std.proofs.Common.{◌≡◌, ℕ, true, List, [], get_or, map, refl}
 use Rattle.attribute_tables_grammar.specs.Tables.{Table.end, rows_bounded}
 use Rattle.attribute_checks.specs.declared.rows.Row.{Row}
 use Rattle.attribute_checks.specs.Rows.{build, are_dense, are_known}

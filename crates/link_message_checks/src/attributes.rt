@@ -6,7 +6,7 @@ ghost use Rattle.netlink_packet_core_grammar.specs.Attributes.{proper_kind};
 ghost use Rattle.link_message_grammar.specs.LinkMessage.{family_of};
 ghost use Rattle.link_message_grammar.specs.Body.{attribute_row, attributes_rule};
 
-use crate::body::{MessageTables, measure_attributes, table_of_family};
+use crate::body::{MessageTables, table_of_family, walk_attributes};
 use crate::peer::LinkPeer;
 use attribute_checks::{find, measure_held};
 use attribute_tables_grammar::laws::measures_tell_rules;
@@ -30,5 +30,5 @@ pub fn accepts_attributes(family: u8, bytes: &[u8]) -> bool
     ensures { result ≡ (attributes_rule (family_of family)).accepted bytes.now }
 {
     measures_tell_rules();
-    measure_attributes(&LinkPeer, family, bytes).is_some()
+    walk_attributes(&LinkPeer, family, bytes).is_some()
 }

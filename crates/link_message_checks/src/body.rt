@@ -1,20 +1,24 @@
 //! Bodies of link messages and their attributes, over peers.
 
-ghost use Rattle.std.specs.Prelude.{◌≡◌, ◌≤◌, ◌<◌, ◌+◌, ◌++◌, true, length, option_map, vec_capacity, IfSome};
+ghost use Rattle.std.specs.Prelude.{◌≡◌, ◌≤◌, ◌<◌, ◌+◌, ◌^◌, ◌++◌, true, cond, length, option_map, vec_capacity, IfSome};
 ghost use Rattle.attribute_tables_grammar.specs.Walks.{measure};
 ghost use Rattle.link_message_grammar.specs.Laws.{BodyLaws};
 ghost use Rattle.link_message_grammar.specs.LinkMessage.{family_of, info, link_table};
 ghost use Rattle.link_message_grammar.specs.Body.{body_rule, list_rule_of};
 ghost use Rattle.attribute_checks.specs.Measures.{view};
+ghost use Rattle.attribute_checks.specs.Fronts.{IsOwnFront};
+ghost use Rattle.link_message_checks.specs.Fronts.{IsBodyFront};
 ghost use Rattle.link_message_checks.specs.Tables.{table_of};
 
 use crate::header::{HEADER_LEN, is_own_header, same_header, write_header};
 use crate::rows::TABLES;
 use attribute_checks::{
-    Form, Held, Measured, PeerSet, Row, TableSet, WritePeer, WriteSet, measure_held, same_held,
-    table_at, write_held,
+    Form, Held, Measured, PeerSet, Row, TableSet, Walked, WritePeer, WriteSet, append, same_held,
+    table_at, walk_list, write_held,
 };
-use attribute_tables_grammar::laws::{measures_tell_rules, sameness_goes_by_steps};
+use attribute_tables_grammar::laws::{
+    measures_tell_rules, rows_are_looked_up, sameness_goes_by_steps,
+};
 use link_info_checks::{measure_list, same_list_over, write_list};
 use link_message_grammar::laws::{
     bodies_are_measured, bodies_are_small, body_laws_hold_for_any_peers,
@@ -103,44 +107,62 @@ pub(crate) fn table_of_family(family: u8) -> u8
     18
 }
 
-// Whether the bytes are attributes of a family over these peers, and their measure.
-pub(crate) fn measure_attributes<P: PeerSet>(
-    peers: &P,
-    family: u8,
-    bytes: &[u8],
-) -> Option<Measured>
-    ensures measure { option_map view result
+// Whether the bytes are attributes of a family over these peers, their measure, and how far from their front they are
+// their own text.
+pub(crate) fn walk_attributes<P: PeerSet>(peers: &P, family: u8, bytes: &[u8]) -> Option<Walked>
+    ensures measure { option_map (λ w. view w.found) result
         ≡ measure (list_rule_of P.peer (family_of family)) bytes.now }
     ensures own { IfSome result
-        (λ m. m.is_own ≡ true
+        (λ w. w.found.is_own ≡ true
         → (list_rule_of P.peer (family_of family)).canonical bytes.now ≡ bytes.now) }
+    ensures front { IfSome result
+        (λ w. IsOwnFront (list_rule_of P.peer (family_of family)) bytes.now w.front) }
 {
-    let held = Held::List(Form::Any, table_of_family(family));
-    measure_held(&MessageTables(peers), held, bytes)
+    rows_are_looked_up();
+    walk_list(
+        &MessageTables(peers),
+        Form::Any,
+        table_of_family(family),
+        bytes,
+    )
+}
+
+// How far a body is its own text, whose attributes are so far.
+fn front_of(is_own_header: bool, front: usize) -> usize
+    requires { 16 + front < 2 ^ 64 }
+    ensures { result ≡ cond is_own_header (16 + front) 0 }
+{
+    if is_own_header { HEADER_LEN + front } else { 0 }
 }
 
 // Whether the bytes are a body over these peers, and what is found in one walk of them.
-pub(crate) fn measure_body_over<P: PeerSet>(peers: &P, bytes: &[u8]) -> Option<Measured>
-    ensures measure { option_map view result ≡ measure (body_rule P.peer) bytes.now }
+pub(crate) fn walk_body_over<P: PeerSet>(peers: &P, bytes: &[u8]) -> Option<Walked>
+    ensures measure { option_map (λ w. view w.found) result ≡ measure (body_rule P.peer) bytes.now }
     ensures own { IfSome result
-        (λ m. m.is_own ≡ true → (body_rule P.peer).canonical bytes.now ≡ bytes.now) }
+        (λ w. w.found.is_own ≡ true → (body_rule P.peer).canonical bytes.now ≡ bytes.now) }
+    ensures front { IfSome result (λ w. IsBodyFront P.peer bytes.now w.front) }
 {
     bodies_are_measured();
     if bytes.len() < HEADER_LEN {
         return None;
     }
-    let Some(found) = measure_attributes(peers, bytes[0], &bytes[HEADER_LEN..]) else {
+    let Some(walked) = walk_attributes(peers, bytes[0], &bytes[HEADER_LEN..]) else {
         return None;
     };
     measures_tell_rules();
     bodies_are_small();
     peers.peers_are_lawful();
-    Some(Measured {
-        text_len: 16 + found.text_len,
-        attributes: found.attributes,
-        fits: found.fits,
-        empty_ports: found.empty_ports,
-        is_own: found.is_own & is_own_header(bytes),
+    let is_own_header = is_own_header(bytes);
+    let Walked { found, front } = walked;
+    Some(Walked {
+        found: Measured {
+            text_len: 16 + found.text_len,
+            attributes: found.attributes,
+            fits: found.fits,
+            empty_ports: found.empty_ports,
+            is_own: found.is_own & is_own_header,
+        },
+        front: front_of(is_own_header, front),
     })
 }
 
@@ -178,17 +200,28 @@ fn write_attributes<P: WritePeer>(peers: &P, family: u8, bytes: &[u8], out: &mut
     write_held(&MessageTables(peers), held, bytes, out);
 }
 
-// Appends the canonical text of an accepted body over these peers that fits, for which there has to
-// be room.
-pub(crate) fn write_body_over<P: WritePeer>(peers: &P, bytes: &[u8], out: &mut Vec<u8>)
+// Appends the canonical text of an accepted body over these peers that fits, of which so many bytes in front are known to
+// be their own text, for which there has to be room.
+pub(crate) fn write_body_over<P: WritePeer>(
+    peers: &P,
+    bytes: &[u8],
+    front: usize,
+    out: &mut Vec<u8>,
+)
     requires accepted { (body_rule P.peer).accepted bytes.now ≡ true }
     requires fits { (body_rule P.peer).fits bytes.now ≡ true }
+    requires front { IsBodyFront P.peer bytes.now front }
     requires room { length out.old.items + length ((body_rule P.peer).canonical bytes.now)
         ≤ vec_capacity out.old }
     ensures text { out.new.items ≡ out.old.items ++ (body_rule P.peer).canonical bytes.now }
     ensures room { vec_capacity out.old ≤ vec_capacity out.new }
 {
     body_laws_hold(peers);
-    write_header(bytes, out);
-    write_attributes(peers, bytes[0], &bytes[HEADER_LEN..], out);
+    if front < HEADER_LEN {
+        write_header(bytes, out);
+        write_attributes(peers, bytes[0], &bytes[HEADER_LEN..], out);
+    } else {
+        append(&bytes[..front], out);
+        write_attributes(peers, bytes[0], &bytes[front..], out);
+    }
 }

@@ -10,5 +10,5 @@ mod peer;
 mod rows;
 
 pub use attributes::{accepts_attribute, accepts_attributes};
-pub use message::{BodyMeasure, check, measure_body, same, write_body, write_canonical};
+pub use message::{BodyMeasure, check, same, walk_body, write_body, write_canonical};
 pub use peer::LinkPeer;

@@ -6,13 +6,14 @@ ghost use Rattle.std.specs.Prelude.{◌≡◌, ◌≤◌, ◌<◌, ◌+◌, ◌+
 ghost use Rattle.std.specs.Prelude.{is_ok, option_map, vec_capacity, IfSome, IfOk, IfErr, OnOk, OnErr};
 ghost use Rattle.attribute_tables_grammar.specs.Walks.{measure};
 ghost use Rattle.netlink_packet_core_numbers.specs.Errors.{is_memory};
-ghost use Rattle.link_message_grammar.specs.Body.{link_body};
+ghost use Rattle.link_message_grammar.specs.Body.{link_body, link_peer};
 ghost use Rattle.attribute_checks.specs.Measures.{view};
+ghost use Rattle.link_message_checks.specs.Fronts.{IsBodyFront};
 ghost use Rattle.link_message_checks.specs.Tables.{IsBodyMeasure};
 
-use crate::body::{measure_body_over, same_body_over, write_body_over};
+use crate::body::{same_body_over, walk_body_over, write_body_over};
 use crate::peer::LinkPeer;
-use attribute_checks::Measured;
+use attribute_checks::Walked;
 use attribute_tables_grammar::laws::measures_tell_rules;
 use netlink_packet_core_numbers::DecodeError;
 use std::alloc::AllocError;
@@ -32,12 +33,13 @@ pub struct BodyMeasure {
 
 /// Whether the bytes are the body of a link message, and what is found in one walk of them; for the
 /// crates that check captures.
-pub fn measure_body(bytes: &[u8]) -> Option<Measured>
-    ensures measure { option_map view result ≡ measure link_body bytes.now }
+pub fn walk_body(bytes: &[u8]) -> Option<Walked>
+    ensures measure { option_map (λ w. view w.found) result ≡ measure link_body bytes.now }
     ensures own { IfSome result
-        (λ m. m.is_own ≡ true → link_body.canonical bytes.now ≡ bytes.now) }
+        (λ w. w.found.is_own ≡ true → link_body.canonical bytes.now ≡ bytes.now) }
+    ensures front { IfSome result (λ w. IsBodyFront link_peer bytes.now w.front) }
 {
-    measure_body_over(&LinkPeer, bytes)
+    walk_body_over(&LinkPeer, bytes)
 }
 
 /// Whether the bytes are the body of a link message, a header of 16 bytes and attributes, and what
@@ -50,14 +52,14 @@ pub fn check(bytes: &[u8]) -> Result<BodyMeasure, DecodeError>
     ensures err { IfErr result (λ e. is_memory e ≡ false) }
 {
     measures_tell_rules();
-    let Some(measured) = measure_body(bytes) else {
+    let Some(Walked { found, .. }) = walk_body(bytes) else {
         return Err(DecodeError::from("not the body of a link message"));
     };
     Ok(BodyMeasure {
-        text_len: measured.text_len,
-        attributes: measured.attributes,
-        fits: measured.fits,
-        empty_ports: measured.empty_ports,
+        text_len: found.text_len,
+        attributes: found.attributes,
+        fits: found.fits,
+        empty_ports: found.empty_ports,
     })
 }
 
@@ -73,9 +75,10 @@ pub fn same(left: &[u8], right: &[u8]) -> bool
     same_body_over(&LinkPeer, left, right)
 }
 
-/// Appends the canonical text of an accepted body that fits, for which there has to be room; for
-/// the crates that write captures.
-pub fn write_body(bytes: &[u8], out: &mut Vec<u8>)
+/// Appends the canonical text of an accepted body that fits, of which so many bytes in front are known to be their own
+/// text, for which there has to be room; for the crates that write captures.
+pub fn write_body(bytes: &[u8], front: usize, out: &mut Vec<u8>)
+    requires front { IsBodyFront link_peer bytes.now front }
     requires accepted { link_body.accepted bytes.now ≡ true }
     requires fits { link_body.fits bytes.now ≡ true }
     requires room { length out.old.items + length (link_body.canonical bytes.now)
@@ -83,7 +86,7 @@ pub fn write_body(bytes: &[u8], out: &mut Vec<u8>)
     ensures text { out.new.items ≡ out.old.items ++ link_body.canonical bytes.now }
     ensures room { vec_capacity out.old ≤ vec_capacity out.new }
 {
-    write_body_over(&LinkPeer, bytes, out);
+    write_body_over(&LinkPeer, bytes, front, out);
 }
 
 /// Appends the canonical text of a body that `check` accepts, and that fits and has no empty ports:
@@ -99,13 +102,13 @@ pub fn write_canonical(bytes: &[u8], out: &mut Vec<u8>) -> Result<(), AllocError
         (vec_capacity out.old < length out.old.items + length (link_body.canonical bytes.now)) }
 {
     measures_tell_rules();
-    let Some(found) = measure_body(bytes) else {
+    let Some(Walked { found, front }) = walk_body(bytes) else {
         unreachable!();
     };
     let Ok(size) = usize::try_from(found.text_len) else {
         return Err(AllocError);
     };
     out.reserve(size)?;
-    write_body(bytes, out);
+    write_body(bytes, front, out);
     Ok(())
 }

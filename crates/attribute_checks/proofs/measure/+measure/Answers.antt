@@ -1,41 +1,49 @@
-use Rattle.std.proofs.Common.{◌≡◌, true, false, length, Some, None, sym, ap, subst, ◌∙◌, arith}
-use Rattle.std.specs.Prelude.{◌&&◌, ◌==◌, IfSome}
+use Rattle.std.proofs.Common.{◌≡◌, true, false, length, drop, Some, None, sym, ap, subst, ◌∙◌, arith}
+use Rattle.std.specs.Prelude.{◌&&◌, ◌==◌}
 use Rattle.std.proofs.lemmas.Bool.{eqb-true, and_parts}
 use Rattle.netlink_packet_core_grammar.specs.Attributes.{Attribute}
-use Rattle.attribute_tables_grammar.specs.Lists.{nothing}
+use Rattle.attribute_tables_grammar.specs.Lists.{nothing, any, list_rule}
+use Rattle.attribute_tables_grammar.specs.LookUps.{table_row}
 use Rattle.attribute_tables_grammar.specs.Walks.{Measure, MeasuredSoFar, measure}
+use Rattle.attribute_checks.specs.Fronts.{IsOwnFront}
 use Rattle.attribute_checks.specs.Rows.{form_of}
 use Rattle.attribute_checks.specs.Measures.{view, rows_of}
 use Rattle.attribute_checks.proofs.LookUps.{list_held, measured_as}
+use Rattle.attribute_checks.proofs.FrontSteps.{IsOwnStep, front_step, place_step}
 use Rattle.attribute_checks.proofs.Loop.{plus_start}
 use Rattle.attribute_checks.proofs.measure.+measure.Goals as goal
 
-pub measure_held-returns-in-List-clause-measure : goal.measure_held-returns-in-List-clause-measure
-measure_held-returns-in-List-clause-measure g t c =
-    c.measure_list.ensures.measure
+pub measure_held-returns-in-Some-clause-measure : goal.measure_held-returns-in-Some-clause-measure
+measure_held-returns-in-Some-clause-measure g t c =
+    c.in-Some.ensures.measure
     ∙ ap (λ r. measure r c.args.bytes.now) (list_held c.rows_are_looked_up.ensures g.T.TableSet.peer g.T.TableSet.tables g.T.TableSet.info c.args.held c.in-List.form c.in-List.table c.in-List.is)
 
-pub measure_held-returns-in-List-clause-own : goal.measure_held-returns-in-List-clause-own
-measure_held-returns-in-List-clause-own g t c =
-    subst (λ r. IfSome c.measure_list.result (λ m. m.is_own ≡ true → r.canonical c.args.bytes.now ≡ c.args.bytes.now)) (list_held c.rows_are_looked_up.ensures g.T.TableSet.peer g.T.TableSet.tables g.T.TableSet.info c.args.held c.in-List.form c.in-List.table c.in-List.is) c.measure_list.ensures.own
+pub measure_held-returns-in-Some-clause-own : goal.measure_held-returns-in-Some-clause-own
+measure_held-returns-in-Some-clause-own g t c =
+    subst (λ r. c.in-Some.walked.found.is_own ≡ true → r.canonical c.args.bytes.now ≡ c.args.bytes.now) (list_held c.rows_are_looked_up.ensures g.T.TableSet.peer g.T.TableSet.tables g.T.TableSet.info c.args.held c.in-List.form c.in-List.table c.in-List.is) c.in-Some.ensures.own
 
-pub measure_first-returns-in_default-measure_held-clause-measure : goal.measure_first-returns-in_default-measure_held-clause-measure
-measure_first-returns-in_default-measure_held-clause-measure g t c =
+pub measure_held-returns-in-None-clause-measure : goal.measure_held-returns-in-None-clause-measure
+measure_held-returns-in-None-clause-measure g t c =
+    c.in-None.ensures.measure
+    ∙ ap (λ r. measure r c.args.bytes.now) (list_held c.rows_are_looked_up.ensures g.T.TableSet.peer g.T.TableSet.tables g.T.TableSet.info c.args.held c.in-List.form c.in-List.table c.in-List.is)
+
+pub walk_first-returns-in_default-measure_held-clause-measure : goal.walk_first-returns-in_default-measure_held-clause-measure
+walk_first-returns-in_default-measure_held-clause-measure g t c =
     let rows = rows_of g.T.TableSet.peer (g.T.TableSet.tables c.args.table) in
     let e : Attribute = record { kind = c.in-Some.attribute.kind; payload = c.in-Some.attribute.payload.now } in
     c.measures_tell_rules.ensures.first_some rows c.args.bytes.now e c.in-Some.after.now None c.in-Some.ensures
     (measured_as _ _ e.payload None c.find-found.ensures.rule c.in_default-measure_held.ensures.measure)
 
-pub measure_first-returns-clause-measure : goal.measure_first-returns-clause-measure
-measure_first-returns-clause-measure g t c =
+pub walk_first-returns-clause-measure : goal.walk_first-returns-clause-measure
+walk_first-returns-clause-measure g t c =
     let rows = rows_of g.T.TableSet.peer (g.T.TableSet.tables c.args.table) in
     let e : Attribute = record { kind = c.in-Some.attribute.kind; payload = c.in-Some.attribute.payload.now } in
     ap (λ m. Some m) c.with_attribute.ensures.measure ∙ plus_start (view c.in-Some-measure_held.inside)
     ∙ c.measures_tell_rules.ensures.first_some rows c.args.bytes.now e c.in-Some.after.now (Some (view c.in-Some-measure_held.inside)) c.in-Some.ensures
     (measured_as _ _ e.payload (Some (view c.in-Some-measure_held.inside)) c.find-found.ensures.rule c.in-Some-measure_held.ensures.measure)
 
-pub measure_first-returns-clause-own : goal.measure_first-returns-clause-own
-measure_first-returns-clause-own g t c =
+pub walk_first-returns-clause-own : goal.walk_first-returns-clause-own
+walk_first-returns-clause-own g t c =
     let rows = rows_of g.T.TableSet.peer (g.T.TableSet.tables c.args.table) in
     let e : Attribute = record { kind = c.in-Some.attribute.kind; payload = c.in-Some.attribute.payload.now } in
     λ h.
@@ -45,28 +53,34 @@ measure_first-returns-clause-own g t c =
     c.own_texts_go_by_steps.ensures.alone rows c.args.bytes.now e c.in-Some.after.now c.in-Some.ensures (eqb-true (length c.in-Some.after.now) 0 (sym c.is_empty.ensures ∙ k.1)) (sym c.find-found.ensures.written ∙ eqb-true _ _ k.0)
     (sym (ap (λ r. r.canonical e.payload) c.find-found.ensures.rule) ∙ c.in-Some-measure_held.ensures.own b.0) (c.is_own_attribute-is_own.ensures d.0)
 
-pub measure_list-returns-in_default-measure_held-clause-measure : goal.measure_list-returns-in_default-measure_held-clause-measure
-measure_list-returns-in_default-measure_held-clause-measure g t c =
+pub walk_list-returns-in_default-measure_held-clause-measure : goal.walk_list-returns-in_default-measure_held-clause-measure
+walk_list-returns-in_default-measure_held-clause-measure g t c =
     let e : Attribute = record { kind = c.in-Some.attribute.kind; payload = c.in-Some.attribute.payload.now } in
     c.measures_go_by_steps.ensures.refused (form_of c.args.form) (rows_of g.T.TableSet.peer (g.T.TableSet.tables c.args.table)) c.args.bytes.now c.loop-rest.rest.now nothing e c.in-Some.after.now (view c.loop-rest.total) c.loop-rest.invariant.walked c.in-Some.ensures (sym c.is_kept.ensures ∙ c.if-is_kept.true)
     (measured_as _ _ e.payload None c.find-found.ensures.rule c.in_default-measure_held.ensures.measure) c.loop-rest.invariant.so_far
 
-pub measure_list-loop-rest-smaller-in-Some-measure_held : goal.measure_list-loop-rest-smaller-in-Some-measure_held
-measure_list-loop-rest-smaller-in-Some-measure_held g t c =
+pub walk_list-overflow_sub-bytes : goal.walk_list-overflow_sub-bytes
+walk_list-overflow_sub-bytes g t c =
+    let e : Attribute = record { kind = c.in-Some.attribute.kind; payload = c.in-Some.attribute.payload.now } in
+    let l = c.first_attributes_are_within.ensures.rest_length c.loop-rest.rest.now e c.in-Some.after.now c.in-Some.ensures in
+    omega (arith, l, c.loop-rest.invariant.few)
+
+pub walk_list-loop-rest-smaller-in-Some-measure_held : goal.walk_list-loop-rest-smaller-in-Some-measure_held
+walk_list-loop-rest-smaller-in-Some-measure_held g t c =
     let e : Attribute = record { kind = c.in-Some.attribute.kind; payload = c.in-Some.attribute.payload.now } in
     let w = c.first_attributes_are_within.ensures.within c.loop-rest.rest.now e c.in-Some.after.now c.in-Some.ensures in
     let l = c.first_attributes_are_within.ensures.rest_length c.loop-rest.rest.now e c.in-Some.after.now c.in-Some.ensures in
     omega (arith, w, l)
 
-pub measure_list-loop-rest-smaller : goal.measure_list-loop-rest-smaller
-measure_list-loop-rest-smaller g t c =
+pub walk_list-loop-rest-smaller : goal.walk_list-loop-rest-smaller
+walk_list-loop-rest-smaller g t c =
     let e : Attribute = record { kind = c.in-Some.attribute.kind; payload = c.in-Some.attribute.payload.now } in
     let w = c.first_attributes_are_within.ensures.within c.loop-rest.rest.now e c.in-Some.after.now c.in-Some.ensures in
     let l = c.first_attributes_are_within.ensures.rest_length c.loop-rest.rest.now e c.in-Some.after.now c.in-Some.ensures in
     omega (arith, w, l)
 
-pub measure_list-loop-rest-preserved-in-Some-measure_held : goal.measure_list-loop-rest-preserved-in-Some-measure_held
-measure_list-loop-rest-preserved-in-Some-measure_held g t c =
+pub walk_list-loop-rest-preserved-in-Some-measure_held : goal.walk_list-loop-rest-preserved-in-Some-measure_held
+walk_list-loop-rest-preserved-in-Some-measure_held g t c =
     let form = form_of c.args.form in
     let rows = rows_of g.T.TableSet.peer (g.T.TableSet.tables c.args.table) in
     let bytes = c.args.bytes.now in
@@ -78,6 +92,17 @@ measure_list-loop-rest-preserved-in-Some-measure_held g t c =
     let inside = measured_as _ _ e.payload (Some (view c.in-Some-measure_held.inside)) c.find-found.ensures.rule c.in-Some-measure_held.ensures.measure in
     let s = c.measures_go_by_steps.ensures.small _ c.find-found.ensures.lawful rest e after (view c.in-Some-measure_held.inside) f inside in
     let is = c.with_attribute-total.ensures.measure in
+    let f_of = table_row g.T.TableSet.peer (g.T.TableSet.tables c.args.table) in
+    let own_step : c.with_attribute-total.result.is_own ≡ true → IsOwnStep f_of bytes rest c.loop-rest.front e after = λ h.
+    let a = and_parts _ _ (sym c.with_attribute-total.ensures.own ∙ h) in
+    let b = and_parts _ _ a.1 in
+    let d = and_parts _ _ b.1 in
+    record {
+      place = c.loop-rest.invariant.place a.0;
+      kind = sym c.find-found.ensures.written ∙ eqb-true _ _ d.1;
+      payload = sym (ap (λ r. r.canonical e.payload) c.find-found.ensures.rule) ∙ c.in-Some-measure_held.ensures.own b.0;
+      text = c.is_own_attribute-is_own.ensures d.0;
+    } in
     let size_is = ap (λ (m : Measure). m.size) is in
     let headers_is = ap (λ (m : Measure). m.attributes) is in
     record {
@@ -90,12 +115,14 @@ measure_list-loop-rest-preserved-in-Some-measure_held g t c =
           let d = and_parts _ _ b.1 in
           c.own_texts_go_by_steps.ensures.more form rows bytes rest nothing e after f k (sym c.find-found.ensures.written ∙ eqb-true _ _ d.1)
           (sym (ap (λ r. r.canonical e.payload) c.find-found.ensures.rule) ∙ c.in-Some-measure_held.ensures.own b.0) (c.is_own_attribute-is_own.ensures d.0) (c.loop-rest.invariant.own a.0);
+      front = subst (IsOwnFront (list_rule any rows) bytes) (sym c.front_after-front.ensures) (front_step f_of bytes rest c.loop-rest.front e after c.with_attribute-total.result.is_own f own_step c.loop-rest.invariant.front);
+      place = λ h. ap (λ n. drop n bytes) c.front_after-front.ensures ∙ place_step f_of bytes rest c.loop-rest.front e after c.with_attribute-total.result.is_own own_step h;
       within = omega (arith, s.within, size_is, c.loop-rest.invariant.within);
       few = omega (arith, s.few, headers_is, c.loop-rest.invariant.few);
     }
 
-pub measure_list-loop-rest-preserved : goal.measure_list-loop-rest-preserved
-measure_list-loop-rest-preserved g t c =
+pub walk_list-loop-rest-preserved : goal.walk_list-loop-rest-preserved
+walk_list-loop-rest-preserved g t c =
     let form = form_of c.args.form in
     let rows = rows_of g.T.TableSet.peer (g.T.TableSet.tables c.args.table) in
     let after = c.in-Some.after.now in
@@ -111,6 +138,8 @@ measure_list-loop-rest-preserved g t c =
       so_far = subst (λ m. MeasuredSoFar form rows c.args.bytes.now m nothing after) (sym is)
           (c.measures_go_by_steps.ensures.past form rows c.args.bytes.now c.loop-rest.rest.now nothing e after (view c.loop-rest.total) f (sym c.is_kept.ensures ∙ c.if-is_kept.false) c.loop-rest.invariant.so_far);
       own = λ h. absurd (let x : true ≡ false = sym h ∙ c.with_dropped-total.ensures.own in cc);
+      front = c.loop-rest.invariant.front;
+      place = λ h. absurd (let x : true ≡ false = sym h ∙ c.with_dropped-total.ensures.own in cc);
       within = omega (arith, w, l, size_is, c.loop-rest.invariant.within);
       few = omega (arith, w, l, headers_is, c.loop-rest.invariant.few);
     }

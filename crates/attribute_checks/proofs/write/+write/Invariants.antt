@@ -8,13 +8,16 @@ use Rattle.attribute_checks.proofs.write.+write.Given as goal
 
 -- what is given to a list is shorter than the list
 abbrev pub decreases-write_held : goal.decreases-write_held
-decreases-write_held g l = 3 * length l.bytes.now + 2
+decreases-write_held g l = 4 * length l.bytes.now + 2
 
 abbrev pub decreases-write_list : goal.decreases-write_list
-decreases-write_list g l = 3 * length l.bytes.now + 1
+decreases-write_list g l = 4 * length l.bytes.now + 1
 
 abbrev pub decreases-write_first : goal.decreases-write_first
-decreases-write_first g l = 3 * length l.bytes.now
+decreases-write_first g l = 4 * length l.bytes.now
+
+abbrev pub decreases-write_attribute : goal.decreases-write_attribute
+decreases-write_attribute g l = 4 * length l.payload.now + 3
 
 abbrev pub invariant-write_list-loop-rest : goal.invariant-write_list-loop-rest
 invariant-write_list-loop-rest g l = record {

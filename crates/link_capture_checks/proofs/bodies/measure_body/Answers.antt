@@ -28,6 +28,6 @@ returns-in-16-to-19-clause-err c = refused _ _ _ _ (link c.args.message_type c.a
 pub returns-in_default-clause-ok : goal.returns-in_default-clause-ok
 returns-in_default-clause-ok c =
     elim c.in_default.branch [
-      | in_default-via-then-message_type-lt16 w ↦ measured _ _ _ _ (other c.args.message_type c.args.body.now (λ e. omega (arith, e)) (λ e. omega (arith, e)) (λ e. omega (arith, e)) (inl (omega arith))) (Ok c.kept.result) c.kept.ensures
-      | in_default-via-else-message_type-lt16+else-message_type-lt20 w ↦ measured _ _ _ _ (other c.args.message_type c.args.body.now (λ e. omega (arith, e)) (λ e. omega (arith, e)) (λ e. omega (arith, e)) (inr (omega arith))) (Ok c.kept.result) c.kept.ensures
+      | in_default-via-then-message_type-lt16 w ↦ measured _ _ _ _ (other c.args.message_type c.args.body.now (λ e. omega (arith, e)) (λ e. omega (arith, e)) (λ e. omega (arith, e)) (inl (omega arith))) (Ok c.kept.result) c.kept.ensures.text
+      | in_default-via-else-message_type-lt16+else-message_type-lt20 w ↦ measured _ _ _ _ (other c.args.message_type c.args.body.now (λ e. omega (arith, e)) (λ e. omega (arith, e)) (λ e. omega (arith, e)) (inr (omega arith))) (Ok c.kept.result) c.kept.ensures.text
     ]

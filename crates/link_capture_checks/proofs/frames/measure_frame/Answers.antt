@@ -1,6 +1,8 @@
-use Rattle.std.proofs.Common.{◌≡◌, ◌+◌, ◌≤◌, ◌∙◌, length, Ok, refl, sym, ap, arith, rules}
+use Rattle.std.proofs.Common.{◌≡◌, ◌+◌, ◌≤◌, ◌∙◌, length, Ok, refl, sym, ap, subst, arith, rules}
 use Rattle.netlink_packet_core_grammar.specs.Attributes.{nla_align}
 use Rattle.netlink_packet_core.specs.Frames.{frame_type, frame_body, frame_text}
+use Rattle.link_message_grammar.specs.Body.{link_peer}
+use Rattle.link_message_checks.specs.Fronts.{IsBodyFront}
 use Rattle.link_capture_grammar.specs.Bodies.{body_text}
 use Rattle.link_capture_grammar.specs.Numbers.{body_attributes}
 use Rattle.link_capture_checks.proofs.frames.measure_frame.Goals as goal
@@ -34,4 +36,5 @@ returns-clause-ok c =
       aligned = c.nla_align.ensures;
       attributes = inside;
       own = λ h. body.own h ∙ slice;
+      front = subst (λ x. IsBodyFront link_peer x c.in_ok-body_len.field-0.front) slice c.in_ok-body_len.ensures.front;
     }

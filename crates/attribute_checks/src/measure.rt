@@ -88,6 +88,27 @@ pub fn measure_held<T: TableSet>(set: &T, held: Held, bytes: &[u8]) -> Option<Me
         (λ m. m.is_own ≡ true
         → (payload_rule T.peer (payload_of T.tables T.info held)).canonical bytes.now ≡ bytes.now) }
 {
+    match held {
+        Held::Plain(shape) => measure_shape(shape, bytes),
+        // What is found of a shape stays in registers, since no call is given the place of the answer.
+        _ => match measure_inside(set, held, bytes) {
+            Some(found) => Some(found),
+            None => None,
+        },
+    }
+}
+
+// The same, of a payload that holds attributes most often.
+#[cycle(measure)]
+#[inline(never)]
+fn measure_inside<T: TableSet>(set: &T, held: Held, bytes: &[u8]) -> Option<Measured>
+    requires { is_below T.count held ≡ true }
+    ensures measure { option_map view result
+        ≡ measure (payload_rule T.peer (payload_of T.tables T.info held)) bytes.now }
+    ensures own { IfSome result
+        (λ m. m.is_own ≡ true
+        → (payload_rule T.peer (payload_of T.tables T.info held)).canonical bytes.now ≡ bytes.now) }
+{
     rows_are_looked_up();
     match held {
         Held::Plain(shape) => measure_shape(shape, bytes),

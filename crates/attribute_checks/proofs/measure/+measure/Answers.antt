@@ -13,17 +13,17 @@ use Rattle.attribute_checks.proofs.FrontSteps.{IsOwnStep, front_step, place_step
 use Rattle.attribute_checks.proofs.Loop.{plus_start}
 use Rattle.attribute_checks.proofs.measure.+measure.Goals as goal
 
-pub measure_held-returns-in-Some-clause-measure : goal.measure_held-returns-in-Some-clause-measure
-measure_held-returns-in-Some-clause-measure g t c =
+pub measure_inside-returns-in-Some-clause-measure : goal.measure_inside-returns-in-Some-clause-measure
+measure_inside-returns-in-Some-clause-measure g t c =
     c.in-Some.ensures.measure
     ∙ ap (λ r. measure r c.args.bytes.now) (list_held c.rows_are_looked_up.ensures g.T.TableSet.peer g.T.TableSet.tables g.T.TableSet.info c.args.held c.in-List.form c.in-List.table c.in-List.is)
 
-pub measure_held-returns-in-Some-clause-own : goal.measure_held-returns-in-Some-clause-own
-measure_held-returns-in-Some-clause-own g t c =
+pub measure_inside-returns-in-Some-clause-own : goal.measure_inside-returns-in-Some-clause-own
+measure_inside-returns-in-Some-clause-own g t c =
     subst (λ r. c.in-Some.walked.found.is_own ≡ true → r.canonical c.args.bytes.now ≡ c.args.bytes.now) (list_held c.rows_are_looked_up.ensures g.T.TableSet.peer g.T.TableSet.tables g.T.TableSet.info c.args.held c.in-List.form c.in-List.table c.in-List.is) c.in-Some.ensures.own
 
-pub measure_held-returns-in-None-clause-measure : goal.measure_held-returns-in-None-clause-measure
-measure_held-returns-in-None-clause-measure g t c =
+pub measure_inside-returns-in-None-clause-measure : goal.measure_inside-returns-in-None-clause-measure
+measure_inside-returns-in-None-clause-measure g t c =
     c.in-None.ensures.measure
     ∙ ap (λ r. measure r c.args.bytes.now) (list_held c.rows_are_looked_up.ensures g.T.TableSet.peer g.T.TableSet.tables g.T.TableSet.info c.args.held c.in-List.form c.in-List.table c.in-List.is)
 

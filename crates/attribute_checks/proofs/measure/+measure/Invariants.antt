@@ -10,13 +10,16 @@ use Rattle.attribute_checks.proofs.measure.+measure.Given as goal
 
 -- what is given to a list is shorter than the list
 abbrev pub decreases-measure_held : goal.decreases-measure_held
-decreases-measure_held g l = 3 * length l.bytes.now + 2
+decreases-measure_held g l = 4 * length l.bytes.now + 3
+
+abbrev pub decreases-measure_inside : goal.decreases-measure_inside
+decreases-measure_inside g l = 4 * length l.bytes.now + 2
 
 abbrev pub decreases-walk_list : goal.decreases-walk_list
-decreases-walk_list g l = 3 * length l.bytes.now + 1
+decreases-walk_list g l = 4 * length l.bytes.now + 1
 
 abbrev pub decreases-walk_first : goal.decreases-walk_first
-decreases-walk_first g l = 3 * length l.bytes.now
+decreases-walk_first g l = 4 * length l.bytes.now
 
 abbrev pub invariant-walk_list-loop-rest : goal.invariant-walk_list-loop-rest
 invariant-walk_list-loop-rest g l = record {

@@ -18,6 +18,7 @@ A block without a language is looked at where it is marked
 
     <!-- output -->                                what the commands before it write
     <!-- file: samples/get-veth.lines -->          text of that file
+    <!-- written by tools/layers.py -->           what that script writes there; it has its own check
 
 Blocks of another language have one of these marks: `file: PATH`; `run by PATH`, a script that runs it; or `sketch`. Text of a
 file is pieces with empty lines between, each of which stands in the file, in order, a common indentation aside; of `use`
@@ -40,7 +41,7 @@ PAGES = ["README.md", "CHANGELOG.md", "CONTRIBUTING.md", "docs/*.md", "samples/*
 MOST_WORDS = {"README.md": 1000, "docs/*.md": 22000}
 SECONDS = 120
 MARK = re.compile(r"\s*<!--\s*(.*?)\s*-->\s*")
-MARKS = re.compile(r"wants .+|status \d+|given .+|output|file: \S+|run by \S+|sketch")
+MARKS = re.compile(r"wants .+|status \d+|given .+|output|file: \S+|run by \S+|written by \S+|sketch")
 FENCE = re.compile(r"(\s*)(```+)\s*([\w+-]*)\s*")
 LINK = re.compile(r"\[[^\]]*\]\(([^)\s]+)\)")
 PATH = re.compile(r"(?:crates|docs|samples|bench|bindings|tools|man)/[\w./-]+")
@@ -183,7 +184,7 @@ def check_marks(page):
             yield "%s: the mark %s is for commands" % (where, for_commands.pop())
         if "output" in kinds and not commands:
             yield "%s: output of no commands" % where
-        script = block.mark("run")
+        script = block.mark("run") or block.mark("written")
         if script is not None and not (TOP / script.split()[-1]).exists():
             yield "%s: no file %s" % (where, script.split()[-1])
         commands = block.language == "sh"

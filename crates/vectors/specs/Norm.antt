@@ -1,4 +1,4 @@
--- How a capture is answered.
+-- How a capture is answered by its texts.
 use Rattle.std.specs.Prelude.{ℕ, List, ◌++◌, codes, length, Option, None, Some}
 use Rattle.std.specs.Fmt.{decimal}
 use Rattle.hex.specs.Hex.{encode_lower}

@@ -3,9 +3,9 @@ use Rattle.std.specs.Prelude.{ℕ, List, ◌++◌, codes, length, Option, None, 
 use Rattle.std.specs.Fmt.{decimal}
 use Rattle.hex.specs.Hex.{encode_lower}
 use Rattle.link_capture_grammar.specs.declared.fault.CaptureFault.{CaptureFault}
-use Rattle.link_capture.specs.Captures.{first_fault, texts}
-use Rattle.link_capture.specs.Faults.{fault_text}
-use Rattle.link_capture.specs.Numbers.{attributes, frames}
+use Rattle.link_capture_grammar.specs.Captures.{first_fault, texts}
+use Rattle.link_capture_grammar.specs.Faults.{fault_text}
+use Rattle.link_capture_grammar.specs.Numbers.{attributes, frames}
 
 -- the words behind the texts
 abbrev pub outcome_text : ℕ → List ℕ → Option CaptureFault → List ℕ

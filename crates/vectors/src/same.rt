@@ -5,7 +5,8 @@ ghost use Rattle.std.specs.Prelude.{◌≤◌, IfSome};
 
 use crate::cases::{LEAST_LIMIT, read_limit};
 use hex::decode;
-use link_capture::{SideFault, normalize_bytes, same};
+use link_capture_checks::{SideFault, same};
+use link_capture_reader::normalize_bytes;
 use std::alloc::{AllocError, Global};
 use std::io::{self, ErrorKind, Write};
 

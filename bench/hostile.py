@@ -5,7 +5,7 @@
 
 Captures come in groups of siblings under one limit: mutations of one sample or vector. Of each capture it is held that
 
-- whole, in pieces of 1, 7 and 100 bytes, and checked, it has one answer (norm_vectors sees to that);
+- whole, in pieces of 1, 7 and 100 bytes, and checked, it has one answer (the program vectors sees to that);
 - a fault's place is a multiple of 4 inside the capture, and what stands before it is legal, with the texts told;
 - its normal text is legal, its own normal text, as long as told, and at most 77 times as long as the capture;
 - it means the same as its text, and as its neighbour exactly where their texts are equal; a pair with a fault has the
@@ -24,6 +24,9 @@ import subprocess
 import sys
 
 TOP = os.path.join(os.path.dirname(os.path.abspath(__file__)), "..")
+sys.path.insert(0, os.path.join(TOP, "tools", "oracle"))
+import vectors              # noqa: E402
+
 GROUP = 20
 GROUPS = 250
 GREATEST = 4294967295
@@ -42,11 +45,10 @@ def bases():
         if name.endswith(".bin"):
             with open(os.path.join(TOP, "samples", name), "rb") as file:
                 yield file.read()
-    with open(os.path.join(TOP, "crates/norm_vectors/stdin")) as file:
-        for line in file:
-            capture = bytes.fromhex(line.split(" ")[1])
-            if capture:
-                yield capture
+    for case in vectors.cases("norm"):
+        capture = bytes.fromhex(case.split(" ")[1])
+        if capture:
+            yield capture
 
 
 def number(data, at, size):
@@ -221,16 +223,17 @@ def groups(seed, sources):
         yield limit, [mutated(rng, base) for _ in range(GROUP)]
 
 
-def answers(name, lines):
-    """What a program of vectors answers."""
-    run = subprocess.run([program(name)], input="".join(lines).encode(), stdout=subprocess.PIPE)
+def answers(kind, lines):
+    """What the program vectors answers cases of a kind, each answer in a line."""
+    text = "".join(kind + " " + line for line in lines)
+    run = subprocess.run([program("vectors")], input=text.encode(), stdout=subprocess.PIPE)
     found = run.stdout.decode().splitlines()
     if run.returncode == 0 and len(found) == len(lines):
         return found
     if len(lines) == 1:
         return ["disagrees with itself"]
     half = len(lines) // 2
-    return answers(name, lines[:half]) + answers(name, lines[half:])
+    return answers(kind, lines[:half]) + answers(kind, lines[half:])
 
 
 def fault_place(told):
@@ -261,7 +264,7 @@ def longest_frame(capture):
 
 
 def run_linkcap(limit, capture, text, told):
-    """The law that linkcap breaks: it answers as norm_vectors did, in the addresses that the longest frame wants."""
+    """The law that linkcap breaks: it answers as the program vectors did, in the addresses that the longest frame wants."""
     room = 32000000 + 100 * longest_frame(capture)
     run = subprocess.run([program("linkcap"), "norm", str(limit)], input=capture, capture_output=True,
                          preexec_fn=lambda: resource.setrlimit(resource.RLIMIT_AS, (room, room)))
@@ -276,7 +279,7 @@ def sweep(job):
     counts, broken = collections.Counter(), []
     cases = [(limit, capture) for limit, siblings in groups(seed, sources) for capture in siblings]
     line = lambda limit, *captures: " ".join([str(limit), *captures]) + "\n"
-    found = answers("norm_vectors", [line(limit, capture.hex()) for limit, capture in cases])
+    found = answers("norm", [line(limit, capture.hex()) for limit, capture in cases])
     again_lines, pair_lines, wanted, wanted_pairs = [], [], [], []
     judged = []
     for index, ((limit, capture), answer) in enumerate(zip(cases, found)):
@@ -303,11 +306,11 @@ def sweep(job):
             answer = "first: " + told_before if told_before else "second: " + told if told else (
                 "same" if before == text else "different")
             wanted_pairs.append((answer, limit, capture))
-    for answer, (text, limit, capture) in zip(answers("norm_vectors", again_lines), wanted):
+    for answer, (text, limit, capture) in zip(answers("norm", again_lines), wanted):
         counts["texts and fronts"] += 1
         if not answer.startswith(text + " ") or fault_place(answer) is not None:
             broken.append((limit, capture.hex(), "a text or a front has another text"))
-    for answer, (told, limit, capture) in zip(answers("same_vectors", pair_lines), wanted_pairs):
+    for answer, (told, limit, capture) in zip(answers("same", pair_lines), wanted_pairs):
         counts["pairs"] += 1
         counts["pairs: " + (answer.split(":")[0])] += 1
         if answer != told:

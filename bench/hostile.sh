@@ -4,12 +4,12 @@
 #     bench/hostile.sh [SEED [COUNT]]
 #
 # makes COUNT captures (1000000 where none is given) from the samples and the vectors by the mutations of
-# bench/hostile.py, the same ones for the same SEED (1), and has the programs norm_vectors, same_vectors and linkcap
-# answer them. It builds nothing, and no gate runs it.
+# bench/hostile.py, the same ones for the same SEED (1), and has the programs vectors and linkcap answer them. It builds
+# nothing, and no gate runs it.
 set -euo pipefail
 cd "$(dirname "$0")/.."
 
-for name in norm_vectors same_vectors linkcap; do
+for name in vectors linkcap; do
     [ -x "crates/$name/out/$name" ] || { echo "no program crates/$name/out/$name: build it first" >&2; exit 1; }
 done
 exec python3 bench/hostile.py "${1:-1}" "${2:-1000000}"

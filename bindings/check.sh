@@ -49,21 +49,30 @@ block() {
     awk -v fence="\`\`\`$1" '$0 == fence { inside = 1; next } inside && $0 == "```" { exit } inside' "$page"
 }
 
-# Answers the vectors of a crate, and compares.
+# Cuts the stored cases and answers of a kind out into files. Answers of `show`, the last kind, have several lines.
+cut_vectors() {
+    local kind=$1 first last='$'
+    first=$(($(sed "/^$kind /,\$d" crates/vectors/stdin | wc -l) + 1))
+    sed -n "s/^$kind //p" crates/vectors/stdin > "$work/$kind.cases"
+    [ "$kind" = show ] || last=$((first - 1 + $(wc -l < "$work/$kind.cases")))
+    sed -n "$first,${last}p" crates/vectors/stdout > "$work/$kind.answers"
+}
+
+# Answers the vectors of a kind, and compares.
 answers() {
-    local what=$1 crate=$2
+    local what=$1 kind=$2
     shift 2
-    "$@" "$what" < "crates/$crate/stdin" | cmp - "crates/$crate/stdout"
+    [ -s "$work/$kind.cases" ] && "$@" "$what" < "$work/$kind.cases" | cmp - "$work/$kind.answers"
 }
 
 all_answers() {
     local name=$1
     shift
-    step "C, $name: norm" answers norm norm_vectors "$@"
-    step "C, $name: norm in pieces" answers pieces norm_vectors "$@"
-    step "C, $name: same" answers same same_vectors "$@"
-    step "C, $name: show" answers show show_vectors "$@"
-    step "C, $name: why" answers why refusal_vectors "$@"
+    step "C, $name: norm" answers norm norm "$@"
+    step "C, $name: norm in pieces" answers pieces norm "$@"
+    step "C, $name: same" answers same same "$@"
+    step "C, $name: show" answers show show "$@"
+    step "C, $name: why" answers why refusal "$@"
 }
 
 shown_symbols() {
@@ -94,12 +103,13 @@ installed() {
 test_c() {
     local flags=(-std=c11 -D_GNU_SOURCE -Wall -Wextra -Werror -I "$lib")
     local wrap=(-pthread -Wl,--wrap=malloc,--wrap=realloc,--wrap=free)
-    local samples=(samples/get-veth.bin samples/req-veth.bin)
+    local samples=(samples/get-veth.bin samples/req-veth.bin) kind
     echo "bindings: $("$cc" --version | head -n 1)"
     step "C: build" "$cc" "${flags[@]}" -O2 -o "$work/answers" bindings/c/tests/answers.c "$lib/liblinkcap.a"
     step "C: build, shared" "$cc" "${flags[@]}" -O2 -o "$work/shared" bindings/c/tests/answers.c -L "$lib" -llinkcap "-Wl,-rpath,$lib"
     step "C: build of the edges" "$cc" "${flags[@]}" -O2 -o "$work/edges" bindings/c/tests/edges.c "$lib/liblinkcap.a" "${wrap[@]}"
     step "C: linkcap_* alone is shown" shown_symbols
+    for kind in norm same show refusal; do cut_vectors $kind; done
     all_answers "static" "$work/answers"
     all_answers "shared" "$work/shared"
     step "C: edges" "$work/edges" "${samples[@]}"

@@ -8,7 +8,7 @@ COUNT captures (500) are stored ones, mutated by a generator from SEED (1), and
 joined. Of each are compared output, standard error and status of `linkcap norm`,
 `linkcap same` with the stored capture, `linkshow` and `linkshow --kernels`. The
 status is 1 where one differs. It isn't part of ./check: what is found is a case
-for crates/*_vectors/stdin.
+for crates/vectors/stdin.
 """
 import os
 import random
@@ -17,11 +17,11 @@ import sys
 import tempfile
 
 sys.path.insert(0, os.path.dirname(os.path.abspath(__file__)))
-import answers              # noqa: E402
 import check                # noqa: E402
 import linkoracle as o      # noqa: E402
 import linkshow             # noqa: E402
 import spellings            # noqa: E402
+import vectors              # noqa: E402
 
 
 def run(folder, words, capture):
@@ -74,7 +74,7 @@ def differences(folder, limit, capture, stored):
 def made(seed, count):
     """(limit, capture, the stored one that it was made from)."""
     random_ = random.Random(seed)
-    stored = [case.split(" ") for case in answers.cases("norm_vectors") + answers.cases("spelling_vectors")]
+    stored = [case.split(" ") for case in vectors.cases("norm") + vectors.cases("spelling")]
     stored = [(int(limit), bytes.fromhex(capture)) for limit, capture in stored if 32 < len(capture) < 8000]
     for _ in range(count):
         limit, capture = random_.choice(stored)

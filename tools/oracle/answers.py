@@ -1,27 +1,25 @@
 #!/usr/bin/env python3
 """The answers of all stored cases (docs/vectors.md), made anew.
 
-    tools/oracle/answers.py [--check] [CRATE..]
+    tools/oracle/answers.py
+    tools/oracle/answers.py --check [KIND..]
 
-Reads crates/CRATE/stdin, a case in a line, and writes crates/CRATE/stdout; with
---check it writes nothing, and says what differs from what is stored. Without
-CRATE it does so for every crate of cases. The status is 1 where something
-differs, and 2 for a line that is no case.
+Reads crates/vectors/stdin, a case in a line behind the word of its kind, and writes
+crates/vectors/stdout. With --check it writes nothing, and says what differs from
+what is stored: of these kinds, or of all. The status is 1 where something differs,
+and 2 for a line that is no case.
 """
 import argparse
 import os
-import re
 import sys
 
 sys.path.insert(0, os.path.dirname(os.path.abspath(__file__)))
 import linkoracle as o      # noqa: E402
 import linkshow             # noqa: E402
 import spellings            # noqa: E402
+import vectors              # noqa: E402
 
-TOP = os.path.normpath(os.path.join(os.path.dirname(os.path.abspath(__file__)), "..", ".."))
-
-MOST = 20                   # differences of a crate that are told
-OUTCOME = re.compile("legal|(%s) at [0-9]+" % "|".join(words for _, words in o.FAULT_KINDS.values()))
+MOST = 20                   # differences of a kind that are told
 
 
 def limit_of(word):
@@ -89,95 +87,69 @@ def link_info(line):
     return o.list_text(b, peers_judged=False).hex()
 
 
-ANSWERS = {
-    "norm_vectors": norm,
-    "same_vectors": same,
-    "show_vectors": show,
-    "spelling_vectors": spelling,
-    "refusal_vectors": refusal,
-    "link_info_vectors": link_info,
-}
+ANSWERS = {"norm": norm, "same": same, "spelling": spelling, "refusal": refusal, "link_info": link_info, "show": show}
 
 
-def cases(crate):
-    path = os.path.join(TOP, "crates", crate, "stdin")
-    with open(path, encoding="ascii", newline="") as stdin:
-        text = stdin.read()
-    if not text.endswith("\n"):
-        raise ValueError("%s doesn't end with a newline" % path)
-    return text[:-1].split("\n")
-
-
-def answer_all(crate):
-    """(case, answer) of each, where a case that is none raises ValueError with its line."""
-    for number, case in enumerate(cases(crate), 1):
+def answer_all(kinds):
+    """(case, answer) of each case of these kinds, where one that is none raises ValueError with its line."""
+    for number, kind, case in vectors.numbered():
+        if kind not in kinds:
+            continue
         try:
-            yield case, ANSWERS[crate](case) + "\n"
+            yield case, ANSWERS[kind](case) + "\n"
         except ValueError as error:
-            raise ValueError("crates/%s/stdin:%d: %s" % (crate, number, error)) from error
+            raise ValueError("crates/vectors/stdin:%d: %s" % (number, error)) from error
 
 
-def stored_answers(crate):
-    """The stored answers, each with its newline; one of show_vectors ends with its outcome."""
-    with open(os.path.join(TOP, "crates", crate, "stdout"), encoding="utf-8", newline="") as stdout:
-        lines = stdout.read().splitlines(keepends=True)
-    if crate != "show_vectors":
-        return lines
-    answers, begun = [], ""
-    for line in lines:
-        begun += line
-        if OUTCOME.fullmatch(line.rstrip("\n")):
-            answers.append(begun)
-            begun = ""
-    return answers + [begun] if begun else answers
-
-
-def differences(crate):
+def differences(kind):
     """Words on each case whose stored answer is another one, to the first byte that differs."""
-    stored = stored_answers(crate)
+    stored = vectors.answers(kind)
     number = 0
-    for number, (case, answer) in enumerate(answer_all(crate), 1):
+    for number, (case, answer) in enumerate(answer_all([kind]), 1):
         there = stored[number - 1] if number <= len(stored) else ""
         if there == answer:
             continue
         at = len(os.path.commonprefix([there, answer]))
         yield "%s: case %d, %s.. differs at byte %d: %r is stored, %r would be made" % (
-            crate, number, case[:60], at, there[at:at + 60], answer[at:at + 60])
+            kind, number, case[:60], at, there[at:at + 60], answer[at:at + 60])
     if len(stored) > number:
-        yield "%s: %d answers are stored behind the last case" % (crate, len(stored) - number)
+        yield "%s: %d answers are stored behind the last case" % (kind, len(stored) - number)
 
 
-def check(crate):
-    found = list(differences(crate))
+def check(kind):
+    found = list(differences(kind))
     for words in found[:MOST]:
         print(words)
     told = "%d DIFFER" % len(found) if found else "each answer is as it is stored"
-    print("%s: %d cases, %s" % (crate, len(cases(crate)), told))
+    print("%s: %d cases, %s" % (kind, len(vectors.cases(kind)), told))
     return not found
 
 
-def write(crate):
-    answers = "".join(answer for _, answer in answer_all(crate))
-    with open(os.path.join(TOP, "crates", crate, "stdout"), "w", encoding="utf-8", newline="") as stdout:
-        stdout.write(answers)
-    print("%s: %d answers written" % (crate, len(cases(crate))))
-    return True
+def write():
+    answers = [answer for _, answer in answer_all(ANSWERS)]
+    with open(vectors.path_of("stdout"), "w", encoding="utf-8", newline="") as stdout:
+        stdout.write("".join(answers))
+    print("%d answers written" % len(answers))
 
 
 def main():
     parser = argparse.ArgumentParser(description=__doc__, formatter_class=argparse.RawDescriptionHelpFormatter)
     parser.add_argument("--check", action="store_true", help="compare, and write nothing")
-    parser.add_argument("crate", nargs="*", metavar="CRATE", help=", ".join(ANSWERS))
+    parser.add_argument("kind", nargs="*", metavar="KIND", help=", ".join(ANSWERS))
     words = parser.parse_args()
-    for crate in words.crate:
-        if crate not in ANSWERS:
-            parser.error("no crate of cases: %s" % crate)
+    for kind in words.kind:
+        if kind not in ANSWERS:
+            parser.error("no kind of case: %s" % kind)
+    if words.kind and not words.check:
+        parser.error("kinds stand behind --check: all answers are written at once")
     try:
-        done = [(check if words.check else write)(crate) for crate in words.crate or ANSWERS]
+        if words.check:
+            return 0 if all([check(kind) for kind in words.kind or ANSWERS]) else 1
+        write()
     except ValueError as error:
         print(error, file=sys.stderr)
         return 2
-    return 0 if all(done) else 1
+    return 0
 
 
 if __name__ == "__main__":

@@ -15,9 +15,9 @@ import random
 import sys
 
 sys.path.insert(0, os.path.dirname(os.path.abspath(__file__)))
-import answers              # noqa: E402
 import check                # noqa: E402
 import linkoracle as o      # noqa: E402
+import vectors              # noqa: E402
 
 GRAMMAR = os.path.join("crates", "link_message_grammar", "proofs")
 IN_A_FILE = 70
@@ -54,7 +54,7 @@ def bodies(capture):
 def chosen(seed, count):
     """Bodies, half of them mutated, of which about a third is refused."""
     random_ = random.Random(seed)
-    stored = {b for case in answers.cases("norm_vectors") for b in bodies(bytes.fromhex(case.split(" ")[1]))}
+    stored = {b for case in vectors.cases("norm") for b in bodies(bytes.fromhex(case.split(" ")[1]))}
     stored = sorted(stored)
     stored += [check.mutated(random_, b) for b in stored if b]
     random_.shuffle(stored)

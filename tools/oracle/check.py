@@ -17,6 +17,7 @@ import answers              # noqa: E402
 import linkoracle as o      # noqa: E402
 import linkshow             # noqa: E402
 import spellings            # noqa: E402
+import vectors              # noqa: E402
 
 HERE = os.path.dirname(os.path.abspath(__file__))
 GREATEST = o.GREATEST_LIMIT
@@ -130,7 +131,7 @@ def mutated(random_, capture):
 def laws(seed, count):
     """(captures looked at, the laws broken)."""
     random_, lines, wrong, looked = random.Random(seed), LinesTell(), [], 0
-    stored = [case.split(" ") for case in answers.cases("norm_vectors")]
+    stored = [case.split(" ") for case in vectors.cases("norm")]
     stored = [(int(limit), bytes.fromhex(capture)) for limit, capture in stored]
     small = [(limit, capture) for limit, capture in stored if 16 < len(capture) < 2000]
     made = []

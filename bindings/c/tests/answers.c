@@ -1,10 +1,10 @@
 /*
- * Answers stored vectors, a line each on standard input, as the programs norm_vectors, same_vectors, show_vectors and
- * refusal_vectors do:
+ * Answers stored cases of a kind, a line each on standard input without the word of the kind, as the program vectors does:
  *
- *     answers norm|pieces|same|show|why < crates/norm_vectors/stdin
+ *     sed -n 's/^norm //p' crates/vectors/stdin | answers norm|pieces|same|show|why
  *
- * `pieces` gives each capture in pieces of 1, 7 and 100 bytes, in turn, and writes what `norm` writes.
+ * `pieces` gives each capture in pieces of 1, 7 and 100 bytes, in turn, and writes what `norm` writes. `why` answers cases
+ * of the kind `refusal`.
  */
 #include <inttypes.h>
 #include <stdio.h>

@@ -12,6 +12,8 @@ import unittest
 import linkcap
 
 TOP = os.path.join(os.path.dirname(os.path.abspath(__file__)), "..", "..", "..")
+sys.path.append(os.path.join(TOP, "tools", "oracle"))
+import vectors              # noqa: E402
 
 
 def read(*names):
@@ -19,13 +21,13 @@ def read(*names):
         return file.read()
 
 
-def vectors(crate):
-    """The captures of each case with their limit, and all that is to be answered."""
+def stored_vectors(kind):
+    """The captures of each case of a kind with their limit, and all that is to be answered."""
     cases = []
-    for line in read("crates", crate, "stdin").decode().splitlines():
-        limit, *captures = line.split(" ")
+    for case in vectors.cases(kind):
+        limit, *captures = case.split(" ")
         cases.append((int(limit), *(bytes.fromhex(capture) for capture in captures)))
-    return cases, read("crates", crate, "stdout").decode()
+    return cases, "".join(vectors.answers(kind))
 
 
 def normalize(capture, limit):
@@ -64,7 +66,7 @@ class Vectors(unittest.TestCase):
     maxDiff = 200
 
     def check_norm(self, run):
-        cases, stored = vectors("norm_vectors")
+        cases, stored = stored_vectors("norm")
         self.assertEqual(len(cases), stored.count("\n"))
         for number, ((limit, capture), line) in enumerate(zip(cases, stored.splitlines(True))):
             self.assertEqual(norm_line(capture, limit, *run(capture, limit, number)), line)
@@ -76,7 +78,7 @@ class Vectors(unittest.TestCase):
         self.check_norm(lambda capture, limit, number: normalize_pieces(capture, limit, (1, 7, 100)[number % 3]))
 
     def test_same(self):
-        cases, stored = vectors("same_vectors")
+        cases, stored = stored_vectors("same")
         answers = []
         for limit, first, second in cases:
             try:
@@ -87,19 +89,19 @@ class Vectors(unittest.TestCase):
         self.assertEqual(answers, stored.splitlines())
 
     def test_show(self):
-        stored, answers = read("crates", "show_vectors", "stdout").decode(), []
-        for line in read("crates", "show_vectors", "stdin").decode().splitlines():
-            limit, *choice, capture = line.split(" ")
+        answers = []
+        for case in vectors.cases("show"):
+            limit, *choice, capture = case.split(" ")
             numbers = choice != ["without-numbers"]
             only = [int(kind) for kind in choice[0].split(",")] if choice and numbers else None
             try:
                 answers.append(linkcap.lines(bytes.fromhex(capture), int(limit), numbers=numbers, only=only) + "legal\n")
             except linkcap.Fault as fault:
                 answers.append(fault.written.decode() + str(fault) + "\n")
-        self.assertTrue("".join(answers) == stored)
+        self.assertTrue(answers == vectors.answers("show"))
 
     def test_why(self):
-        cases, stored = vectors("refusal_vectors")
+        cases, stored = stored_vectors("refusal")
         answers = []
         for limit, capture in cases:
             found = linkcap.why(capture, limit)

@@ -20,13 +20,28 @@ fn hex(bytes: &[u8]) -> String {
     bytes.iter().map(|byte| format!("{byte:02x}")).collect()
 }
 
-/// The limit and the captures of each case of a crate.
-fn cases(vectors: &str) -> Vec<(u32, Vec<Vec<u8>>)> {
-    text(&format!("crates/{vectors}/stdin"))
-        .lines()
-        .map(|line| {
-            let mut words = line.split(' ');
-            (words.next().expect("a limit").parse().expect("a limit"), words.map(unhex).collect())
+/// The stored cases of a kind, and the lines of their answers: one each, but of `show`, the last kind.
+fn stored(kind: &str) -> (Vec<String>, Vec<String>) {
+    let (stdin, stdout) = (text("crates/vectors/stdin"), text("crates/vectors/stdout"));
+    let word = format!("{kind} ");
+    let before = stdin.lines().take_while(|line| !line.starts_with(&word)).count();
+    let cases: Vec<String> = stdin.lines().filter_map(|line| line.strip_prefix(&word)).map(String::from).collect();
+    assert!(!cases.is_empty());
+    let count = if kind == "show" { usize::MAX } else { cases.len() };
+    let answers: Vec<String> = stdout.lines().skip(before).take(count).map(String::from).collect();
+    assert!(answers.len() >= cases.len());
+    (cases, answers)
+}
+
+/// The limit and the captures of each case of a kind, and its answer.
+fn answered(kind: &str) -> Vec<(u32, Vec<Vec<u8>>, String)> {
+    let (cases, answers) = stored(kind);
+    cases
+        .iter()
+        .zip(answers)
+        .map(|(case, answer)| {
+            let mut words = case.split(' ');
+            (words.next().expect("a limit").parse().expect("a limit"), words.map(unhex).collect(), answer)
         })
         .collect()
 }
@@ -68,23 +83,17 @@ fn norm_line(capture: &[u8], limit: u32, (text, error): Written) -> String {
 }
 
 #[test]
-fn norm_vectors() {
-    let stored = text("crates/norm_vectors/stdout");
-    let cases = cases("norm_vectors");
-    assert_eq!(stored.lines().count(), cases.len());
-    for (i, ((limit, captures), line)) in cases.iter().zip(stored.lines()).enumerate() {
-        assert_eq!(norm_line(&captures[0], *limit, whole(&captures[0], *limit)), line);
-        assert_eq!(norm_line(&captures[0], *limit, pieces(&captures[0], *limit, [1, 7, 100][i % 3])), line);
+fn norm() {
+    for (i, (limit, captures, line)) in answered("norm").into_iter().enumerate() {
+        assert_eq!(norm_line(&captures[0], limit, whole(&captures[0], limit)), line);
+        assert_eq!(norm_line(&captures[0], limit, pieces(&captures[0], limit, [1, 7, 100][i % 3])), line);
     }
 }
 
 #[test]
-fn same_vectors() {
-    let stored = text("crates/same_vectors/stdout");
-    let cases = cases("same_vectors");
-    assert_eq!(stored.lines().count(), cases.len());
-    for ((limit, captures), line) in cases.iter().zip(stored.lines()) {
-        let answer = match linkcap::same(&captures[0], &captures[1], *limit) {
+fn same() {
+    for (limit, captures, line) in answered("same") {
+        let answer = match linkcap::same(&captures[0], &captures[1], limit) {
             Ok(true) => "same".to_string(),
             Ok(false) => "different".to_string(),
             Err(error) => error.to_string(),
@@ -94,10 +103,11 @@ fn same_vectors() {
 }
 
 #[test]
-fn show_vectors() {
+fn show() {
+    let (cases, stored) = stored("show");
     let mut answers = String::new();
-    for line in text("crates/show_vectors/stdin").lines() {
-        let (front, capture) = line.rsplit_once(' ').expect("a capture");
+    for case in cases {
+        let (front, capture) = case.rsplit_once(' ').expect("a capture");
         let (limit, choice) = front.split_once(' ').unwrap_or((front, ""));
         let (limit, without_numbers) = (limit.parse().expect("a limit"), choice == "without-numbers");
         let types: Vec<u16> = choice.split(',').filter_map(|word| word.parse().ok()).collect();
@@ -109,21 +119,18 @@ fn show_vectors() {
             }
         }
     }
-    assert!(answers == text("crates/show_vectors/stdout"));
+    assert!(answers == stored.join("\n") + "\n");
 }
 
 #[test]
-fn refusal_vectors() {
-    let stored = text("crates/refusal_vectors/stdout");
-    let cases = cases("refusal_vectors");
-    assert_eq!(stored.lines().count(), cases.len());
-    for ((limit, captures), line) in cases.iter().zip(stored.lines()) {
-        match linkcap::why(&captures[0], *limit).expect("memory") {
+fn refusal() {
+    for (limit, captures, line) in answered("refusal") {
+        match linkcap::why(&captures[0], limit).expect("memory") {
             None => assert_eq!(line, "nothing"),
             Some(found) => {
                 assert_eq!(found.to_string(), line);
                 assert_eq!(found.offset, line.rsplit_once(" at ").and_then(|(_, place)| place.parse().ok()));
-                let error = linkcap::check(&captures[0], *limit).expect_err("a refused body");
+                let error = linkcap::check(&captures[0], limit).expect_err("a refused body");
                 assert_eq!(error.fault().map(|fault| fault.kind), Some(Kind::Refused));
             }
         }

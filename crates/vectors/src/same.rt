@@ -1,13 +1,14 @@
-// same_vectors: answers pairs of captures on standard input, one in a line, by `same`, `different`, or the first fault
-// and whose it is. Each pair is judged the other way round too, and each legal capture with itself and its normal text.
-#![tactic(auto)]
+// Whether two captures mean the same: `same`, `different`, or the first fault and whose it is. Each pair is judged the
+// other way round too, and each legal capture with itself and its normal text.
 
-ghost use Rattle.std.specs.Prelude.{◌≡◌, ◌≤◌, IfSome};
+ghost use Rattle.std.specs.Prelude.{◌≤◌, IfSome};
 
+use crate::cases::{LEAST_LIMIT, read_limit};
 use hex::decode;
-use link_capture::{SideFault, normalize_bytes, same};
+use link_capture_checks::{SideFault, same};
+use link_capture_reader::normalize_bytes;
 use std::alloc::{AllocError, Global};
-use std::io::{self, BufRead, BufReader, BufWriter, ErrorKind, Write};
+use std::io::{self, ErrorKind, Write};
 
 /// Two captures, and the greatest length in bytes that a message in them may have.
 #[derive(Drop)]
@@ -17,16 +18,13 @@ struct Pair {
     second: Vec<u8>,
 }
 
-/// Reads a line: a limit from 16 to 4294967295 in decimal, and two captures in hex, with spaces between. None where it
-/// is anything else, or memory runs out.
-fn read_pair(alloc: Global, line: &str) -> Option<Pair>
+/// Reads a limit from 16 to 4294967295 in decimal, and two captures in hex, with spaces between. None where it is
+/// anything else, or memory runs out.
+fn read_pair(alloc: Global, words: &str) -> Option<Pair>
     ensures { IfSome result (λ pair. 16 ≤ pair.limit) }
 {
-    let (limit, captures) = line.split_once(' ')?;
-    let limit = limit.parse::<u32>().ok()?;
-    if limit < 16 {
-        return None;
-    }
+    let (limit, captures) = words.split_once(' ')?;
+    let limit = read_limit(limit, LEAST_LIMIT)?;
     let (first, second) = captures.split_once(' ')?;
     let first = decode(alloc, first).ok()?;
     let second = decode(alloc, second).ok()?;
@@ -64,21 +62,15 @@ fn answer_pair(alloc: Global, answer: Result<bool, SideFault>) -> Result<String,
     }
 }
 
-fn main(rt: HostRuntime) -> io::Result<()> {
-    let alloc = rt.alloc();
-    let mut out = BufWriter::new(alloc, io::writer(&rt))?;
-    for line in BufReader::new(alloc, rt.reader())?.lines(alloc) {
-        let Some(pair) = read_pair(alloc, line?.as_str()) else {
-            return Err(io::Error::from(ErrorKind::InvalidInput));
-        };
-        let answer = same(pair.first.as_slice(), pair.second.as_slice(), pair.limit);
-        if !agrees_turned(&pair, answer)
-            || !agrees_with_its_text(alloc, pair.first.as_slice(), pair.limit)
-        {
-            return Err(io::Error::from(ErrorKind::InvalidData));
-        }
-        let answer = answer_pair(alloc, answer)?;
-        writeln!(out, "{answer}")?;
+/// Answers a case: a limit in decimal, and two captures in hex, with spaces between.
+pub fn write_answer<W: Write>(alloc: Global, words: &str, out: &mut W) -> io::Result<()> {
+    let pair = read_pair(alloc, words).ok_or(ErrorKind::InvalidInput)?;
+    let answer = same(pair.first.as_slice(), pair.second.as_slice(), pair.limit);
+    if !agrees_turned(&pair, answer)
+        || !agrees_with_its_text(alloc, pair.first.as_slice(), pair.limit)
+    {
+        return Err(io::Error::from(ErrorKind::InvalidData));
     }
-    out.flush()
+    let answer = answer_pair(alloc, answer)?;
+    writeln!(out, "{answer}")
 }

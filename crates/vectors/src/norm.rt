@@ -1,38 +1,17 @@
-// norm_vectors: answers captures on standard input, one in a line, by their normal texts, and their numbers or faults.
-// Each is read in pieces too, and checked, and has to be answered alike.
-#![tactic(auto)]
+// The normal texts of a capture, and its numbers or its first fault. Each is read in pieces and between devices too, and
+// checked, and has to be answered alike.
 
-ghost use Rattle.std.specs.Prelude.{◌≡◌, ◌<◌, ◌≤◌, IfOk, IfSome, string_bytes};
-ghost use Rattle.norm_vectors.specs.Answers.{answer, measure_text};
+ghost use Rattle.std.specs.Prelude.{◌≡◌, ◌<◌, ◌≤◌, IfOk, string_bytes};
+ghost use Rattle.vectors.specs.Norm.{answer, measure_text};
 
-use hex::{decode, encode};
-use link_capture::{
-    CaptureFault, CaptureReader, FaultKind, Measure, ReadSource, SliceSource, Source, VecSink,
-    check, measure, normal_len, normalize, normalize_bytes, read_all,
-};
+use crate::cases::{Case, LEAST_LIMIT, PIECES, read_case};
+use hex::encode;
+use link_capture_checks::{Measure, check, measure, normal_len};
+use link_capture_engine::{ReadSource, SliceSource, Source, VecSink, normalize, read_all};
+use link_capture_grammar::fault::{CaptureFault, FaultKind};
+use link_capture_reader::{CaptureReader, normalize_bytes};
 use std::alloc::{AllocError, Global};
-use std::io::{self, BufRead, BufReader, BufWriter, ErrorKind, Read, Write};
-
-/// A capture, and the greatest length in bytes that a message in it may have.
-#[derive(Drop)]
-struct Case {
-    limit: u32,
-    capture: Vec<u8>,
-}
-
-/// Reads a line: a limit from 16 to 4294967295 in decimal, a space, and a capture in hex. None where it is anything
-/// else, or memory runs out.
-fn read_case(alloc: Global, line: &str) -> Option<Case>
-    ensures { IfSome result (λ case. 16 ≤ case.limit) }
-{
-    let (limit, capture) = line.split_once(' ')?;
-    let limit = limit.parse::<u32>().ok()?;
-    if limit < 16 {
-        return None;
-    }
-    let capture = decode(alloc, capture).ok()?;
-    Some(Case { limit, capture })
-}
+use std::io::{self, ErrorKind, Read, Write};
 
 /// The numbers of a capture, with spaces between: frames, attributes, and the bytes of its normal text. Else its first
 /// fault.
@@ -68,9 +47,6 @@ fn answer_case(alloc: Global, case: &Case) -> Result<String, AllocError>
     let numbers = measure_case(alloc, case)?;
     format!(in alloc; "{text} {numbers}")
 }
-
-/// The sizes of pieces, in bytes.
-const PIECES: [usize; 3] = [1, 7, 100];
 
 /// Reads a capture in pieces of this size. Its texts go to `out`.
 fn read_pieces(
@@ -184,18 +160,12 @@ fn agrees(alloc: Global, case: &Case) -> bool
     agrees_between_devices(alloc, case, text.as_slice(), whole)
 }
 
-fn main(rt: HostRuntime) -> io::Result<()> {
-    let alloc = rt.alloc();
-    let mut out = BufWriter::new(alloc, io::writer(&rt))?;
-    for line in BufReader::new(alloc, rt.reader())?.lines(alloc) {
-        let Some(case) = read_case(alloc, line?.as_str()) else {
-            return Err(io::Error::from(ErrorKind::InvalidInput));
-        };
-        if !agrees(alloc, &case) {
-            return Err(io::Error::from(ErrorKind::InvalidData));
-        }
-        let answer = answer_case(alloc, &case)?;
-        writeln!(out, "{answer}")?;
+/// Answers a case: a limit from 16 to 4294967295 in decimal, a space, and a capture in hex.
+pub fn write_answer<W: Write>(alloc: Global, words: &str, out: &mut W) -> io::Result<()> {
+    let case = read_case(alloc, words, LEAST_LIMIT).ok_or(ErrorKind::InvalidInput)?;
+    if !agrees(alloc, &case) {
+        return Err(io::Error::from(ErrorKind::InvalidData));
     }
-    out.flush()
+    let answer = answer_case(alloc, &case)?;
+    writeln!(out, "{answer}")
 }

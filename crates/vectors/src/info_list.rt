@@ -1,14 +1,13 @@
-// link_info_vectors: answers link info lists on standard input, one in a line, by their canonical texts.
-#![tactic(auto)]
+// The canonical text of a link info list.
 
 ghost use Rattle.std.specs.Prelude.{◌≡◌, IfOk, string_bytes};
-ghost use Rattle.link_info_vectors.specs.Answers.{answer};
+ghost use Rattle.vectors.specs.InfoList.{answer};
 
 use hex::{decode, encode};
 use link_info::LinkInfo;
 use netlink_packet_core::{emit_all, fits_all, len_all};
 use std::alloc::{AllocError, Global};
-use std::io::{self, BufRead, BufReader, BufWriter, ErrorKind, Write};
+use std::io::{self, ErrorKind, Write};
 
 /// The canonical text of a list in hex, `unfit` where an attribute of it would be longer than 65535 bytes, `refused`
 /// where there is none.
@@ -29,15 +28,9 @@ fn answer_list(alloc: Global, bytes: &[u8]) -> Result<String, AllocError>
     encode(alloc, text.as_slice())
 }
 
-fn main(rt: HostRuntime) -> io::Result<()> {
-    let alloc = rt.alloc();
-    let mut out = BufWriter::new(alloc, io::writer(&rt))?;
-    for line in BufReader::new(alloc, rt.reader())?.lines(alloc) {
-        let Ok(bytes) = decode(alloc, line?) else {
-            return Err(io::Error::from(ErrorKind::InvalidInput));
-        };
-        let answer = answer_list(alloc, bytes.as_slice())?;
-        writeln!(out, "{answer}")?;
-    }
-    out.flush()
+/// Answers a case: a list in hex.
+pub fn write_answer<W: Write>(alloc: Global, words: &str, out: &mut W) -> io::Result<()> {
+    let list = decode(alloc, words).map_err(|_| ErrorKind::InvalidInput)?;
+    let answer = answer_list(alloc, list.as_slice())?;
+    writeln!(out, "{answer}")
 }

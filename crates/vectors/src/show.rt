@@ -1,29 +1,27 @@
-// show_vectors: answers captures on standard input, one in a line, by their lines and whether they are legal. Each is
-// read from a source and in pieces too, and has to be answered alike.
-#![tactic(auto)]
+// The lines of a capture, and whether it is legal. Each is read from a source and in pieces too, and has to be answered
+// alike.
 
 ghost use Rattle.std.specs.Prelude.{◌≡◌, ◌<◌, ◌≤◌, ◌++◌, IfOk, IfSome, OnOk};
 ghost use Rattle.link_lines.specs.Options.{choice_of};
-ghost use Rattle.show_vectors.specs.Answers.{answer, chosen, outcome_line};
+ghost use Rattle.vectors.specs.Show.{answer, chosen, outcome_line};
 
-use hex::decode;
+use crate::cases::{Case, LEAST_LIMIT, PIECES, read_words};
 use link_lines::{
     CaptureFault, CaptureReader, FaultKind, LineOptions, SliceSource, VecSink, push_lines, show,
     show_bytes,
 };
 use std::alloc::{AllocError, Global};
-use std::io::{self, BufRead, BufReader, BufWriter, ErrorKind, Write};
+use std::io::{self, ErrorKind, Write};
 
-/// A capture, the greatest length in bytes that a message in it may have, and what is to be shown.
+/// A case, and what is to be shown of it.
 #[derive(Drop)]
-struct Case {
-    limit: u32,
+struct Shown {
+    case: Case,
     without_numbers: bool,
     only: Option<Vec<u16>>,
-    capture: Vec<u8>,
 }
 
-impl Case {
+impl Shown {
     /// What is to be shown.
     fn options(&self) -> LineOptions<'_>
         ensures { choice_of result ≡ chosen self.now }
@@ -44,29 +42,24 @@ fn read_types(alloc: Global, words: &str) -> Option<Vec<u16>> {
     Some(types)
 }
 
-/// Reads a line: a limit from 16 to 4294967295 in decimal, and a capture in hex, with a space between; or two, and there
+/// Reads a limit from 16 to 4294967295 in decimal, and a capture in hex, with a space between; or two, and there
 /// `without-numbers`, or the types of the messages to be shown. None where it is anything else, or memory runs out.
-fn read_case(alloc: Global, line: &str) -> Option<Case>
-    ensures { IfSome result (λ case. 16 ≤ case.limit) }
+fn read_shown(alloc: Global, words: &str) -> Option<Shown>
+    ensures { IfSome result (λ shown. 16 ≤ shown.case.limit) }
 {
-    let (front, capture) = line.rsplit_once(' ')?;
+    let (front, capture) = words.rsplit_once(' ')?;
     let (limit, choice) = front.split_once(' ').unwrap_or((front, ""));
-    let limit = limit.parse::<u32>().ok()?;
-    if limit < 16 {
-        return None;
-    }
+    let case = read_words(alloc, limit, capture, LEAST_LIMIT)?;
     let without_numbers = choice == "without-numbers";
     let only = if choice.is_empty() || without_numbers {
         None
     } else {
         Some(read_types(alloc, choice)?)
     };
-    let capture = decode(alloc, capture).ok()?;
-    Some(Case {
-        limit,
+    Some(Shown {
+        case,
         without_numbers,
         only,
-        capture,
     })
 }
 
@@ -84,17 +77,17 @@ fn push_outcome(outcome: Result<(), CaptureFault>, out: &mut Vec<u8>) -> Result<
 }
 
 /// The lines of a capture, and behind them `legal` or its first fault.
-fn answer_case(alloc: Global, case: &Case) -> Result<Vec<u8>, AllocError>
-    requires { 16 ≤ case.now.limit }
+fn answer_case(alloc: Global, shown: &Shown) -> Result<Vec<u8>, AllocError>
+    requires { 16 ≤ shown.now.case.limit }
     ensures { IfOk result
-        (λ lines. lines.items ≡ answer (chosen case.now) case.now.limit case.now.capture.items) }
+        (λ lines. lines.items ≡ answer (chosen shown.now) shown.now.case.limit shown.now.case.capture.items) }
 {
     let mut lines = Vec::new(alloc);
     let outcome = show_bytes(
         alloc,
-        case.capture.as_slice(),
-        case.limit,
-        case.options(),
+        shown.case.capture.as_slice(),
+        shown.case.limit,
+        shown.options(),
         &mut lines,
     );
     if outcome.is_err_and(|fault| fault.kind == FaultKind::Memory) {
@@ -104,24 +97,21 @@ fn answer_case(alloc: Global, case: &Case) -> Result<Vec<u8>, AllocError>
     Ok(lines)
 }
 
-/// The sizes of pieces, in bytes.
-const PIECES: [usize; 3] = [1, 7, 100];
-
 /// Reads a capture in pieces of this size. The lines of each go to `out`.
 fn read_pieces(
     alloc: Global,
-    case: &Case,
+    shown: &Shown,
     size: usize,
     out: &mut Vec<u8>,
 ) -> Result<Result<(), CaptureFault>, AllocError>
-    requires limit { 16 ≤ case.now.limit }
+    requires limit { 16 ≤ shown.now.case.limit }
     requires size { 0 < size }
 {
-    let mut reader = CaptureReader::new(alloc, case.limit);
+    let mut reader = CaptureReader::new(alloc, shown.case.limit);
     let mut texts = Vec::new(alloc);
-    for piece in case.capture.as_slice().chunks(size) {
+    for piece in shown.case.capture.as_slice().chunks(size) {
         let fed = reader.feed(piece, &mut texts);
-        push_lines(texts.as_slice(), case.options(), out)?;
+        push_lines(texts.as_slice(), shown.options(), out)?;
         if fed.is_err() {
             return Ok(fed);
         }
@@ -131,28 +121,33 @@ fn read_pieces(
 }
 
 /// Whether a capture is answered in pieces, and from a source, as it is in one.
-fn agrees(alloc: Global, case: &Case) -> Result<bool, AllocError>
-    requires { 16 ≤ case.now.limit }
+fn agrees(alloc: Global, shown: &Shown) -> Result<bool, AllocError>
+    requires { 16 ≤ shown.now.case.limit }
 {
     let mut lines = Vec::new(alloc);
     let whole = show_bytes(
         alloc,
-        case.capture.as_slice(),
-        case.limit,
-        case.options(),
+        shown.case.capture.as_slice(),
+        shown.case.limit,
+        shown.options(),
         &mut lines,
     );
     let mut sink = VecSink::new(alloc);
-    let mut source = SliceSource::new(case.capture.as_slice());
-    let shown = show(alloc, &mut source, &mut sink, case.limit, case.options()).map_err(
-        |found| found.fault,
-    );
-    if shown != whole || sink.bytes() != lines.as_slice() {
+    let mut source = SliceSource::new(shown.case.capture.as_slice());
+    let from_source = show(
+        alloc,
+        &mut source,
+        &mut sink,
+        shown.case.limit,
+        shown.options(),
+    )
+    .map_err(|found| found.fault);
+    if from_source != whole || sink.bytes() != lines.as_slice() {
         return Ok(false);
     }
     for size in PIECES {
         let mut out = Vec::new(alloc);
-        let outcome = read_pieces(alloc, case, size.max(1), &mut out)?;
+        let outcome = read_pieces(alloc, shown, size.max(1), &mut out)?;
         if outcome != whole || out.as_slice() != lines.as_slice() {
             return Ok(false);
         }
@@ -160,18 +155,12 @@ fn agrees(alloc: Global, case: &Case) -> Result<bool, AllocError>
     Ok(true)
 }
 
-fn main(rt: HostRuntime) -> io::Result<()> {
-    let alloc = rt.alloc();
-    let mut out = BufWriter::new(alloc, io::writer(&rt))?;
-    for line in BufReader::new(alloc, rt.reader())?.lines(alloc) {
-        let Some(case) = read_case(alloc, line?.as_str()) else {
-            return Err(io::Error::from(ErrorKind::InvalidInput));
-        };
-        if !agrees(alloc, &case)? {
-            return Err(io::Error::from(ErrorKind::InvalidData));
-        }
-        let answer = answer_case(alloc, &case)?;
-        out.write_all(answer.as_slice())?;
+/// Answers a case: a limit from 16 to 4294967295 in decimal, what is to be shown where it isn't all, and a capture in hex.
+pub fn write_answer<W: Write>(alloc: Global, words: &str, out: &mut W) -> io::Result<()> {
+    let shown = read_shown(alloc, words).ok_or(ErrorKind::InvalidInput)?;
+    if !agrees(alloc, &shown)? {
+        return Err(io::Error::from(ErrorKind::InvalidData));
     }
-    out.flush()
+    let answer = answer_case(alloc, &shown)?;
+    out.write_all(answer.as_slice())
 }

@@ -1,10 +1,10 @@
--- How a capture is answered.
+-- How a capture is answered by its lines.
 use Rattle.std.specs.Prelude.{ℕ, List, [], ◌∷◌, ◌++◌, codes, Option, None, Some, not, option_map, Result, Ok, Err}
 use Rattle.link_capture_grammar.specs.declared.fault.CaptureFault.{CaptureFault}
 use Rattle.link_capture_grammar.specs.Captures.{first_fault}
 use Rattle.link_capture_grammar.specs.Faults.{fault_text}
 use Rattle.link_lines.specs.Captures.{Choice, lines}
-use Rattle.show_vectors.specs.declared.Case.{Case}
+use Rattle.vectors.specs.declared.show.Shown.{Shown}
 
 -- the last line of an answer
 abbrev pub outcome_line : Result (Unit {0}) CaptureFault → List ℕ
@@ -17,8 +17,8 @@ judged_line None = codes "legal" ++ 10 ∷ []
 judged_line (Some fault) = fault_text fault ++ 10 ∷ []
 
 -- what a case has shown
-abbrev pub chosen : Case → Choice
-chosen case = record { numbers = not case.without_numbers; only = option_map (λ types. types.items) case.only }
+abbrev pub chosen : Shown → Choice
+chosen shown = record { numbers = not shown.without_numbers; only = option_map (λ types. types.items) shown.only }
 
 -- the lines of the frames before the first fault, and whether there is one
 abbrev pub answer : Choice → ℕ → List ℕ → List ℕ

@@ -1,11 +1,11 @@
--- How a capture is answered.
+-- How a capture is answered by its texts.
 use Rattle.std.specs.Prelude.{ℕ, List, ◌++◌, codes, length, Option, None, Some}
 use Rattle.std.specs.Fmt.{decimal}
 use Rattle.hex.specs.Hex.{encode_lower}
 use Rattle.link_capture_grammar.specs.declared.fault.CaptureFault.{CaptureFault}
-use Rattle.link_capture.specs.Captures.{first_fault, texts}
-use Rattle.link_capture.specs.Faults.{fault_text}
-use Rattle.link_capture.specs.Numbers.{attributes, frames}
+use Rattle.link_capture_grammar.specs.Captures.{first_fault, texts}
+use Rattle.link_capture_grammar.specs.Faults.{fault_text}
+use Rattle.link_capture_grammar.specs.Numbers.{attributes, frames}
 
 -- the words behind the texts
 abbrev pub outcome_text : ℕ → List ℕ → Option CaptureFault → List ℕ

@@ -1,0 +1,3 @@
+pub mod InfoList
+pub mod Norm
+pub mod Show

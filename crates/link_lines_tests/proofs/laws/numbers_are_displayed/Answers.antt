@@ -1,6 +1,6 @@
 -- Both sides compute.
 use Rattle.std.specs.Prelude.{refl}
-use Rattle.link_lines_laws.proofs.laws.numbers_are_displayed.Goals as goal
+use Rattle.link_lines_tests.proofs.laws.numbers_are_displayed.Goals as goal
 
 pub returns : goal.returns
 returns c = record {

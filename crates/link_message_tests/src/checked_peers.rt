@@ -1,10 +1,12 @@
 //! Link info under a rule of peers of a caller's own.
 
-ghost use Rattle.checks_tests.specs.FrontPeers.{front_peer};
+ghost use Rattle.link_message_tests.specs.FrontPeers.{front_peer};
 
-use attribute_checks::{BytesPeer, PeerMeasure, PeerRule};
-use link_info_checks::{ListMeasure, check_list, check_list_with, same_list, same_list_with};
-use netlink_packet_core_numbers::DecodeError;
+use link_info::{
+    BytesPeer, ListMeasure, PeerMeasure, PeerRule, check_list, check_list_with, same_list,
+    same_list_with,
+};
+use netlink_packet_core::DecodeError;
 use std::alloc::Global;
 use std::test::Fail;
 

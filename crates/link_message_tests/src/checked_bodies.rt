@@ -1,4 +1,6 @@
-use link_message_checks::{BodyMeasure, check, same};
+//! Bodies of link messages, measured and compared on their bytes.
+
+use link_message::{BodyMeasure, check, same};
 use std::test::Fail;
 
 // A name and a mask.

@@ -1,4 +1,6 @@
-use link_info_checks::{ListMeasure, check_list, same_list};
+//! Lists of link info, measured and compared on their bytes.
+
+use link_info::{ListMeasure, check_list, same_list};
 use std::test::Fail;
 
 // A link of IPsec, with its data.

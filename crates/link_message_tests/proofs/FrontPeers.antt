@@ -6,7 +6,7 @@ use Rattle.std.proofs.lemmas.List.{length-take-le, take_all}
 use Rattle.std.proofs.lemmas.Slice.Eq.{bytes_eq-Decides}
 use Rattle.netlink_packet_core_grammar.proofs.Bytes.{AreBytes-take}
 use Rattle.attribute_tables_grammar.specs.Peers.{LawfulPeer}
-use Rattle.checks_tests.specs.FrontPeers.{front_peer}
+use Rattle.link_message_tests.specs.FrontPeers.{front_peer}
 
 four : (b : List ℕ) → nat_le 4 (length b) ≡ true → 4 ≤ length b
 four b h = grind (arith, nat_tests)

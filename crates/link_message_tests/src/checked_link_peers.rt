@@ -1,8 +1,7 @@
 //! Link info whose peers are bodies of link messages.
 
-use attribute_checks::PeerRule;
-use link_info_checks::{ListMeasure, check_list, check_list_with, same_list, same_list_with};
-use link_message_checks::LinkPeer;
+use link_info::{ListMeasure, PeerRule, check_list, check_list_with, same_list, same_list_with};
+use link_message::LinkPeer;
 use std::test::Fail;
 
 // A body with a name, as it is written.

@@ -1,6 +1,6 @@
 //! Bodies of link messages whose link info holds the other end of a pair.
 
-use link_message_checks::{BodyMeasure, check, same, write_canonical};
+use link_message::{BodyMeasure, check, same, write_canonical};
 use std::test::Fail;
 
 // A pair whose peer has a name without a NUL, and as it is written.

@@ -3,8 +3,8 @@ use Rattle.std.proofs.Common.{◌≡◌, ℕ, suc, ◌+◌, ◌<◌, List, [], �
 use Rattle.std.specs.Int.{w32, from_le_bytes}
 use Rattle.std.proofs.lemmas.Nat.{le_bytes_4}
 use Rattle.netlink_packet_core.specs.Numbers.{le4}
-use Rattle.address_messages.specs.Addresses.{header_text}
-use Rattle.address_messages.specs.declared.address.AddressHeader.{AddressHeader}
+use Rattle.netlink_packet_core_tests.specs.Addresses.{header_text}
+use Rattle.netlink_packet_core_tests.specs.declared.address_messages.AddressHeader.{AddressHeader}
 
 pub length-header_text : (h : AddressHeader) → length (header_text h) ≡ 8
 unfolding header_text le4

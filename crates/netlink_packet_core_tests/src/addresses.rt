@@ -1,6 +1,6 @@
 //! Messages of addresses as Linux writes them, and what is refused.
 
-use super::{AddressFault, AddressHeader, AddressMessage, new_address};
+use super::address_messages::{AddressFault, AddressHeader, AddressMessage, new_address};
 use netlink_packet_core::{
     FrameError, NLM_F_ACK, NLM_F_CREATE, NLM_F_EXCL, NLM_F_REQUEST, NetlinkMessage, NetlinkPayload,
 };

@@ -4,10 +4,10 @@ use Rattle.std.specs.Prelude.{length, nat_le, true}
 use Rattle.std.proofs.lemmas.Bool.Decides.{nat_tests}
 use Rattle.netlink_packet_core.specs.Numbers.{le4}
 use Rattle.netlink_packet_core.specs.TypedBodies.{IsInner}
-use Rattle.address_messages.specs.Addresses.{header_text, address_text}
-use Rattle.address_messages.specs.declared.address.Address.{Address}
-use Rattle.address_messages.specs.declared.message.AddressMessage.{AddressMessage}
-use Rattle.address_messages.specs.Messages.{address_entry, reads_address}
+use Rattle.netlink_packet_core_tests.specs.Addresses.{header_text, address_text}
+use Rattle.netlink_packet_core_tests.specs.declared.address_messages.Address.{Address}
+use Rattle.netlink_packet_core_tests.specs.declared.address_messages.AddressMessage.{AddressMessage}
+use Rattle.netlink_packet_core_tests.specs.AddressMessages.{address_entry, reads_address}
 
 has_header : (a : Address) → 8 ≤ length (address_text a)
 unfolding header_text le4

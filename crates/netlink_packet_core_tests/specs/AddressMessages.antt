@@ -1,9 +1,9 @@
 -- Messages of addresses: types and bodies, what is read, and why a body is refused.
 use Rattle.std.specs.Prelude.{◌≡◌, ◌<◌, ◌&&◌, ◌||◌, ℕ, List, length, Bool, true, false, cond, nat_eq, nat_le, Option, Some, None}
 use Rattle.netlink_packet_core.specs.TypedBodies.{TypedBody}
-use Rattle.address_messages.specs.Addresses.{address_text}
-use Rattle.address_messages.specs.declared.fault.AddressFault.{AddressFault}
-use Rattle.address_messages.specs.declared.message.AddressMessage.{AddressMessage}
+use Rattle.netlink_packet_core_tests.specs.Addresses.{address_text}
+use Rattle.netlink_packet_core_tests.specs.declared.address_messages.AddressFault.{AddressFault}
+use Rattle.netlink_packet_core_tests.specs.declared.address_messages.AddressMessage.{AddressMessage}
 
 -- the type of a message, and the bytes of its body
 abbrev pub address_entry : AddressMessage → TypedBody

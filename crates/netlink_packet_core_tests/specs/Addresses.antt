@@ -1,8 +1,8 @@
 -- The body of a message of addresses (linux/if_addr.h, struct ifaddrmsg), and its bytes.
 use Rattle.std.specs.Prelude.{ℕ, List, ◌∷◌, ◌++◌}
 use Rattle.netlink_packet_core.specs.Numbers.{le4}
-use Rattle.address_messages.specs.declared.address.Address.{Address}
-use Rattle.address_messages.specs.declared.address.AddressHeader.{AddressHeader}
+use Rattle.netlink_packet_core_tests.specs.declared.address_messages.Address.{Address}
+use Rattle.netlink_packet_core_tests.specs.declared.address_messages.AddressHeader.{AddressHeader}
 
 -- the 8 bytes of a header
 unfoldable pub header_text : AddressHeader → List ℕ

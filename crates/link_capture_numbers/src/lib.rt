@@ -3,7 +3,5 @@
 
 mod clearing;
 pub mod laws;
-#[cfg(test)]
-mod tests;
 
 pub use clearing::clear_numbers;

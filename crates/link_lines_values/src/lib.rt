@@ -12,8 +12,6 @@ mod number_texts;
 mod numbers;
 mod placed;
 mod records;
-#[cfg(test)]
-mod tests;
 mod values;
 
 pub use bytes::push_bytes;

@@ -1,1 +1,2 @@
+mod FrontPeers
 mod Texts

@@ -1,1 +1,2 @@
+pub mod FrontPeers
 pub mod Requests

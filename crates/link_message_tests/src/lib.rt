@@ -1,10 +1,20 @@
-// Calls of link messages that the pages quote, and worked cases of link messages, as tests. The wanted values come
-// from outside this project's code.
+// Calls of link messages that the pages quote, and worked cases of link messages and of what checks and compares them on their
+// bytes, as tests. The wanted values come from outside this project's code.
 #![tactic(auto)]
 
 #[cfg(test)]
 mod attributes;
 pub mod callers;
+#[cfg(test)]
+mod checked_bodies;
+#[cfg(test)]
+mod checked_body_peers;
+#[cfg(test)]
+mod checked_link_peers;
+#[cfg(test)]
+mod checked_lists;
+#[cfg(test)]
+mod checked_peers;
 #[cfg(test)]
 mod messages;
 #[cfg(test)]

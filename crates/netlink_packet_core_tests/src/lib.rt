@@ -1,6 +1,10 @@
-// The core as its callers use it, as tests. The wanted values come from outside this project's code.
+// The core as its callers use it: a protocol of their own over it, and tests. The wanted values come from outside this project's
+// code.
 #![tactic(auto)]
 
+pub mod address_messages;
+#[cfg(test)]
+mod addresses;
 #[cfg(test)]
 mod buffers;
 #[cfg(test)]

@@ -1,5 +1,0 @@
-use Rattle.checks_tests.proofs.FrontPeers.{front_peer_lawful}
-use Rattle.checks_tests.proofs.peers.FrontPeerPeerRule.rule_is_lawful.Goals as goal
-
-pub returns : goal.returns
-returns c = front_peer_lawful

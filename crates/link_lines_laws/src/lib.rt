@@ -1,4 +1,0 @@
-// The law of the names that lines give numbers.
-#![tactic(auto)]
-
-pub mod laws;

@@ -1,0 +1,110 @@
+//! Link info whose peers are bodies of link messages.
+
+use link_info::{ListMeasure, PeerRule, check_list, check_list_with, same_list, same_list_with};
+use link_message::LinkPeer;
+use std::test::Fail;
+
+// A body with a name, as it is written.
+const BODY: &[u8] = b"\0\0\0\0\0\0\0\0\0\0\0\0\0\0\0\0\x09\0\x03\0eth0\0\0\0\0";
+
+// The same body without the NUL behind its name.
+const BODY_SHORTER: &[u8] = b"\0\0\0\0\0\0\0\0\0\0\0\0\0\0\0\0\x08\0\x03\0eth0";
+
+// The same with other padding, and another second byte in its header.
+const BODY_PADDED: &[u8] = b"\0\x05\0\0\0\0\0\0\0\0\0\0\0\0\0\0\x09\0\x03\0eth0\0***";
+
+// A body with ports of which nothing is kept.
+const EMPTY_PORTS: &[u8] = b"\0\0\0\0\0\0\0\0\0\0\0\0\0\0\0\0\x08\0\x18\0\x04\0\x07\0";
+
+// Pairs whose peers are these, one whose peer has another name, and one whose peer has three bytes.
+const VETH: &[u8] = b"\x09\0\x01\0veth\0\0\0\0\x24\0\x02\0\x20\0\x01\0\
+    \0\0\0\0\0\0\0\0\0\0\0\0\0\0\0\0\x09\0\x03\0eth0\0\0\0\0";
+
+const VETH_SHORTER: &[u8] = b"\x09\0\x01\0veth\0\0\0\0\x20\0\x02\0\x1c\0\x01\0\
+    \0\0\0\0\0\0\0\0\0\0\0\0\0\0\0\0\x08\0\x03\0eth0";
+
+const VETH_PADDED: &[u8] = b"\x09\0\x01\0veth\0\0\0\0\x24\0\x02\0\x20\0\x01\0\
+    \0\x05\0\0\0\0\0\0\0\0\0\0\0\0\0\0\x09\0\x03\0eth0\0***";
+
+const VETH_OTHER: &[u8] = b"\x09\0\x01\0veth\0\0\0\0\x20\0\x02\0\x1c\0\x01\0\
+    \0\0\0\0\0\0\0\0\0\0\0\0\0\0\0\0\x08\0\x03\0eth1";
+
+const VETH_EMPTY_PORTS: &[u8] = b"\x09\0\x01\0veth\0\0\0\0\x20\0\x02\0\x1c\0\x01\0\
+    \0\0\0\0\0\0\0\0\0\0\0\0\0\0\0\0\x08\0\x18\0\x04\0\x07\0";
+
+const VETH_THREE: &[u8] = b"\x09\0\x01\0veth\0\0\0\0\x0c\0\x02\0\x07\0\x01\0abc\0";
+
+#[test]
+fn attributes_of_peers_count(rt: HostRuntime) -> Result<(), Fail> {
+    for (bytes, text_len, attributes) in [
+        (VETH, 48, 3),
+        (VETH_SHORTER, 44, 3),
+        (VETH_PADDED, 48, 3),
+    ] {
+        let by_bytes = ListMeasure {
+            text_len,
+            attributes,
+            fits: true,
+        };
+        let by_body = ListMeasure {
+            text_len: 48,
+            attributes: 4,
+            fits: true,
+        };
+        assert!(rt; check_list(bytes)? == by_bytes);
+        assert!(rt; check_list_with(bytes, &LinkPeer)? == by_body);
+    }
+    for bytes in [VETH_EMPTY_PORTS, VETH_THREE] {
+        assert!(rt; check_list(bytes).is_ok());
+        assert!(rt; check_list_with(bytes, &LinkPeer).is_err());
+    }
+    Ok(())
+}
+
+#[test]
+fn peers_are_compared_as_bodies(rt: HostRuntime) {
+    for (left, right, is_same) in [
+        (VETH, VETH_SHORTER, true),
+        (VETH, VETH_PADDED, true),
+        (VETH_SHORTER, VETH_PADDED, true),
+        (VETH_SHORTER, VETH_OTHER, false),
+    ] {
+        assert!(rt; same_list_with(left, right, &LinkPeer) == is_same);
+        assert!(rt; !same_list(left, right));
+    }
+}
+
+// Headers that are cut short: up to the layer type, before it, and a byte behind it.
+#[test]
+fn bytes_under_a_header_are_compared(rt: HostRuntime) {
+    for (left, right, is_same) in [
+        (b"".as_slice(), b"\x07\0\x01".as_slice(), true),
+        (b"".as_slice(), b"\0\0\x01\0".as_slice(), false),
+        (b"\0\x05\x01\0".as_slice(), b"\0\0\x01\0".as_slice(), true),
+        (b"\0\0\x09\0".as_slice(), b"\0\0\x0a\0".as_slice(), true),
+        (b"\0\0\x01\0".as_slice(), b"\x07\0\x01\0".as_slice(), false),
+        (
+            b"\0\0\x01\0\x02".as_slice(),
+            b"\0\0\x01\0".as_slice(),
+            false,
+        ),
+        (&BODY[..15], &BODY[..16], false),
+    ] {
+        assert!(rt; LinkPeer.same(left, right) == is_same);
+        assert!(rt; LinkPeer.same(right, left) == is_same);
+    }
+}
+
+#[test]
+fn peers_are_written_as_bodies(rt: HostRuntime) -> Result<(), Fail> {
+    for payload in [BODY, BODY_SHORTER, BODY_PADDED] {
+        assert!(rt; LinkPeer.canonical(rt.alloc(), payload)?.as_slice() == BODY);
+    }
+    for payload in [EMPTY_PORTS, b"abc".as_slice()] {
+        match LinkPeer.canonical(rt.alloc(), payload) {
+            Ok(_) => return Err(Fail::from("accepted")),
+            Err(error) => assert!(rt; !error.is_memory()),
+        }
+    }
+    Ok(())
+}

@@ -1,0 +1,117 @@
+//! Link info under a rule of peers of a caller's own.
+
+ghost use Rattle.link_message_tests.specs.FrontPeers.{front_peer};
+
+use link_info::{
+    BytesPeer, ListMeasure, PeerMeasure, PeerRule, check_list, check_list_with, same_list,
+    same_list_with,
+};
+use netlink_packet_core::DecodeError;
+use std::alloc::Global;
+use std::test::Fail;
+
+// The bytes that count of a peer.
+const FRONT: usize = 4;
+
+// Peers of which the first four bytes count, the header of an attribute.
+#[derive(Clone, Copy)]
+struct FrontPeer;
+
+impl PeerRule for FrontPeer {
+    ghost peer = { front_peer };
+
+    fn rule_is_lawful(&self) {}
+
+    fn check(&self, payload: &[u8]) -> Result<PeerMeasure, DecodeError> {
+        if payload.len() < FRONT {
+            return Err(DecodeError::from("a peer of fewer than four bytes"));
+        }
+        Ok(PeerMeasure {
+            text_len: 4,
+            attributes: 1,
+        })
+    }
+
+    fn same(&self, left: &[u8], right: &[u8]) -> bool {
+        &left[..left.len().min(FRONT)] == &right[..right.len().min(FRONT)]
+    }
+
+    fn canonical(&self, alloc: Global, payload: &[u8]) -> Result<Vec<u8>, DecodeError> {
+        self.check(payload)?;
+        Ok(Vec::from_slice(alloc, &payload[..FRONT])?)
+    }
+}
+
+// A pair whose peer has six bytes, and one whose peer has three.
+const VETH: &[u8] = b"\x09\0\x01\0veth\0\0\0\0\x10\0\x02\0\x0a\0\x01\0abcdef\0\0";
+
+const VETH_SHORT: &[u8] = b"\x09\0\x01\0veth\0\0\0\0\x0c\0\x02\0\x07\0\x01\0abc\0";
+
+// The same of netkit, the first with an attribute behind its peer: whether it is the primary end.
+const NETKIT: &[u8] =
+    b"\x0b\0\x01\0netkit\0\0\x18\0\x02\0\x0a\0\x01\0abcdef\0\0\x05\0\x02\0\x01\0\0\0";
+
+const NETKIT_SHORT: &[u8] = b"\x0b\0\x01\0netkit\0\0\x0c\0\x02\0\x07\0\x01\0abc\0";
+
+#[test]
+fn peers_are_counted_by_the_rule(rt: HostRuntime) -> Result<(), Fail> {
+    for (bytes, by_rule, by_bytes) in [
+        (VETH, Some((24, 4)), (28, 3)),
+        (VETH_SHORT, None, (24, 3)),
+        (NETKIT, Some((32, 5)), (36, 4)),
+        (NETKIT_SHORT, None, (24, 3)),
+    ] {
+        let (text_len, attributes) = by_bytes;
+        let measure = ListMeasure {
+            text_len,
+            attributes,
+            fits: true,
+        };
+        assert!(rt; check_list(bytes)? == measure);
+        assert!(rt; check_list_with(bytes, &BytesPeer)? == measure);
+        match by_rule {
+            Some((text_len, attributes)) => {
+                let measure = ListMeasure {
+                    text_len,
+                    attributes,
+                    fits: true,
+                };
+                assert!(rt; check_list_with(bytes, &FrontPeer)? == measure);
+            }
+            None => assert!(rt; check_list_with(bytes, &FrontPeer).is_err()),
+        }
+    }
+    Ok(())
+}
+
+// The first pair with other bytes behind the four, and with others among them.
+const VETH_BEHIND: &[u8] = b"\x09\0\x01\0veth\0\0\0\0\x10\0\x02\0\x09\0\x01\0abcdX\0\0\0";
+
+const VETH_AMONG: &[u8] = b"\x09\0\x01\0veth\0\0\0\0\x10\0\x02\0\x0a\0\x01\0abcXef\0\0";
+
+#[test]
+fn peers_are_compared_by_the_rule(rt: HostRuntime) {
+    for (left, right, by_rule, by_bytes) in [
+        (VETH, VETH, true, true),
+        (VETH, VETH_BEHIND, true, false),
+        (VETH, VETH_AMONG, false, false),
+    ] {
+        assert!(rt; same_list_with(left, right, &FrontPeer) == by_rule);
+        assert!(rt; same_list_with(left, right, &BytesPeer) == by_bytes);
+        assert!(rt; same_list(left, right) == by_bytes);
+    }
+}
+
+#[test]
+fn peers_are_written(rt: HostRuntime) -> Result<(), Fail> {
+    let payload = b"abcdef".as_slice();
+    assert!(rt; BytesPeer.canonical(rt.alloc(), payload)?.as_slice() == payload);
+    assert!(rt; FrontPeer.canonical(rt.alloc(), payload)?.as_slice() == &payload[..FRONT]);
+    match FrontPeer.canonical(rt.alloc(), &payload[..3]) {
+        Ok(_) => Err(Fail::from("accepted")),
+        Err(error) => {
+            assert!(rt; !error.is_memory());
+            Ok(())
+        }
+    }
+}

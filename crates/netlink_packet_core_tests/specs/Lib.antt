@@ -1,0 +1,3 @@
+pub mod AddressMessages
+pub mod AddressRoundTrips
+pub mod Addresses

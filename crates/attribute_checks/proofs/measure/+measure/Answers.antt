@@ -1,5 +1,5 @@
 use Rattle.std.proofs.Common.{◌≡◌, true, false, length, drop, Some, None, sym, ap, subst, ◌∙◌, arith}
-use Rattle.std.specs.Prelude.{◌&&◌, ◌==◌}
+use Rattle.std.specs.Prelude.{◌&&◌, ◌==◌, IfSome}
 use Rattle.std.proofs.lemmas.Bool.{eqb-true, and_parts}
 use Rattle.netlink_packet_core_grammar.specs.Attributes.{Attribute}
 use Rattle.attribute_tables_grammar.specs.Lists.{nothing, any, list_rule}
@@ -13,37 +13,32 @@ use Rattle.attribute_checks.proofs.FrontSteps.{IsOwnStep, front_step, place_step
 use Rattle.attribute_checks.proofs.Loop.{plus_start}
 use Rattle.attribute_checks.proofs.measure.+measure.Goals as goal
 
-pub measure_inside-returns-in-Some-clause-measure : goal.measure_inside-returns-in-Some-clause-measure
-measure_inside-returns-in-Some-clause-measure g t c =
-    c.in-Some.ensures.measure
+pub measure_inside-returns-in-List-clause-measure : goal.measure_inside-returns-in-List-clause-measure
+measure_inside-returns-in-List-clause-measure g t c =
+    c.walk_list.ensures.measure
     ∙ ap (λ r. measure r c.args.bytes.now) (list_held c.rows_are_looked_up.ensures g.T.TableSet.peer g.T.TableSet.tables g.T.TableSet.info c.args.held c.in-List.form c.in-List.table c.in-List.is)
 
-pub measure_inside-returns-in-Some-clause-own : goal.measure_inside-returns-in-Some-clause-own
-measure_inside-returns-in-Some-clause-own g t c =
-    subst (λ r. c.in-Some.walked.found.is_own ≡ true → r.canonical c.args.bytes.now ≡ c.args.bytes.now) (list_held c.rows_are_looked_up.ensures g.T.TableSet.peer g.T.TableSet.tables g.T.TableSet.info c.args.held c.in-List.form c.in-List.table c.in-List.is) c.in-Some.ensures.own
+pub measure_inside-returns-in-List-clause-own : goal.measure_inside-returns-in-List-clause-own
+measure_inside-returns-in-List-clause-own g t c =
+    subst (λ r. IfSome c.walk_list.result (λ m. m.is_own ≡ true → r.canonical c.args.bytes.now ≡ c.args.bytes.now)) (list_held c.rows_are_looked_up.ensures g.T.TableSet.peer g.T.TableSet.tables g.T.TableSet.info c.args.held c.in-List.form c.in-List.table c.in-List.is) c.walk_list.ensures.own
 
-pub measure_inside-returns-in-None-clause-measure : goal.measure_inside-returns-in-None-clause-measure
-measure_inside-returns-in-None-clause-measure g t c =
-    c.in-None.ensures.measure
-    ∙ ap (λ r. measure r c.args.bytes.now) (list_held c.rows_are_looked_up.ensures g.T.TableSet.peer g.T.TableSet.tables g.T.TableSet.info c.args.held c.in-List.form c.in-List.table c.in-List.is)
-
-pub walk_first-returns-in_default-measure_held-clause-measure : goal.walk_first-returns-in_default-measure_held-clause-measure
-walk_first-returns-in_default-measure_held-clause-measure g t c =
+pub measure_first-returns-in_default-measure_held-clause-measure : goal.measure_first-returns-in_default-measure_held-clause-measure
+measure_first-returns-in_default-measure_held-clause-measure g t c =
     let rows = rows_of g.T.TableSet.peer (g.T.TableSet.tables c.args.table) in
     let e : Attribute = record { kind = c.in-Some.attribute.kind; payload = c.in-Some.attribute.payload.now } in
     c.measures_tell_rules.ensures.first_some rows c.args.bytes.now e c.in-Some.after.now None c.in-Some.ensures
     (measured_as _ _ e.payload None c.find-found.ensures.rule c.in_default-measure_held.ensures.measure)
 
-pub walk_first-returns-clause-measure : goal.walk_first-returns-clause-measure
-walk_first-returns-clause-measure g t c =
+pub measure_first-returns-clause-measure : goal.measure_first-returns-clause-measure
+measure_first-returns-clause-measure g t c =
     let rows = rows_of g.T.TableSet.peer (g.T.TableSet.tables c.args.table) in
     let e : Attribute = record { kind = c.in-Some.attribute.kind; payload = c.in-Some.attribute.payload.now } in
     ap (λ m. Some m) c.with_attribute.ensures.measure ∙ plus_start (view c.in-Some-measure_held.inside)
     ∙ c.measures_tell_rules.ensures.first_some rows c.args.bytes.now e c.in-Some.after.now (Some (view c.in-Some-measure_held.inside)) c.in-Some.ensures
     (measured_as _ _ e.payload (Some (view c.in-Some-measure_held.inside)) c.find-found.ensures.rule c.in-Some-measure_held.ensures.measure)
 
-pub walk_first-returns-clause-own : goal.walk_first-returns-clause-own
-walk_first-returns-clause-own g t c =
+pub measure_first-returns-clause-own : goal.measure_first-returns-clause-own
+measure_first-returns-clause-own g t c =
     let rows = rows_of g.T.TableSet.peer (g.T.TableSet.tables c.args.table) in
     let e : Attribute = record { kind = c.in-Some.attribute.kind; payload = c.in-Some.attribute.payload.now } in
     λ h.

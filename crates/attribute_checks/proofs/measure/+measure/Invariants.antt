@@ -18,8 +18,8 @@ decreases-measure_inside g l = 4 * length l.bytes.now + 2
 abbrev pub decreases-walk_list : goal.decreases-walk_list
 decreases-walk_list g l = 4 * length l.bytes.now + 1
 
-abbrev pub decreases-walk_first : goal.decreases-walk_first
-decreases-walk_first g l = 4 * length l.bytes.now
+abbrev pub decreases-measure_first : goal.decreases-measure_first
+decreases-measure_first g l = 4 * length l.bytes.now
 
 abbrev pub invariant-walk_list-loop-rest : goal.invariant-walk_list-loop-rest
 invariant-walk_list-loop-rest g l = record {

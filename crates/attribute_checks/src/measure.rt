@@ -104,7 +104,7 @@ pub fn measure_held<T: TableSet>(set: &T, held: Held, bytes: &[u8]) -> Option<Me
 
 // The same, of a payload that holds attributes most often.
 #[cycle(measure)]
-#[inline(never)]
+#[inline(always)]
 fn measure_inside<T: TableSet>(set: &T, held: Held, bytes: &[u8]) -> Option<Measured>
     requires { is_below T.count held ≡ true }
     ensures measure { option_map view result
@@ -122,11 +122,11 @@ fn measure_inside<T: TableSet>(set: &T, held: Held, bytes: &[u8]) -> Option<Meas
     }
 }
 
-// How far the front goes that is known to be its own text, where it goes up to an end as long as all is.
-fn front_after(front: usize, is_own: bool, end: usize) -> usize
-    ensures { result ≡ cond is_own end front }
+// How many bytes are left behind the front that is known to be its own text, which goes on as long as all is.
+fn left_behind(left: usize, is_own: bool, rest: usize) -> usize
+    ensures { result ≡ cond is_own rest left }
 {
-    if is_own { end } else { front }
+    if is_own { rest } else { left }
 }
 
 // The measure of a whole list, of which so much in front is known to be its own text; no front is told that is 4 GiB long.
@@ -171,7 +171,7 @@ pub fn walk_list<T: TableSet>(set: &T, form: Form, table: u8, bytes: &[u8]) -> O
         Form::Any | Form::OfKindOne => {}
     }
     let mut total = NOTHING_YET;
-    let mut front = 0usize;
+    let mut left = bytes.len();
     let mut rest = bytes;
     while !rest.is_empty() {
         let Some((attribute, after)) = first_attribute(rest) else {
@@ -184,7 +184,7 @@ pub fn walk_list<T: TableSet>(set: &T, form: Form, table: u8, bytes: &[u8]) -> O
             };
             let is_own = is_own_attribute(rest, attribute, after);
             total = with_attribute(total, inside, is_own & (found.kind == attribute.kind));
-            front = front_after(front, total.is_own, bytes.len() - after.len());
+            left = left_behind(left, total.is_own, after.len());
         } else {
             total = with_dropped(total);
         }
@@ -192,7 +192,7 @@ pub fn walk_list<T: TableSet>(set: &T, form: Form, table: u8, bytes: &[u8]) -> O
     }
     let found = close(form, total);
     match form {
-        Form::Any => Some(with_front(found, front)),
+        Form::Any => Some(with_front(found, bytes.len() - left)),
         _ => Some(with_front(found, 0)),
     }
 }

@@ -1,5 +1,5 @@
 -- How far from its front a list is its own text, attribute by attribute.
-use Rattle.std.proofs.Common.{◌≡◌, ℕ, ◌+◌, ◌-◌, ◌++◌, Bool, true, false, cond, List, [], ◌∷◌, length, take, drop, Option, Some, None, refl, sym, ap, ◌∙◌, append_assoc, arith}
+use Rattle.std.proofs.Common.{◌≡◌, ℕ, ◌+◌, ◌-◌, ◌≤◌, ◌++◌, Bool, true, false, cond, List, [], ◌∷◌, length, take, drop, Option, Some, None, refl, sym, ap, ◌∙◌, append_assoc, arith}
 use Rattle.std.specs.Prelude.{◌&&◌, nat_le, option_map}
 use Rattle.std.proofs.lemmas.Bool.{and_parts}
 use Rattle.std.proofs.lemmas.List.{length-append, take-append-drop, take_at}
@@ -85,11 +85,16 @@ module _ (f : ℕ → Row) where
             };
       }
 
-  -- it goes on as long as all is its own text
-  pub front_step : (bytes rest : List ℕ) (n : ℕ) (e : Attribute) (after : List ℕ) (b : Bool) → first_attribute rest ≡ Some (e, after) → (b ≡ true → IsOwnStep bytes rest n e after) → IsOwnFront rule bytes n → IsOwnFront rule bytes (cond b (length bytes - length after) n)
-  front_step bytes rest n e after true h s o = further bytes rest n e after h (s refl) o
-  front_step bytes rest n e after false h s o = o
+  -- it goes on as long as all is its own text; so many bytes are left behind it
+  pub front_step : (bytes rest : List ℕ) (left : ℕ) (e : Attribute) (after : List ℕ) (b : Bool) → first_attribute rest ≡ Some (e, after) → (b ≡ true → IsOwnStep bytes rest (length bytes - left) e after) → IsOwnFront rule bytes (length bytes - left) → IsOwnFront rule bytes (length bytes - cond b (length after) left)
+  front_step bytes rest left e after true h s o = further bytes rest (length bytes - left) e after h (s refl) o
+  front_step bytes rest left e after false h s o = o
 
-  pub place_step : (bytes rest : List ℕ) (n : ℕ) (e : Attribute) (after : List ℕ) (b : Bool) → (b ≡ true → IsOwnStep bytes rest n e after) → b ≡ true → drop (cond b (length bytes - length after) n) bytes ≡ after
-  place_step bytes rest n e after true s h = place_behind bytes rest n e after (s refl)
-  place_step bytes rest n e after false s h = absurd cc
+  pub place_step : (bytes rest : List ℕ) (left : ℕ) (e : Attribute) (after : List ℕ) (b : Bool) → (b ≡ true → IsOwnStep bytes rest (length bytes - left) e after) → b ≡ true → drop (length bytes - cond b (length after) left) bytes ≡ after
+  place_step bytes rest left e after true s h = place_behind bytes rest (length bytes - left) e after (s refl)
+  place_step bytes rest left e after false s h = absurd cc
+
+-- no more is left than there was
+pub left_step : (whole rest left : ℕ) (b : Bool) → rest ≤ whole → left ≤ whole → cond b rest left ≤ whole
+left_step whole rest left true r l = r
+left_step whole rest left false r l = l

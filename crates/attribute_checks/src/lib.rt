@@ -16,7 +16,7 @@ mod write;
 mod write_shapes;
 
 pub use info::{NameSet, measure_info, same_info, write_info};
-pub use measure::{Walked, measure_held, walk_list};
+pub use measure::{measure_held, walk_list};
 pub use names::{NameRow, held_by_name};
 pub use peers::{BytesPeer, PeerMeasure, PeerRule, PeerSet, Ruled, WritePeer};
 pub use room::{append, append_zeros};

@@ -1,6 +1,6 @@
 //! Measures of lists, without a typed value.
 
-ghost use Rattle.std.specs.Prelude.{◌≡◌, ◌<◌, ◌+◌, ◌*◌, ◌^◌, ◌&&◌, ℕ, true, false, cond, option_map, IfSome};
+ghost use Rattle.std.specs.Prelude.{◌≡◌, ◌<◌, ◌+◌, ◌*◌, ◌^◌, ◌&&◌, ℕ, true, false, cond, nat_lt, option_map, IfSome};
 ghost use Rattle.attribute_tables_grammar.specs.Lists.{is_kept, first_alone, list_rule};
 ghost use Rattle.attribute_tables_grammar.specs.LookUps.{payload_rule};
 ghost use Rattle.attribute_tables_grammar.specs.Walks.{measure, plus, with_header, dropped, closed};
@@ -34,6 +34,7 @@ pub fn with_attribute(total: Measured, inside: Measured, is_own: bool) -> Measur
     requires headers { total.attributes + inside.attributes + 1 < 2 ^ 64 }
     ensures measure { view result ≡ plus (view total) (with_header (view inside)) }
     ensures own { result.is_own ≡ total.is_own && (inside.is_own && is_own) }
+    ensures front { result.front ≡ 0 }
 {
     let size = 4 + inside.text_len;
     Measured {
@@ -42,6 +43,7 @@ pub fn with_attribute(total: Measured, inside: Measured, is_own: bool) -> Measur
         fits: total.fits & ((size <= 65535) & inside.fits),
         empty_ports: total.empty_ports | inside.empty_ports,
         is_own: total.is_own & (inside.is_own & is_own),
+        front: 0,
     }
 }
 
@@ -57,6 +59,7 @@ fn with_dropped(total: Measured) -> Measured
         fits: total.fits,
         empty_ports: total.empty_ports,
         is_own: false,
+        front: 0,
     }
 }
 
@@ -72,6 +75,7 @@ fn close(form: Form, total: Measured) -> Measured
             fits: total.fits,
             empty_ports: (total.text_len == 0) | total.empty_ports,
             is_own: total.is_own,
+            front: 0,
         },
         _ => total,
     }
@@ -100,7 +104,7 @@ pub fn measure_held<T: TableSet>(set: &T, held: Held, bytes: &[u8]) -> Option<Me
 
 // The same, of a payload that holds attributes most often.
 #[cycle(measure)]
-#[inline(never)]
+#[inline(always)]
 fn measure_inside<T: TableSet>(set: &T, held: Held, bytes: &[u8]) -> Option<Measured>
     requires { is_below T.count held ≡ true }
     ensures measure { option_map view result
@@ -114,47 +118,51 @@ fn measure_inside<T: TableSet>(set: &T, held: Held, bytes: &[u8]) -> Option<Meas
         Held::Plain(shape) => measure_shape(shape, bytes),
         Held::Peer => set.measure_peer(bytes),
         Held::LinkInfo => set.measure_info(bytes),
-        Held::List(form, table) => match walk_list(set, form, table, bytes) {
-            Some(walked) => Some(walked.found),
-            None => None,
-        },
+        Held::List(form, table) => walk_list(set, form, table, bytes),
     }
 }
 
-/// What is found of a list in one walk.
-#[derive(Clone, Copy)]
-pub struct Walked {
-    /// The measure of the whole list.
-    pub found: Measured,
-    /// How many bytes in front are known to be their own text, up to the end of an attribute.
-    pub front: usize,
+// How many bytes are left behind the front that is known to be its own text, which goes on as long as all is.
+fn left_behind(left: usize, is_own: bool, rest: usize) -> usize
+    ensures { result ≡ cond is_own rest left }
+{
+    if is_own { rest } else { left }
 }
 
-// How far the front goes that is known to be its own text, where it goes up to an end as long as all is.
-fn front_after(front: usize, is_own: bool, end: usize) -> usize
-    ensures { result ≡ cond is_own end front }
+// The measure of a whole list, of which so much in front is known to be its own text; no front is told that is 4 GiB long.
+fn with_front(found: Measured, front: usize) -> Measured
+    ensures measure { view result ≡ view found }
+    ensures own { result.is_own ≡ found.is_own }
+    ensures front { result.front ≡ cond (nat_lt front (2 ^ 32)) front 0 }
 {
-    if is_own { end } else { front }
+    Measured {
+        front: if front < 0x1_0000_0000 {
+            front as u32
+        } else {
+            0
+        },
+        ..found
+    }
 }
 
 /// Whether bytes are a list of this form under a table, its measure, and how far from its front it is its own text.
 #[cycle(measure)]
-pub fn walk_list<T: TableSet>(set: &T, form: Form, table: u8, bytes: &[u8]) -> Option<Walked>
+pub fn walk_list<T: TableSet>(set: &T, form: Form, table: u8, bytes: &[u8]) -> Option<Measured>
     requires { table < T.count }
-    ensures measure { option_map (λ w. view w.found) result
+    ensures measure { option_map view result
         ≡ measure (list_rule (form_of form) (rows_of T.peer (T.tables table))) bytes.now }
     ensures own { IfSome result
-        (λ w. w.found.is_own ≡ true
+        (λ m. m.is_own ≡ true
         → (list_rule (form_of form) (rows_of T.peer (T.tables table))).canonical bytes.now ≡ bytes.now) }
     ensures front { IfSome result
-        (λ w. IsOwnFront (list_rule (form_of form) (rows_of T.peer (T.tables table))) bytes.now w.front) }
+        (λ m. IsOwnFront (list_rule (form_of form) (rows_of T.peer (T.tables table))) bytes.now m.front) }
 {
     measures_go_by_steps();
     measures_tell_rules();
     own_texts_go_by_steps();
     first_attributes_are_within();
     match form {
-        Form::FirstAlone => return walk_first(set, table, bytes),
+        Form::FirstAlone => return measure_first(set, table, bytes),
         Form::NonEmpty | Form::Ports => {
             if bytes.is_empty() {
                 return None;
@@ -163,7 +171,7 @@ pub fn walk_list<T: TableSet>(set: &T, form: Form, table: u8, bytes: &[u8]) -> O
         Form::Any | Form::OfKindOne => {}
     }
     let mut total = NOTHING_YET;
-    let mut front = 0usize;
+    let mut left = bytes.len();
     let mut rest = bytes;
     while !rest.is_empty() {
         let Some((attribute, after)) = first_attribute(rest) else {
@@ -176,7 +184,7 @@ pub fn walk_list<T: TableSet>(set: &T, form: Form, table: u8, bytes: &[u8]) -> O
             };
             let is_own = is_own_attribute(rest, attribute, after);
             total = with_attribute(total, inside, is_own & (found.kind == attribute.kind));
-            front = front_after(front, total.is_own, bytes.len() - after.len());
+            left = left_behind(left, total.is_own, after.len());
         } else {
             total = with_dropped(total);
         }
@@ -184,21 +192,21 @@ pub fn walk_list<T: TableSet>(set: &T, form: Form, table: u8, bytes: &[u8]) -> O
     }
     let found = close(form, total);
     match form {
-        Form::Any => Some(Walked { found, front }),
-        _ => Some(Walked { found, front: 0 }),
+        Form::Any => Some(with_front(found, bytes.len() - left)),
+        _ => Some(with_front(found, 0)),
     }
 }
 
-// Whether bytes begin with an attribute of a table, and the measure of that one alone; no front of theirs is told.
+// Whether bytes begin with an attribute of a table, and the measure of that one alone.
 #[cycle(measure)]
-fn walk_first<T: TableSet>(set: &T, table: u8, bytes: &[u8]) -> Option<Walked>
+fn measure_first<T: TableSet>(set: &T, table: u8, bytes: &[u8]) -> Option<Measured>
     requires { table < T.count }
-    ensures measure { option_map (λ w. view w.found) result
+    ensures measure { option_map view result
         ≡ measure (list_rule first_alone (rows_of T.peer (T.tables table))) bytes.now }
     ensures own { IfSome result
-        (λ w. w.found.is_own ≡ true
+        (λ m. m.is_own ≡ true
         → (list_rule first_alone (rows_of T.peer (T.tables table))).canonical bytes.now ≡ bytes.now) }
-    ensures front { IfSome result (λ w. w.front ≡ 0) }
+    ensures front { IfSome result (λ m. m.front ≡ 0) }
 {
     measures_go_by_steps();
     measures_tell_rules();
@@ -213,8 +221,5 @@ fn walk_first<T: TableSet>(set: &T, table: u8, bytes: &[u8]) -> Option<Walked>
     };
     let is_own = is_own_attribute(bytes, attribute, after);
     let is_whole = is_own & ((found.kind == attribute.kind) & after.is_empty());
-    Some(Walked {
-        found: with_attribute(NOTHING_YET, inside, is_whole),
-        front: 0,
-    })
+    Some(with_attribute(NOTHING_YET, inside, is_whole))
 }

@@ -157,6 +157,7 @@ impl<R: PeerRule> PeerSet for Ruled<'_, R> {
             fits: true,
             empty_ports: false,
             is_own: false,
+            front: 0,
         })
     }
 

@@ -46,5 +46,7 @@ pub fn append_padding(size: usize, out: &mut Vec<u8>)
     ensures text { out.new.items ≡ out.old.items ++ zeros (nla_align (4 + size) - (4 + size)) }
     ensures room { vec_capacity out.old ≤ vec_capacity out.new }
 {
-    append(&[0, 0, 0][..(4 - size % 4) % 4], out);
+    if size % 4 != 0 {
+        append(&[0, 0, 0][..4 - size % 4], out);
+    }
 }

@@ -24,6 +24,9 @@ pub struct Measured {
     pub empty_ports: bool,
     /// Whether the bytes are known to be their own canonical text; they may be so besides.
     pub is_own: bool,
+    /// How many bytes in front of a list are known to be written as they stand, up to the end of an attribute. It is told
+    /// of whole lists alone.
+    pub front: u32,
 }
 
 /// The measure of no attributes.
@@ -33,6 +36,7 @@ pub const NOTHING_YET: Measured = Measured {
     fits: true,
     empty_ports: false,
     is_own: true,
+    front: 0,
 };
 
 fn measure_text(payload: &[u8]) -> Option<Measured>
@@ -50,6 +54,7 @@ fn measure_text(payload: &[u8]) -> Option<Measured>
         fits: true,
         empty_ports: false,
         is_own: len < payload.len(),
+        front: 0,
     })
 }
 
@@ -100,6 +105,7 @@ pub fn measure_shape(shape: Shape, payload: &[u8]) -> Option<Measured>
             fits: true,
             empty_ports: false,
             is_own: is_own_spelling(shape, payload),
+            front: 0,
         })
     } else {
         None

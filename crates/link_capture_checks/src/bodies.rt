@@ -10,7 +10,7 @@ ghost use Rattle.link_capture_grammar.specs.Same.{done_body};
 ghost use Rattle.link_capture_checks.specs.Measures.{IsBodyText, written};
 
 use crate::texts::BodyText;
-use attribute_checks::{Walked, append};
+use attribute_checks::append;
 use attribute_tables_grammar::laws::measures_tell_rules;
 use link_capture_grammar::fault::FaultKind;
 use link_message_checks::{walk_body, write_body};
@@ -80,7 +80,7 @@ fn measure_link(body: &[u8]) -> Result<BodyText, FaultKind>
     ensures err { IfErr result (λ kind. faulty (ruled_text link_body body.now) ≡ Err kind) }
 {
     measures_tell_rules();
-    let Some(Walked { found, front }) = walk_body(body) else {
+    let Some(found) = walk_body(body) else {
         return Err(FaultKind::Refused);
     };
     if found.empty_ports {
@@ -93,7 +93,7 @@ fn measure_link(body: &[u8]) -> Result<BodyText, FaultKind>
         len: found.text_len,
         attributes: found.attributes,
         is_own: found.is_own,
-        front,
+        front: found.front as usize,
     })
 }
 

@@ -1,5 +1,6 @@
 -- How far from its front a body is its own text.
 use Rattle.std.proofs.Common.{◌≡◌, ℕ, ◌+◌, ◌-◌, ◌≤◌, ◌++◌, Bool, true, false, cond, List, length, take, drop, refl, sym, ap, subst, ◌∙◌, append_assoc, arith}
+use Rattle.std.specs.Prelude.{◌&&◌}
 use Rattle.std.proofs.Math.Seq.{take-add}
 use Rattle.std.proofs.lemmas.Bool.{and_parts}
 use Rattle.std.proofs.lemmas.List.{drop-drop, length-append, length-drop, length-take-le}
@@ -25,14 +26,15 @@ attributes_rule law p f t e = sym (law.payload p any t) ∙ ap (λ t. rule p (li
 pub no_front : (p : Peer) (b : List ℕ) → IsBodyFront p b 0
 no_front p b = record { within = omega arith; header = λ l. absurd (omega (arith, l)); attributes = λ l. absurd (omega (arith, l)) }
 
--- a header that is its own text, and so much of its attributes
-pub body_front : (p : Peer) (b : List ℕ) (own : Bool) (n : ℕ) → 16 ≤ length b → (own ≡ true → header_text b ≡ take 16 b) → IsOwnFront (list_rule_of p (family b)) (attribute_bytes b) n → IsBodyFront p b (cond own (16 + n) 0)
-body_front p b true n long h f = record {
+-- a header that is its own text, and so much of its attributes; none is told where that is much
+pub body_front : (p : Peer) (b : List ℕ) (own small : Bool) (n : ℕ) → 16 ≤ length b → (own ≡ true → header_text b ≡ take 16 b) → IsOwnFront (list_rule_of p (family b)) (attribute_bytes b) n → IsBodyFront p b (cond (own && small) (16 + n) 0)
+body_front p b true true n long h f = record {
   within = omega (arith, f.within, length-drop 16 b, long);
   header = λ l. h refl;
   attributes = λ l. subst (IsOwnFront (list_rule_of p (family b)) (attribute_bytes b)) (omega arith) f;
 }
-body_front p b false n long h f = no_front p b
+body_front p b true false n long h f = no_front p b
+body_front p b false small n long h f = no_front p b
 
 -- behind such a front come accepted attributes, and the text goes on with theirs
 pub record BodyGoesOn (p : Peer) (b : List ℕ) (n : ℕ) : Type 0 where

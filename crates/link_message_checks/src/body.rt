@@ -1,6 +1,6 @@
 //! Bodies of link messages and their attributes, over peers.
 
-ghost use Rattle.std.specs.Prelude.{◌≡◌, ◌≤◌, ◌<◌, ◌+◌, ◌^◌, ◌++◌, true, cond, length, option_map, vec_capacity, IfSome};
+ghost use Rattle.std.specs.Prelude.{◌≡◌, ◌≤◌, ◌<◌, ◌+◌, ◌-◌, ◌^◌, ◌++◌, ◌&&◌, nat_lt, true, cond, length, option_map, vec_capacity, IfSome};
 ghost use Rattle.attribute_tables_grammar.specs.Walks.{measure};
 ghost use Rattle.link_message_grammar.specs.Laws.{BodyLaws};
 ghost use Rattle.link_message_grammar.specs.LinkMessage.{family_of, info, link_table};
@@ -13,8 +13,8 @@ ghost use Rattle.link_message_checks.specs.Tables.{table_of};
 use crate::header::{HEADER_LEN, is_own_header, same_header, write_header};
 use crate::rows::TABLES;
 use attribute_checks::{
-    Form, Held, Measured, PeerSet, Row, TableSet, Walked, WritePeer, WriteSet, append, same_held,
-    table_at, walk_list, write_held,
+    Form, Held, Measured, PeerSet, Row, TableSet, WritePeer, WriteSet, append, same_held, table_at,
+    walk_list, write_held,
 };
 use attribute_tables_grammar::laws::{
     measures_tell_rules, rows_are_looked_up, sameness_goes_by_steps,
@@ -107,16 +107,16 @@ pub(crate) fn table_of_family(family: u8) -> u8
     18
 }
 
-// Whether the bytes are attributes of a family over these peers, their measure, and how far from their front they are
-// their own text.
-pub(crate) fn walk_attributes<P: PeerSet>(peers: &P, family: u8, bytes: &[u8]) -> Option<Walked>
-    ensures measure { option_map (λ w. view w.found) result
+// Whether the bytes are attributes of a family over these peers, and their measure, which tells how far from their front
+// they are their own text.
+pub(crate) fn walk_attributes<P: PeerSet>(peers: &P, family: u8, bytes: &[u8]) -> Option<Measured>
+    ensures measure { option_map view result
         ≡ measure (list_rule_of P.peer (family_of family)) bytes.now }
     ensures own { IfSome result
-        (λ w. w.found.is_own ≡ true
+        (λ m. m.is_own ≡ true
         → (list_rule_of P.peer (family_of family)).canonical bytes.now ≡ bytes.now) }
     ensures front { IfSome result
-        (λ w. IsOwnFront (list_rule_of P.peer (family_of family)) bytes.now w.front) }
+        (λ m. IsOwnFront (list_rule_of P.peer (family_of family)) bytes.now m.front) }
 {
     rows_are_looked_up();
     walk_list(
@@ -128,41 +128,41 @@ pub(crate) fn walk_attributes<P: PeerSet>(peers: &P, family: u8, bytes: &[u8]) -
 }
 
 // How far a body is its own text, whose attributes are so far.
-fn front_of(is_own_header: bool, front: usize) -> usize
-    requires { 16 + front < 2 ^ 64 }
-    ensures { result ≡ cond is_own_header (16 + front) 0 }
+fn front_of(is_own_header: bool, front: u32) -> u32
+    ensures { result ≡ cond (is_own_header && nat_lt front (2 ^ 32 - 16)) (16 + front) 0 }
 {
-    if is_own_header { HEADER_LEN + front } else { 0 }
+    if is_own_header && front < 0xffff_fff0 {
+        16 + front
+    } else {
+        0
+    }
 }
 
 // Whether the bytes are a body over these peers, and what is found in one walk of them.
-pub(crate) fn walk_body_over<P: PeerSet>(peers: &P, bytes: &[u8]) -> Option<Walked>
-    ensures measure { option_map (λ w. view w.found) result ≡ measure (body_rule P.peer) bytes.now }
+pub(crate) fn walk_body_over<P: PeerSet>(peers: &P, bytes: &[u8]) -> Option<Measured>
+    ensures measure { option_map view result ≡ measure (body_rule P.peer) bytes.now }
     ensures own { IfSome result
-        (λ w. w.found.is_own ≡ true → (body_rule P.peer).canonical bytes.now ≡ bytes.now) }
-    ensures front { IfSome result (λ w. IsBodyFront P.peer bytes.now w.front) }
+        (λ m. m.is_own ≡ true → (body_rule P.peer).canonical bytes.now ≡ bytes.now) }
+    ensures front { IfSome result (λ m. IsBodyFront P.peer bytes.now m.front) }
 {
     bodies_are_measured();
     if bytes.len() < HEADER_LEN {
         return None;
     }
-    let Some(walked) = walk_attributes(peers, bytes[0], &bytes[HEADER_LEN..]) else {
+    let Some(found) = walk_attributes(peers, bytes[0], &bytes[HEADER_LEN..]) else {
         return None;
     };
     measures_tell_rules();
     bodies_are_small();
     peers.peers_are_lawful();
     let is_own_header = is_own_header(bytes);
-    let Walked { found, front } = walked;
-    Some(Walked {
-        found: Measured {
-            text_len: 16 + found.text_len,
-            attributes: found.attributes,
-            fits: found.fits,
-            empty_ports: found.empty_ports,
-            is_own: found.is_own & is_own_header,
-        },
-        front: front_of(is_own_header, front),
+    Some(Measured {
+        text_len: 16 + found.text_len,
+        attributes: found.attributes,
+        fits: found.fits,
+        empty_ports: found.empty_ports,
+        is_own: found.is_own & is_own_header,
+        front: front_of(is_own_header, found.front),
     })
 }
 

@@ -13,7 +13,7 @@ ghost use Rattle.link_message_checks.specs.Tables.{IsBodyMeasure};
 
 use crate::body::{same_body_over, walk_body_over, write_body_over};
 use crate::peer::LinkPeer;
-use attribute_checks::Walked;
+use attribute_checks::Measured;
 use attribute_tables_grammar::laws::measures_tell_rules;
 use netlink_packet_core_numbers::DecodeError;
 use std::alloc::AllocError;
@@ -33,11 +33,11 @@ pub struct BodyMeasure {
 
 /// Whether the bytes are the body of a link message, and what is found in one walk of them; for the
 /// crates that check captures.
-pub fn walk_body(bytes: &[u8]) -> Option<Walked>
-    ensures measure { option_map (λ w. view w.found) result ≡ measure link_body bytes.now }
+pub fn walk_body(bytes: &[u8]) -> Option<Measured>
+    ensures measure { option_map view result ≡ measure link_body bytes.now }
     ensures own { IfSome result
-        (λ w. w.found.is_own ≡ true → link_body.canonical bytes.now ≡ bytes.now) }
-    ensures front { IfSome result (λ w. IsBodyFront link_peer bytes.now w.front) }
+        (λ m. m.is_own ≡ true → link_body.canonical bytes.now ≡ bytes.now) }
+    ensures front { IfSome result (λ m. IsBodyFront link_peer bytes.now m.front) }
 {
     walk_body_over(&LinkPeer, bytes)
 }
@@ -52,7 +52,7 @@ pub fn check(bytes: &[u8]) -> Result<BodyMeasure, DecodeError>
     ensures err { IfErr result (λ e. is_memory e ≡ false) }
 {
     measures_tell_rules();
-    let Some(Walked { found, .. }) = walk_body(bytes) else {
+    let Some(found) = walk_body(bytes) else {
         return Err(DecodeError::from("not the body of a link message"));
     };
     Ok(BodyMeasure {
@@ -102,13 +102,13 @@ pub fn write_canonical(bytes: &[u8], out: &mut Vec<u8>) -> Result<(), AllocError
         (vec_capacity out.old < length out.old.items + length (link_body.canonical bytes.now)) }
 {
     measures_tell_rules();
-    let Some(Walked { found, front }) = walk_body(bytes) else {
+    let Some(found) = walk_body(bytes) else {
         unreachable!();
     };
     let Ok(size) = usize::try_from(found.text_len) else {
         return Err(AllocError);
     };
     out.reserve(size)?;
-    write_body(bytes, front, out);
+    write_body(bytes, found.front as usize, out);
     Ok(())
 }

@@ -4,7 +4,7 @@ ghost use Rattle.link_message_grammar.specs.Body.{link_peer};
 
 use crate::body::{body_laws_hold, same_body_over, walk_body_over, write_body_over};
 use crate::header::{HEADER_LEN, same_header};
-use attribute_checks::{BytesPeer, Measured, PeerMeasure, PeerRule, PeerSet, Walked, WritePeer};
+use attribute_checks::{BytesPeer, Measured, PeerMeasure, PeerRule, PeerSet, WritePeer};
 use attribute_tables_grammar::laws::measures_tell_rules;
 use link_message_grammar::laws::link_peer_is_lawful;
 use netlink_packet_core_numbers::DecodeError;
@@ -66,7 +66,7 @@ impl PeerSet for LinkPeer {
     #[tactic(auto, unfolding(link_message_grammar::specs::Body::link_peer))]
     fn measure_peer(&self, payload: &[u8]) -> Option<Measured> {
         measures_tell_rules();
-        let Some(Walked { found, .. }) = walk_body_over(&BytesPeer, payload) else {
+        let Some(found) = walk_body_over(&BytesPeer, payload) else {
             return None;
         };
         if found.empty_ports || !found.fits {

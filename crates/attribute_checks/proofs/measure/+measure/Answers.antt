@@ -1,5 +1,5 @@
-use Rattle.std.proofs.Common.{◌≡◌, true, false, length, drop, Some, None, sym, ap, subst, ◌∙◌, arith}
-use Rattle.std.specs.Prelude.{◌&&◌, ◌==◌}
+use Rattle.std.proofs.Common.{◌≡◌, ◌-◌, ◌≤◌, true, false, length, drop, Some, None, sym, ap, subst, ◌∙◌, arith}
+use Rattle.std.specs.Prelude.{◌&&◌, ◌==◌, IfSome}
 use Rattle.std.proofs.lemmas.Bool.{eqb-true, and_parts}
 use Rattle.netlink_packet_core_grammar.specs.Attributes.{Attribute}
 use Rattle.attribute_tables_grammar.specs.Lists.{nothing, any, list_rule}
@@ -9,41 +9,36 @@ use Rattle.attribute_checks.specs.Fronts.{IsOwnFront}
 use Rattle.attribute_checks.specs.Rows.{form_of}
 use Rattle.attribute_checks.specs.Measures.{view, rows_of}
 use Rattle.attribute_checks.proofs.LookUps.{list_held, measured_as}
-use Rattle.attribute_checks.proofs.FrontSteps.{IsOwnStep, front_step, place_step}
+use Rattle.attribute_checks.proofs.FrontSteps.{IsOwnStep, front_step, place_step, left_step}
 use Rattle.attribute_checks.proofs.Loop.{plus_start}
 use Rattle.attribute_checks.proofs.measure.+measure.Goals as goal
 
-pub measure_inside-returns-in-Some-clause-measure : goal.measure_inside-returns-in-Some-clause-measure
-measure_inside-returns-in-Some-clause-measure g t c =
-    c.in-Some.ensures.measure
+pub measure_inside-returns-in-List-clause-measure : goal.measure_inside-returns-in-List-clause-measure
+measure_inside-returns-in-List-clause-measure g t c =
+    c.walk_list.ensures.measure
     ∙ ap (λ r. measure r c.args.bytes.now) (list_held c.rows_are_looked_up.ensures g.T.TableSet.peer g.T.TableSet.tables g.T.TableSet.info c.args.held c.in-List.form c.in-List.table c.in-List.is)
 
-pub measure_inside-returns-in-Some-clause-own : goal.measure_inside-returns-in-Some-clause-own
-measure_inside-returns-in-Some-clause-own g t c =
-    subst (λ r. c.in-Some.walked.found.is_own ≡ true → r.canonical c.args.bytes.now ≡ c.args.bytes.now) (list_held c.rows_are_looked_up.ensures g.T.TableSet.peer g.T.TableSet.tables g.T.TableSet.info c.args.held c.in-List.form c.in-List.table c.in-List.is) c.in-Some.ensures.own
+pub measure_inside-returns-in-List-clause-own : goal.measure_inside-returns-in-List-clause-own
+measure_inside-returns-in-List-clause-own g t c =
+    subst (λ r. IfSome c.walk_list.result (λ m. m.is_own ≡ true → r.canonical c.args.bytes.now ≡ c.args.bytes.now)) (list_held c.rows_are_looked_up.ensures g.T.TableSet.peer g.T.TableSet.tables g.T.TableSet.info c.args.held c.in-List.form c.in-List.table c.in-List.is) c.walk_list.ensures.own
 
-pub measure_inside-returns-in-None-clause-measure : goal.measure_inside-returns-in-None-clause-measure
-measure_inside-returns-in-None-clause-measure g t c =
-    c.in-None.ensures.measure
-    ∙ ap (λ r. measure r c.args.bytes.now) (list_held c.rows_are_looked_up.ensures g.T.TableSet.peer g.T.TableSet.tables g.T.TableSet.info c.args.held c.in-List.form c.in-List.table c.in-List.is)
-
-pub walk_first-returns-in_default-measure_held-clause-measure : goal.walk_first-returns-in_default-measure_held-clause-measure
-walk_first-returns-in_default-measure_held-clause-measure g t c =
+pub measure_first-returns-in_default-measure_held-clause-measure : goal.measure_first-returns-in_default-measure_held-clause-measure
+measure_first-returns-in_default-measure_held-clause-measure g t c =
     let rows = rows_of g.T.TableSet.peer (g.T.TableSet.tables c.args.table) in
     let e : Attribute = record { kind = c.in-Some.attribute.kind; payload = c.in-Some.attribute.payload.now } in
     c.measures_tell_rules.ensures.first_some rows c.args.bytes.now e c.in-Some.after.now None c.in-Some.ensures
     (measured_as _ _ e.payload None c.find-found.ensures.rule c.in_default-measure_held.ensures.measure)
 
-pub walk_first-returns-clause-measure : goal.walk_first-returns-clause-measure
-walk_first-returns-clause-measure g t c =
+pub measure_first-returns-clause-measure : goal.measure_first-returns-clause-measure
+measure_first-returns-clause-measure g t c =
     let rows = rows_of g.T.TableSet.peer (g.T.TableSet.tables c.args.table) in
     let e : Attribute = record { kind = c.in-Some.attribute.kind; payload = c.in-Some.attribute.payload.now } in
     ap (λ m. Some m) c.with_attribute.ensures.measure ∙ plus_start (view c.in-Some-measure_held.inside)
     ∙ c.measures_tell_rules.ensures.first_some rows c.args.bytes.now e c.in-Some.after.now (Some (view c.in-Some-measure_held.inside)) c.in-Some.ensures
     (measured_as _ _ e.payload (Some (view c.in-Some-measure_held.inside)) c.find-found.ensures.rule c.in-Some-measure_held.ensures.measure)
 
-pub walk_first-returns-clause-own : goal.walk_first-returns-clause-own
-walk_first-returns-clause-own g t c =
+pub measure_first-returns-clause-own : goal.measure_first-returns-clause-own
+measure_first-returns-clause-own g t c =
     let rows = rows_of g.T.TableSet.peer (g.T.TableSet.tables c.args.table) in
     let e : Attribute = record { kind = c.in-Some.attribute.kind; payload = c.in-Some.attribute.payload.now } in
     λ h.
@@ -58,12 +53,6 @@ walk_list-returns-in_default-measure_held-clause-measure g t c =
     let e : Attribute = record { kind = c.in-Some.attribute.kind; payload = c.in-Some.attribute.payload.now } in
     c.measures_go_by_steps.ensures.refused (form_of c.args.form) (rows_of g.T.TableSet.peer (g.T.TableSet.tables c.args.table)) c.args.bytes.now c.loop-rest.rest.now nothing e c.in-Some.after.now (view c.loop-rest.total) c.loop-rest.invariant.walked c.in-Some.ensures (sym c.is_kept.ensures ∙ c.if-is_kept.true)
     (measured_as _ _ e.payload None c.find-found.ensures.rule c.in_default-measure_held.ensures.measure) c.loop-rest.invariant.so_far
-
-pub walk_list-overflow_sub-bytes : goal.walk_list-overflow_sub-bytes
-walk_list-overflow_sub-bytes g t c =
-    let e : Attribute = record { kind = c.in-Some.attribute.kind; payload = c.in-Some.attribute.payload.now } in
-    let l = c.first_attributes_are_within.ensures.rest_length c.loop-rest.rest.now e c.in-Some.after.now c.in-Some.ensures in
-    omega (arith, l, c.loop-rest.invariant.few)
 
 pub walk_list-loop-rest-smaller-in-Some-measure_held : goal.walk_list-loop-rest-smaller-in-Some-measure_held
 walk_list-loop-rest-smaller-in-Some-measure_held g t c =
@@ -93,7 +82,7 @@ walk_list-loop-rest-preserved-in-Some-measure_held g t c =
     let s = c.measures_go_by_steps.ensures.small _ c.find-found.ensures.lawful rest e after (view c.in-Some-measure_held.inside) f inside in
     let is = c.with_attribute-total.ensures.measure in
     let f_of = table_row g.T.TableSet.peer (g.T.TableSet.tables c.args.table) in
-    let own_step : c.with_attribute-total.result.is_own ≡ true → IsOwnStep f_of bytes rest c.loop-rest.front e after = λ h.
+    let own_step : c.with_attribute-total.result.is_own ≡ true → IsOwnStep f_of bytes rest (length bytes - c.loop-rest.left) e after = λ h.
     let a = and_parts _ _ (sym c.with_attribute-total.ensures.own ∙ h) in
     let b = and_parts _ _ a.1 in
     let d = and_parts _ _ b.1 in
@@ -115,8 +104,9 @@ walk_list-loop-rest-preserved-in-Some-measure_held g t c =
           let d = and_parts _ _ b.1 in
           c.own_texts_go_by_steps.ensures.more form rows bytes rest nothing e after f k (sym c.find-found.ensures.written ∙ eqb-true _ _ d.1)
           (sym (ap (λ r. r.canonical e.payload) c.find-found.ensures.rule) ∙ c.in-Some-measure_held.ensures.own b.0) (c.is_own_attribute-is_own.ensures d.0) (c.loop-rest.invariant.own a.0);
-      front = subst (IsOwnFront (list_rule any rows) bytes) (sym c.front_after-front.ensures) (front_step f_of bytes rest c.loop-rest.front e after c.with_attribute-total.result.is_own f own_step c.loop-rest.invariant.front);
-      place = λ h. ap (λ n. drop n bytes) c.front_after-front.ensures ∙ place_step f_of bytes rest c.loop-rest.front e after c.with_attribute-total.result.is_own own_step h;
+      front = subst (λ n. IsOwnFront (list_rule any rows) bytes (length bytes - n)) (sym c.left_behind-left.ensures) (front_step f_of bytes rest c.loop-rest.left e after c.with_attribute-total.result.is_own f own_step c.loop-rest.invariant.front);
+      place = λ h. ap (λ n. drop (length bytes - n) bytes) c.left_behind-left.ensures ∙ place_step f_of bytes rest c.loop-rest.left e after c.with_attribute-total.result.is_own own_step h;
+      left = subst (λ n. n ≤ length bytes) (sym c.left_behind-left.ensures) (left_step (length bytes) (length after) c.loop-rest.left c.with_attribute-total.result.is_own (omega (arith, c.first_attributes_are_within.ensures.rest_length rest e after f, c.loop-rest.invariant.few)) c.loop-rest.invariant.left);
       within = omega (arith, s.within, size_is, c.loop-rest.invariant.within);
       few = omega (arith, s.few, headers_is, c.loop-rest.invariant.few);
     }
@@ -139,6 +129,7 @@ walk_list-loop-rest-preserved g t c =
           (c.measures_go_by_steps.ensures.past form rows c.args.bytes.now c.loop-rest.rest.now nothing e after (view c.loop-rest.total) f (sym c.is_kept.ensures ∙ c.if-is_kept.false) c.loop-rest.invariant.so_far);
       own = λ h. absurd (let x : true ≡ false = sym h ∙ c.with_dropped-total.ensures.own in cc);
       front = c.loop-rest.invariant.front;
+      left = c.loop-rest.invariant.left;
       place = λ h. absurd (let x : true ≡ false = sym h ∙ c.with_dropped-total.ensures.own in cc);
       within = omega (arith, w, l, size_is, c.loop-rest.invariant.within);
       few = omega (arith, w, l, headers_is, c.loop-rest.invariant.few);

@@ -15,9 +15,9 @@ returns-clause-measure g c =
 pub returns-clause-own : goal.returns-clause-own
 returns-clause-own g c =
     let is = attributes_rule c.rows_are_looked_up.ensures g.P.PeerSet.peer (family_of c.args.family) (table_of c.table_of_family.result) c.table_of_family.ensures.table in
-    subst (λ r. IfSome c.walk_list.result (λ w. w.found.is_own ≡ true → r.canonical c.args.bytes.now ≡ c.args.bytes.now)) is c.walk_list.ensures.own
+    subst (λ r. IfSome c.walk_list.result (λ m. m.is_own ≡ true → r.canonical c.args.bytes.now ≡ c.args.bytes.now)) is c.walk_list.ensures.own
 
 pub returns-clause-front : goal.returns-clause-front
 returns-clause-front g c =
     let is = attributes_rule c.rows_are_looked_up.ensures g.P.PeerSet.peer (family_of c.args.family) (table_of c.table_of_family.result) c.table_of_family.ensures.table in
-    subst (λ r. IfSome c.walk_list.result (λ w. IsOwnFront r c.args.bytes.now w.front)) is c.walk_list.ensures.front
+    subst (λ r. IfSome c.walk_list.result (λ m. IsOwnFront r c.args.bytes.now m.front)) is c.walk_list.ensures.front

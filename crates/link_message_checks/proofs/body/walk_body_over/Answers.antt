@@ -17,22 +17,22 @@ returns-in_default-clause-measure g c = c.bodies_are_measured.ensures.long g.P.P
 
 pub overflow_add-result : goal.overflow_add-result
 overflow_add-result g c =
-    let h = c.bodies_are_measured.ensures.long g.P.PeerSet.peer c.args.bytes.now (Some (view c.in-Some.walked.found)) (omega arith) (c.in-Some.ensures.measure ∙ ap (measure (list_rule_of g.P.PeerSet.peer (family c.args.bytes.now))) (take_rest c.args.bytes.now 16)) in
-    let m = c.measures_tell_rules.ensures.tells (body_rule g.P.PeerSet.peer) c.args.bytes.now (behind_header (view c.in-Some.walked.found)) h in
+    let h = c.bodies_are_measured.ensures.long g.P.PeerSet.peer c.args.bytes.now (Some (view c.in-Some.found)) (omega arith) (c.in-Some.ensures.measure ∙ ap (measure (list_rule_of g.P.PeerSet.peer (family c.args.bytes.now))) (take_rest c.args.bytes.now 16)) in
+    let m = c.measures_tell_rules.ensures.tells (body_rule g.P.PeerSet.peer) c.args.bytes.now (behind_header (view c.in-Some.found)) h in
     let s = c.bodies_are_small.ensures g.P.PeerSet.peer c.peers_are_lawful.ensures c.args.bytes.now m.accepted in
     omega (arith, m.size, s)
 
 pub returns-clause-measure : goal.returns-clause-measure
-returns-clause-measure g c = c.bodies_are_measured.ensures.long g.P.PeerSet.peer c.args.bytes.now (Some (view c.in-Some.walked.found)) (omega arith) (c.in-Some.ensures.measure ∙ ap (measure (list_rule_of g.P.PeerSet.peer (family c.args.bytes.now))) (take_rest c.args.bytes.now 16))
+returns-clause-measure g c = c.bodies_are_measured.ensures.long g.P.PeerSet.peer c.args.bytes.now (Some (view c.in-Some.found)) (omega arith) (c.in-Some.ensures.measure ∙ ap (measure (list_rule_of g.P.PeerSet.peer (family c.args.bytes.now))) (take_rest c.args.bytes.now 16))
 
 pub returns-clause-front : goal.returns-clause-front
 returns-clause-front g c =
     let b = c.args.bytes.now in
     subst (IsBodyFront g.P.PeerSet.peer b) (sym c.front_of.ensures)
-    (body_front g.P.PeerSet.peer b c.is_own_header-is_own_header.result c.in-Some.walked.front (omega arith) c.is_own_header-is_own_header.ensures
-    (subst (λ x. IsOwnFront (list_rule_of g.P.PeerSet.peer (family b)) x c.in-Some.walked.front) (take_rest b 16) c.in-Some.ensures.front))
+    (body_front g.P.PeerSet.peer b c.is_own_header-is_own_header.result _ c.in-Some.found.front (omega arith) c.is_own_header-is_own_header.ensures
+    (subst (λ x. IsOwnFront (list_rule_of g.P.PeerSet.peer (family b)) x c.in-Some.found.front) (take_rest b 16) c.in-Some.ensures.front))
 
 pub returns-clause-own : goal.returns-clause-own
 returns-clause-own g c = λ h.
-    let a = and_parts c.in-Some.walked.found.is_own c.is_own_header-is_own_header.result h in
+    let a = and_parts c.in-Some.found.is_own c.is_own_header-is_own_header.result h in
     c.bodies_are_measured.ensures.own g.P.PeerSet.peer c.args.bytes.now (c.is_own_header-is_own_header.ensures a.1) (subst (λ x. (list_rule_of g.P.PeerSet.peer (family c.args.bytes.now)).canonical x ≡ x) (take_rest c.args.bytes.now 16) (c.in-Some.ensures.own a.0))

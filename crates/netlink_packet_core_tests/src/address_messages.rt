@@ -5,7 +5,8 @@ ghost use Rattle.std.specs.Prelude.{◌≡◌, ◌≢◌, ◌↔◌, ◌+◌, �
 ghost use Rattle.netlink_packet_core.specs.Messages.{IsFinalized, message_text, message_value, read_message};
 ghost use Rattle.netlink_packet_core.specs.TypedBodies.{TypedBody};
 ghost use Rattle.netlink_packet_core_tests.specs.Addresses.{header_text, address_text};
-ghost use Rattle.netlink_packet_core_tests.specs.AddressMessages.{accepts_address, address_entry, address_tells, reads_address, wants_memory};
+ghost use Rattle.netlink_packet_core_tests.specs.AddressMessages.{accepts_address, address_entry, address_tells};
+ghost use Rattle.netlink_packet_core_tests.specs.AddressMessages.{reads_address, wants_memory};
 ghost use Rattle.netlink_packet_core_tests.specs.AddressRoundTrips.{round_trip, address_inner};
 
 use netlink_packet_core::laws::messages_read_back;

@@ -1,12 +1,14 @@
 #!/usr/bin/env bash
-# Compares `linkcap norm` with what others do with the same bytes, in one run.
+# Compares `linkcap norm` with what others do with the same bytes, in one run: by the clock, by the processor's time of
+# the program itself (user), and by that with the kernel's for it (cpu).
 #
 #     bench/peers.sh [PROGRAM [BEFORE [MEGABYTES]]]
 #
 # PROGRAM is crates/linkcap/out/linkcap where none is given, BEFORE an older one beside it (`-` for none), and MEGABYTES
 # 50. Beside them stand `cat`, libnl's objects, one for each message, and a walk by libmnl over all attributes, which
 # checks sizes and writes nothing: two small programs in bench/peers/, built here from Debian's packages libnl-3-dev,
-# libnl-route-3-dev and libmnl-dev. They read the input whole, and go through it once.
+# libnl-route-3-dev and libmnl-dev. They read the input whole, and go through it once. The last column is the walk from
+# memory: what four rounds more over the same bytes take.
 #
 # The inputs are the samples that a kernel sent (of a request with a peer inside libnl 3.7.0 makes no object: it
 # crashes); a dump of the kernel's own links, where `ip netns` is allowed: 50 veth pairs, 50 bridges, 50 vxlan, 50 vrf,
@@ -43,39 +45,47 @@ make_dump() {
     ip netns exec "$netns" samples/dump_links.py
 }
 
-# Runs a command from the input to an output; sets `micros`.
+# Runs a command from the input to an output; sets `took` to milliseconds by the clock, of the program, and of both.
 run_once() {
-    local begin
+    local TIMEFORMAT='%3R %3U %3S' whole user system
     rm -f "$work/output"
-    begin=${EPOCHREALTIME/./}
-    "$@" < "$work/input" > "$work/output"
-    micros=$((${EPOCHREALTIME/./} - begin))
+    { time "$@" < "$work/input" > "$work/output" 2> "$work/error"; } 2> "$work/took"
+    read -r whole user system < "$work/took"
+    took=($((10#${whole/./})) $((10#${user/./})) $((10#${user/./} + 10#${system/./})))
 }
 
-# Runs all over the group in this file, repeated.
+# Runs all over the group in this file, repeated; the best time of each kind counts.
 compare() {
-    local name=$1 group=$2 size best=() round i commands=() labels=()
+    local name=$1 group=$2 size round i kind commands=() labels=()
+    local -A best=()
     size=$(stat -c %s "$group")
     for ((i = 0; i < (wanted + size - 1) / size; i++)); do cat "$group"; done > "$work/input"
     size=$(stat -c %s "$work/input")
-    labels=(cat norm before objects walk)
-    commands=("cat" "$program norm 4294967295" "$before norm 4294967295" "$work/objects" "$work/walk")
+    labels=(cat norm before objects walk walks)
+    commands=("cat" "$program norm 4294967295" "$before norm 4294967295" "$work/objects" "$work/walk" "$work/walk 5")
     for ((round = 0; round < rounds; round++)); do
         for i in "${!labels[@]}"; do
-            [ "${labels[i]}" = before ] && [ "$before" = - ] && { best[i]=0; continue; }
+            [ "${labels[i]}" = before ] && [ "$before" = - ] && continue
             run_once ${commands[i]}
-            if [ "${best[i]:-0}" -eq 0 ] || [ "$micros" -lt "${best[i]}" ]; then best[i]=$micros; fi
+            for kind in 0 1 2; do
+                [ "${best[$i$kind]:-$((took[kind] + 1))}" -le "${took[kind]}" ] || best[$i$kind]=${took[kind]}
+            done
         done
     done
-    awk -v name="$name" -v size="$size" -v times="${best[*]}" 'BEGIN {
-        count = split(times, micros, " ")
-        printf "%-24s", name
-        for (i = 1; i <= count; i++) printf " %9s", micros[i] ? sprintf("%.0f", size / micros[i]) : "-"
-        printf "\n"
-    }'
+    for kind in 0 1 2; do
+        awk -v name="$name" -v kind=$kind -v size="$size" \
+            -v times="$(for i in "${!labels[@]}"; do echo "${best[$i$kind]:-0}"; done)" 'BEGIN {
+            count = split(times, took, "[ \n]")
+            took[count] = (took[count] - took[count - 1]) / 4
+            split("clock user cpu", of, " ")
+            printf "%-24s %-5s", kind ? "" : name, of[kind + 1]
+            for (i = 1; i <= count; i++) printf " %9s", took[i] > 0 ? sprintf("%.0f", size / took[i] / 1000) : "-"
+            printf "\n"
+        }'
+    done
 }
 
-printf '%-24s %9s %9s %9s %9s %9s\n' 'MB/s' cat norm before objects walk
+printf '%-24s %-5s %9s %9s %9s %9s %9s %9s\n' 'MB/s' by cat norm before objects walk 'in memory'
 cat samples/get-veth.bin samples/notify-vrf.bin > "$work/samples"
 compare "samples, of a kernel" "$work/samples"
 if make_dump > "$work/dump" && [ -s "$work/dump" ]; then

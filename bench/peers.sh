@@ -79,7 +79,7 @@ compare() {
             took[count] = (took[count] - took[count - 1]) / 4
             split("clock user cpu", of, " ")
             printf "%-24s %-5s", kind ? "" : name, of[kind + 1]
-            for (i = 1; i <= count; i++) printf " %9s", took[i] > 0 ? sprintf("%.0f", size / took[i] / 1000) : "-"
+            for (i = 1; i <= count; i++) printf " %9s", (took[i] > 0) ? sprintf("%.0f", size / took[i] / 1000) : "-"
             printf "\n"
         }'
     done

@@ -20,4 +20,3 @@ pub mod OwnTexts
 pub mod TextSteps
 pub mod SameSteps
 pub mod TableText
-mod Facts

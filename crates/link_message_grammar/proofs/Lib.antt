@@ -7,6 +7,4 @@ pub mod EmptyPorts
 pub mod Together
 pub mod Peerless
 pub mod ReadAgain
-pub mod Cases
-pub mod NestedCases
 pub mod Measures

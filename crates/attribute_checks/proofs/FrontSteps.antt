@@ -10,10 +10,6 @@ use Rattle.attribute_tables_grammar.specs.Rules.{Rule}
 use Rattle.attribute_tables_grammar.specs.Lists.{Row, nothing, without_context, row_at, rewrite, written_kind, all_accepted, rewritten, all_fit, if_read, any, list_rule}
 use Rattle.attribute_checks.specs.Fronts.{IsOwnFront, GoesOn}
 
--- no front is known
-pub no_front : (r : Rule) (bytes : List ℕ) → IsOwnFront r bytes 0
-no_front r bytes = record { within = omega arith; goes_on = λ a f. record { accepted = a; fits = f; text = refl } }
-
 module _ (f : ℕ → Row) where
   abbrev pub rule : Rule
   rule = list_rule any (without_context f)

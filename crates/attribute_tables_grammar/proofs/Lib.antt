@@ -13,10 +13,8 @@ pub mod Kept
 pub mod Readings
 pub mod ReadingLaws
 pub mod Named
-pub mod Texts
 pub mod Walks
 pub mod MeasureSteps
 pub mod OwnTexts
 pub mod TextSteps
 pub mod SameSteps
-pub mod TableText

@@ -12,10 +12,6 @@ use Rattle.attribute_tables_grammar.specs.Lists.{Context, nothing, Row, Grammar,
 use Rattle.attribute_tables_grammar.proofs.Attributes.{proper_kind-written, RenewsRow, row_renews_itself, rewritten_again, accepted_again, fit_again, same_rewritten, rewritten_same, one_list}
 use Rattle.attribute_tables_grammar.proofs.Sizes.{weight, weight_within, weight-filter, weight-filter_le, AreAttributes, AreAttributes-cut, AreAttributes-filter, rewritten_small, counts, text_bytes}
 
-pub at_true : {A : Type 0} (f : List A → Bool) (o : Option (List A)) → elim o [ None ↦ false | Some x ↦ f x ] ≡ true → (x : List A) × (o ≡ Some x) × (f x ≡ true)
-at_true f None h = absurd cc
-at_true f (Some x) h = (x, refl, h)
-
 pub read_true : (f : List Attribute → Bool) (o : Option (List Attribute)) → if_read false f o ≡ true → (es : List Attribute) × (o ≡ Some es) × (f es ≡ true)
 read_true f None h = absurd cc
 read_true f (Some es) h = (es, refl, h)

@@ -33,10 +33,6 @@ module _ (p : Peer) where
   unfolding link_info_of info_rule_under info_grammar_under
   info_some laws b l = sym (laws.non_empty (names_grammar (named p kinds) (named p port_kinds)) b l)
 
-  -- its canonical text, by what its length and an own text need
-  pub info_canonical : InfoIsAListInside p → (b : List ℕ) → 0 < length b → (info_rule_under p).canonical b ≡ b → inside.canonical b ≡ b
-  info_canonical law b l h = (law.of_some_bytes b l).canonical ∙ h
-
   -- no bytes are link info, so they mean the same as none
   pub info_no_left : SamenessGoesBySteps → (a b : List ℕ) → length a ≡ 0 → false ≡ inside.same a b
   unfolding link_info_of

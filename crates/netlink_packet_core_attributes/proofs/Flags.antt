@@ -9,3 +9,5 @@ one_bit zero h = refl
 one_bit (suc zero) h = refl
 one_bit (suc (suc b)) h = absurd (omega arith)
 
+pub byte_order_flag : (k : ℕ) → not (nat_eq (bit_and k 16384) 0) ≡ has_byte_order_flag k
+byte_order_flag k = ap (λ n. not (nat_eq n 0)) (and_pow k 14) ∙ one_bit (k / 16384 % 2) (omega arith)

@@ -2,6 +2,12 @@
 use Rattle.std.proofs.Common.{◌≡◌, ℕ, ◌+◌, ◌-◌, List, [], ◌++◌, length, take, drop, ap, ◌∙◌, arith, append_assoc, append-nil}
 use Rattle.std.proofs.lemmas.List.{drop-drop, drop-take, drop_all}
 
+-- what is written into a buffer of its size is the buffer
+pub drop_exactly : (s b : List ℕ) → length b ≡ length s → s ++ drop (length s) b ≡ s
+drop_exactly s b e =
+    let z : drop (length s) b ≡ [] = drop_all (length s) b (omega arith) in
+    rw z (append-nil s)
+
 pub serialized : (buf head rest back header text : List ℕ) (n : ℕ) → length header ≡ 16 → head ≡ take 16 buf → rest ≡ drop 16 buf → back ≡ drop (n - 16) rest → n ≡ 16 + length text → (header ++ drop (length header) head) ++ (text ++ back) ≡ (header ++ text) ++ drop n buf
 serialized buf head rest back header text n l e1 e2 e3 h =
     let z : drop 16 head ≡ [] = rw e1 (drop-take 16 0 buf) in

@@ -90,6 +90,9 @@ turned-worth bs = turned (get_or bs 0 0 * 1329227995784915872903807060280344576)
 turned-bytes : (bs : List ℕ) → ((i : ℕ) → get_or bs i 0 < 256) → AreBytes (turned_gets bs)
 turned-bytes bs small = (small 15, (small 14, (small 13, (small 12, (small 11, (small 10, (small 9, (small 8, (small 7, (small 6, (small 5, (small 4, (small 3, (small 2, (small 1, (small 0, tt))))))))))))))))
 
+pub be_bytes_16 : (bs : List ℕ) (n : ℕ) → length bs ≡ 16 → ((i : ℕ) → get_or bs i 0 < 256) → n ≡ from_be_bytes w128 bs → to_be_bytes w128 n ≡ bs
+be_bytes_16 bs n l small is = ap reverse (from_worth (turned_gets bs) n refl (turned-bytes bs small) (is ∙ turned-worth bs)) ∙ gets-all bs l
+
 -- ---- what is written is read
 
 worth-written : (k n : ℕ) → n < 256 ^ k → worth (bytes_low_first 0 k n) ≡ n

@@ -12,7 +12,6 @@ use Rattle.attribute_tables_grammar.specs.Walks.{measure}
 use Rattle.link_info_grammar.specs.Families.{kinds, port_kinds}
 use Rattle.link_info_grammar.specs.LinkInfo.{info_rule_under, info_grammar_under}
 use Rattle.link_message_grammar.specs.LinkMessage.{family_of, other, bridge, inet_6, unspec}
-use Rattle.link_message_grammar.specs.Laws.{InfoIsAListInside}
 
 pub family_other : (n : ℕ) → (n ≡ 0 → ⊥) → (n ≡ 7 → ⊥) → (n ≡ 10 → ⊥) → other ≡ family_of n
 family_other n a b c =

@@ -1,25 +1,9 @@
 -- Padding, names, and what is in force, as the code finds them.
-use Rattle.std.proofs.Common.{◌≡◌, ℕ, zero, suc, ◌+◌, ◌-◌, ◌*◌, ◌<◌, ◌++◌, List, [], ◌∷◌, length, take, drop, Option, Some, refl, sym, ap, ◌∙◌, arith}
-use Rattle.std.specs.Prelude.{slice_index}
+use Rattle.std.proofs.Common.{◌≡◌, ℕ, zero, suc, ◌-◌, ◌<◌, ◌++◌, List, [], ◌∷◌, length, take, drop, Option, Some, refl, sym, ap, ◌∙◌, arith}
 use Rattle.netlink_packet_core_grammar.specs.Attributes.{nla_align, zeros, Attribute}
-use Rattle.netlink_packet_core_grammar.specs.AttributeViews.{viewed_length, viewed_kind, viewed_attribute, after_first}
-use Rattle.netlink_packet_core_grammar.specs.Numbers.{u16_at}
+use Rattle.netlink_packet_core_grammar.specs.AttributeViews.{viewed_length, viewed_attribute, after_first}
 use Rattle.netlink_packet_core_grammar.specs.Texts.{without_nul}
-
--- the numbers of a header, as the code reads them
-abbrev pub length_at : List ℕ → ℕ
-length_at bytes = slice_index bytes 0 + 256 * slice_index bytes 1
-
-abbrev pub kind_at : List ℕ → ℕ
-kind_at bytes = slice_index bytes 2 + 256 * slice_index bytes 3
-
-pub length_sum : (bytes : List ℕ) → viewed_length bytes ≡ length_at bytes
-unfolding u16_at
-length_sum bytes = omega arith
-
-pub kind_sum : (bytes : List ℕ) → viewed_kind bytes ≡ kind_at bytes
-unfolding u16_at
-kind_sum bytes = omega arith
+use Rattle.netlink_packet_core_grammar.proofs.FirstAttribute.{length_at, kind_at, length_sum, kind_sum}
 
 -- the attribute that is viewed is the one that the code cuts
 pub viewed_at : (bytes rest : List ℕ) → rest ≡ drop (nla_align (length_at bytes)) bytes → (o : Option (Attribute × List ℕ)) → o ≡ Some (viewed_attribute bytes, after_first bytes) → o ≡ Some (record { kind = kind_at bytes; payload = take (length_at bytes - 4) (drop 4 bytes) }, rest)

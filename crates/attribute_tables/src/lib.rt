@@ -1,10 +1,12 @@
 // Lists of attributes of one table, read into typed values.
 #![tactic(auto)]
 
+mod bytes;
 mod entries;
 mod family;
 mod reader;
 
+pub use bytes::parse_bytes;
 pub use entries::{EntryReader, parse_entries, parse_ports};
 pub use family::{FamilyReader, parse_family, parse_first};
 pub use reader::{Reader, parse_first_by, parse_list};

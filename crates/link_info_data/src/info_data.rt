@@ -5,10 +5,9 @@ ghost use Rattle.netlink_packet_core.specs.Errors.{is_memory};
 ghost use Rattle.link_info_data.specs.Data.{info_data_entry, info_data_fits, info_data_payload, info_data_names_row};
 ghost use Rattle.link_info_data.specs.Data.{data_rule_of, data_rule_of_under};
 
-use super::bytes::parse_bytes;
 use super::laws::{data_without_peers_have_one_rule, names_tell_rules};
 use attribute_checks::PeerRule;
-use attribute_tables::{parse_family, parse_first};
+use attribute_tables::{parse_bytes, parse_family, parse_first};
 use link_info_checks::{BytesPeer, PeerSet, Ruled, accepts_data};
 use link_info_devices::{
     InfoBatAdv, InfoIpVlan, InfoIpVtap, InfoIpoib, InfoRmNet, InfoVrf, InfoWwan,

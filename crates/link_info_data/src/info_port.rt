@@ -5,9 +5,8 @@ ghost use Rattle.netlink_packet_core.specs.Errors.{is_memory};
 ghost use Rattle.link_info_data.specs.PortData.{info_port_data_entry, info_port_data_fits, info_port_data_payload};
 ghost use Rattle.link_info_data.specs.PortData.{info_port_data_names_row, port_data_rule_of};
 
-use super::bytes::parse_bytes;
 use super::laws::port_names_tell_rules;
-use attribute_tables::parse_family;
+use attribute_tables::{parse_bytes, parse_family};
 use link_info_checks::{BytesPeer, accepts_port_data};
 use link_info_devices::InfoVrf;
 use link_info_kinds::InfoPortKind;

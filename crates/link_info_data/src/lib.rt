@@ -1,7 +1,6 @@
 // The data of kinds of links and of ports, each by its kind.
 #![tactic(auto)]
 
-mod bytes;
 mod info_data;
 mod info_port;
 pub mod laws;

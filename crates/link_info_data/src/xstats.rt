@@ -6,7 +6,7 @@ ghost use Rattle.netlink_packet_core.specs.AttributeViews.{IsAttribute, viewed_p
 ghost use Rattle.netlink_packet_core.specs.NlaBuffers.{storage};
 ghost use Rattle.link_info_data.specs.Xstats.{xstats_bytes};
 
-use super::bytes::parse_bytes;
+use attribute_tables::parse_bytes;
 use link_info_kinds::InfoKind;
 use netlink_packet_core::{DecodeError, Emitable, NlaBuffer, ParseableParametrized};
 use std::alloc::Global;

@@ -3,7 +3,6 @@
 
 pub mod laws;
 mod netkit;
-mod peer;
 mod peers;
 mod veth;
 

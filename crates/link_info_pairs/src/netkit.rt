@@ -8,8 +8,7 @@ ghost use Rattle.link_info_types.specs.NetkitTypes.{netkit_scrub_number};
 ghost use Rattle.link_info_grammar.specs.Families.{netkit};
 ghost use Rattle.link_info_pairs.specs.Netkit.{netkit_entry, netkit_names_row};
 
-use super::peer::parse_peer;
-use attribute_tables::typed;
+use attribute_tables::{parse_bytes, typed};
 use link_info_types::{NetkitMode, NetkitPolicy, NetkitScrub};
 use netlink_packet_core::{
     DecodeError, DefaultNla, Family, Field, FieldNla, Nla, parse_bool, parse_u16, parse_u32,
@@ -102,7 +101,7 @@ impl Family for InfoNetkit {
 
     fn read_row(alloc: Global, kind: u16, payload: &[u8]) -> Result<Option<Self>, DecodeError> {
         match kind {
-            IFLA_NETKIT_PEER_INFO => typed!(Peer, parse_peer(alloc, payload)),
+            IFLA_NETKIT_PEER_INFO => typed!(Peer, parse_bytes(alloc, payload)),
             IFLA_NETKIT_PRIMARY => typed!(Primary, parse_bool(payload)),
             IFLA_NETKIT_POLICY => typed!(Policy, parse_u32(payload), NetkitPolicy),
             IFLA_NETKIT_PEER_POLICY => typed!(PeerPolicy, parse_u32(payload), NetkitPolicy),

@@ -5,8 +5,7 @@ ghost use Rattle.std.specs.Prelude.{refl};
 ghost use Rattle.link_info_grammar.specs.Families.{pair};
 ghost use Rattle.link_info_pairs.specs.Veth.{pair_entry, pair_names_row};
 
-use super::peer::parse_peer;
-use attribute_tables::typed;
+use attribute_tables::{parse_bytes, typed};
 use netlink_packet_core::{DecodeError, DefaultNla, Family, Field, FieldNla, Nla};
 use std::alloc::Global;
 
@@ -46,7 +45,7 @@ impl<const KIND: u16> Family for PairData<KIND> {
 
     fn read_row(alloc: Global, kind: u16, payload: &[u8]) -> Result<Option<Self>, DecodeError> {
         match kind {
-            VETH_INFO_PEER => typed!(Peer, parse_peer(alloc, payload)),
+            VETH_INFO_PEER => typed!(Peer, parse_bytes(alloc, payload)),
             _ => Ok(None),
         }
     }

@@ -142,18 +142,6 @@ impl<'a> LinkPayload<'a> {
     }
 }
 
-/// Reads bytes as they are. No memory is taken for none.
-pub(crate) fn parse_bytes(alloc: Global, payload: &[u8]) -> Result<Vec<u8>, DecodeError>
-    ensures value { IfOk result (λ v. v.items ≡ payload.now) }
-    ensures err { IfErr result (λ e. is_memory e ≡ true) }
-    ensures not_empty { IfErr result (λ _. 0 < length payload.now) }
-{
-    if payload.is_empty() {
-        return Ok(Vec::new(alloc));
-    }
-    Ok(Vec::from_slice(alloc, payload)?)
-}
-
 /// Reads the bits of a mask of exactly 4 bytes.
 pub(crate) fn parse_extent_masks(
     alloc: Global,

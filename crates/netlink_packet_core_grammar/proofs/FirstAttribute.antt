@@ -9,19 +9,19 @@ use Rattle.netlink_packet_core_grammar.specs.AttributeViews.{viewed_length, view
 use Rattle.netlink_packet_core_grammar.proofs.Attributes.{IsCut, cut_from, attributes_cut, cut_attributes, no_first_attribute, got, got_is}
 
 -- the two numbers of a header, as sums
-length_sum : (bytes : List ℕ) → viewed_length bytes ≡ slice_index bytes 0 + 256 * slice_index bytes 1
+abbrev pub length_at : List ℕ → ℕ
+length_at bytes = slice_index bytes 0 + 256 * slice_index bytes 1
+
+abbrev pub kind_at : List ℕ → ℕ
+kind_at bytes = slice_index bytes 2 + 256 * slice_index bytes 3
+
+pub length_sum : (bytes : List ℕ) → viewed_length bytes ≡ length_at bytes
 unfolding u16_at
 length_sum bytes = omega arith
 
-kind_sum : (bytes : List ℕ) → viewed_kind bytes ≡ slice_index bytes 2 + 256 * slice_index bytes 3
+pub kind_sum : (bytes : List ℕ) → viewed_kind bytes ≡ kind_at bytes
 unfolding u16_at
 kind_sum bytes = omega arith
-
-abbrev length_at : List ℕ → ℕ
-length_at bytes = slice_index bytes 0 + 256 * slice_index bytes 1
-
-abbrev kind_at : List ℕ → ℕ
-kind_at bytes = slice_index bytes 2 + 256 * slice_index bytes 3
 
 first_attribute_short : (bytes : List ℕ) → length bytes < 4 → first_attribute bytes ≡ None
 unfolding first_attribute

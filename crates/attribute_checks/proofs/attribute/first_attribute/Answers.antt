@@ -2,7 +2,8 @@ use Rattle.std.specs.Prelude.{min}
 use Rattle.std.proofs.Common.{◌≡◌, length, drop, ap, ◌∙◌, arith, rules}
 use Rattle.std.proofs.lemmas.List.{drop_min, take_rest}
 use Rattle.netlink_packet_core_grammar.specs.Attributes.{nla_align}
-use Rattle.attribute_checks.proofs.OwnText.{length_at, length_sum, viewed_at}
+use Rattle.netlink_packet_core_grammar.proofs.FirstAttribute.{length_at, length_sum}
+use Rattle.attribute_checks.proofs.OwnText.{viewed_at}
 use Rattle.attribute_checks.proofs.attribute.first_attribute.Goals as goal
 use Rattle.attribute_checks.proofs.attribute.first_attribute.Goals.{then-size-lt4-via-then-size-lt4, then-size-lt4-via-else-size-lt4+then-size-bytes}
 

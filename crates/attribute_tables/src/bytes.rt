@@ -1,4 +1,4 @@
-//! The other end of a pair: a link message, whose bytes are kept.
+//! Payloads that are kept as their bytes.
 
 ghost use Rattle.std.specs.Prelude.{◌≡◌, ◌<◌, true, length, IfOk, IfErr};
 ghost use Rattle.netlink_packet_core.specs.Errors.{is_memory};
@@ -6,9 +6,9 @@ ghost use Rattle.netlink_packet_core.specs.Errors.{is_memory};
 use netlink_packet_core::DecodeError;
 use std::alloc::Global;
 
-// Keeps the bytes of a peer. No memory is taken for none.
-pub(crate) fn parse_peer(alloc: Global, payload: &[u8]) -> Result<Vec<u8>, DecodeError>
-    ensures ok { IfOk result (λ v. v.items ≡ payload.now) }
+/// Reads bytes as they are. No memory is taken for none.
+pub fn parse_bytes(alloc: Global, payload: &[u8]) -> Result<Vec<u8>, DecodeError>
+    ensures value { IfOk result (λ v. v.items ≡ payload.now) }
     ensures err { IfErr result (λ e. is_memory e ≡ true) }
     ensures not_empty { IfErr result (λ _. 0 < length payload.now) }
 {

@@ -3,12 +3,8 @@
 
 mod golden;
 mod interfaces;
-#[cfg(test)]
-mod request_tests;
 mod requests;
 mod store;
-#[cfg(test)]
-mod tests;
 
 pub use golden::{Finding, hold_against};
 pub use interfaces::{Interface, Interfaces, learn, learn_all, name};

@@ -18,4 +18,8 @@ mod program_words;
 #[cfg(test)]
 mod readers;
 #[cfg(test)]
+mod requests;
+#[cfg(test)]
 mod runs;
+#[cfg(test)]
+mod stores;

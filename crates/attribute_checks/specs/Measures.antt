@@ -1,11 +1,14 @@
 -- What a measure in code stands for.
-use Rattle.std.specs.Prelude.{ℕ, List, Option, option_map}
-use Rattle.std.specs.Borrow.{Bor}
-use Rattle.attribute_tables_grammar.specs.Lists.{Context, Grammar, without_context}
-use Rattle.attribute_tables_grammar.specs.LookUps.{table_row}
+use Rattle.std.specs.Prelude.{ℕ, option_map}
+use Rattle.attribute_tables_grammar.specs.Lists.{Context, Grammar, any, list_rule, without_context}
+use Rattle.attribute_tables_grammar.specs.LookUps.{payload_rule, table_row}
 use Rattle.attribute_tables_grammar.specs.Peers.{Peer}
-use Rattle.attribute_tables_grammar.specs.Tables.{Table}
+use Rattle.attribute_tables_grammar.specs.Rules.{Rule}
+use Rattle.attribute_tables_grammar.specs.Tables.{Names, Payload, Table, named, names_grammar}
 use Rattle.attribute_tables_grammar.specs.Walks.{Measure}
+use Rattle.attribute_checks.specs.Rows.{payload_of}
+use Rattle.attribute_checks.specs.declared.info.InForce.{InForce}
+use Rattle.attribute_checks.specs.declared.rows.Held.{Held}
 use Rattle.attribute_checks.specs.declared.shapes.Measured.{Measured}
 
 abbrev pub view : Measured → Measure
@@ -15,6 +18,17 @@ view m = record { size = m.text_len; attributes = m.attributes; fits = m.fits; e
 abbrev pub rows_of : Peer → Table → Grammar
 rows_of p t = without_context (table_row p t)
 
+-- the rule of what a row holds
+abbrev pub held_rule : Peer → (ℕ → Table) → Payload → Held → Rule
+held_rule p tables info h = payload_rule p (payload_of tables info h)
+
 -- what is in force, by the names that the code holds
-abbrev pub in_force : Option (Bor (List ℕ)) → Option (Bor (List ℕ)) → Context
-in_force kind port_kind = record { kind = option_map (λ b. b.now) kind; port_kind = option_map (λ b. b.now) port_kind }
+abbrev pub in_force : InForce → Context
+in_force f = record { kind = option_map (λ b. b.now) f.kind; port_kind = option_map (λ b. b.now) f.port_kind }
+
+-- link info, whose data stand under these names of kinds and of port kinds
+abbrev pub info_names : Peer → Names → Names → Grammar
+info_names p kinds port_kinds = names_grammar (named p kinds) (named p port_kinds)
+
+abbrev pub info_list : Peer → Names → Names → Rule
+info_list p kinds port_kinds = list_rule any (info_names p kinds port_kinds)

@@ -6,6 +6,9 @@ ghost use Rattle.netlink_packet_core_grammar.specs.Attributes.{first_attribute, 
 use attribute_tables_grammar::laws::own_texts_go_by_steps;
 use netlink_packet_core_grammar::laws::{first_attributes_are_viewed, first_attributes_are_within};
 
+/// Kinds without their flag bits are below this (netlink.h, `NLA_TYPE_MASK`).
+pub const KIND_BOUND: u16 = 0x4000;
+
 /// An attribute's kind with its flag bits, and its payload.
 #[derive(Clone, Copy)]
 pub struct Attribute<'a> {

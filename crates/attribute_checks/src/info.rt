@@ -3,17 +3,18 @@
 
 ghost use Rattle.std.specs.Prelude.{◌≡◌, ◌≤◌, ◌+◌, ◌++◌, ◌%◌, ◌==◌, ◌&&◌, ◌||◌, not, nat_lt, true};
 ghost use Rattle.std.specs.Prelude.{length, option_map, vec_capacity, IfSome, IfNone};
-ghost use Rattle.attribute_tables_grammar.specs.Lists.{any, list_rule, LawfulGrammar, row_of, same_attribute, written_kind};
-ghost use Rattle.attribute_tables_grammar.specs.LookUps.{payload_rule, payload_at, rule_or_raw};
+ghost use Rattle.attribute_tables_grammar.specs.Lists.{LawfulGrammar, row_of, same_attribute, written_kind};
+ghost use Rattle.attribute_tables_grammar.specs.LookUps.{payload_at, rule_or_raw};
 ghost use Rattle.attribute_tables_grammar.specs.Rules.{shape_rule};
 ghost use Rattle.attribute_tables_grammar.specs.Shapes.{never};
-ghost use Rattle.attribute_tables_grammar.specs.Tables.{Names, named, names_grammar, info_row, info_next};
+ghost use Rattle.attribute_tables_grammar.specs.Tables.{Names, named, info_row, info_next};
 ghost use Rattle.attribute_tables_grammar.specs.Walks.{measure};
-ghost use Rattle.attribute_checks.specs.Rows.{is_below, payload_of};
-ghost use Rattle.attribute_checks.specs.Measures.{view, in_force};
+ghost use Rattle.attribute_checks.specs.Rows.{is_below};
+ghost use Rattle.attribute_checks.specs.Measures.{view, in_force, info_list, info_names, held_rule};
+ghost use Rattle.netlink_packet_core_grammar.specs.Attributes.{proper_kind};
 ghost use Rattle.attribute_checks.specs.Sameness.{attribute_of};
 
-use crate::attribute::{Attribute, first_attribute, is_own_attribute};
+use crate::attribute::{Attribute, KIND_BOUND, first_attribute, is_own_attribute};
 use crate::measure::{measure_held, with_attribute};
 use crate::rows::{Held, Shape};
 use crate::same::same_held;
@@ -35,21 +36,36 @@ pub trait NameSet: TableSet {
 
     /// What the data under a kind's name hold.
     fn data_held(&self, name: &[u8]) -> Held
-        ensures rule { payload_rule Self.peer (payload_of Self.tables Self.info result)
+        ensures rule { held_rule Self.peer Self.tables Self.info result
             ≡ rule_or_raw Self.peer (payload_at kinds name.now) }
         ensures known { is_below Self.count result ≡ true };
 
     /// What the port data under a port kind's name hold.
     fn port_held(&self, name: &[u8]) -> Held
-        ensures rule { payload_rule Self.peer (payload_of Self.tables Self.info result)
+        ensures rule { held_rule Self.peer Self.tables Self.info result
             ≡ rule_or_raw Self.peer (payload_at port_kinds name.now) }
         ensures known { is_below Self.count result ≡ true };
 
     /// The rows of link info are lawful. It does nothing.
     fn rows_are_lawful(&self)
         ensures { LawfulGrammar
-            (names_grammar (named Self.peer kinds) (named Self.peer port_kinds)) };
+            (info_names Self.peer kinds port_kinds) };
 }
+
+/// `IFLA_INFO_KIND`: the kind of the link.
+const IFLA_INFO_KIND: u16 = 1;
+
+/// `IFLA_INFO_DATA`: data of that kind.
+const IFLA_INFO_DATA: u16 = 2;
+
+/// `IFLA_INFO_XSTATS`: statistics of that kind.
+const IFLA_INFO_XSTATS: u16 = 3;
+
+/// `IFLA_INFO_SLAVE_KIND`: the kind of the port.
+const IFLA_INFO_SLAVE_KIND: u16 = 4;
+
+/// `IFLA_INFO_SLAVE_DATA`: data of that port kind.
+const IFLA_INFO_SLAVE_DATA: u16 = 5;
 
 /// The kind and the port kind in force.
 #[derive(Clone, Copy)]
@@ -60,19 +76,19 @@ pub struct InForce<'a> {
 
 // What is in force after an attribute.
 fn next_force<'a>(force: InForce<'a>, kind: u16, payload: &'a [u8]) -> InForce<'a>
-    ensures { in_force result.kind result.port_kind
-        ≡ info_next (in_force force.entry.kind force.entry.port_kind) kind payload.now }
+    ensures { in_force result
+        ≡ info_next (in_force force.entry) kind payload.now }
 {
     match kind {
-        1 => InForce {
+        IFLA_INFO_KIND => InForce {
             kind: Some(without_nul(payload)),
             port_kind: force.port_kind,
         },
-        4 => InForce {
+        IFLA_INFO_SLAVE_KIND => InForce {
             kind: force.kind,
             port_kind: Some(without_nul(payload)),
         },
-        5 => InForce {
+        IFLA_INFO_SLAVE_DATA => InForce {
             kind: force.kind,
             port_kind: None,
         },
@@ -82,25 +98,25 @@ fn next_force<'a>(force: InForce<'a>, kind: u16, payload: &'a [u8]) -> InForce<'
 
 // What an attribute of link info holds; None where no name tells it.
 fn info_held<T: NameSet>(set: &T, force: InForce<'_>, kind: u16) -> Option<Held>
-    ensures some { IfSome result (λ held. payload_rule T.peer (payload_of T.tables T.info held)
+    ensures some { IfSome result (λ held. held_rule T.peer T.tables T.info held
         ≡ (info_row (named T.peer T.kinds) (named T.peer T.port_kinds)
-        (in_force force.entry.kind force.entry.port_kind) kind).rule) }
+        (in_force force.entry) kind).rule) }
     ensures known { IfSome result (λ held. is_below T.count held ≡ true) }
     ensures none { IfNone result ((info_row (named T.peer T.kinds) (named T.peer T.port_kinds)
-        (in_force force.entry.kind force.entry.port_kind) kind).rule ≡ shape_rule never) }
+        (in_force force.entry) kind).rule ≡ shape_rule never) }
 {
     names_are_looked_up();
     match kind {
-        1 | 4 => Some(Held::Plain(Shape::Text)),
-        2 => match force.kind {
+        IFLA_INFO_KIND | IFLA_INFO_SLAVE_KIND => Some(Held::Plain(Shape::Text)),
+        IFLA_INFO_DATA => match force.kind {
             Some(name) => Some(set.data_held(name)),
             None => None,
         },
-        3 => match force.kind {
+        IFLA_INFO_XSTATS => match force.kind {
             Some(_) => Some(Held::Plain(Shape::Raw)),
             None => None,
         },
-        5 => match force.port_kind {
+        IFLA_INFO_SLAVE_DATA => match force.port_kind {
             Some(name) => Some(set.port_held(name)),
             None => None,
         },
@@ -112,10 +128,10 @@ fn info_held<T: NameSet>(set: &T, force: InForce<'_>, kind: u16) -> Option<Held>
 fn info_kind<T: NameSet>(set: &T, force: InForce<'_>, kind: u16) -> u16
     ensures { result ≡ written_kind
         (info_row (named T.peer T.kinds) (named T.peer T.port_kinds)
-        (in_force force.entry.kind force.entry.port_kind) (kind % 0x4000)) kind }
+        (in_force force.entry) (proper_kind kind)) kind }
 {
-    match kind % 0x4000 {
-        1 | 2 | 3 | 4 | 5 => kind % 0x4000,
+    match kind % KIND_BOUND {
+        IFLA_INFO_KIND..=IFLA_INFO_SLAVE_DATA => kind % KIND_BOUND,
         _ => kind,
     }
 }
@@ -123,9 +139,9 @@ fn info_kind<T: NameSet>(set: &T, force: InForce<'_>, kind: u16) -> u16
 /// Whether the bytes are a list of link info, and its measure.
 pub fn measure_info<T: NameSet>(set: &T, bytes: &[u8]) -> Option<Measured>
     ensures measure { option_map view result ≡ measure
-        (list_rule any (names_grammar (named T.peer T.kinds) (named T.peer T.port_kinds))) bytes.now }
+        (info_list T.peer T.kinds T.port_kinds) bytes.now }
     ensures own { IfSome result (λ m. m.is_own ≡ true
-        → (list_rule any (names_grammar (named T.peer T.kinds) (named T.peer T.port_kinds))).canonical
+        → (info_list T.peer T.kinds T.port_kinds).canonical
         bytes.now ≡ bytes.now) }
 {
     set.rows_are_lawful();
@@ -141,7 +157,7 @@ pub fn measure_info<T: NameSet>(set: &T, bytes: &[u8]) -> Option<Measured>
         let Some((attribute, after)) = first_attribute(rest) else {
             return None;
         };
-        let kind = attribute.kind % 0x4000;
+        let kind = attribute.kind % KIND_BOUND;
         let Some(held) = info_held(set, force, kind) else {
             return None;
         };
@@ -160,15 +176,15 @@ pub fn measure_info<T: NameSet>(set: &T, bytes: &[u8]) -> Option<Measured>
 /// Appends the canonical text of an accepted list of link info that fits, for which there has to be
 /// room.
 pub fn write_info<T: NameSet + WriteSet>(set: &T, bytes: &[u8], out: &mut Vec<u8>)
-    requires accepted { (list_rule any (names_grammar (named T.peer T.kinds) (named T.peer T.port_kinds))).accepted
+    requires accepted { (info_list T.peer T.kinds T.port_kinds).accepted
         bytes.now ≡ true }
-    requires fits { (list_rule any (names_grammar (named T.peer T.kinds) (named T.peer T.port_kinds))).fits
+    requires fits { (info_list T.peer T.kinds T.port_kinds).fits
         bytes.now ≡ true }
     requires room { length out.old.items
-        + length ((list_rule any (names_grammar (named T.peer T.kinds) (named T.peer T.port_kinds))).canonical
+        + length ((info_list T.peer T.kinds T.port_kinds).canonical
         bytes.now) ≤ vec_capacity out.old }
     ensures text { out.new.items ≡ out.old.items
-        ++ (list_rule any (names_grammar (named T.peer T.kinds) (named T.peer T.port_kinds))).canonical
+        ++ (info_list T.peer T.kinds T.port_kinds).canonical
         bytes.now }
     ensures room { vec_capacity out.old ≤ vec_capacity out.new }
 {
@@ -183,7 +199,7 @@ pub fn write_info<T: NameSet + WriteSet>(set: &T, bytes: &[u8], out: &mut Vec<u8
         let Some((attribute, after)) = first_attribute(rest) else {
             unreachable!();
         };
-        let kind = attribute.kind % 0x4000;
+        let kind = attribute.kind % KIND_BOUND;
         let Some(held) = info_held(set, force, kind) else {
             unreachable!();
         };
@@ -199,11 +215,11 @@ pub fn write_info<T: NameSet + WriteSet>(set: &T, bytes: &[u8], out: &mut Vec<u8
 fn same_kinds(left: u16, right: u16) -> bool
     ensures { result
         ≡ (left == right
-        || (nat_lt 0 (left % 0x4000)
-        && nat_lt (left % 0x4000) 6 && left % 0x4000 == right % 0x4000)) }
+        || (nat_lt 0 (proper_kind left)
+        && nat_lt (proper_kind left) 6 && proper_kind left == proper_kind right)) }
 {
-    match left % 0x4000 {
-        1 | 2 | 3 | 4 | 5 => left % 0x4000 == right % 0x4000,
+    match left % KIND_BOUND {
+        IFLA_INFO_KIND..=IFLA_INFO_SLAVE_DATA => left % KIND_BOUND == right % KIND_BOUND,
         _ => left == right,
     }
 }
@@ -216,17 +232,17 @@ fn same_in_force<T: NameSet>(
     right: Attribute<'_>,
 ) -> bool
     ensures { result ≡ same_attribute
-        (row_of (names_grammar (named T.peer T.kinds) (named T.peer T.port_kinds))
-        (in_force force.entry.kind force.entry.port_kind) (attribute_of left.entry))
-        (row_of (names_grammar (named T.peer T.kinds) (named T.peer T.port_kinds))
-        (in_force force.entry.kind force.entry.port_kind) (attribute_of right.entry))
+        (row_of (info_names T.peer T.kinds T.port_kinds)
+        (in_force force.entry) (attribute_of left.entry))
+        (row_of (info_names T.peer T.kinds T.port_kinds)
+        (in_force force.entry) (attribute_of right.entry))
         (attribute_of left.entry) (attribute_of right.entry) }
 {
     attributes_are_compared();
     if !same_kinds(left.kind, right.kind) {
         return false;
     }
-    match info_held(set, force, left.kind % 0x4000) {
+    match info_held(set, force, left.kind % KIND_BOUND) {
         Some(held) => same_held(set, held, left.payload, right.payload),
         None => left.payload == right.payload,
     }
@@ -235,7 +251,7 @@ fn same_in_force<T: NameSet>(
 /// Whether two lists of link info mean the same. It is of use where both are accepted.
 pub fn same_info<T: NameSet>(set: &T, left: &[u8], right: &[u8]) -> bool
     ensures { result
-        ≡ (list_rule any (names_grammar (named T.peer T.kinds) (named T.peer T.port_kinds))).same
+        ≡ (info_list T.peer T.kinds T.port_kinds).same
         left.now right.now }
 {
     what_is_kept_goes_by_steps();
@@ -258,7 +274,7 @@ pub fn same_info<T: NameSet>(set: &T, left: &[u8], right: &[u8]) -> bool
         if !same_in_force(set, force, a, b) {
             return false;
         }
-        force = next_force(force, a.kind % 0x4000, a.payload);
+        force = next_force(force, a.kind % KIND_BOUND, a.payload);
         rest = after;
         other = behind;
     }

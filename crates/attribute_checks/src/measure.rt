@@ -2,13 +2,12 @@
 
 ghost use Rattle.std.specs.Prelude.{◌≡◌, ◌<◌, ◌+◌, ◌*◌, ◌^◌, ◌&&◌, ℕ, true, false, cond, nat_lt, option_map, IfSome};
 ghost use Rattle.attribute_tables_grammar.specs.Lists.{is_kept, first_alone, list_rule};
-ghost use Rattle.attribute_tables_grammar.specs.LookUps.{payload_rule};
 ghost use Rattle.attribute_tables_grammar.specs.Walks.{measure, plus, with_header, dropped, closed};
-ghost use Rattle.attribute_checks.specs.Rows.{is_below, payload_of, form_of};
+ghost use Rattle.attribute_checks.specs.Rows.{is_below, form_of};
 ghost use Rattle.attribute_checks.specs.Fronts.{IsOwnFront};
-ghost use Rattle.attribute_checks.specs.Measures.{view, rows_of};
+ghost use Rattle.attribute_checks.specs.Measures.{view, rows_of, held_rule};
 
-use crate::attribute::{Attribute, first_attribute, is_own_attribute};
+use crate::attribute::{Attribute, KIND_BOUND, first_attribute, is_own_attribute};
 use crate::rows::{Form, Held};
 use crate::shapes::{Measured, NOTHING_YET, measure_shape};
 use crate::tables::{TableSet, find};
@@ -23,7 +22,7 @@ pub fn is_kept(form: Form, attribute: Attribute<'_>) -> bool
         (record { kind = attribute.entry.kind; payload = attribute.entry.payload.now }) }
 {
     match form {
-        Form::OfKindOne | Form::Ports => attribute.kind % 0x4000 == 1,
+        Form::OfKindOne | Form::Ports => attribute.kind % KIND_BOUND == 1,
         Form::Any | Form::NonEmpty | Form::FirstAlone => true,
     }
 }
@@ -87,10 +86,10 @@ fn close(form: Form, total: Measured) -> Measured
 pub fn measure_held<T: TableSet>(set: &T, held: Held, bytes: &[u8]) -> Option<Measured>
     requires { is_below T.count held ≡ true }
     ensures measure { option_map view result
-        ≡ measure (payload_rule T.peer (payload_of T.tables T.info held)) bytes.now }
+        ≡ measure (held_rule T.peer T.tables T.info held) bytes.now }
     ensures own { IfSome result
         (λ m. m.is_own ≡ true
-        → (payload_rule T.peer (payload_of T.tables T.info held)).canonical bytes.now ≡ bytes.now) }
+        → (held_rule T.peer T.tables T.info held).canonical bytes.now ≡ bytes.now) }
 {
     match held {
         Held::Plain(shape) => measure_shape(shape, bytes),
@@ -108,10 +107,10 @@ pub fn measure_held<T: TableSet>(set: &T, held: Held, bytes: &[u8]) -> Option<Me
 fn measure_inside<T: TableSet>(set: &T, held: Held, bytes: &[u8]) -> Option<Measured>
     requires { is_below T.count held ≡ true }
     ensures measure { option_map view result
-        ≡ measure (payload_rule T.peer (payload_of T.tables T.info held)) bytes.now }
+        ≡ measure (held_rule T.peer T.tables T.info held) bytes.now }
     ensures own { IfSome result
         (λ m. m.is_own ≡ true
-        → (payload_rule T.peer (payload_of T.tables T.info held)).canonical bytes.now ≡ bytes.now) }
+        → (held_rule T.peer T.tables T.info held).canonical bytes.now ≡ bytes.now) }
 {
     rows_are_looked_up();
     match held {

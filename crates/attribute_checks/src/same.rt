@@ -3,13 +3,13 @@
 ghost use Rattle.std.specs.Prelude.{◌≡◌, ◌<◌, true, is_some, IfSome};
 ghost use Rattle.netlink_packet_core_grammar.specs.Attributes.{proper_kind};
 ghost use Rattle.attribute_tables_grammar.specs.Lists.{first_alone, list_rule};
-ghost use Rattle.attribute_tables_grammar.specs.LookUps.{payload_rule, table_row};
+ghost use Rattle.attribute_tables_grammar.specs.LookUps.{table_row};
 ghost use Rattle.attribute_tables_grammar.specs.Sameness.{kept_of, same_kinds};
-ghost use Rattle.attribute_checks.specs.Rows.{is_below, payload_of, form_of};
-ghost use Rattle.attribute_checks.specs.Measures.{rows_of};
+ghost use Rattle.attribute_checks.specs.Rows.{is_below, form_of};
+ghost use Rattle.attribute_checks.specs.Measures.{rows_of, held_rule};
 ghost use Rattle.attribute_checks.specs.Sameness.{next_of, IsShorter};
 
-use crate::attribute::{Attribute, first_attribute};
+use crate::attribute::{Attribute, KIND_BOUND, first_attribute};
 use crate::measure::is_kept;
 use crate::rows::{Form, Held};
 use crate::same_shapes::same_shape;
@@ -55,12 +55,12 @@ fn held_by_both<T: TableSet>(set: &T, table: u8, left: u16, right: u16) -> Optio
     ensures kinds { is_some result
         ≡ same_kinds (table_row T.peer (T.tables table) (proper_kind left)) left right }
     ensures rule { IfSome result
-        (λ held. payload_rule T.peer (payload_of T.tables T.info held)
+        (λ held. held_rule T.peer T.tables T.info held
         ≡ (table_row T.peer (T.tables table) (proper_kind left)).rule) }
     ensures known { IfSome result (λ held. is_below T.count held ≡ true) }
 {
     let found = find(set, table, left);
-    if left == right || found.is_typed && left % 0x4000 == right % 0x4000 {
+    if left == right || found.is_typed && left % KIND_BOUND == right % KIND_BOUND {
         Some(found.held)
     } else {
         None
@@ -73,7 +73,7 @@ fn held_by_both<T: TableSet>(set: &T, table: u8, left: u16, right: u16) -> Optio
 pub fn same_held<T: TableSet>(set: &T, held: Held, left: &[u8], right: &[u8]) -> bool
     requires { is_below T.count held ≡ true }
     ensures { result
-        ≡ (payload_rule T.peer (payload_of T.tables T.info held)).same left.now right.now }
+        ≡ (held_rule T.peer T.tables T.info held).same left.now right.now }
 {
     rows_are_looked_up();
     match held {

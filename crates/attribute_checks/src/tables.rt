@@ -11,6 +11,7 @@ ghost use Rattle.attribute_tables_grammar.specs.Walks.{measure};
 ghost use Rattle.attribute_checks.specs.Rows.{are_dense, are_known, is_below, build, payload_of};
 ghost use Rattle.attribute_checks.specs.Measures.{view};
 
+use crate::attribute::KIND_BOUND;
 use crate::rows::{Held, Row, Shape, look_up};
 use crate::shapes::Measured;
 use attribute_tables_grammar::laws::table_rows_are_lawful;
@@ -95,7 +96,7 @@ fn written_kind(is_nested: bool, kind: u16) -> u16
     ensures { result ≡ proper_kind kind + cond is_nested 0x8000 0 }
 {
     let flag = if is_nested { 0x8000 } else { 0 };
-    kind % 0x4000 + flag
+    kind % KIND_BOUND + flag
 }
 
 /// What a table says of an attribute's kind, which may have its flag bits.
@@ -111,7 +112,7 @@ pub fn find<T: TableSet>(set: &T, table: u8, kind: u16) -> Found
         ≡ written_kind (table_row T.peer (T.tables table) (proper_kind kind)) kind }
 {
     table_rows_are_lawful();
-    match look_up(set.table(table), kind % 0x4000) {
+    match look_up(set.table(table), kind % KIND_BOUND) {
         Row::Listed(_, is_nested, held) => Found {
             held,
             is_typed: true,

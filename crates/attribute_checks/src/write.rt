@@ -3,9 +3,8 @@
 ghost use Rattle.std.specs.Prelude.{◌≡◌, ◌<◌, ◌≤◌, ◌+◌, ◌-◌, ◌++◌, true, length, vec_capacity};
 ghost use Rattle.netlink_packet_core_grammar.specs.Attributes.{attribute_text};
 ghost use Rattle.attribute_tables_grammar.specs.Lists.{first_alone, list_rule};
-ghost use Rattle.attribute_tables_grammar.specs.LookUps.{payload_rule};
-ghost use Rattle.attribute_checks.specs.Rows.{is_below, payload_of, form_of};
-ghost use Rattle.attribute_checks.specs.Measures.{rows_of};
+ghost use Rattle.attribute_checks.specs.Rows.{is_below, form_of};
+ghost use Rattle.attribute_checks.specs.Measures.{rows_of, held_rule};
 ghost use Rattle.attribute_tables_grammar.specs.Writing.{IsWritable};
 
 use crate::attribute::first_attribute;
@@ -23,14 +22,14 @@ use netlink_packet_core_grammar::laws::first_attributes_are_within;
 #[cycle(write)]
 pub fn write_held<T: WriteSet>(set: &T, held: Held, bytes: &[u8], out: &mut Vec<u8>)
     requires known { is_below T.count held ≡ true }
-    requires accepted { (payload_rule T.peer (payload_of T.tables T.info held)).accepted bytes.now
+    requires accepted { (held_rule T.peer T.tables T.info held).accepted bytes.now
         ≡ true }
-    requires fits { (payload_rule T.peer (payload_of T.tables T.info held)).fits bytes.now ≡ true }
+    requires fits { (held_rule T.peer T.tables T.info held).fits bytes.now ≡ true }
     requires room { length out.old.items
-        + length ((payload_rule T.peer (payload_of T.tables T.info held)).canonical bytes.now)
+        + length ((held_rule T.peer T.tables T.info held).canonical bytes.now)
         ≤ vec_capacity out.old }
     ensures text { out.new.items ≡ out.old.items
-        ++ (payload_rule T.peer (payload_of T.tables T.info held)).canonical bytes.now }
+        ++ (held_rule T.peer T.tables T.info held).canonical bytes.now }
     ensures room { vec_capacity out.old ≤ vec_capacity out.new }
 {
     rows_are_looked_up();
@@ -53,11 +52,11 @@ pub fn write_attribute<T: WriteSet>(
     out: &mut Vec<u8>,
 )
     requires known { is_below T.count held ≡ true }
-    requires writable { IsWritable (payload_rule T.peer (payload_of T.tables T.info held)) payload.now
+    requires writable { IsWritable (held_rule T.peer T.tables T.info held) payload.now
         (vec_capacity out.old - length out.old.items) }
     ensures text { out.new.items ≡ out.old.items ++ attribute_text (record {
       kind = kind;
-      payload = (payload_rule T.peer (payload_of T.tables T.info held)).canonical payload.now;
+      payload = (held_rule T.peer T.tables T.info held).canonical payload.now;
     }) }
     ensures room { vec_capacity out.old ≤ vec_capacity out.new }
 {

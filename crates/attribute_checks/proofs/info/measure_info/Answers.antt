@@ -20,26 +20,26 @@ loop-rest-init g c =
 pub returns-in_default-clause-measure : goal.returns-in_default-clause-measure
 returns-in_default-clause-measure g c =
     let rows = names_grammar (named g.T.TableSet.peer g.T.NameSet.kinds) (named g.T.TableSet.peer g.T.NameSet.port_kinds) in
-    c.measures_go_by_steps.ensures.stopped any rows c.args.bytes.now c.loop-rest.rest.now (in_force c.loop-rest.force.kind c.loop-rest.force.port_kind) (view c.loop-rest.total) tt c.in_default.ensures (some_bytes c.loop-rest.rest.now c.is_empty.result c.loop-rest-test.true c.is_empty.ensures) c.loop-rest.invariant.so_far
+    c.measures_go_by_steps.ensures.stopped any rows c.args.bytes.now c.loop-rest.rest.now (in_force c.loop-rest.force) (view c.loop-rest.total) tt c.in_default.ensures (some_bytes c.loop-rest.rest.now c.is_empty.result c.loop-rest-test.true c.is_empty.ensures) c.loop-rest.invariant.so_far
 
 pub returns-in_default-info_held-clause-measure : goal.returns-in_default-info_held-clause-measure
 returns-in_default-info_held-clause-measure g c =
     let rows = names_grammar (named g.T.TableSet.peer g.T.NameSet.kinds) (named g.T.TableSet.peer g.T.NameSet.port_kinds) in
     let e : Attribute = record { kind = c.in-Some.attribute.kind; payload = c.in-Some.attribute.payload.now } in
-    c.measures_go_by_steps.ensures.refused any rows c.args.bytes.now c.loop-rest.rest.now (in_force c.loop-rest.force.kind c.loop-rest.force.port_kind) e c.in-Some.after.now (view c.loop-rest.total) tt c.in-Some.ensures refl
+    c.measures_go_by_steps.ensures.refused any rows c.args.bytes.now c.loop-rest.rest.now (in_force c.loop-rest.force) e c.in-Some.after.now (view c.loop-rest.total) tt c.in-Some.ensures refl
     (measured_as (shape_rule never) _ e.payload None (sym c.in_default-info_held.ensures.none) refl) c.loop-rest.invariant.so_far
 
 pub returns-in_default-measure_held-clause-measure : goal.returns-in_default-measure_held-clause-measure
 returns-in_default-measure_held-clause-measure g c =
     let rows = names_grammar (named g.T.TableSet.peer g.T.NameSet.kinds) (named g.T.TableSet.peer g.T.NameSet.port_kinds) in
     let e : Attribute = record { kind = c.in-Some.attribute.kind; payload = c.in-Some.attribute.payload.now } in
-    c.measures_go_by_steps.ensures.refused any rows c.args.bytes.now c.loop-rest.rest.now (in_force c.loop-rest.force.kind c.loop-rest.force.port_kind) e c.in-Some.after.now (view c.loop-rest.total) tt c.in-Some.ensures refl
+    c.measures_go_by_steps.ensures.refused any rows c.args.bytes.now c.loop-rest.rest.now (in_force c.loop-rest.force) e c.in-Some.after.now (view c.loop-rest.total) tt c.in-Some.ensures refl
     (measured_as _ _ e.payload None c.in-Some-info_held.ensures.some c.in_default-measure_held.ensures.measure) c.loop-rest.invariant.so_far
 
 pub with_attribute-total-requires-clause-len : goal.with_attribute-total-requires-clause-len
 with_attribute-total-requires-clause-len g c =
     let e : Attribute = record { kind = c.in-Some.attribute.kind; payload = c.in-Some.attribute.payload.now } in
-    let now = in_force c.loop-rest.force.kind c.loop-rest.force.port_kind in
+    let now = in_force c.loop-rest.force in
     let s = c.measures_go_by_steps.ensures.small _ (c.rows_are_lawful.ensures.rows now (c.in-Some.attribute.kind % 16384)) c.loop-rest.rest.now e c.in-Some.after.now (view c.in-Some-measure_held.inside) c.in-Some.ensures
     (measured_as _ _ e.payload (Some (view c.in-Some-measure_held.inside)) c.in-Some-info_held.ensures.some c.in-Some-measure_held.ensures.measure) in
     omega (arith, s.within, s.few, c.loop-rest.invariant.within, c.loop-rest.invariant.few)
@@ -47,7 +47,7 @@ with_attribute-total-requires-clause-len g c =
 pub with_attribute-total-requires-clause-headers : goal.with_attribute-total-requires-clause-headers
 with_attribute-total-requires-clause-headers g c =
     let e : Attribute = record { kind = c.in-Some.attribute.kind; payload = c.in-Some.attribute.payload.now } in
-    let now = in_force c.loop-rest.force.kind c.loop-rest.force.port_kind in
+    let now = in_force c.loop-rest.force in
     let s = c.measures_go_by_steps.ensures.small _ (c.rows_are_lawful.ensures.rows now (c.in-Some.attribute.kind % 16384)) c.loop-rest.rest.now e c.in-Some.after.now (view c.in-Some-measure_held.inside) c.in-Some.ensures
     (measured_as _ _ e.payload (Some (view c.in-Some-measure_held.inside)) c.in-Some-info_held.ensures.some c.in-Some-measure_held.ensures.measure) in
     omega (arith, s.within, s.few, c.loop-rest.invariant.within, c.loop-rest.invariant.few)
@@ -55,7 +55,7 @@ with_attribute-total-requires-clause-headers g c =
 pub loop-rest-smaller : goal.loop-rest-smaller
 loop-rest-smaller g c =
     let e : Attribute = record { kind = c.in-Some.attribute.kind; payload = c.in-Some.attribute.payload.now } in
-    let now = in_force c.loop-rest.force.kind c.loop-rest.force.port_kind in
+    let now = in_force c.loop-rest.force in
     let s = c.measures_go_by_steps.ensures.small _ (c.rows_are_lawful.ensures.rows now (c.in-Some.attribute.kind % 16384)) c.loop-rest.rest.now e c.in-Some.after.now (view c.in-Some-measure_held.inside) c.in-Some.ensures
     (measured_as _ _ e.payload (Some (view c.in-Some-measure_held.inside)) c.in-Some-info_held.ensures.some c.in-Some-measure_held.ensures.measure) in
     omega (arith, s.shorter)
@@ -63,7 +63,7 @@ loop-rest-smaller g c =
 pub loop-rest-preserved : goal.loop-rest-preserved
 loop-rest-preserved g c =
     let rows : Grammar = names_grammar (named g.T.TableSet.peer g.T.NameSet.kinds) (named g.T.TableSet.peer g.T.NameSet.port_kinds) in
-    let now = in_force c.loop-rest.force.kind c.loop-rest.force.port_kind in
+    let now = in_force c.loop-rest.force in
     let bytes = c.args.bytes.now in
     let rest = c.loop-rest.rest.now in
     let after = c.in-Some.after.now in
@@ -92,9 +92,9 @@ loop-rest-preserved g c =
 pub returns-clause-measure : goal.returns-clause-measure
 returns-clause-measure g c =
     let rows = names_grammar (named g.T.TableSet.peer g.T.NameSet.kinds) (named g.T.TableSet.peer g.T.NameSet.port_kinds) in
-    c.measures_go_by_steps.ensures.done any rows c.args.bytes.now c.loop-rest.rest.now (in_force c.loop-rest.force.kind c.loop-rest.force.port_kind) (view c.loop-rest.total) tt (eqb-true (length c.loop-rest.rest.now) 0 (sym c.is_empty.ensures ∙ c.loop-rest-test.false)) c.loop-rest.invariant.so_far
+    c.measures_go_by_steps.ensures.done any rows c.args.bytes.now c.loop-rest.rest.now (in_force c.loop-rest.force) (view c.loop-rest.total) tt (eqb-true (length c.loop-rest.rest.now) 0 (sym c.is_empty.ensures ∙ c.loop-rest-test.false)) c.loop-rest.invariant.so_far
 
 pub returns-clause-own : goal.returns-clause-own
 returns-clause-own g c =
     let rows = names_grammar (named g.T.TableSet.peer g.T.NameSet.kinds) (named g.T.TableSet.peer g.T.NameSet.port_kinds) in
-    λ h. c.own_texts_go_by_steps.ensures.done any rows c.args.bytes.now c.loop-rest.rest.now (in_force c.loop-rest.force.kind c.loop-rest.force.port_kind) tt (eqb-true (length c.loop-rest.rest.now) 0 (sym c.is_empty.ensures ∙ c.loop-rest-test.false)) (c.loop-rest.invariant.own h)
+    λ h. c.own_texts_go_by_steps.ensures.done any rows c.args.bytes.now c.loop-rest.rest.now (in_force c.loop-rest.force) tt (eqb-true (length c.loop-rest.rest.now) 0 (sym c.is_empty.ensures ∙ c.loop-rest-test.false)) (c.loop-rest.invariant.own h)

@@ -9,8 +9,8 @@ use Rattle.attribute_checks.proofs.info.measure_info.Given as goal
 
 abbrev pub invariant-loop-rest : goal.invariant-loop-rest
 invariant-loop-rest g l = record {
-  so_far : MeasuredSoFar any (names_grammar (named g.T.TableSet.peer g.T.NameSet.kinds) (named g.T.TableSet.peer g.T.NameSet.port_kinds)) l.bytes (view l.total) (in_force l.force.kind l.force.port_kind) l.rest;
-  own : l.total.is_own ≡ true → OwnSoFar any (names_grammar (named g.T.TableSet.peer g.T.NameSet.kinds) (named g.T.TableSet.peer g.T.NameSet.port_kinds)) l.bytes (in_force l.force.kind l.force.port_kind) l.rest;
+  so_far : MeasuredSoFar any (names_grammar (named g.T.TableSet.peer g.T.NameSet.kinds) (named g.T.TableSet.peer g.T.NameSet.port_kinds)) l.bytes (view l.total) (in_force l.force) l.rest;
+  own : l.total.is_own ≡ true → OwnSoFar any (names_grammar (named g.T.TableSet.peer g.T.NameSet.kinds) (named g.T.TableSet.peer g.T.NameSet.port_kinds)) l.bytes (in_force l.force) l.rest;
   within : l.total.text_len + 77 * length l.rest ≤ 77 * length l.bytes;
   few : 4 * l.total.attributes + length l.rest ≤ length l.bytes;
 }

@@ -12,7 +12,7 @@ pub returns-in_default-first_attribute : goal.returns-in_default-first_attribute
 returns-in_default-first_attribute g c =
     let rows = names_grammar (named g.T.TableSet.peer g.T.NameSet.kinds) (named g.T.TableSet.peer g.T.NameSet.port_kinds) in
     let e = attribute_of c.in-Some.a in
-    other_ended c.what_is_kept_goes_by_steps.ensures c.sameness_goes_by_steps.ensures rows (in_force c.loop-rest.force.kind c.loop-rest.force.port_kind) c.loop-rest.rest.now e c.in-Some.after.now (c.what_is_kept_goes_by_steps.ensures.more any c.loop-rest.rest.now e c.in-Some.after.now c.in-Some.ensures refl) c.loop-rest.other.now c.in_default-first_attribute.ensures
+    other_ended c.what_is_kept_goes_by_steps.ensures c.sameness_goes_by_steps.ensures rows (in_force c.loop-rest.force) c.loop-rest.rest.now e c.in-Some.after.now (c.what_is_kept_goes_by_steps.ensures.more any c.loop-rest.rest.now e c.in-Some.after.now c.in-Some.ensures refl) c.loop-rest.other.now c.in_default-first_attribute.ensures
     ∙ c.loop-rest.invariant.so_far
 
 pub returns-then-not-same_in_force : goal.returns-then-not-same_in_force
@@ -21,7 +21,7 @@ returns-then-not-same_in_force g c =
     let e = attribute_of c.in-Some.a in
     let h = attribute_of c.in-Some-first_attribute.b in
     let kept = c.what_is_kept_goes_by_steps.ensures in
-    c.sameness_goes_by_steps.ensures.differs any rows (in_force c.loop-rest.force.kind c.loop-rest.force.port_kind) c.loop-rest.rest.now c.loop-rest.other.now e h c.in-Some.after.now c.in-Some-first_attribute.behind.now (kept.more any c.loop-rest.rest.now e c.in-Some.after.now c.in-Some.ensures refl) (kept.more any c.loop-rest.other.now h c.in-Some-first_attribute.behind.now c.in-Some-first_attribute.ensures refl)
+    c.sameness_goes_by_steps.ensures.differs any rows (in_force c.loop-rest.force) c.loop-rest.rest.now c.loop-rest.other.now e h c.in-Some.after.now c.in-Some-first_attribute.behind.now (kept.more any c.loop-rest.rest.now e c.in-Some.after.now c.in-Some.ensures refl) (kept.more any c.loop-rest.other.now h c.in-Some-first_attribute.behind.now c.in-Some-first_attribute.ensures refl)
     (sym c.same_in_force.ensures ∙ c.if-not-same_in_force.true)
     ∙ c.loop-rest.invariant.so_far
 
@@ -37,7 +37,7 @@ loop-rest-preserved g c =
     let data' = named g.T.TableSet.peer g.T.NameSet.kinds in
     let ports = named g.T.TableSet.peer g.T.NameSet.port_kinds in
     let rows = names_grammar data' ports in
-    let now = in_force c.loop-rest.force.kind c.loop-rest.force.port_kind in
+    let now = in_force c.loop-rest.force in
     let e = attribute_of c.in-Some.a in
     let h = attribute_of c.in-Some-first_attribute.b in
     let kept = c.what_is_kept_goes_by_steps.ensures in
@@ -53,5 +53,5 @@ pub returns : goal.returns
 returns g c =
     let rows = names_grammar (named g.T.TableSet.peer g.T.NameSet.kinds) (named g.T.TableSet.peer g.T.NameSet.port_kinds) in
     c.is_empty-2.ensures
-    ∙ both_ended c.what_is_kept_goes_by_steps.ensures c.sameness_goes_by_steps.ensures rows (in_force c.loop-rest.force.kind c.loop-rest.force.port_kind) c.loop-rest.rest.now (eqb-true (length c.loop-rest.rest.now) 0 (sym c.is_empty.ensures ∙ c.loop-rest-test.false)) c.loop-rest.other.now
+    ∙ both_ended c.what_is_kept_goes_by_steps.ensures c.sameness_goes_by_steps.ensures rows (in_force c.loop-rest.force) c.loop-rest.rest.now (eqb-true (length c.loop-rest.rest.now) 0 (sym c.is_empty.ensures ∙ c.loop-rest-test.false)) c.loop-rest.other.now
     ∙ c.loop-rest.invariant.so_far

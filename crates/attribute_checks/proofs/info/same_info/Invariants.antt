@@ -8,7 +8,7 @@ use Rattle.attribute_checks.proofs.info.same_info.Given as goal
 
 abbrev pub invariant-loop-rest : goal.invariant-loop-rest
 invariant-loop-rest g l = record {
-  so_far : same_walk any (names_grammar (named g.T.TableSet.peer g.T.NameSet.kinds) (named g.T.TableSet.peer g.T.NameSet.port_kinds)) (in_force l.force.kind l.force.port_kind) l.rest l.other ≡ (list_rule any (names_grammar (named g.T.TableSet.peer g.T.NameSet.kinds) (named g.T.TableSet.peer g.T.NameSet.port_kinds))).same l.fn.left l.fn.right;
+  so_far : same_walk any (names_grammar (named g.T.TableSet.peer g.T.NameSet.kinds) (named g.T.TableSet.peer g.T.NameSet.port_kinds)) (in_force l.force) l.rest l.other ≡ (list_rule any (names_grammar (named g.T.TableSet.peer g.T.NameSet.kinds) (named g.T.TableSet.peer g.T.NameSet.port_kinds))).same l.fn.left l.fn.right;
 }
 
 abbrev pub decreases-loop-rest : goal.decreases-loop-rest

@@ -22,13 +22,13 @@ loop-rest-init g c =
 pub unreachable-requires : goal.unreachable-requires
 unreachable-requires g c =
     let rows : Grammar = names_grammar (named g.T.TableSet.peer g.T.NameSet.kinds) (named g.T.TableSet.peer g.T.NameSet.port_kinds) in
-    let now = in_force c.loop-rest.force.kind c.loop-rest.force.port_kind in
+    let now = in_force c.loop-rest.force in
     c.texts_are_written_by_steps.ensures.stopped any rows c.args.bytes.now c.args.out.now.items c.loop-rest.out.items c.loop-rest.rest.now now c.in_default.ensures (some_bytes c.loop-rest.rest.now c.is_empty.result c.loop-rest-test.true c.is_empty.ensures) c.loop-rest.invariant.so_far
 
 pub unreachable-requires-in_default-info_held : goal.unreachable-requires-in_default-info_held
 unreachable-requires-in_default-info_held g c =
     let rows : Grammar = names_grammar (named g.T.TableSet.peer g.T.NameSet.kinds) (named g.T.TableSet.peer g.T.NameSet.port_kinds) in
-    let now = in_force c.loop-rest.force.kind c.loop-rest.force.port_kind in
+    let now = in_force c.loop-rest.force in
     let e : Attribute = record { kind = c.in-Some.attribute.kind; payload = c.in-Some.attribute.payload.now } in
     let room = length c.args.out.now.items + length ((list_rule any rows).canonical c.args.bytes.now) - length c.loop-rest.out.items in
     let w = c.texts_are_written_by_steps.ensures.writable any rows c.args.bytes.now c.args.out.now.items c.loop-rest.out.items c.loop-rest.rest.now now e c.in-Some.after.now c.in-Some.ensures refl c.loop-rest.invariant.so_far in
@@ -37,7 +37,7 @@ unreachable-requires-in_default-info_held g c =
 pub write_attribute-requires : goal.write_attribute-requires
 write_attribute-requires g c =
     let rows : Grammar = names_grammar (named g.T.TableSet.peer g.T.NameSet.kinds) (named g.T.TableSet.peer g.T.NameSet.port_kinds) in
-    let now = in_force c.loop-rest.force.kind c.loop-rest.force.port_kind in
+    let now = in_force c.loop-rest.force in
     let e : Attribute = record { kind = c.in-Some.attribute.kind; payload = c.in-Some.attribute.payload.now } in
     let room = length c.args.out.now.items + length ((list_rule any rows).canonical c.args.bytes.now) - length c.loop-rest.out.items in
     let w = c.texts_are_written_by_steps.ensures.writable any rows c.args.bytes.now c.args.out.now.items c.loop-rest.out.items c.loop-rest.rest.now now e c.in-Some.after.now c.in-Some.ensures refl c.loop-rest.invariant.so_far in
@@ -53,7 +53,7 @@ loop-rest-smaller g c =
 pub loop-rest-preserved : goal.loop-rest-preserved
 loop-rest-preserved g c =
     let rows : Grammar = names_grammar (named g.T.TableSet.peer g.T.NameSet.kinds) (named g.T.TableSet.peer g.T.NameSet.port_kinds) in
-    let now = in_force c.loop-rest.force.kind c.loop-rest.force.port_kind in
+    let now = in_force c.loop-rest.force in
     let bytes = c.args.bytes.now in
     let e : Attribute = record { kind = c.in-Some.attribute.kind; payload = c.in-Some.attribute.payload.now } in
     let written = rewritten_as (row_of rows now e) _ e c.info_kind-written_kind.result c.loop-rest.out.items c.write_attribute.new.out.items c.in-Some-info_held.ensures.some c.info_kind-written_kind.ensures c.write_attribute.ensures.text in
@@ -66,7 +66,7 @@ loop-rest-preserved g c =
 pub returns : goal.returns
 returns g c =
     let rows : Grammar = names_grammar (named g.T.TableSet.peer g.T.NameSet.kinds) (named g.T.TableSet.peer g.T.NameSet.port_kinds) in
-    let now = in_force c.loop-rest.force.kind c.loop-rest.force.port_kind in
+    let now = in_force c.loop-rest.force in
     record {
       text = c.texts_are_written_by_steps.ensures.done any rows c.args.bytes.now c.args.out.now.items c.loop-rest.out.items c.loop-rest.rest.now now (eqb-true (length c.loop-rest.rest.now) 0 (sym c.is_empty.ensures ∙ c.loop-rest-test.false)) c.loop-rest.invariant.so_far;
       room = c.loop-rest.invariant.room;

@@ -8,7 +8,7 @@ use Rattle.attribute_checks.proofs.info.write_info.Given as goal
 
 abbrev pub invariant-loop-rest : goal.invariant-loop-rest
 invariant-loop-rest g l = record {
-  so_far : WrittenSoFar any (names_grammar (named g.T.TableSet.peer g.T.NameSet.kinds) (named g.T.TableSet.peer g.T.NameSet.port_kinds)) l.bytes l.initial.out.items l.out.items (in_force l.force.kind l.force.port_kind) l.rest;
+  so_far : WrittenSoFar any (names_grammar (named g.T.TableSet.peer g.T.NameSet.kinds) (named g.T.TableSet.peer g.T.NameSet.port_kinds)) l.bytes l.initial.out.items l.out.items (in_force l.force) l.rest;
   room : vec_capacity l.initial.out ≤ vec_capacity l.out;
 }
 

@@ -3,35 +3,35 @@ use Rattle.std.proofs.lemmas.Bool.{eqb-true, and_parts}
 use Rattle.netlink_packet_core_grammar.specs.Attributes.{Attribute}
 use Rattle.attribute_tables_grammar.specs.Rules.{shape_rule}
 use Rattle.attribute_tables_grammar.specs.Shapes.{never}
-use Rattle.attribute_tables_grammar.specs.Lists.{Grammar, any}
+use Rattle.attribute_tables_grammar.specs.Lists.{any}
 use Rattle.attribute_tables_grammar.specs.OwnTexts.{OwnSoFar}
-use Rattle.attribute_tables_grammar.specs.Tables.{named, names_grammar, info_next}
+use Rattle.attribute_tables_grammar.specs.Tables.{info_next}
 use Rattle.attribute_tables_grammar.specs.Walks.{Measure, MeasuredSoFar}
-use Rattle.attribute_checks.specs.Measures.{view, in_force}
+use Rattle.attribute_checks.specs.Measures.{view, in_force, info_names}
 use Rattle.attribute_checks.proofs.LookUps.{measured_as}
 use Rattle.attribute_checks.proofs.Loop.{some_bytes}
 use Rattle.attribute_checks.proofs.info.measure_info.Goals as goal
 
 pub loop-rest-init : goal.loop-rest-init
 loop-rest-init g c =
-    let rows = names_grammar (named g.T.TableSet.peer g.T.NameSet.kinds) (named g.T.TableSet.peer g.T.NameSet.port_kinds) in
+    let rows = info_names g.T.TableSet.peer g.T.NameSet.kinds g.T.NameSet.port_kinds in
     record { so_far = c.measures_go_by_steps.ensures.start any rows c.args.bytes.now; own = λ _. c.own_texts_go_by_steps.ensures.start any rows c.args.bytes.now; within = omega arith; few = omega arith }
 
 pub returns-in_default-clause-measure : goal.returns-in_default-clause-measure
 returns-in_default-clause-measure g c =
-    let rows = names_grammar (named g.T.TableSet.peer g.T.NameSet.kinds) (named g.T.TableSet.peer g.T.NameSet.port_kinds) in
+    let rows = info_names g.T.TableSet.peer g.T.NameSet.kinds g.T.NameSet.port_kinds in
     c.measures_go_by_steps.ensures.stopped any rows c.args.bytes.now c.loop-rest.rest.now (in_force c.loop-rest.force) (view c.loop-rest.total) tt c.in_default.ensures (some_bytes c.loop-rest.rest.now c.is_empty.result c.loop-rest-test.true c.is_empty.ensures) c.loop-rest.invariant.so_far
 
 pub returns-in_default-info_held-clause-measure : goal.returns-in_default-info_held-clause-measure
 returns-in_default-info_held-clause-measure g c =
-    let rows = names_grammar (named g.T.TableSet.peer g.T.NameSet.kinds) (named g.T.TableSet.peer g.T.NameSet.port_kinds) in
+    let rows = info_names g.T.TableSet.peer g.T.NameSet.kinds g.T.NameSet.port_kinds in
     let e : Attribute = record { kind = c.in-Some.attribute.kind; payload = c.in-Some.attribute.payload.now } in
     c.measures_go_by_steps.ensures.refused any rows c.args.bytes.now c.loop-rest.rest.now (in_force c.loop-rest.force) e c.in-Some.after.now (view c.loop-rest.total) tt c.in-Some.ensures refl
     (measured_as (shape_rule never) _ e.payload None (sym c.in_default-info_held.ensures.none) refl) c.loop-rest.invariant.so_far
 
 pub returns-in_default-measure_held-clause-measure : goal.returns-in_default-measure_held-clause-measure
 returns-in_default-measure_held-clause-measure g c =
-    let rows = names_grammar (named g.T.TableSet.peer g.T.NameSet.kinds) (named g.T.TableSet.peer g.T.NameSet.port_kinds) in
+    let rows = info_names g.T.TableSet.peer g.T.NameSet.kinds g.T.NameSet.port_kinds in
     let e : Attribute = record { kind = c.in-Some.attribute.kind; payload = c.in-Some.attribute.payload.now } in
     c.measures_go_by_steps.ensures.refused any rows c.args.bytes.now c.loop-rest.rest.now (in_force c.loop-rest.force) e c.in-Some.after.now (view c.loop-rest.total) tt c.in-Some.ensures refl
     (measured_as _ _ e.payload None c.in-Some-info_held.ensures.some c.in_default-measure_held.ensures.measure) c.loop-rest.invariant.so_far
@@ -62,7 +62,7 @@ loop-rest-smaller g c =
 
 pub loop-rest-preserved : goal.loop-rest-preserved
 loop-rest-preserved g c =
-    let rows : Grammar = names_grammar (named g.T.TableSet.peer g.T.NameSet.kinds) (named g.T.TableSet.peer g.T.NameSet.port_kinds) in
+    let rows = info_names g.T.TableSet.peer g.T.NameSet.kinds g.T.NameSet.port_kinds in
     let now = in_force c.loop-rest.force in
     let bytes = c.args.bytes.now in
     let rest = c.loop-rest.rest.now in
@@ -91,10 +91,10 @@ loop-rest-preserved g c =
 
 pub returns-clause-measure : goal.returns-clause-measure
 returns-clause-measure g c =
-    let rows = names_grammar (named g.T.TableSet.peer g.T.NameSet.kinds) (named g.T.TableSet.peer g.T.NameSet.port_kinds) in
+    let rows = info_names g.T.TableSet.peer g.T.NameSet.kinds g.T.NameSet.port_kinds in
     c.measures_go_by_steps.ensures.done any rows c.args.bytes.now c.loop-rest.rest.now (in_force c.loop-rest.force) (view c.loop-rest.total) tt (eqb-true (length c.loop-rest.rest.now) 0 (sym c.is_empty.ensures ∙ c.loop-rest-test.false)) c.loop-rest.invariant.so_far
 
 pub returns-clause-own : goal.returns-clause-own
 returns-clause-own g c =
-    let rows = names_grammar (named g.T.TableSet.peer g.T.NameSet.kinds) (named g.T.TableSet.peer g.T.NameSet.port_kinds) in
+    let rows = info_names g.T.TableSet.peer g.T.NameSet.kinds g.T.NameSet.port_kinds in
     λ h. c.own_texts_go_by_steps.ensures.done any rows c.args.bytes.now c.loop-rest.rest.now (in_force c.loop-rest.force) tt (eqb-true (length c.loop-rest.rest.now) 0 (sym c.is_empty.ensures ∙ c.loop-rest-test.false)) (c.loop-rest.invariant.own h)

@@ -1,19 +1,18 @@
 use Rattle.std.proofs.Common.{◌+◌, ◌-◌, length, refl, sym, subst, ◌∙◌, arith}
 use Rattle.std.proofs.lemmas.Bool.{eqb-true}
 use Rattle.netlink_packet_core_grammar.specs.Attributes.{Attribute}
-use Rattle.attribute_tables_grammar.specs.Lists.{Grammar, any, row_of, list_rule}
+use Rattle.attribute_tables_grammar.specs.Lists.{any, row_of, list_rule}
 use Rattle.attribute_tables_grammar.specs.Rules.{shape_rule}
 use Rattle.attribute_tables_grammar.specs.Shapes.{never}
-use Rattle.attribute_tables_grammar.specs.Tables.{named, names_grammar}
 use Rattle.attribute_tables_grammar.specs.Writing.{WrittenSoFar}
-use Rattle.attribute_checks.specs.Measures.{in_force}
+use Rattle.attribute_checks.specs.Measures.{in_force, info_names}
 use Rattle.attribute_checks.proofs.Loop.{some_bytes}
 use Rattle.attribute_checks.proofs.WriteSteps.{writable_as, not_refused, rewritten_as}
 use Rattle.attribute_checks.proofs.info.write_info.Goals as goal
 
 pub loop-rest-init : goal.loop-rest-init
 loop-rest-init g c =
-    let rows : Grammar = names_grammar (named g.T.TableSet.peer g.T.NameSet.kinds) (named g.T.TableSet.peer g.T.NameSet.port_kinds) in
+    let rows = info_names g.T.TableSet.peer g.T.NameSet.kinds g.T.NameSet.port_kinds in
     record {
       so_far = c.texts_are_written_by_steps.ensures.start any rows c.args.bytes.now c.args.out.now.items tt c.requires.accepted c.requires.fits;
       room = omega arith;
@@ -21,13 +20,13 @@ loop-rest-init g c =
 
 pub unreachable-requires : goal.unreachable-requires
 unreachable-requires g c =
-    let rows : Grammar = names_grammar (named g.T.TableSet.peer g.T.NameSet.kinds) (named g.T.TableSet.peer g.T.NameSet.port_kinds) in
+    let rows = info_names g.T.TableSet.peer g.T.NameSet.kinds g.T.NameSet.port_kinds in
     let now = in_force c.loop-rest.force in
     c.texts_are_written_by_steps.ensures.stopped any rows c.args.bytes.now c.args.out.now.items c.loop-rest.out.items c.loop-rest.rest.now now c.in_default.ensures (some_bytes c.loop-rest.rest.now c.is_empty.result c.loop-rest-test.true c.is_empty.ensures) c.loop-rest.invariant.so_far
 
 pub unreachable-requires-in_default-info_held : goal.unreachable-requires-in_default-info_held
 unreachable-requires-in_default-info_held g c =
-    let rows : Grammar = names_grammar (named g.T.TableSet.peer g.T.NameSet.kinds) (named g.T.TableSet.peer g.T.NameSet.port_kinds) in
+    let rows = info_names g.T.TableSet.peer g.T.NameSet.kinds g.T.NameSet.port_kinds in
     let now = in_force c.loop-rest.force in
     let e : Attribute = record { kind = c.in-Some.attribute.kind; payload = c.in-Some.attribute.payload.now } in
     let room = length c.args.out.now.items + length ((list_rule any rows).canonical c.args.bytes.now) - length c.loop-rest.out.items in
@@ -36,7 +35,7 @@ unreachable-requires-in_default-info_held g c =
 
 pub write_attribute-requires : goal.write_attribute-requires
 write_attribute-requires g c =
-    let rows : Grammar = names_grammar (named g.T.TableSet.peer g.T.NameSet.kinds) (named g.T.TableSet.peer g.T.NameSet.port_kinds) in
+    let rows = info_names g.T.TableSet.peer g.T.NameSet.kinds g.T.NameSet.port_kinds in
     let now = in_force c.loop-rest.force in
     let e : Attribute = record { kind = c.in-Some.attribute.kind; payload = c.in-Some.attribute.payload.now } in
     let room = length c.args.out.now.items + length ((list_rule any rows).canonical c.args.bytes.now) - length c.loop-rest.out.items in
@@ -52,7 +51,7 @@ loop-rest-smaller g c =
 
 pub loop-rest-preserved : goal.loop-rest-preserved
 loop-rest-preserved g c =
-    let rows : Grammar = names_grammar (named g.T.TableSet.peer g.T.NameSet.kinds) (named g.T.TableSet.peer g.T.NameSet.port_kinds) in
+    let rows = info_names g.T.TableSet.peer g.T.NameSet.kinds g.T.NameSet.port_kinds in
     let now = in_force c.loop-rest.force in
     let bytes = c.args.bytes.now in
     let e : Attribute = record { kind = c.in-Some.attribute.kind; payload = c.in-Some.attribute.payload.now } in
@@ -65,7 +64,7 @@ loop-rest-preserved g c =
 
 pub returns : goal.returns
 returns g c =
-    let rows : Grammar = names_grammar (named g.T.TableSet.peer g.T.NameSet.kinds) (named g.T.TableSet.peer g.T.NameSet.port_kinds) in
+    let rows = info_names g.T.TableSet.peer g.T.NameSet.kinds g.T.NameSet.port_kinds in
     let now = in_force c.loop-rest.force in
     record {
       text = c.texts_are_written_by_steps.ensures.done any rows c.args.bytes.now c.args.out.now.items c.loop-rest.out.items c.loop-rest.rest.now now (eqb-true (length c.loop-rest.rest.now) 0 (sym c.is_empty.ensures ∙ c.loop-rest-test.false)) c.loop-rest.invariant.so_far;

@@ -6,8 +6,9 @@ use Rattle.attribute_tables_grammar.specs.Peers.{Peer}
 use Rattle.attribute_tables_grammar.specs.Rules.{Rule}
 use Rattle.attribute_tables_grammar.specs.Tables.{Names, Payload, Table, named, names_grammar}
 use Rattle.attribute_tables_grammar.specs.Walks.{Measure}
-use Rattle.attribute_checks.specs.Rows.{payload_of}
+use Rattle.attribute_checks.specs.Rows.{form_of, payload_of}
 use Rattle.attribute_checks.specs.declared.info.InForce.{InForce}
+use Rattle.attribute_checks.specs.declared.rows.Form.{Form}
 use Rattle.attribute_checks.specs.declared.rows.Held.{Held}
 use Rattle.attribute_checks.specs.declared.shapes.Measured.{Measured}
 
@@ -21,6 +22,10 @@ rows_of p t = without_context (table_row p t)
 -- the rule of what a row holds
 abbrev pub held_rule : Peer → (ℕ → Table) → Payload → Held → Rule
 held_rule p tables info h = payload_rule p (payload_of tables info h)
+
+-- a list of a form, under a table
+abbrev pub table_list : Peer → Table → Form → Rule
+table_list p t form = list_rule (form_of form) (rows_of p t)
 
 -- what is in force, by the names that the code holds
 abbrev pub in_force : InForce → Context

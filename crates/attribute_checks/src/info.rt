@@ -13,6 +13,7 @@ ghost use Rattle.attribute_checks.specs.Rows.{is_below};
 ghost use Rattle.attribute_checks.specs.Measures.{view, in_force, info_list, info_names, held_rule};
 ghost use Rattle.netlink_packet_core_grammar.specs.Attributes.{proper_kind};
 ghost use Rattle.attribute_checks.specs.Sameness.{attribute_of};
+ghost use Rattle.attribute_checks.specs.Room.{HasRoom};
 
 use crate::attribute::{Attribute, KIND_BOUND, first_attribute, is_own_attribute};
 use crate::measure::{measure_held, with_attribute};
@@ -180,9 +181,8 @@ pub fn write_info<T: NameSet + WriteSet>(set: &T, bytes: &[u8], out: &mut Vec<u8
         bytes.now ≡ true }
     requires fits { (info_list T.peer T.kinds T.port_kinds).fits
         bytes.now ≡ true }
-    requires room { length out.old.items
-        + length ((info_list T.peer T.kinds T.port_kinds).canonical
-        bytes.now) ≤ vec_capacity out.old }
+    requires room { HasRoom out.old ((info_list T.peer T.kinds T.port_kinds).canonical
+        bytes.now) }
     ensures text { out.new.items ≡ out.old.items
         ++ (info_list T.peer T.kinds T.port_kinds).canonical
         bytes.now }

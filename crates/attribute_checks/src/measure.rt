@@ -5,7 +5,7 @@ ghost use Rattle.attribute_tables_grammar.specs.Lists.{is_kept, first_alone, lis
 ghost use Rattle.attribute_tables_grammar.specs.Walks.{measure, plus, with_header, dropped, closed};
 ghost use Rattle.attribute_checks.specs.Rows.{is_below, form_of};
 ghost use Rattle.attribute_checks.specs.Fronts.{IsOwnFront};
-ghost use Rattle.attribute_checks.specs.Measures.{view, rows_of, held_rule};
+ghost use Rattle.attribute_checks.specs.Measures.{view, rows_of, held_rule, table_list};
 
 use crate::attribute::{Attribute, KIND_BOUND, first_attribute, is_own_attribute};
 use crate::rows::{Form, Held};
@@ -149,12 +149,12 @@ fn with_front(found: Measured, front: usize) -> Measured
 pub fn walk_list<T: TableSet>(set: &T, form: Form, table: u8, bytes: &[u8]) -> Option<Measured>
     requires { table < T.count }
     ensures measure { option_map view result
-        ≡ measure (list_rule (form_of form) (rows_of T.peer (T.tables table))) bytes.now }
+        ≡ measure (table_list T.peer (T.tables table) form) bytes.now }
     ensures own { IfSome result
         (λ m. m.is_own ≡ true
-        → (list_rule (form_of form) (rows_of T.peer (T.tables table))).canonical bytes.now ≡ bytes.now) }
+        → (table_list T.peer (T.tables table) form).canonical bytes.now ≡ bytes.now) }
     ensures front { IfSome result
-        (λ m. IsOwnFront (list_rule (form_of form) (rows_of T.peer (T.tables table))) bytes.now m.front) }
+        (λ m. IsOwnFront (table_list T.peer (T.tables table) form) bytes.now m.front) }
 {
     measures_go_by_steps();
     measures_tell_rules();

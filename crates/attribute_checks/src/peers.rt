@@ -8,6 +8,7 @@ ghost use Rattle.attribute_tables_grammar.specs.Walks.{measure};
 ghost use Rattle.netlink_packet_core_numbers.specs.Errors.{is_memory};
 ghost use Rattle.attribute_checks.specs.Measures.{view};
 ghost use Rattle.attribute_checks.specs.Peers.{IsPeerMeasure};
+ghost use Rattle.attribute_checks.specs.Room.{HasRoom};
 
 use crate::rows::Shape;
 use crate::shapes::{Measured, measure_shape};
@@ -80,8 +81,7 @@ pub trait WritePeer: PeerSet {
     /// Appends a peer's canonical payload, for which there has to be room.
     fn write_peer(&self, payload: &[u8], out: &mut Vec<u8>)
         requires accepted { Self.peer.accepted payload.now ≡ true }
-        requires room { length out.old.items + length (Self.peer.canonical payload.now)
-            ≤ vec_capacity out.old }
+        requires room { HasRoom out.old (Self.peer.canonical payload.now) }
         ensures text { out.new.items ≡ out.old.items ++ Self.peer.canonical payload.now }
         ensures room { vec_capacity out.old ≤ vec_capacity out.new };
 }

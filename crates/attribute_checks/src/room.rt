@@ -2,10 +2,11 @@
 
 ghost use Rattle.std.specs.Prelude.{◌≡◌, ◌≤◌, ◌+◌, ◌-◌, ◌++◌, length, take, drop, vec_capacity};
 ghost use Rattle.netlink_packet_core_grammar.specs.Attributes.{attribute_header, nla_align, zeros};
+ghost use Rattle.attribute_checks.specs.Room.{HasRoom};
 
 /// Appends bytes.
 pub fn append(bytes: &[u8], out: &mut Vec<u8>)
-    requires { length out.old.items + length bytes.now ≤ vec_capacity out.old }
+    requires { HasRoom out.old bytes.now }
     ensures text { out.new.items ≡ out.old.items ++ bytes.now }
     ensures room { vec_capacity out.old ≤ vec_capacity out.new }
 {

@@ -6,7 +6,7 @@ ghost use Rattle.attribute_tables_grammar.specs.Lists.{first_alone, list_rule};
 ghost use Rattle.attribute_tables_grammar.specs.LookUps.{table_row};
 ghost use Rattle.attribute_tables_grammar.specs.Sameness.{kept_of, same_kinds};
 ghost use Rattle.attribute_checks.specs.Rows.{is_below, form_of};
-ghost use Rattle.attribute_checks.specs.Measures.{rows_of, held_rule};
+ghost use Rattle.attribute_checks.specs.Measures.{rows_of, held_rule, table_list};
 ghost use Rattle.attribute_checks.specs.Sameness.{next_of, IsShorter};
 
 use crate::attribute::{Attribute, KIND_BOUND, first_attribute};
@@ -88,7 +88,7 @@ pub fn same_held<T: TableSet>(set: &T, held: Held, left: &[u8], right: &[u8]) ->
 #[cycle(same)]
 fn same_list<T: TableSet>(set: &T, form: Form, table: u8, left: &[u8], right: &[u8]) -> bool
     requires { table < T.count }
-    ensures { result ≡ (list_rule (form_of form) (rows_of T.peer (T.tables table))).same
+    ensures { result ≡ (table_list T.peer (T.tables table) form).same
         left.now right.now }
 {
     sameness_goes_by_steps();

@@ -10,6 +10,7 @@ ghost use Rattle.attribute_tables_grammar.specs.Tables.{Payload, Table, rows_bou
 ghost use Rattle.attribute_tables_grammar.specs.Walks.{measure};
 ghost use Rattle.attribute_checks.specs.Rows.{are_dense, are_known, is_below, build, payload_of};
 ghost use Rattle.attribute_checks.specs.Measures.{view};
+ghost use Rattle.attribute_checks.specs.Room.{HasRoom};
 
 use crate::attribute::KIND_BOUND;
 use crate::rows::{Held, Row, Shape, look_up};
@@ -65,8 +66,7 @@ pub trait WriteSet: TableSet {
     fn write_peer(&self, payload: &[u8], out: &mut Vec<u8>)
         requires accepted { (peer_rule Self.peer).accepted payload.now ≡ true }
         requires fits { (peer_rule Self.peer).fits payload.now ≡ true }
-        requires room { length out.old.items + length ((peer_rule Self.peer).canonical payload.now)
-            ≤ vec_capacity out.old }
+        requires room { HasRoom out.old ((peer_rule Self.peer).canonical payload.now) }
         ensures text { out.new.items ≡ out.old.items ++ (peer_rule Self.peer).canonical payload.now }
         ensures room { vec_capacity out.old ≤ vec_capacity out.new };
 
@@ -74,8 +74,7 @@ pub trait WriteSet: TableSet {
     fn write_info(&self, payload: &[u8], out: &mut Vec<u8>)
         requires accepted { (payload_rule Self.peer Self.info).accepted payload.now ≡ true }
         requires fits { (payload_rule Self.peer Self.info).fits payload.now ≡ true }
-        requires room { length out.old.items + length ((payload_rule Self.peer Self.info).canonical payload.now)
-            ≤ vec_capacity out.old }
+        requires room { HasRoom out.old ((payload_rule Self.peer Self.info).canonical payload.now) }
         ensures text { out.new.items ≡ out.old.items ++ (payload_rule Self.peer Self.info).canonical payload.now }
         ensures room { vec_capacity out.old ≤ vec_capacity out.new };
 }

@@ -3,9 +3,10 @@
 ghost use Rattle.std.specs.Prelude.{◌≡◌, ◌<◌, ◌≤◌, ◌+◌, ◌-◌, ◌++◌, true, length, vec_capacity};
 ghost use Rattle.netlink_packet_core_grammar.specs.Attributes.{attribute_text};
 ghost use Rattle.attribute_tables_grammar.specs.Lists.{first_alone, list_rule};
-ghost use Rattle.attribute_checks.specs.Rows.{is_below, form_of};
-ghost use Rattle.attribute_checks.specs.Measures.{rows_of, held_rule};
+ghost use Rattle.attribute_checks.specs.Rows.{is_below};
+ghost use Rattle.attribute_checks.specs.Measures.{rows_of, held_rule, table_list};
 ghost use Rattle.attribute_tables_grammar.specs.Writing.{IsWritable};
+ghost use Rattle.attribute_checks.specs.Room.{HasRoom};
 
 use crate::attribute::first_attribute;
 use crate::measure::is_kept;
@@ -25,9 +26,7 @@ pub fn write_held<T: WriteSet>(set: &T, held: Held, bytes: &[u8], out: &mut Vec<
     requires accepted { (held_rule T.peer T.tables T.info held).accepted bytes.now
         ≡ true }
     requires fits { (held_rule T.peer T.tables T.info held).fits bytes.now ≡ true }
-    requires room { length out.old.items
-        + length ((held_rule T.peer T.tables T.info held).canonical bytes.now)
-        ≤ vec_capacity out.old }
+    requires room { HasRoom out.old ((held_rule T.peer T.tables T.info held).canonical bytes.now) }
     ensures text { out.new.items ≡ out.old.items
         ++ (held_rule T.peer T.tables T.info held).canonical bytes.now }
     ensures room { vec_capacity out.old ≤ vec_capacity out.new }
@@ -72,14 +71,12 @@ pub fn write_attribute<T: WriteSet>(
 #[cycle(write)]
 fn write_list<T: WriteSet>(set: &T, form: Form, table: u8, bytes: &[u8], out: &mut Vec<u8>)
     requires known { table < T.count }
-    requires accepted { (list_rule (form_of form) (rows_of T.peer (T.tables table))).accepted bytes.now
+    requires accepted { (table_list T.peer (T.tables table) form).accepted bytes.now
         ≡ true }
-    requires fits { (list_rule (form_of form) (rows_of T.peer (T.tables table))).fits bytes.now ≡ true }
-    requires room { length out.old.items
-        + length ((list_rule (form_of form) (rows_of T.peer (T.tables table))).canonical bytes.now)
-        ≤ vec_capacity out.old }
+    requires fits { (table_list T.peer (T.tables table) form).fits bytes.now ≡ true }
+    requires room { HasRoom out.old ((table_list T.peer (T.tables table) form).canonical bytes.now) }
     ensures text { out.new.items ≡ out.old.items
-        ++ (list_rule (form_of form) (rows_of T.peer (T.tables table))).canonical bytes.now }
+        ++ (table_list T.peer (T.tables table) form).canonical bytes.now }
     ensures room { vec_capacity out.old ≤ vec_capacity out.new }
 {
     if let Form::FirstAlone = form {
@@ -108,9 +105,7 @@ fn write_first<T: WriteSet>(set: &T, table: u8, bytes: &[u8], out: &mut Vec<u8>)
     requires accepted { (list_rule first_alone (rows_of T.peer (T.tables table))).accepted bytes.now
         ≡ true }
     requires fits { (list_rule first_alone (rows_of T.peer (T.tables table))).fits bytes.now ≡ true }
-    requires room { length out.old.items
-        + length ((list_rule first_alone (rows_of T.peer (T.tables table))).canonical bytes.now)
-        ≤ vec_capacity out.old }
+    requires room { HasRoom out.old ((list_rule first_alone (rows_of T.peer (T.tables table))).canonical bytes.now) }
     ensures text { out.new.items ≡ out.old.items
         ++ (list_rule first_alone (rows_of T.peer (T.tables table))).canonical bytes.now }
     ensures room { vec_capacity out.old ≤ vec_capacity out.new }

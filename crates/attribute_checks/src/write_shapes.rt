@@ -5,6 +5,7 @@ ghost use Rattle.netlink_packet_core_grammar.specs.Attributes.{zeros};
 ghost use Rattle.attribute_tables_grammar.specs.Rules.{shape_rule};
 ghost use Rattle.attribute_tables_grammar.specs.Shapes.{accepts, number_truth};
 ghost use Rattle.attribute_checks.specs.Rows.{shape_of};
+ghost use Rattle.attribute_checks.specs.Room.{HasRoom};
 
 use crate::room::{append, append_zeros};
 use crate::rows::Shape;
@@ -35,8 +36,7 @@ fn append_truth(number: &[u8], out: &mut Vec<u8>)
 /// Appends the canonical payload of an accepted one, for which there has to be room.
 pub fn write_shape(shape: Shape, payload: &[u8], out: &mut Vec<u8>)
     requires accepted { accepts (shape_of shape) payload.now ≡ true }
-    requires room { length out.old.items + length ((shape_rule (shape_of shape)).canonical payload.now)
-        ≤ vec_capacity out.old }
+    requires room { HasRoom out.old ((shape_rule (shape_of shape)).canonical payload.now) }
     ensures text { out.new.items
         ≡ out.old.items ++ (shape_rule (shape_of shape)).canonical payload.now }
     ensures room { vec_capacity out.old ≤ vec_capacity out.new }

@@ -9,6 +9,7 @@ ghost use Rattle.link_info_grammar.specs.Families.{kinds, port_kinds};
 ghost use Rattle.link_info_grammar.specs.LinkInfo.{info_rule, info_rule_under};
 ghost use Rattle.attribute_checks.specs.Measures.{view};
 ghost use Rattle.link_info_checks.specs.Tables.{table_of, IsListMeasure};
+ghost use Rattle.attribute_checks.specs.Room.{HasRoom};
 
 use crate::rows::{KINDS, PORT_KINDS, TABLES};
 use attribute_checks::{
@@ -137,8 +138,7 @@ pub fn same_list_over<P: PeerSet>(peers: &P, left: &[u8], right: &[u8]) -> bool
 pub fn write_list<P: WritePeer>(peers: &P, bytes: &[u8], out: &mut Vec<u8>)
     requires accepted { (info_rule_under P.peer).accepted bytes.now ≡ true }
     requires fits { (info_rule_under P.peer).fits bytes.now ≡ true }
-    requires room { length out.old.items + length ((info_rule_under P.peer).canonical bytes.now)
-        ≤ vec_capacity out.old }
+    requires room { HasRoom out.old ((info_rule_under P.peer).canonical bytes.now) }
     ensures text { out.new.items ≡ out.old.items ++ (info_rule_under P.peer).canonical bytes.now }
     ensures room { vec_capacity out.old ≤ vec_capacity out.new }
 {

@@ -9,6 +9,7 @@ ghost use Rattle.attribute_checks.specs.Measures.{view};
 ghost use Rattle.attribute_checks.specs.Fronts.{IsOwnFront};
 ghost use Rattle.link_message_checks.specs.Fronts.{IsBodyFront};
 ghost use Rattle.link_message_checks.specs.Tables.{table_of};
+ghost use Rattle.attribute_checks.specs.Room.{HasRoom};
 
 use crate::header::{HEADER_LEN, is_own_header, same_header, write_header};
 use crate::rows::TABLES;
@@ -189,9 +190,7 @@ pub(crate) fn same_body_over<P: PeerSet>(peers: &P, left: &[u8], right: &[u8]) -
 fn write_attributes<P: WritePeer>(peers: &P, family: u8, bytes: &[u8], out: &mut Vec<u8>)
     requires accepted { (list_rule_of P.peer (family_of family)).accepted bytes.now ≡ true }
     requires fits { (list_rule_of P.peer (family_of family)).fits bytes.now ≡ true }
-    requires room { length out.old.items
-        + length ((list_rule_of P.peer (family_of family)).canonical bytes.now)
-        ≤ vec_capacity out.old }
+    requires room { HasRoom out.old ((list_rule_of P.peer (family_of family)).canonical bytes.now) }
     ensures text { out.new.items
         ≡ out.old.items ++ (list_rule_of P.peer (family_of family)).canonical bytes.now }
     ensures room { vec_capacity out.old ≤ vec_capacity out.new }
@@ -211,8 +210,7 @@ pub(crate) fn write_body_over<P: WritePeer>(
     requires accepted { (body_rule P.peer).accepted bytes.now ≡ true }
     requires fits { (body_rule P.peer).fits bytes.now ≡ true }
     requires front { IsBodyFront P.peer bytes.now front }
-    requires room { length out.old.items + length ((body_rule P.peer).canonical bytes.now)
-        ≤ vec_capacity out.old }
+    requires room { HasRoom out.old ((body_rule P.peer).canonical bytes.now) }
     ensures text { out.new.items ≡ out.old.items ++ (body_rule P.peer).canonical bytes.now }
     ensures room { vec_capacity out.old ≤ vec_capacity out.new }
 {

@@ -10,6 +10,7 @@ ghost use Rattle.link_message_grammar.specs.Body.{link_body, link_peer};
 ghost use Rattle.attribute_checks.specs.Measures.{view};
 ghost use Rattle.link_message_checks.specs.Fronts.{IsBodyFront};
 ghost use Rattle.link_message_checks.specs.Tables.{IsBodyMeasure};
+ghost use Rattle.attribute_checks.specs.Room.{HasRoom};
 
 use crate::body::{same_body_over, walk_body_over, write_body_over};
 use crate::peer::LinkPeer;
@@ -81,8 +82,7 @@ pub fn write_body(bytes: &[u8], front: usize, out: &mut Vec<u8>)
     requires front { IsBodyFront link_peer bytes.now front }
     requires accepted { link_body.accepted bytes.now ≡ true }
     requires fits { link_body.fits bytes.now ≡ true }
-    requires room { length out.old.items + length (link_body.canonical bytes.now)
-        ≤ vec_capacity out.old }
+    requires room { HasRoom out.old (link_body.canonical bytes.now) }
     ensures text { out.new.items ≡ out.old.items ++ link_body.canonical bytes.now }
     ensures room { vec_capacity out.old ≤ vec_capacity out.new }
 {

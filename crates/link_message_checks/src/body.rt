@@ -91,18 +91,25 @@ impl<P: WritePeer> WriteSet for MessageTables<'_, P> {
     }
 }
 
+// The families of which tables are their own (socket.h).
+const AF_UNSPEC: u8 = 0;
+
+const AF_BRIDGE: u8 = 7;
+
+const AF_INET6: u8 = 10;
+
 // The number of a family's table.
 pub(crate) fn table_of_family(family: u8) -> u8
     ensures known { result < 19 }
     ensures table { table_of result ≡ link_table (family_of family) }
 {
-    if family == 0 {
+    if family == AF_UNSPEC {
         return 15;
     }
-    if family == 7 {
+    if family == AF_BRIDGE {
         return 16;
     }
-    if family == 10 {
+    if family == AF_INET6 {
         return 17;
     }
     18

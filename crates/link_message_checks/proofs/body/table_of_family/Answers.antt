@@ -4,18 +4,18 @@ use Rattle.link_message_checks.specs.Tables.{table_of}
 use Rattle.link_message_checks.proofs.Families.{family_other}
 use Rattle.link_message_checks.proofs.body.table_of_family.Goals as goal
 
-pub returns-then-family-eq0-clause-table : goal.returns-then-family-eq0-clause-table
+pub returns-then-family-eq-AF_UNSPEC-clause-table : goal.returns-then-family-eq-AF_UNSPEC-clause-table
 unfolding table_of
-returns-then-family-eq0-clause-table c = ap (λ n. link_table (family_of n)) (sym c.if-family-eq0.true)
+returns-then-family-eq-AF_UNSPEC-clause-table c = ap (λ n. link_table (family_of n)) (sym c.if-family-eq-AF_UNSPEC.true)
 
-pub returns-then-family-eq7-clause-table : goal.returns-then-family-eq7-clause-table
+pub returns-then-family-eq-AF_BRIDGE-clause-table : goal.returns-then-family-eq-AF_BRIDGE-clause-table
 unfolding table_of
-returns-then-family-eq7-clause-table c = ap (λ n. link_table (family_of n)) (sym c.if-family-eq7.true)
+returns-then-family-eq-AF_BRIDGE-clause-table c = ap (λ n. link_table (family_of n)) (sym c.if-family-eq-AF_BRIDGE.true)
 
-pub returns-then-family-eq10-clause-table : goal.returns-then-family-eq10-clause-table
+pub returns-then-family-eq-AF_INET6-clause-table : goal.returns-then-family-eq-AF_INET6-clause-table
 unfolding table_of
-returns-then-family-eq10-clause-table c = ap (λ n. link_table (family_of n)) (sym c.if-family-eq10.true)
+returns-then-family-eq-AF_INET6-clause-table c = ap (λ n. link_table (family_of n)) (sym c.if-family-eq-AF_INET6.true)
 
 pub returns-clause-table : goal.returns-clause-table
 unfolding table_of
-returns-clause-table c = ap link_table (family_other c.args.family c.if-family-eq0.false c.if-family-eq7.false c.if-family-eq10.false)
+returns-clause-table c = ap link_table (family_other c.args.family c.if-family-eq-AF_UNSPEC.false c.if-family-eq-AF_BRIDGE.false c.if-family-eq-AF_INET6.false)

@@ -1,5 +1,5 @@
 -- How a reading came out: what contracts say of the result of a reader.
-use Rattle.std.specs.Prelude.{◌≡◌, ℕ, Bool, true, false, List, map, Option, Some, Result, IsTrue, IfOk, IfErr, MatchResult, Vec}
+use Rattle.std.specs.Prelude.{◌≡◌, ℕ, Bool, true, false, List, map, Option, Some, Result, IsTrue, IfSome, IfOk, IfErr, MatchResult, Vec}
 use Rattle.netlink_packet_core_grammar.specs.Attributes.{Attribute}
 use Rattle.netlink_packet_core.specs.declared.DecodeError.{DecodeError}
 use Rattle.netlink_packet_core.specs.Errors.{is_memory}
@@ -40,3 +40,7 @@ ListIsReadAs result entry inside_fits reading = IfOk result (λ v. reading ≡ S
 -- a value that was read is written as the row rewrites the attribute, and what is inside fits where the row says so
 abbrev pub IsRewrittenBy : {V : Type 0} → Result V DecodeError → (V → Attribute) → (V → Bool) → Row → Attribute → Type 0
 IsRewrittenBy result entry inside_fits row attribute = IfOk result (λ v. (entry v ≡ rewrite row attribute) × (inside_fits v ≡ row.rule.fits attribute.payload))
+
+-- what holds of the value where one was read, and not none
+abbrev pub IfRead : {T E : Type 0} → Result (Option T) E → (T → Type 0) → Type 0
+IfRead result P = IfOk result (λ o. IfSome o P)

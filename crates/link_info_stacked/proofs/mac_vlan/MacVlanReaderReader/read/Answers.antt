@@ -12,6 +12,7 @@ returns-in_ok-list-in-5-clause-written c =
     let b = (storage c.args.buf.now).now in
     let list = c.in_ok-list-in-5.list in
     let read = c.in_ok-list-in-5.ensures.written in
-    let h : proper_kind (viewed_kind b) ≡ 5 = cc in
-    (entry-addresses list ∙ ap (attribute 5) (rw c.value.ensures at read.0) ∙ sym (list-written (viewed_attribute b) h),
-     fits-addresses list ∙ (rw c.value.ensures at read.1) ∙ sym (ap (λ k. (family_row macvlan k).rule.fits (viewed_payload b)) h))
+    let h : proper_kind (viewed_kind b) ≡ 5 = cc in (
+      entry-addresses list ∙ ap (attribute 5) (rw c.value.ensures at read.0) ∙ sym (list-written (viewed_attribute b) h),
+      fits-addresses list ∙ (rw c.value.ensures at read.1) ∙ sym (ap (λ k. (family_row macvlan k).rule.fits (viewed_payload b)) h),
+    )

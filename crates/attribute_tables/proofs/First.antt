@@ -2,7 +2,7 @@
 use Rattle.std.proofs.Common.{◌≡◌, ℕ, Bool, true, false, List, [], ◌∷◌, refl, sym, ap, ◌∙◌, append-nil}
 use Rattle.std.proofs.Math.Bool.{and-true}
 use Rattle.std.proofs.lemmas.Bool.{and_parts}
-use Rattle.std.specs.Prelude.{◌&&◌, Result, Ok, Err, IfErr}
+use Rattle.std.specs.Prelude.{◌&&◌, Result, Ok, Err}
 use Rattle.netlink_packet_core_grammar.specs.Attributes.{Attribute, attribute_text, list_text}
 use Rattle.netlink_packet_core_grammar.specs.AttributeViews.{IsAttribute, viewed_attribute}
 use Rattle.netlink_packet_core_grammar.specs.Fits.{attribute_fits}
@@ -17,6 +17,7 @@ use Rattle.attribute_tables_grammar.specs.Readings.{Written, written_by, all_wri
 use Rattle.attribute_tables_grammar.specs.Tables.{Table}
 use Rattle.attribute_tables_grammar.specs.Laws.{ReadingsTellRules, FirstAloneIsRead, RowsAreLookedUp}
 use Rattle.attribute_tables.specs.Beginnings.{begins_accepted}
+use Rattle.attribute_tables.specs.Outcomes.{IfMemory, IsRefusedUnless, SucceedsWhere}
 use Rattle.attribute_tables.specs.Views.{viewed_row, is_accepted_by}
 use Rattle.attribute_tables.proofs.Beginnings.{accepted-begins}
 
@@ -57,12 +58,12 @@ module _ (alone : FirstAloneIsRead) (tell : ReadingsTellRules) (looked_up : Rows
   if_wanting true denied whole wants = (first_of alone tell (family_row t) b (written_by (viewed_row (family_row t) b) (viewed_attribute b)) (whole refl) (and_parts _ _ (wants refl)).1 refl).accepted
   if_wanting false denied whole wants = denied refl
 
-  pub family-first-err : {V : Type 0} (r : Result V DecodeError) → IfErr r (λ e. is_memory e ≡ false → (rows_rule first_alone (family_row t)).accepted b ≡ false) → IfErr r (λ e. is_memory e ≡ true → IsAttribute b) →
-      IfErr r (λ e. is_memory e ≡ true → may_want_memory t b ≡ true) → IfErr r (λ e. (list_of bytes_peer first_alone t).accepted b ≡ is_memory e)
-  family-first-err (Ok v) denied whole wants = tt
-  family-first-err (Err e) denied whole wants = ap (λ r. r.accepted b) (looked_up.named bytes_peer first_alone t) ∙ if_wanting (is_memory e) denied whole wants
+  pub family-first-judged : {V : Type 0} (r : Result V DecodeError) → SucceedsWhere r ((rows_rule first_alone (family_row t)).accepted b) → IfMemory r (IsAttribute b) →
+      IfMemory r (may_want_memory t b ≡ true) → IsRefusedUnless r ((list_of bytes_peer first_alone t).accepted b)
+  family-first-judged (Ok v) judged whole wants = ap (λ r. r.accepted b) (looked_up.named bytes_peer first_alone t) ∙ judged
+  family-first-judged (Err e) judged whole wants = ap (λ r. r.accepted b) (looked_up.named bytes_peer first_alone t) ∙ if_wanting (is_memory e) judged whole wants
 
-pub family-first-memory : FirstIsViewed → (t : Table) (b : List ℕ) {V : Type 0} (r : Result V DecodeError) → IfErr r (λ e. is_memory e ≡ true → IsAttribute b) → IfErr r (λ e. is_memory e ≡ true → may_want_memory t b ≡ true) →
-    IfErr r (λ e. is_memory e ≡ true → begins_accepted (family_row t) b ≡ true)
+pub family-first-memory : FirstIsViewed → (t : Table) (b : List ℕ) {V : Type 0} (r : Result V DecodeError) → IfMemory r (IsAttribute b) → IfMemory r (may_want_memory t b ≡ true) →
+    IfMemory r (begins_accepted (family_row t) b ≡ true)
 family-first-memory first t b (Ok v) whole wants = tt
 family-first-memory first t b (Err e) whole wants = λ m. accepted-begins first (family_row t) b (whole m) (and_parts _ _ (wants m)).1

@@ -1,3 +1,4 @@
 pub mod Written
 pub mod Views
 pub mod Beginnings
+pub mod Outcomes

@@ -1,16 +1,14 @@
 //! Lists of which the attributes of kind 1 alone are kept.
 
-ghost use Rattle.std.specs.Prelude.{◌≡◌, ◌<◌, ℕ, List, Bool, true, false, length, map, Some, IsTrue, IfOk, IfErr, OnOk};
+ghost use Rattle.std.specs.Prelude.{◌≡◌, ◌<◌, ℕ, List, Bool, true, length, IfOk, IfErr};
 ghost use Rattle.std.specs.List.{All};
 ghost use Rattle.netlink_packet_core_grammar.specs.AttributeViews.{viewed_attribute, viewed_payload, IsAttribute};
-ghost use Rattle.netlink_packet_core.specs.Errors.{is_memory};
 ghost use Rattle.netlink_packet_core.specs.NlaBuffers.{storage};
-ghost use Rattle.netlink_packet_core.specs.Lists.{text_by, all_fit_by};
-ghost use Rattle.attribute_tables_grammar.specs.Lists.{Row, rewrite, of_kind_one, ports, is_of_kind_one, without_context};
+ghost use Rattle.attribute_tables_grammar.specs.Lists.{Row, of_kind_one, ports, is_of_kind_one, without_context};
 ghost use Rattle.attribute_tables_grammar.specs.LookUps.{rows_rule, only_one};
 ghost use Rattle.attribute_tables_grammar.specs.Readings.{reading_as};
 ghost use Rattle.attribute_tables.specs.Beginnings.{entries_begin_readable};
-ghost use Rattle.attribute_tables.specs.Written.{written_as};
+ghost use Rattle.attribute_tables.specs.Outcomes.{IfMemory, IsRewrittenBy, ListIsReadAs, ListIsWrittenBy, SucceedsWhere};
 
 use attribute_tables_grammar::laws::{
     ports_are_entries, readings_go_by_steps, readings_tell_rules,
@@ -39,21 +37,13 @@ pub trait EntryReader {
     fn read(&self, alloc: Global, buf: &NlaBuffer<&[u8]>) -> Result<Self::Value, DecodeError>
         requires whole { IsAttribute (storage buf.now).now }
         requires one { is_of_kind_one (viewed_attribute (storage buf.now).now) ≡ true }
-        ensures ok { OnOk result
-            (IsTrue ((entry_row self.now).rule.accepted (viewed_payload (storage buf.now).now))) }
-        ensures value { IfOk result
-            (λ v. Self.Value.entry v
-            ≡ rewrite (entry_row self.now) (viewed_attribute (storage buf.now).now)) }
-        ensures inside { IfOk result
-            (λ v. Self.Value.inside_fits v
-            ≡ (entry_row self.now).rule.fits (viewed_payload (storage buf.now).now)) }
+        ensures judged { SucceedsWhere result
+            ((entry_row self.now).rule.accepted (viewed_payload (storage buf.now).now)) }
+        ensures written { IsRewrittenBy result Self.Value.entry Self.Value.inside_fits
+            (entry_row self.now) (viewed_attribute (storage buf.now).now) }
         ensures names_row { IfOk result (λ v. names_row self.now v) }
-        ensures err { IfErr result
-            (λ e. is_memory e ≡ false
-            → (entry_row self.now).rule.accepted (viewed_payload (storage buf.now).now) ≡ false) }
-        ensures memory { IfErr result
-            (λ e. is_memory e ≡ true
-            → may_want_memory self.now (viewed_payload (storage buf.now).now) ≡ true) };
+        ensures memory { IfMemory result
+            (may_want_memory self.now (viewed_payload (storage buf.now).now) ≡ true) };
 }
 
 /// Reads a list of which the attributes of kind 1 are kept; every other attribute may hold any
@@ -65,25 +55,16 @@ pub fn parse_entries<R: EntryReader>(
     reader: &R,
     bytes: &[u8],
 ) -> Result<Vec<R::Value>, DecodeError>
-    ensures ok { OnOk result
-        (IsTrue ((rows_rule of_kind_one (only_one (R.entry_row reader.now))).accepted bytes.now)) }
-    ensures read { IfOk result
-        (λ v. reading_as of_kind_one (without_context (only_one (R.entry_row reader.now))) bytes.now
-        ≡ Some (map (written_as R.Value.entry R.Value.inside_fits) v.items)) }
-    ensures text { IfOk result
-        (λ v. text_by R.Value.entry v.items
-        ≡ (rows_rule of_kind_one (only_one (R.entry_row reader.now))).canonical bytes.now) }
-    ensures fits { IfOk result
-        (λ v. all_fit_by R.Value.entry R.Value.inside_fits v.items
-        ≡ (rows_rule of_kind_one (only_one (R.entry_row reader.now))).fits bytes.now) }
+    ensures judged { SucceedsWhere result
+        ((rows_rule of_kind_one (only_one (R.entry_row reader.now))).accepted bytes.now) }
+    ensures read { ListIsReadAs result R.Value.entry R.Value.inside_fits
+        (reading_as of_kind_one (without_context (only_one (R.entry_row reader.now))) bytes.now) }
+    ensures written { ListIsWrittenBy result R.Value.entry R.Value.inside_fits
+        (rows_rule of_kind_one (only_one (R.entry_row reader.now))) bytes.now }
     ensures names_row { IfOk result (λ v. All (R.names_row reader.now) v.items) }
-    ensures err { IfErr result
-        (λ e. is_memory e ≡ false
-        → (rows_rule of_kind_one (only_one (R.entry_row reader.now))).accepted bytes.now ≡ false) }
     ensures not_empty { IfErr result (λ _. 0 < length bytes.now) }
-    ensures memory { IfErr result
-        (λ e. is_memory e ≡ true
-        → entries_begin_readable (R.entry_row reader.now) (R.may_want_memory reader.now) bytes.now
+    ensures memory { IfMemory result
+        (entries_begin_readable (R.entry_row reader.now) (R.may_want_memory reader.now) bytes.now
         ≡ true) }
 {
     readings_go_by_steps();
@@ -109,25 +90,16 @@ pub fn parse_ports<R: EntryReader>(
     reader: &R,
     bytes: &[u8],
 ) -> Result<Vec<R::Value>, DecodeError>
-    ensures ok { OnOk result
-        (IsTrue ((rows_rule ports (only_one (R.entry_row reader.now))).accepted bytes.now)) }
-    ensures read { IfOk result
-        (λ v. reading_as ports (without_context (only_one (R.entry_row reader.now))) bytes.now
-        ≡ Some (map (written_as R.Value.entry R.Value.inside_fits) v.items)) }
-    ensures text { IfOk result
-        (λ v. text_by R.Value.entry v.items
-        ≡ (rows_rule ports (only_one (R.entry_row reader.now))).canonical bytes.now) }
-    ensures fits { IfOk result
-        (λ v. all_fit_by R.Value.entry R.Value.inside_fits v.items
-        ≡ (rows_rule ports (only_one (R.entry_row reader.now))).fits bytes.now) }
+    ensures judged { SucceedsWhere result
+        ((rows_rule ports (only_one (R.entry_row reader.now))).accepted bytes.now) }
+    ensures read { ListIsReadAs result R.Value.entry R.Value.inside_fits
+        (reading_as ports (without_context (only_one (R.entry_row reader.now))) bytes.now) }
+    ensures written { ListIsWrittenBy result R.Value.entry R.Value.inside_fits
+        (rows_rule ports (only_one (R.entry_row reader.now))) bytes.now }
     ensures names_row { IfOk result (λ v. All (R.names_row reader.now) v.items) }
-    ensures err { IfErr result
-        (λ e. is_memory e ≡ false
-        → (rows_rule ports (only_one (R.entry_row reader.now))).accepted bytes.now ≡ false) }
-    ensures not_empty { IfErr result (λ e. is_memory e ≡ true → 0 < length bytes.now) }
-    ensures memory { IfErr result
-        (λ e. is_memory e ≡ true
-        → entries_begin_readable (R.entry_row reader.now) (R.may_want_memory reader.now) bytes.now
+    ensures not_empty { IfMemory result (0 < length bytes.now) }
+    ensures memory { IfMemory result
+        (entries_begin_readable (R.entry_row reader.now) (R.may_want_memory reader.now) bytes.now
         ≡ true) }
 {
     ports_are_entries();

@@ -1,18 +1,16 @@
 //! The reader of a family, and lists of its attributes.
 
-ghost use Rattle.std.specs.Prelude.{◌≡◌, ◌<◌, true, false, length, map, Some, IsTrue, IfOk, IfErr, OnOk};
+ghost use Rattle.std.specs.Prelude.{◌≡◌, ◌<◌, true, length, IfOk, IfErr};
 ghost use Rattle.std.specs.List.{All};
 ghost use Rattle.netlink_packet_core_grammar.specs.Attributes.{attribute_text};
 ghost use Rattle.netlink_packet_core_grammar.specs.Fits.{attribute_fits};
-ghost use Rattle.netlink_packet_core.specs.Errors.{is_memory};
 ghost use Rattle.netlink_packet_core.specs.Families.{family_row, may_want_memory};
-ghost use Rattle.netlink_packet_core.specs.Lists.{text_by, all_fit_by};
 ghost use Rattle.attribute_tables_grammar.specs.Lists.{any, first_alone, without_context};
 ghost use Rattle.attribute_tables_grammar.specs.LookUps.{list_of};
 ghost use Rattle.attribute_tables_grammar.specs.Peers.{bytes_peer};
 ghost use Rattle.attribute_tables_grammar.specs.Readings.{reading_as};
 ghost use Rattle.attribute_tables.specs.Beginnings.{begins_accepted};
-ghost use Rattle.attribute_tables.specs.Written.{written_as};
+ghost use Rattle.attribute_tables.specs.Outcomes.{IfMemory, IsRefusedUnless, IsWrittenBy, ListIsReadAs, ListIsWrittenBy, SucceedsWhere};
 
 use super::reader::{Reader, parse_first_by, parse_list};
 use attribute_tables_grammar::laws::{
@@ -58,21 +56,14 @@ impl<F: Family + Drop> Reader for FamilyReader<F> {
 /// attribute is accepted.
 #[tactic(auto, using(crate::proofs::Families::family_lists))]
 pub fn parse_family<F: Family + Drop>(alloc: Global, bytes: &[u8]) -> Result<Vec<F>, DecodeError>
-    ensures ok { OnOk result (IsTrue ((list_of bytes_peer any F.rows).accepted bytes.now)) }
-    ensures read { IfOk result
-        (λ v. reading_as any (without_context (family_row F.rows)) bytes.now
-        ≡ Some (map (written_as F.field_entry (λ _. true)) v.items)) }
-    ensures text { IfOk result
-        (λ v. text_by F.field_entry v.items ≡ (list_of bytes_peer any F.rows).canonical bytes.now) }
-    ensures fits { IfOk result
-        (λ v. all_fit_by F.field_entry
-        (λ _. true) v.items ≡ (list_of bytes_peer any F.rows).fits bytes.now) }
+    ensures judged { SucceedsWhere result ((list_of bytes_peer any F.rows).accepted bytes.now) }
+    ensures read { ListIsReadAs result F.field_entry (λ _. true)
+        (reading_as any (without_context (family_row F.rows)) bytes.now) }
+    ensures written { ListIsWrittenBy result F.field_entry (λ _. true)
+        (list_of bytes_peer any F.rows) bytes.now }
     ensures names_row { IfOk result (λ v. All F.names_row v.items) }
-    ensures err { IfErr result
-        (λ e. is_memory e ≡ false → (list_of bytes_peer any F.rows).accepted bytes.now ≡ false) }
     ensures not_empty { IfErr result (λ _. 0 < length bytes.now) }
-    ensures memory { IfErr result
-        (λ e. is_memory e ≡ true → begins_accepted (family_row F.rows) bytes.now ≡ true) }
+    ensures memory { IfMemory result (begins_accepted (family_row F.rows) bytes.now ≡ true) }
 {
     rows_are_looked_up();
     parse_list(alloc, &FamilyReader::<F>::new(), bytes)
@@ -82,20 +73,14 @@ pub fn parse_family<F: Family + Drop>(alloc: Global, bytes: &[u8]) -> Result<Vec
 /// dropped. It succeeds exactly where that attribute is accepted, memory aside. It answers want of
 /// memory only where that attribute holds bytes or a text, and its payload isn't empty.
 pub fn parse_first<F: Family + Drop>(alloc: Global, bytes: &[u8]) -> Result<F, DecodeError>
-    ensures ok { OnOk result (IsTrue ((list_of bytes_peer first_alone F.rows).accepted bytes.now)) }
-    ensures text { IfOk result
-        (λ v. attribute_text (F.field_entry v)
-        ≡ (list_of bytes_peer first_alone F.rows).canonical bytes.now) }
-    ensures fits { IfOk result
-        (λ v. attribute_fits (F.field_entry v)
-        ≡ (list_of bytes_peer first_alone F.rows).fits bytes.now) }
+    ensures judged { IsRefusedUnless result
+        ((list_of bytes_peer first_alone F.rows).accepted bytes.now) }
+    ensures written { IsWrittenBy result (λ v. attribute_text (F.field_entry v))
+        (λ v. attribute_fits (F.field_entry v)) (list_of bytes_peer first_alone F.rows) bytes.now }
     ensures names_row { IfOk result (λ v. F.names_row v) }
-    ensures err { IfErr result
-        (λ e. (list_of bytes_peer first_alone F.rows).accepted bytes.now ≡ is_memory e) }
-    ensures not_empty { IfErr result (λ e. is_memory e ≡ true → 0 < length bytes.now) }
-    ensures wants { IfErr result (λ e. is_memory e ≡ true → may_want_memory F.rows bytes.now ≡ true) }
-    ensures memory { IfErr result
-        (λ e. is_memory e ≡ true → begins_accepted (family_row F.rows) bytes.now ≡ true) }
+    ensures not_empty { IfMemory result (0 < length bytes.now) }
+    ensures wants { IfMemory result (may_want_memory F.rows bytes.now ≡ true) }
+    ensures memory { IfMemory result (begins_accepted (family_row F.rows) bytes.now ≡ true) }
 {
     first_attributes_are_read_alone();
     readings_tell_rules();

@@ -1,19 +1,17 @@
 //! Readers of the attributes of one table, and lists of them.
 
-ghost use Rattle.std.specs.Prelude.{◌≡◌, ◌<◌, ◌&&◌, ℕ, List, Bool, true, false, length, map, Some, IsTrue, IfOk, IfErr, OnOk};
+ghost use Rattle.std.specs.Prelude.{◌≡◌, ◌<◌, ◌&&◌, ℕ, List, Bool, true, length, IfOk, IfErr};
 ghost use Rattle.std.specs.List.{All};
 ghost use Rattle.netlink_packet_core_grammar.specs.Attributes.{attribute_text};
-ghost use Rattle.netlink_packet_core_grammar.specs.AttributeViews.{IsAttribute};
+ghost use Rattle.netlink_packet_core_grammar.specs.AttributeViews.{viewed_attribute, IsAttribute};
 ghost use Rattle.netlink_packet_core_grammar.specs.Fits.{attribute_fits};
-ghost use Rattle.netlink_packet_core.specs.Errors.{is_memory};
 ghost use Rattle.netlink_packet_core.specs.NlaBuffers.{storage};
-ghost use Rattle.netlink_packet_core.specs.Lists.{text_by, all_fit_by};
 ghost use Rattle.attribute_tables_grammar.specs.Lists.{Row, any, first_alone, without_context};
 ghost use Rattle.attribute_tables_grammar.specs.LookUps.{rows_rule};
 ghost use Rattle.attribute_tables_grammar.specs.Readings.{reading_as};
-ghost use Rattle.attribute_tables.specs.Views.{fits_by, is_accepted_by, rewritten_by};
+ghost use Rattle.attribute_tables.specs.Views.{is_accepted_by, viewed_row};
 ghost use Rattle.attribute_tables.specs.Beginnings.{begins_readable};
-ghost use Rattle.attribute_tables.specs.Written.{written_as};
+ghost use Rattle.attribute_tables.specs.Outcomes.{IfMemory, IsRewrittenBy, IsWrittenBy, ListIsReadAs, ListIsWrittenBy, SucceedsWhere};
 
 use attribute_tables_grammar::laws::{
     first_attributes_are_read_alone, readings_go_by_steps, readings_tell_rules,
@@ -38,17 +36,14 @@ pub trait Reader {
     /// Reads one attribute.
     fn read(&self, alloc: Global, buf: &NlaBuffer<&[u8]>) -> Result<Self::Value, DecodeError>
         requires { IsAttribute (storage buf.now).now }
-        ensures ok { OnOk result (IsTrue (is_accepted_by (row_of self.now) (storage buf.now).now)) }
-        ensures value { IfOk result
-            (λ v. Self.Value.entry v ≡ rewritten_by (row_of self.now) (storage buf.now).now) }
-        ensures inside { IfOk result
-            (λ v. Self.Value.inside_fits v ≡ fits_by (row_of self.now) (storage buf.now).now) }
+        ensures judged { SucceedsWhere result
+            (is_accepted_by (row_of self.now) (storage buf.now).now) }
+        ensures written { IsRewrittenBy result Self.Value.entry Self.Value.inside_fits
+            (viewed_row (row_of self.now) (storage buf.now).now)
+            (viewed_attribute (storage buf.now).now) }
         ensures names_row { IfOk result (λ v. names_row self.now v) }
-        ensures err { IfErr result
-            (λ e. is_memory e ≡ false
-            → is_accepted_by (row_of self.now) (storage buf.now).now ≡ false) }
-        ensures memory { IfErr result
-            (λ e. is_memory e ≡ true → may_want_memory self.now (storage buf.now).now ≡ true) };
+        ensures memory { IfMemory result
+            (may_want_memory self.now (storage buf.now).now ≡ true) };
 }
 
 /// Reads a list of attributes of one table. It succeeds exactly where the list is accepted, memory
@@ -59,24 +54,16 @@ pub fn parse_list<R: Reader>(
     reader: &R,
     bytes: &[u8],
 ) -> Result<Vec<R::Value>, DecodeError>
-    ensures ok { OnOk result (IsTrue ((rows_rule any (R.row_of reader.now)).accepted bytes.now)) }
-    ensures read { IfOk result
-        (λ v. reading_as any (without_context (R.row_of reader.now)) bytes.now
-        ≡ Some (map (written_as R.Value.entry R.Value.inside_fits) v.items)) }
-    ensures text { IfOk result
-        (λ v. text_by R.Value.entry v.items
-        ≡ (rows_rule any (R.row_of reader.now)).canonical bytes.now) }
-    ensures fits { IfOk result
-        (λ v. all_fit_by R.Value.entry R.Value.inside_fits v.items
-        ≡ (rows_rule any (R.row_of reader.now)).fits bytes.now) }
+    ensures judged { SucceedsWhere result
+        ((rows_rule any (R.row_of reader.now)).accepted bytes.now) }
+    ensures read { ListIsReadAs result R.Value.entry R.Value.inside_fits
+        (reading_as any (without_context (R.row_of reader.now)) bytes.now) }
+    ensures written { ListIsWrittenBy result R.Value.entry R.Value.inside_fits
+        (rows_rule any (R.row_of reader.now)) bytes.now }
     ensures names_row { IfOk result (λ v. All (R.names_row reader.now) v.items) }
-    ensures err { IfErr result
-        (λ e. is_memory e ≡ false → (rows_rule any (R.row_of reader.now)).accepted bytes.now
-        ≡ false) }
     ensures not_empty { IfErr result (λ _. 0 < length bytes.now) }
-    ensures memory { IfErr result
-        (λ e. is_memory e ≡ true
-        → begins_readable (R.row_of reader.now) (R.may_want_memory reader.now) bytes.now ≡ true) }
+    ensures memory { IfMemory result
+        (begins_readable (R.row_of reader.now) (R.may_want_memory reader.now) bytes.now ≡ true) }
 {
     readings_go_by_steps();
     readings_tell_rules();
@@ -99,21 +86,14 @@ pub fn parse_first_by<R: Reader>(
     reader: &R,
     bytes: &[u8],
 ) -> Result<R::Value, DecodeError>
-    ensures ok { OnOk result
-        (IsTrue ((rows_rule first_alone (R.row_of reader.now)).accepted bytes.now)) }
-    ensures text { IfOk result
-        (λ v. attribute_text (R.Value.entry v)
-        ≡ (rows_rule first_alone (R.row_of reader.now)).canonical bytes.now) }
-    ensures fits { IfOk result
-        (λ v. (attribute_fits (R.Value.entry v) && R.Value.inside_fits v)
-        ≡ (rows_rule first_alone (R.row_of reader.now)).fits bytes.now) }
+    ensures judged { SucceedsWhere result
+        ((rows_rule first_alone (R.row_of reader.now)).accepted bytes.now) }
+    ensures written { IsWrittenBy result (λ v. attribute_text (R.Value.entry v))
+        (λ v. attribute_fits (R.Value.entry v) && R.Value.inside_fits v)
+        (rows_rule first_alone (R.row_of reader.now)) bytes.now }
     ensures names_row { IfOk result (λ v. R.names_row reader.now v) }
-    ensures err { IfErr result
-        (λ e. is_memory e ≡ false
-        → (rows_rule first_alone (R.row_of reader.now)).accepted bytes.now ≡ false) }
-    ensures whole { IfErr result (λ e. is_memory e ≡ true → IsAttribute bytes.now) }
-    ensures wants { IfErr result
-        (λ e. is_memory e ≡ true → R.may_want_memory reader.now bytes.now ≡ true) }
+    ensures whole { IfMemory result (IsAttribute bytes.now) }
+    ensures wants { IfMemory result (R.may_want_memory reader.now bytes.now ≡ true) }
 {
     first_attributes_are_read_alone();
     readings_tell_rules();

@@ -2,15 +2,12 @@
 //! data of each. Data and statistics are read under the kind in force, the latest one before them;
 //! port data use the latest port kind up.
 
-ghost use Rattle.std.specs.Prelude.{◌≡◌, ◌<◌, false, true, length, map, Some, IsTrue, IfOk, IfErr, OnOk};
+ghost use Rattle.std.specs.Prelude.{◌≡◌, ◌<◌, false, true, length, Some, IfOk, IfErr};
 ghost use Rattle.netlink_packet_core.specs.AttributeViews.{IsAttribute};
-ghost use Rattle.netlink_packet_core.specs.Errors.{is_memory};
-ghost use Rattle.netlink_packet_core.specs.Lists.{text_by, all_fit_by};
 ghost use Rattle.netlink_packet_core.specs.NlaBuffers.{storage};
 ghost use Rattle.attribute_tables_grammar.specs.Lists.{any, nothing};
 ghost use Rattle.attribute_tables_grammar.specs.Peers.{Peer};
 ghost use Rattle.attribute_tables_grammar.specs.Readings.{reading_as, all_named};
-ghost use Rattle.attribute_tables.specs.Written.{written_as};
 ghost use Rattle.link_info_grammar.specs.LinkInfo.{data_rule_under, port_data_rule, info_grammar, info_rule};
 ghost use Rattle.link_info_grammar.specs.LinkInfo.{info_grammar_under, info_rule_under};
 ghost use Rattle.link_info_data.specs.Data.{info_data_fits, info_data_payload};
@@ -18,6 +15,7 @@ ghost use Rattle.link_info_data.specs.PortData.{info_port_data_fits, info_port_d
 ghost use Rattle.link_info.specs.LinkInfo.{data_names_row, port_data_names_row};
 ghost use Rattle.link_info.specs.LinkInfo.{context_after_first, in_force, is_accepted_in, fits_in, written_in};
 ghost use Rattle.link_info.specs.LinkInfo.{link_info_entry, link_info_fits, link_info_names_row};
+ghost use Rattle.attribute_tables.specs.Outcomes.{IsRefusedUnless, IsWrittenBy, ListIsReadAs, ListIsWrittenBy, SucceedsWhere};
 
 use super::laws::{names_tell_rules, port_data_have_one_rule, port_names_tell_rules};
 use attribute_checks::{BytesPeer, PeerRule};
@@ -150,15 +148,10 @@ fn parse_data<R: PeerRule>(
     payload: &[u8],
     rule: &R,
 ) -> Result<InfoData, DecodeError>
-    ensures ok { OnOk result (IsTrue ((data_rule_under R.peer name.now).accepted payload.now)) }
-    ensures text { IfOk result
-        (λ d. info_data_payload d ≡ (data_rule_under R.peer name.now).canonical payload.now) }
-    ensures fits { IfOk result
-        (λ d. info_data_fits d ≡ (data_rule_under R.peer name.now).fits payload.now) }
+    ensures judged { SucceedsWhere result ((data_rule_under R.peer name.now).accepted payload.now) }
+    ensures written { IsWrittenBy result info_data_payload info_data_fits
+        (data_rule_under R.peer name.now) payload.now }
     ensures names_row { IfOk result (λ d. data_names_row (Some name.now) d) }
-    ensures err { IfErr result
-        (λ e. is_memory e ≡ false
-        → (data_rule_under R.peer name.now).accepted payload.now ≡ false) }
 {
     names_tell_rules();
     let kind = InfoKind::from_name(alloc, name)?;
@@ -167,14 +160,10 @@ fn parse_data<R: PeerRule>(
 
 // Reads the data of the port kind that a name names.
 fn parse_port_data(alloc: Global, name: &str, payload: &[u8]) -> Result<InfoPortData, DecodeError>
-    ensures ok { OnOk result (IsTrue ((port_data_rule name.now).accepted payload.now)) }
-    ensures text { IfOk result
-        (λ d. info_port_data_payload d ≡ (port_data_rule name.now).canonical payload.now) }
-    ensures fits { IfOk result
-        (λ d. info_port_data_fits d ≡ (port_data_rule name.now).fits payload.now) }
+    ensures judged { SucceedsWhere result ((port_data_rule name.now).accepted payload.now) }
+    ensures written { IsWrittenBy result info_port_data_payload info_port_data_fits
+        (port_data_rule name.now) payload.now }
     ensures names_row { IfOk result (λ d. port_data_names_row (Some name.now) d) }
-    ensures err { IfErr result
-        (λ e. is_memory e ≡ false → (port_data_rule name.now).accepted payload.now ≡ false) }
 {
     port_names_tell_rules();
     let kind = InfoPortKind::from_name(alloc, name)?;
@@ -190,17 +179,14 @@ impl LinkInfo {
         rule: &R,
     ) -> Result<LinkInfo, DecodeError>
         requires { IsAttribute (storage buf.now).now }
-        ensures ok { OnOk result
-            (IsTrue (is_accepted_in R.peer (in_force force.entry) (storage buf.now).now)) }
+        ensures judged { SucceedsWhere result
+            (is_accepted_in R.peer (in_force force.entry) (storage buf.now).now) }
         ensures value { IfOk result
             (λ v. link_info_entry v ≡ written_in R.peer (in_force force.entry) (storage buf.now).now) }
         ensures inside { IfOk result
             (λ v. link_info_fits v ≡ fits_in R.peer (in_force force.entry) (storage buf.now).now) }
         ensures names_row { IfOk result
             (λ v. link_info_names_row (in_force force.entry) v) }
-        ensures err { IfErr result
-            (λ e. is_memory e ≡ false
-            → is_accepted_in R.peer (in_force force.entry) (storage buf.now).now ≡ false) }
     {
         port_data_have_one_rule();
         let payload = buf.value();
@@ -233,18 +219,13 @@ impl LinkInfo {
         bytes: &[u8],
         rule: &R,
     ) -> Result<Vec<LinkInfo>, DecodeError>
-        ensures ok { OnOk result (IsTrue ((info_rule_under R.peer).accepted bytes.now)) }
-        ensures read { IfOk result
-            (λ v. reading_as any (info_grammar_under R.peer) bytes.now
-            ≡ Some (map (written_as link_info_entry link_info_fits) v.items)) }
-        ensures text { IfOk result
-            (λ v. text_by link_info_entry v.items ≡ (info_rule_under R.peer).canonical bytes.now) }
-        ensures fits { IfOk result
-            (λ v. all_fit_by link_info_entry link_info_fits v.items ≡ (info_rule_under R.peer).fits bytes.now) }
+        ensures judged { SucceedsWhere result ((info_rule_under R.peer).accepted bytes.now) }
+        ensures read { ListIsReadAs result link_info_entry link_info_fits
+            (reading_as any (info_grammar_under R.peer) bytes.now) }
+        ensures written { ListIsWrittenBy result link_info_entry link_info_fits
+            (info_rule_under R.peer) bytes.now }
         ensures names_row { IfOk result
             (λ v. all_named (info_grammar_under R.peer) link_info_entry link_info_names_row nothing v.items) }
-        ensures err { IfErr result
-            (λ e. is_memory e ≡ false → (info_rule_under R.peer).accepted bytes.now ≡ false) }
         ensures not_empty { IfErr result (λ _. 0 < length bytes.now) }
     {
         readings_go_by_steps();
@@ -271,17 +252,12 @@ impl LinkInfo {
     /// bytes is never refused. It answers want of memory of legal lists alone: where a growth was
     /// refused, the rest of the list is judged without memory.
     pub fn parse_list(alloc: Global, bytes: &[u8]) -> Result<Vec<LinkInfo>, DecodeError>
-        ensures ok { OnOk result (IsTrue (info_rule.accepted bytes.now)) }
-        ensures read { IfOk result
-            (λ v. reading_as any info_grammar bytes.now
-            ≡ Some (map (written_as link_info_entry link_info_fits) v.items)) }
-        ensures text { IfOk result
-            (λ v. text_by link_info_entry v.items ≡ info_rule.canonical bytes.now) }
-        ensures fits { IfOk result
-            (λ v. all_fit_by link_info_entry link_info_fits v.items ≡ info_rule.fits bytes.now) }
+        ensures judged { IsRefusedUnless result (info_rule.accepted bytes.now) }
+        ensures read { ListIsReadAs result link_info_entry link_info_fits
+            (reading_as any info_grammar bytes.now) }
+        ensures written { ListIsWrittenBy result link_info_entry link_info_fits info_rule bytes.now }
         ensures names_row { IfOk result
             (λ v. all_named info_grammar link_info_entry link_info_names_row nothing v.items) }
-        ensures err { IfErr result (λ e. info_rule.accepted bytes.now ≡ is_memory e) }
         ensures not_empty { IfErr result (λ _. 0 < length bytes.now) }
     {
         Self::parse_list_with(alloc, bytes, &BytesPeer)
@@ -297,17 +273,13 @@ impl LinkInfo {
         bytes: &[u8],
         rule: &R,
     ) -> Result<Vec<LinkInfo>, DecodeError>
-        ensures ok { OnOk result (IsTrue ((info_rule_under R.peer).accepted bytes.now)) }
-        ensures read { IfOk result
-            (λ v. reading_as any (info_grammar_under R.peer) bytes.now
-            ≡ Some (map (written_as link_info_entry link_info_fits) v.items)) }
-        ensures text { IfOk result
-            (λ v. text_by link_info_entry v.items ≡ (info_rule_under R.peer).canonical bytes.now) }
-        ensures fits { IfOk result
-            (λ v. all_fit_by link_info_entry link_info_fits v.items ≡ (info_rule_under R.peer).fits bytes.now) }
+        ensures judged { IsRefusedUnless result ((info_rule_under R.peer).accepted bytes.now) }
+        ensures read { ListIsReadAs result link_info_entry link_info_fits
+            (reading_as any (info_grammar_under R.peer) bytes.now) }
+        ensures written { ListIsWrittenBy result link_info_entry link_info_fits
+            (info_rule_under R.peer) bytes.now }
         ensures names_row { IfOk result
             (λ v. all_named (info_grammar_under R.peer) link_info_entry link_info_names_row nothing v.items) }
-        ensures err { IfErr result (λ e. (info_rule_under R.peer).accepted bytes.now ≡ is_memory e) }
         ensures not_empty { IfErr result (λ _. 0 < length bytes.now) }
     {
         let error = match Self::read_list(alloc, bytes, rule) {

@@ -1,9 +1,9 @@
 //! The data of a kind of links (if_link.h, IFLA_INFO_DATA).
 
-ghost use Rattle.std.specs.Prelude.{◌≡◌, ◌<◌, false, true, length, IsTrue, IfOk, IfErr, OnOk};
-ghost use Rattle.netlink_packet_core.specs.Errors.{is_memory};
+ghost use Rattle.std.specs.Prelude.{◌≡◌, ◌<◌, true, length, IfOk};
 ghost use Rattle.link_info_data.specs.Data.{info_data_entry, info_data_fits, info_data_payload, info_data_names_row};
 ghost use Rattle.link_info_data.specs.Data.{data_rule_of, data_rule_of_under};
+ghost use Rattle.attribute_tables.specs.Outcomes.{IfMemory, IsRefusedUnless, IsWrittenBy, SucceedsWhere};
 
 use super::laws::{data_without_peers_have_one_rule, names_tell_rules};
 use attribute_checks::PeerRule;
@@ -131,15 +131,11 @@ fn accepts<P: PeerSet>(peers: &P, kind: &InfoKind, payload: &[u8]) -> bool
 impl InfoData {
     // Reads the data of a kind, and may tell want of memory in front of a refusal.
     fn read(alloc: Global, payload: &[u8], kind: &InfoKind) -> Result<InfoData, DecodeError>
-        ensures ok { OnOk result (IsTrue ((data_rule_of kind.now).accepted payload.now)) }
-        ensures text { IfOk result
-            (λ d. info_data_payload d ≡ (data_rule_of kind.now).canonical payload.now) }
-        ensures fits { IfOk result
-            (λ d. info_data_fits d ≡ (data_rule_of kind.now).fits payload.now) }
+        ensures judged { SucceedsWhere result ((data_rule_of kind.now).accepted payload.now) }
+        ensures written { IsWrittenBy result info_data_payload info_data_fits
+            (data_rule_of kind.now) payload.now }
         ensures names_row { IfOk result (λ d. info_data_names_row kind.now d) }
-        ensures err { IfErr result
-            (λ e. is_memory e ≡ false → (data_rule_of kind.now).accepted payload.now ≡ false) }
-        ensures not_empty { IfErr result (λ e. is_memory e ≡ true → 0 < length payload.now) }
+        ensures not_empty { IfMemory result (0 < length payload.now) }
     {
         match kind {
             InfoKind::Bridge => data!(Bridge, parse_family(alloc, payload)),
@@ -203,15 +199,11 @@ impl InfoData {
         payload: &[u8],
         kind: &InfoKind,
     ) -> Result<InfoData, DecodeError>
-        ensures ok { OnOk result (IsTrue ((data_rule_of kind.now).accepted payload.now)) }
-        ensures text { IfOk result
-            (λ d. info_data_payload d ≡ (data_rule_of kind.now).canonical payload.now) }
-        ensures fits { IfOk result
-            (λ d. info_data_fits d ≡ (data_rule_of kind.now).fits payload.now) }
+        ensures judged { IsRefusedUnless result ((data_rule_of kind.now).accepted payload.now) }
+        ensures written { IsWrittenBy result info_data_payload info_data_fits
+            (data_rule_of kind.now) payload.now }
         ensures names_row { IfOk result (λ d. info_data_names_row kind.now d) }
-        ensures err { IfErr result
-            (λ e. (data_rule_of kind.now).accepted payload.now ≡ is_memory e) }
-        ensures not_empty { IfErr result (λ e. is_memory e ≡ true → 0 < length payload.now) }
+        ensures not_empty { IfMemory result (0 < length payload.now) }
     {
         let error = match Self::read(alloc, payload, kind) {
             Ok(data) => return Ok(data),
@@ -230,17 +222,12 @@ impl InfoData {
         kind: &InfoKind,
         rule: &R,
     ) -> Result<InfoData, DecodeError>
-        ensures ok { OnOk result
-            (IsTrue ((data_rule_of_under R.peer kind.now).accepted payload.now)) }
-        ensures text { IfOk result
-            (λ d. info_data_payload d ≡ (data_rule_of_under R.peer kind.now).canonical payload.now) }
-        ensures fits { IfOk result
-            (λ d. info_data_fits d ≡ (data_rule_of_under R.peer kind.now).fits payload.now) }
+        ensures judged { SucceedsWhere result
+            ((data_rule_of_under R.peer kind.now).accepted payload.now) }
+        ensures written { IsWrittenBy result info_data_payload info_data_fits
+            (data_rule_of_under R.peer kind.now) payload.now }
         ensures names_row { IfOk result (λ d. info_data_names_row kind.now d) }
-        ensures err { IfErr result
-            (λ e. is_memory e ≡ false
-            → (data_rule_of_under R.peer kind.now).accepted payload.now ≡ false) }
-        ensures not_empty { IfErr result (λ e. is_memory e ≡ true → 0 < length payload.now) }
+        ensures not_empty { IfMemory result (0 < length payload.now) }
     {
         match kind {
             InfoKind::Netkit => data!(Netkit, parse_netkit_with(alloc, payload, rule)),
@@ -263,16 +250,12 @@ impl InfoData {
         kind: &InfoKind,
         rule: &R,
     ) -> Result<InfoData, DecodeError>
-        ensures ok { OnOk result
-            (IsTrue ((data_rule_of_under R.peer kind.now).accepted payload.now)) }
-        ensures text { IfOk result
-            (λ d. info_data_payload d ≡ (data_rule_of_under R.peer kind.now).canonical payload.now) }
-        ensures fits { IfOk result
-            (λ d. info_data_fits d ≡ (data_rule_of_under R.peer kind.now).fits payload.now) }
+        ensures judged { IsRefusedUnless result
+            ((data_rule_of_under R.peer kind.now).accepted payload.now) }
+        ensures written { IsWrittenBy result info_data_payload info_data_fits
+            (data_rule_of_under R.peer kind.now) payload.now }
         ensures names_row { IfOk result (λ d. info_data_names_row kind.now d) }
-        ensures err { IfErr result
-            (λ e. (data_rule_of_under R.peer kind.now).accepted payload.now ≡ is_memory e) }
-        ensures not_empty { IfErr result (λ e. is_memory e ≡ true → 0 < length payload.now) }
+        ensures not_empty { IfMemory result (0 < length payload.now) }
     {
         let error = match Self::read_with(alloc, payload, kind, rule) {
             Ok(data) => return Ok(data),

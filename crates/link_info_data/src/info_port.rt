@@ -1,9 +1,9 @@
 //! The data of a kind of ports (if_link.h, IFLA_INFO_SLAVE_DATA).
 
-ghost use Rattle.std.specs.Prelude.{◌≡◌, ◌<◌, false, true, length, IsTrue, IfOk, IfErr, OnOk};
-ghost use Rattle.netlink_packet_core.specs.Errors.{is_memory};
+ghost use Rattle.std.specs.Prelude.{◌≡◌, ◌<◌, true, length, IfOk};
 ghost use Rattle.link_info_data.specs.PortData.{info_port_data_entry, info_port_data_fits, info_port_data_payload};
 ghost use Rattle.link_info_data.specs.PortData.{info_port_data_names_row, port_data_rule_of};
+ghost use Rattle.attribute_tables.specs.Outcomes.{IfMemory, IsRefusedUnless, IsWrittenBy, SucceedsWhere};
 
 use super::laws::port_names_tell_rules;
 use attribute_tables::{parse_bytes, parse_family};
@@ -48,15 +48,11 @@ fn accepts(kind: &InfoPortKind, payload: &[u8]) -> bool
 impl InfoPortData {
     // Reads the data of a port kind, and may tell want of memory in front of a refusal.
     fn read(alloc: Global, payload: &[u8], kind: &InfoPortKind) -> Result<InfoPortData, DecodeError>
-        ensures ok { OnOk result (IsTrue ((port_data_rule_of kind.now).accepted payload.now)) }
-        ensures text { IfOk result
-            (λ d. info_port_data_payload d ≡ (port_data_rule_of kind.now).canonical payload.now) }
-        ensures fits { IfOk result
-            (λ d. info_port_data_fits d ≡ (port_data_rule_of kind.now).fits payload.now) }
+        ensures judged { SucceedsWhere result ((port_data_rule_of kind.now).accepted payload.now) }
+        ensures written { IsWrittenBy result info_port_data_payload info_port_data_fits
+            (port_data_rule_of kind.now) payload.now }
         ensures names_row { IfOk result (λ d. info_port_data_names_row kind.now d) }
-        ensures err { IfErr result
-            (λ e. is_memory e ≡ false → (port_data_rule_of kind.now).accepted payload.now ≡ false) }
-        ensures not_empty { IfErr result (λ e. is_memory e ≡ true → 0 < length payload.now) }
+        ensures not_empty { IfMemory result (0 < length payload.now) }
     {
         match kind {
             InfoPortKind::Bond => Ok(Self::BondPort(parse_family(alloc, payload)?)),
@@ -78,15 +74,11 @@ impl InfoPortData {
         payload: &[u8],
         kind: &InfoPortKind,
     ) -> Result<InfoPortData, DecodeError>
-        ensures ok { OnOk result (IsTrue ((port_data_rule_of kind.now).accepted payload.now)) }
-        ensures text { IfOk result
-            (λ d. info_port_data_payload d ≡ (port_data_rule_of kind.now).canonical payload.now) }
-        ensures fits { IfOk result
-            (λ d. info_port_data_fits d ≡ (port_data_rule_of kind.now).fits payload.now) }
+        ensures judged { IsRefusedUnless result ((port_data_rule_of kind.now).accepted payload.now) }
+        ensures written { IsWrittenBy result info_port_data_payload info_port_data_fits
+            (port_data_rule_of kind.now) payload.now }
         ensures names_row { IfOk result (λ d. info_port_data_names_row kind.now d) }
-        ensures err { IfErr result
-            (λ e. (port_data_rule_of kind.now).accepted payload.now ≡ is_memory e) }
-        ensures not_empty { IfErr result (λ e. is_memory e ≡ true → 0 < length payload.now) }
+        ensures not_empty { IfMemory result (0 < length payload.now) }
     {
         let error = match Self::read(alloc, payload, kind) {
             Ok(data) => return Ok(data),

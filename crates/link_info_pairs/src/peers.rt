@@ -1,13 +1,11 @@
 //! Data of links that come in pairs, whose peers are read by a rule that may be the caller's own.
 
-ghost use Rattle.std.specs.Prelude.{◌≡◌, ◌<◌, false, true, length, map, refl, Some, IsTrue, IfOk, IfErr, OnOk};
+ghost use Rattle.std.specs.Prelude.{◌≡◌, ◌<◌, false, true, length, refl, Some, IfOk, IfErr};
 ghost use Rattle.std.specs.List.{All};
 ghost use Rattle.netlink_packet_core.specs.Attributes.{attribute_text};
 ghost use Rattle.netlink_packet_core.specs.AttributeViews.{IsAttribute};
-ghost use Rattle.netlink_packet_core.specs.Errors.{is_memory};
 ghost use Rattle.netlink_packet_core.specs.Families.{attribute};
 ghost use Rattle.netlink_packet_core.specs.Fits.{attribute_fits};
-ghost use Rattle.netlink_packet_core.specs.Lists.{text_by, all_fit_by};
 ghost use Rattle.netlink_packet_core.specs.NlaBuffers.{storage};
 ghost use Rattle.attribute_tables_grammar.specs.Lists.{any, first_alone, without_context};
 ghost use Rattle.attribute_tables_grammar.specs.LookUps.{line_at, list_of, table_row};
@@ -15,10 +13,10 @@ ghost use Rattle.attribute_tables_grammar.specs.Readings.{reading_as};
 ghost use Rattle.attribute_tables_grammar.specs.Tables.{Payload, holds_no_peers_but};
 ghost use Rattle.attribute_tables.specs.Beginnings.{begins_accepted};
 ghost use Rattle.attribute_tables.specs.Views.{fits_by, is_accepted_by, rewritten_by};
-ghost use Rattle.attribute_tables.specs.Written.{written_as};
 ghost use Rattle.link_info_grammar.specs.Families.{netkit, pair};
 ghost use Rattle.link_info_pairs.specs.Netkit.{netkit_entry, netkit_names_row};
 ghost use Rattle.link_info_pairs.specs.Veth.{pair_entry, pair_names_row};
+ghost use Rattle.attribute_tables.specs.Outcomes.{IfMemory, IsRefusedUnless, IsWrittenBy, ListIsReadAs, ListIsWrittenBy, SucceedsWhere};
 
 use super::netkit::InfoNetkit;
 use super::veth::PairData;
@@ -75,15 +73,13 @@ fn read_with<F: PeerFamily, R: PeerRule>(
     rule: &R,
 ) -> Result<F, DecodeError>
     requires { IsAttribute (storage buf.now).now }
-    ensures ok { OnOk result
-        (IsTrue (is_accepted_by (table_row R.peer F.rows) (storage buf.now).now)) }
+    ensures judged { IsRefusedUnless result
+        (is_accepted_by (table_row R.peer F.rows) (storage buf.now).now) }
     ensures value { IfOk result
         (λ v. F.field_entry v ≡ rewritten_by (table_row R.peer F.rows) (storage buf.now).now) }
     ensures inside { IfOk result
         (λ _. true ≡ fits_by (table_row R.peer F.rows) (storage buf.now).now) }
     ensures names_row { IfOk result (λ v. F.names_row v) }
-    ensures err { IfErr result
-        (λ e. is_accepted_by (table_row R.peer F.rows) (storage buf.now).now ≡ is_memory e) }
 {
     rows_without_lists_fit();
     rules_without_peers_are_one();
@@ -141,21 +137,14 @@ pub fn parse_netkit_with<R: PeerRule>(
     bytes: &[u8],
     rule: &R,
 ) -> Result<Vec<InfoNetkit>, DecodeError>
-    ensures ok { OnOk result (IsTrue ((list_of R.peer any netkit).accepted bytes.now)) }
-    ensures read { IfOk result
-        (λ v. reading_as any (without_context (table_row R.peer netkit)) bytes.now
-        ≡ Some (map (written_as netkit_entry (λ _. true)) v.items)) }
-    ensures text { IfOk result
-        (λ v. text_by netkit_entry v.items ≡ (list_of R.peer any netkit).canonical bytes.now) }
-    ensures fits { IfOk result
-        (λ v. all_fit_by netkit_entry
-        (λ _. true) v.items ≡ (list_of R.peer any netkit).fits bytes.now) }
+    ensures judged { SucceedsWhere result ((list_of R.peer any netkit).accepted bytes.now) }
+    ensures read { ListIsReadAs result netkit_entry (λ _. true)
+        (reading_as any (without_context (table_row R.peer netkit)) bytes.now) }
+    ensures written { ListIsWrittenBy result netkit_entry (λ _. true) (list_of R.peer any netkit)
+        bytes.now }
     ensures names_row { IfOk result (λ v. All netkit_names_row v.items) }
-    ensures err { IfErr result
-        (λ e. is_memory e ≡ false → (list_of R.peer any netkit).accepted bytes.now ≡ false) }
     ensures not_empty { IfErr result (λ _. 0 < length bytes.now) }
-    ensures memory { IfErr result
-        (λ e. is_memory e ≡ true → begins_accepted (table_row R.peer netkit) bytes.now ≡ true) }
+    ensures memory { IfMemory result (begins_accepted (table_row R.peer netkit) bytes.now ≡ true) }
 {
     rows_are_looked_up();
     parse_list(alloc, &NetkitReader(rule), bytes)
@@ -170,18 +159,12 @@ pub fn parse_pair_with<R: PeerRule, const KIND: u16>(
     bytes: &[u8],
     rule: &R,
 ) -> Result<PairData<KIND>, DecodeError>
-    ensures ok { OnOk result (IsTrue ((list_of R.peer first_alone pair).accepted bytes.now)) }
-    ensures text { IfOk result
-        (λ v. attribute_text (pair_entry v)
-        ≡ (list_of R.peer first_alone pair).canonical bytes.now) }
-    ensures fits { IfOk result
-        (λ v. attribute_fits (pair_entry v) ≡ (list_of R.peer first_alone pair).fits bytes.now) }
+    ensures judged { SucceedsWhere result ((list_of R.peer first_alone pair).accepted bytes.now) }
+    ensures written { IsWrittenBy result (λ v. attribute_text (pair_entry v))
+        (λ v. attribute_fits (pair_entry v)) (list_of R.peer first_alone pair) bytes.now }
     ensures names_row { IfOk result (λ v. pair_names_row v) }
-    ensures err { IfErr result
-        (λ e. is_memory e ≡ false → (list_of R.peer first_alone pair).accepted bytes.now ≡ false) }
-    ensures not_empty { IfErr result (λ e. is_memory e ≡ true → 0 < length bytes.now) }
-    ensures memory { IfErr result
-        (λ e. is_memory e ≡ true → begins_accepted (table_row R.peer pair) bytes.now ≡ true) }
+    ensures not_empty { IfMemory result (0 < length bytes.now) }
+    ensures memory { IfMemory result (begins_accepted (table_row R.peer pair) bytes.now ≡ true) }
 {
     rows_are_looked_up();
     first_attributes_are_viewed();

@@ -1,22 +1,22 @@
 //! Data of the kinds `macvlan` and `macvtap` (if_link.h, IFLA_MACVLAN_*), little-endian.
 
-ghost use Rattle.std.specs.Prelude.{◌≡◌, ◌≢◌, ◌<◌, length, map, true, false, Some, IsTrue, IfOk, IfErr, IfSome, IfNone, OnOk};
+ghost use Rattle.std.specs.Prelude.{◌≡◌, ◌≢◌, ◌<◌, length, true, false, Some, IfOk, IfErr, IfNone};
 ghost use Rattle.std.specs.List.{All};
 ghost use Rattle.netlink_packet_core.specs.Attributes.{proper_kind};
 ghost use Rattle.netlink_packet_core.specs.AttributeViews.{viewed_kind, viewed_payload, IsAttribute};
 ghost use Rattle.netlink_packet_core.specs.Errors.{is_memory};
 ghost use Rattle.netlink_packet_core.specs.Families.{Gives, accepts, attribute, family_row, may_want_memory};
-ghost use Rattle.netlink_packet_core.specs.Lists.{text_by, all_fit_by};
 ghost use Rattle.netlink_packet_core.specs.NlaBuffers.{storage};
 ghost use Rattle.attribute_tables_grammar.specs.Lists.{any, rewrite, without_context};
 ghost use Rattle.attribute_tables_grammar.specs.LookUps.{has_no_row, list_of, row_holds_bytes};
 ghost use Rattle.attribute_tables_grammar.specs.Peers.{bytes_peer};
 ghost use Rattle.attribute_tables_grammar.specs.Readings.{reading_as};
 ghost use Rattle.attribute_tables.specs.Beginnings.{begins_accepted, begins_readable};
-ghost use Rattle.attribute_tables.specs.Written.{written_as};
 ghost use Rattle.link_info_grammar.specs.Families.{macvlan, macvlan_address};
 ghost use Rattle.link_info_stacked.specs.MacVlan.{mac_vlan_entry, mac_vlan_fits, mac_vlan_names_row};
 ghost use Rattle.link_info_stacked.specs.MacVlan.{mac_vlan_address_names_row, mac_vlan_may_want_memory, MacVlanGives};
+ghost use Rattle.attribute_tables.specs.Outcomes.{IfMemory, IfRead, IsRefusedUnless};
+ghost use Rattle.attribute_tables.specs.Outcomes.{ListIsReadAs, ListIsWrittenBy, SucceedsExactlyWhere, SucceedsWhere};
 
 use attribute_tables::{Reader, parse_list, typed};
 use attribute_tables_grammar::laws::{rows_are_looked_up, rows_without_lists_fit};
@@ -168,21 +168,16 @@ impl InfoMacVlan {
     /// Reads the payload of a kind without its flag bits, of those that hold no list; `None` where
     /// the kind has no row in the list of source addresses.
     fn read_row(kind: u16, payload: &[u8]) -> Result<Option<Self>, DecodeError>
-        ensures ok { OnOk result
-            (IsTrue ((family_row macvlan_address kind).rule.accepted payload.now)) }
+        ensures judged { SucceedsExactlyWhere result
+            ((family_row macvlan_address kind).rule.accepted payload.now) }
         ensures none { IfOk result (λ o. IfNone o (has_no_row macvlan_address kind)) }
-        ensures typed { IfOk result
-            (λ o. IfSome o (λ _. (family_row macvlan_address kind).is_typed ≡ true)) }
-        ensures value { IfOk result
-            (λ o. IfSome o
-            (λ v. mac_vlan_entry v
-            ≡ rewrite (family_row macvlan_address kind) (attribute kind payload.now))) }
-        ensures inside { IfOk result (λ o. IfSome o (λ v. mac_vlan_fits v ≡ true)) }
-        ensures names_row { IfOk result (λ o. IfSome o (λ v. mac_vlan_names_row v)) }
-        ensures address_names_row { IfOk result
-            (λ o. IfSome o (λ v. mac_vlan_address_names_row v)) }
-        ensures err { IfErr result
-            (λ e. (family_row macvlan_address kind).rule.accepted payload.now ≡ false) }
+        ensures typed { IfRead result (λ _. (family_row macvlan_address kind).is_typed ≡ true) }
+        ensures value { IfRead result
+            (λ v. mac_vlan_entry v ≡ rewrite (family_row macvlan_address kind)
+            (attribute kind payload.now)) }
+        ensures inside { IfRead result (λ v. mac_vlan_fits v ≡ true) }
+        ensures names_row { IfRead result (λ v. mac_vlan_names_row v) }
+        ensures address_names_row { IfRead result (λ v. mac_vlan_address_names_row v) }
         ensures memory { IfErr result (λ e. is_memory e ≡ false) }
     {
         match kind {
@@ -204,21 +199,17 @@ impl InfoMacVlan {
     #[tactic(auto, using(netlink_packet_core_attributes::proofs::Families::families, crate::proofs::Rows::address_rows))]
     fn read_address(alloc: Global, buf: &NlaBuffer<&[u8]>) -> Result<Self, DecodeError>
         requires { IsAttribute (storage buf.now).now }
-        ensures ok { OnOk result (IsTrue (accepts macvlan_address (storage buf.now).now)) }
+        ensures judged { IsRefusedUnless result (accepts macvlan_address (storage buf.now).now) }
         ensures value { IfOk result
             (λ v. Gives macvlan_address (storage buf.now).now (mac_vlan_entry v)) }
         ensures inside { IfOk result (λ v. mac_vlan_fits v ≡ true) }
         ensures address_names_row { IfOk result (λ v. mac_vlan_address_names_row v) }
         ensures names_row { IfOk result
             (λ v. proper_kind (viewed_kind (storage buf.now).now) ≢ 5 → mac_vlan_names_row v) }
-        ensures err { IfErr result
-            (λ e. accepts macvlan_address (storage buf.now).now ≡ is_memory e) }
-        ensures memory { IfErr result
-            (λ e. is_memory e ≡ true
-            → row_holds_bytes macvlan_address (proper_kind (viewed_kind (storage buf.now).now))
-            ≡ true) }
-        ensures not_empty { IfErr result
-            (λ e. is_memory e ≡ true → 0 < length (viewed_payload (storage buf.now).now)) }
+        ensures memory { IfMemory result
+            (row_holds_bytes macvlan_address (proper_kind (viewed_kind (storage buf.now).now)) ≡
+            true) }
+        ensures not_empty { IfMemory result (0 < length (viewed_payload (storage buf.now).now)) }
     {
         match Self::read_row(buf.kind(), buf.value()) {
             Ok(Some(value)) => Ok(value),
@@ -252,21 +243,13 @@ impl Reader for AddressReader {
 /// a list of no bytes is never refused.
 #[tactic(auto, using(attribute_tables::proofs::Families::family_lists))]
 fn parse_addresses(alloc: Global, bytes: &[u8]) -> Result<Vec<InfoMacVlan>, DecodeError>
-    ensures ok { OnOk result
-        (IsTrue ((list_of bytes_peer any macvlan_address).accepted bytes.now)) }
-    ensures text { IfOk result
-        (λ v. text_by mac_vlan_entry v.items
-        ≡ (list_of bytes_peer any macvlan_address).canonical bytes.now) }
-    ensures fits { IfOk result
-        (λ v. all_fit_by mac_vlan_entry mac_vlan_fits v.items
-        ≡ (list_of bytes_peer any macvlan_address).fits bytes.now) }
+    ensures judged { SucceedsWhere result
+        ((list_of bytes_peer any macvlan_address).accepted bytes.now) }
+    ensures written { ListIsWrittenBy result mac_vlan_entry mac_vlan_fits
+        (list_of bytes_peer any macvlan_address) bytes.now }
     ensures names_row { IfOk result (λ v. All mac_vlan_address_names_row v.items) }
-    ensures err { IfErr result
-        (λ e. is_memory e ≡ false
-        → (list_of bytes_peer any macvlan_address).accepted bytes.now ≡ false) }
     ensures not_empty { IfErr result (λ _. 0 < length bytes.now) }
-    ensures memory { IfErr result
-        (λ e. is_memory e ≡ true → begins_accepted (family_row macvlan_address) bytes.now ≡ true) }
+    ensures memory { IfMemory result (begins_accepted (family_row macvlan_address) bytes.now ≡ true) }
 {
     rows_are_looked_up();
     parse_list(alloc, &AddressReader, bytes)
@@ -315,23 +298,15 @@ impl<'a> Parseable<NlaBuffer<&'a [u8]>> for InfoMacVlan {
 /// memory aside; a list of no bytes is never refused.
 #[tactic(auto, using(attribute_tables::proofs::Families::family_lists))]
 pub fn parse_mac_vlan(alloc: Global, bytes: &[u8]) -> Result<Vec<InfoMacVlan>, DecodeError>
-    ensures ok { OnOk result (IsTrue ((list_of bytes_peer any macvlan).accepted bytes.now)) }
-    ensures read { IfOk result
-        (λ v. reading_as any (without_context (family_row macvlan)) bytes.now
-        ≡ Some (map (written_as mac_vlan_entry mac_vlan_fits) v.items)) }
-    ensures text { IfOk result
-        (λ v. text_by mac_vlan_entry v.items
-        ≡ (list_of bytes_peer any macvlan).canonical bytes.now) }
-    ensures fits { IfOk result
-        (λ v. all_fit_by mac_vlan_entry mac_vlan_fits v.items
-        ≡ (list_of bytes_peer any macvlan).fits bytes.now) }
+    ensures judged { SucceedsWhere result ((list_of bytes_peer any macvlan).accepted bytes.now) }
+    ensures read { ListIsReadAs result mac_vlan_entry mac_vlan_fits
+        (reading_as any (without_context (family_row macvlan)) bytes.now) }
+    ensures written { ListIsWrittenBy result mac_vlan_entry mac_vlan_fits
+        (list_of bytes_peer any macvlan) bytes.now }
     ensures names_row { IfOk result (λ v. All mac_vlan_names_row v.items) }
-    ensures err { IfErr result
-        (λ e. is_memory e ≡ false → (list_of bytes_peer any macvlan).accepted bytes.now ≡ false) }
     ensures not_empty { IfErr result (λ _. 0 < length bytes.now) }
-    ensures memory { IfErr result
-        (λ e. is_memory e ≡ true
-        → begins_readable (family_row macvlan) mac_vlan_may_want_memory bytes.now ≡ true) }
+    ensures memory { IfMemory result
+        (begins_readable (family_row macvlan) mac_vlan_may_want_memory bytes.now ≡ true) }
 {
     rows_are_looked_up();
     parse_list(alloc, &MacVlanReader, bytes)

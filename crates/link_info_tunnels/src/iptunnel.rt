@@ -1,7 +1,7 @@
 //! Data of the kinds `ipip`, `ip6tnl` and `sit` (if_tunnel.h, IFLA_IPTUN_*). Numbers are
 //! little-endian unless told.
 
-ghost use Rattle.std.specs.Prelude.{◌≡◌, ◌<◌, true, false, length, map, Some, IsTrue, IfOk, IfErr, IfSome, IfNone, OnOk, [], ◌∷◌, ◌≢◌};
+ghost use Rattle.std.specs.Prelude.{◌≡◌, ◌<◌, true, false, length, Some, IfOk, IfErr, IfSome, IfNone, [], ◌∷◌, ◌≢◌};
 ghost use Rattle.netlink_packet_core.specs.Addresses.{ip_octets};
 ghost use Rattle.netlink_packet_core.specs.Numbers.{be2, le2, le4};
 ghost use Rattle.std.specs.List.{All};
@@ -9,15 +9,14 @@ ghost use Rattle.netlink_packet_core.specs.Attributes.{proper_kind};
 ghost use Rattle.netlink_packet_core.specs.AttributeViews.{IsAttribute, viewed_kind};
 ghost use Rattle.netlink_packet_core.specs.Errors.{is_memory};
 ghost use Rattle.netlink_packet_core.specs.Families.{Gives, accepts, family_row, may_want_memory, attribute};
-ghost use Rattle.netlink_packet_core.specs.Lists.{text_by, all_fit_by};
 ghost use Rattle.netlink_packet_core.specs.NlaBuffers.{storage};
-ghost use Rattle.attribute_tables.specs.Written.{written_as};
 ghost use Rattle.attribute_tables_grammar.specs.Lists.{any, without_context};
 ghost use Rattle.attribute_tables_grammar.specs.LookUps.{has_no_row};
 ghost use Rattle.attribute_tables_grammar.specs.Readings.{reading_as};
 ghost use Rattle.link_info_kinds.specs.declared.info_kind.InfoKind.{InfoKind};
 ghost use Rattle.link_info_tunnels.specs.IpTunnel.{ip_tunnel_entry, ip_tunnel_names_row, ip_tunnel_of};
 ghost use Rattle.link_info_tunnels.specs.IpTunnel.{ip_tunnel_begins_accepted, ip_tunnel_rule};
+ghost use Rattle.attribute_tables.specs.Outcomes.{IfMemory, IfRead, ListIsReadAs, ListIsWrittenBy, SucceedsExactlyWhere, SucceedsWhere};
 
 use attribute_tables::{Reader, parse_list, typed};
 use attribute_tables_grammar::laws::{rows_are_looked_up, rows_without_lists_fit};
@@ -250,17 +249,15 @@ impl InfoIpTunnel {
     #[tactic(auto, unfolding(crate::specs::IpTunnel::ip_tunnel_of))]
     fn read_row(buf: &NlaBuffer<&[u8]>, link: &InfoKind) -> Result<Option<Self>, DecodeError>
         requires { IsAttribute (storage buf.now).now }
-        ensures ok { OnOk result (IsTrue (accepts (ip_tunnel_of link.now) (storage buf.now).now)) }
+        ensures judged { SucceedsExactlyWhere result
+            (accepts (ip_tunnel_of link.now) (storage buf.now).now) }
         ensures none { IfOk result
             (λ o. IfNone o
             (has_no_row (ip_tunnel_of link.now)
             (proper_kind (viewed_kind (storage buf.now).now)))) }
-        ensures value { IfOk result
-            (λ o. IfSome o
-            (λ v. Gives (ip_tunnel_of link.now) (storage buf.now).now (ip_tunnel_entry v))) }
-        ensures names_row { IfOk result (λ o. IfSome o (λ v. ip_tunnel_names_row link.now v)) }
-        ensures err { IfErr result
-            (λ e. accepts (ip_tunnel_of link.now) (storage buf.now).now ≡ false) }
+        ensures value { IfRead result
+            (λ v. Gives (ip_tunnel_of link.now) (storage buf.now).now (ip_tunnel_entry v)) }
+        ensures names_row { IfRead result (λ v. ip_tunnel_names_row link.now v) }
         ensures memory { IfErr result (λ e. is_memory e ≡ false) }
     {
         let kind = buf.kind();
@@ -359,22 +356,14 @@ pub fn parse_ip_tunnel(
     bytes: &[u8],
     kind: &InfoKind,
 ) -> Result<Vec<InfoIpTunnel>, DecodeError>
-    ensures ok { OnOk result (IsTrue ((ip_tunnel_rule kind.now).accepted bytes.now)) }
-    ensures read { IfOk result
-        (λ v. reading_as any (without_context (family_row (ip_tunnel_of kind.now))) bytes.now
-        ≡ Some (map (written_as ip_tunnel_entry (λ _. true)) v.items)) }
-    ensures text { IfOk result
-        (λ v. text_by ip_tunnel_entry v.items ≡ (ip_tunnel_rule kind.now).canonical bytes.now) }
-    ensures fits { IfOk result
-        (λ v. all_fit_by ip_tunnel_entry (λ _. true) v.items
-        ≡ (ip_tunnel_rule kind.now).fits bytes.now) }
+    ensures judged { SucceedsWhere result ((ip_tunnel_rule kind.now).accepted bytes.now) }
+    ensures read { ListIsReadAs result ip_tunnel_entry (λ _. true)
+        (reading_as any (without_context (family_row (ip_tunnel_of kind.now))) bytes.now) }
+    ensures written { ListIsWrittenBy result ip_tunnel_entry (λ _. true) (ip_tunnel_rule kind.now)
+        bytes.now }
     ensures names_row { IfOk result (λ v. All (ip_tunnel_names_row kind.now) v.items) }
-    ensures err { IfErr result
-        (λ e. is_memory e ≡ false → (ip_tunnel_rule kind.now).accepted bytes.now ≡ false) }
     ensures not_empty { IfErr result (λ _. 0 < length bytes.now) }
-    ensures memory { IfErr result
-        (λ e. is_memory e ≡ true
-        → ip_tunnel_begins_accepted kind.now bytes.now ≡ true) }
+    ensures memory { IfMemory result (ip_tunnel_begins_accepted kind.now bytes.now ≡ true) }
 {
     rows_are_looked_up();
     parse_list(alloc, &InfoIpTunnelReader { kind }, bytes)

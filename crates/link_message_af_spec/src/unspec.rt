@@ -1,12 +1,10 @@
 //! What all address families tell of a link (if_link.h, IFLA_AF_SPEC): a list for each of them,
 //! under its number.
 
-ghost use Rattle.std.specs.Prelude.{◌≡◌, ◌<◌, true, false, length, IsTrue, IfOk, IfErr, OnOk};
+ghost use Rattle.std.specs.Prelude.{◌≡◌, ◌<◌, true, length, IfOk, IfErr};
 ghost use Rattle.std.specs.List.{All};
 ghost use Rattle.netlink_packet_core.specs.AttributeViews.{IsAttribute};
-ghost use Rattle.netlink_packet_core.specs.Errors.{is_memory};
 ghost use Rattle.netlink_packet_core.specs.Families.{Gives, accepts, family_row};
-ghost use Rattle.netlink_packet_core.specs.Lists.{text_by, all_fit_by};
 ghost use Rattle.netlink_packet_core.specs.NlaBuffers.{storage};
 ghost use Rattle.attribute_tables_grammar.specs.Lists.{any};
 ghost use Rattle.attribute_tables_grammar.specs.LookUps.{list_of, table_row};
@@ -15,6 +13,7 @@ ghost use Rattle.attribute_tables.specs.Views.{fits_by};
 ghost use Rattle.attribute_tables.specs.Beginnings.{begins_readable, table_may_want_memory};
 ghost use Rattle.link_message_grammar.specs.NestedTables.{specific};
 ghost use Rattle.link_message_af_spec.specs.AddressFamilies.{af_spec_unspec_entry, af_spec_unspec_fits, af_spec_unspec_names_row};
+ghost use Rattle.attribute_tables.specs.Outcomes.{IfMemory, ListIsWrittenBy, SucceedsWhere};
 
 use super::inet::{AfSpecInet, AfSpecInetReader};
 use super::inet6::{AfSpecInet6, AfSpecInet6Reader};
@@ -134,20 +133,13 @@ impl<'a> Parseable<NlaBuffer<&'a [u8]>> for AfSpecUnspec {
 /// list is accepted, memory aside; a list of no bytes is never refused.
 #[tactic(auto, using(crate::proofs::FamilyRules::family_rules))]
 pub fn parse_families(alloc: Global, bytes: &[u8]) -> Result<Vec<AfSpecUnspec>, DecodeError>
-    ensures ok { OnOk result (IsTrue ((list_of bytes_peer any specific).accepted bytes.now)) }
-    ensures text { IfOk result
-        (λ v. text_by af_spec_unspec_entry v.items
-        ≡ (list_of bytes_peer any specific).canonical bytes.now) }
-    ensures fits { IfOk result
-        (λ v. all_fit_by af_spec_unspec_entry af_spec_unspec_fits v.items
-        ≡ (list_of bytes_peer any specific).fits bytes.now) }
+    ensures judged { SucceedsWhere result ((list_of bytes_peer any specific).accepted bytes.now) }
+    ensures written { ListIsWrittenBy result af_spec_unspec_entry af_spec_unspec_fits
+        (list_of bytes_peer any specific) bytes.now }
     ensures names_row { IfOk result (λ v. All af_spec_unspec_names_row v.items) }
-    ensures err { IfErr result
-        (λ e. is_memory e ≡ false → (list_of bytes_peer any specific).accepted bytes.now ≡ false) }
     ensures not_empty { IfErr result (λ _. 0 < length bytes.now) }
-    ensures memory { IfErr result
-        (λ e. is_memory e ≡ true
-        → begins_readable (family_row specific) (table_may_want_memory specific) bytes.now ≡ true) }
+    ensures memory { IfMemory result
+        (begins_readable (family_row specific) (table_may_want_memory specific) bytes.now ≡ true) }
 {
     rows_are_looked_up();
     parse_list(alloc, &AfSpecUnspecReader, bytes)

@@ -1,25 +1,23 @@
 //! The attributes of a link (if_link.h, IFLA_*), under the address family of the message's header.
 //! Numbers are little-endian.
 
-ghost use Rattle.std.specs.Prelude.{◌≡◌, ◌==◌, ◌<◌, false, true, length, map, Some, IsTrue, IfOk, IfErr, IfSome, IfNone, OnOk};
+ghost use Rattle.std.specs.Prelude.{◌≡◌, ◌==◌, ◌<◌, false, true, length, map, Some, IfOk, IfErr, IfNone};
 ghost use Rattle.std.specs.List.{All};
 ghost use Rattle.netlink_packet_core.specs.AttributeViews.{IsAttribute};
-ghost use Rattle.netlink_packet_core.specs.Errors.{is_memory};
 ghost use Rattle.netlink_packet_core.specs.Families.{attribute};
-ghost use Rattle.netlink_packet_core.specs.Lists.{text_by, all_fit_by};
 ghost use Rattle.netlink_packet_core.specs.NlaBuffers.{storage};
 ghost use Rattle.attribute_tables_grammar.specs.Lists.{any, rewrite, without_context};
 ghost use Rattle.attribute_tables_grammar.specs.Readings.{reading_as};
 ghost use Rattle.attribute_tables.specs.Views.{is_accepted_by, fits_by, rewritten_by};
-ghost use Rattle.attribute_tables.specs.Written.{written_as};
 ghost use Rattle.link_message_grammar.specs.LinkMessage.{has_no_link_row};
 ghost use Rattle.link_message_grammar.specs.Body.{attribute_row, attributes_rule};
 ghost use Rattle.link_message_types.specs.AddressFamilies.{table_family};
 ghost use Rattle.link_message_attributes.specs.LinkAttributes.{link_attribute_entry};
 ghost use Rattle.link_message_attributes.specs.LinkAttributes.{link_attribute_fits, link_attribute_names_row};
-ghost use Rattle.link_message_attributes.specs.LinkAttributes.{IsReadAsNumber, plain_row};
+ghost use Rattle.link_message_attributes.specs.LinkAttributes.{plain_row};
 ghost use Rattle.link_message_attributes.specs.LinkAttributes.{row_may_want_memory, link_attribute_may_want_memory};
 ghost use Rattle.link_message_attributes.specs.Payloads.{link_payload_bytes, link_payload_fits};
+ghost use Rattle.attribute_tables.specs.Outcomes.{IfMemory, IfRead, IsRefusedUnless, ListIsReadAs, ListIsWrittenBy, SucceedsWhere};
 
 use super::families::number_of_table;
 use super::kinds::IFLA_ADDRESS;
@@ -461,8 +459,8 @@ impl LinkAttribute {
         family: AddressFamily,
         payload: &[u8],
     ) -> Result<Self, DecodeError>
-        ensures ok { OnOk result
-            (IsTrue ((plain_row (table_family family) 26).rule.accepted payload.now)) }
+        ensures judged { SucceedsWhere result
+            ((plain_row (table_family family) 26).rule.accepted payload.now) }
         ensures value { IfOk result
             (λ v. link_attribute_entry v
             ≡ rewrite (plain_row (table_family family) 26) (attribute 26 payload.now)) }
@@ -471,12 +469,8 @@ impl LinkAttribute {
             ≡ (plain_row (table_family family) 26).rule.fits payload.now) }
         ensures names_row { IfOk result
             (λ v. link_attribute_names_row (table_family family) v) }
-        ensures err { IfErr result
-            (λ e. is_memory e ≡ false
-            → (plain_row (table_family family) 26).rule.accepted payload.now ≡ false) }
-        ensures memory { IfErr result
-            (λ e. is_memory e ≡ true
-            → row_may_want_memory (table_family family) 26 payload.now ≡ true) }
+        ensures memory { IfMemory result
+            (row_may_want_memory (table_family family) 26 payload.now ≡ true) }
     {
         match family {
             AddressFamily::Unspec => Ok(Self::AfSpecUnspec(parse_families(alloc, payload)?)),
@@ -499,28 +493,21 @@ impl LinkAttribute {
         payload: &[u8],
     ) -> Result<Option<Self>, DecodeError>
         requires { (kind == 18) ≡ false }
-        ensures ok { OnOk result
-            (IsTrue ((plain_row (table_family family) kind).rule.accepted payload.now)) }
+        ensures judged { SucceedsWhere result
+            ((plain_row (table_family family) kind).rule.accepted payload.now) }
         ensures none { IfOk result
             (λ o. IfNone o (has_no_link_row (table_family family) kind)) }
-        ensures typed { IfOk result
-            (λ o. IfSome o (λ _. (plain_row (table_family family) kind).is_typed ≡ true)) }
-        ensures value { IfOk result
-            (λ o. IfSome o
+        ensures typed { IfRead result
+            (λ _. (plain_row (table_family family) kind).is_typed ≡ true) }
+        ensures value { IfRead result
             (λ v. link_attribute_entry v
-            ≡ rewrite (plain_row (table_family family) kind) (attribute kind payload.now))) }
-        ensures inside { IfOk result
-            (λ o. IfSome o
+            ≡ rewrite (plain_row (table_family family) kind) (attribute kind payload.now)) }
+        ensures inside { IfRead result
             (λ v. link_attribute_fits v
-            ≡ (plain_row (table_family family) kind).rule.fits payload.now)) }
-        ensures names_row { IfOk result
-            (λ o. IfSome o (λ v. link_attribute_names_row (table_family family) v)) }
-        ensures err { IfErr result
-            (λ e. is_memory e ≡ false
-            → (plain_row (table_family family) kind).rule.accepted payload.now ≡ false) }
-        ensures memory { IfErr result
-            (λ e. is_memory e ≡ true
-            → row_may_want_memory (table_family family) kind payload.now ≡ true) }
+            ≡ (plain_row (table_family family) kind).rule.fits payload.now) }
+        ensures names_row { IfRead result (λ v. link_attribute_names_row (table_family family) v) }
+        ensures memory { IfMemory result
+            (row_may_want_memory (table_family family) kind payload.now ≡ true) }
     {
         match kind {
             IFLA_ADDRESS => typed!(Address, parse_bytes(alloc, payload)),
@@ -575,28 +562,21 @@ impl LinkAttribute {
         kind: u16,
         payload: &[u8],
     ) -> Result<Option<Self>, DecodeError>
-        ensures ok { OnOk result
-            (IsTrue ((attribute_row (table_family family) kind).rule.accepted payload.now)) }
+        ensures judged { SucceedsWhere result
+            ((attribute_row (table_family family) kind).rule.accepted payload.now) }
         ensures none { IfOk result
             (λ o. IfNone o (has_no_link_row (table_family family) kind)) }
-        ensures typed { IfOk result
-            (λ o. IfSome o (λ _. (attribute_row (table_family family) kind).is_typed ≡ true)) }
-        ensures value { IfOk result
-            (λ o. IfSome o
+        ensures typed { IfRead result
+            (λ _. (attribute_row (table_family family) kind).is_typed ≡ true) }
+        ensures value { IfRead result
             (λ v. link_attribute_entry v
-            ≡ rewrite (attribute_row (table_family family) kind) (attribute kind payload.now))) }
-        ensures inside { IfOk result
-            (λ o. IfSome o
+            ≡ rewrite (attribute_row (table_family family) kind) (attribute kind payload.now)) }
+        ensures inside { IfRead result
             (λ v. link_attribute_fits v
-            ≡ (attribute_row (table_family family) kind).rule.fits payload.now)) }
-        ensures names_row { IfOk result
-            (λ o. IfSome o (λ v. link_attribute_names_row (table_family family) v)) }
-        ensures err { IfErr result
-            (λ e. is_memory e ≡ false
-            → (attribute_row (table_family family) kind).rule.accepted payload.now ≡ false) }
-        ensures memory { IfErr result
-            (λ e. is_memory e ≡ true
-            → row_may_want_memory (table_family family) kind payload.now ≡ true) }
+            ≡ (attribute_row (table_family family) kind).rule.fits payload.now) }
+        ensures names_row { IfRead result (λ v. link_attribute_names_row (table_family family) v) }
+        ensures memory { IfMemory result
+            (row_may_want_memory (table_family family) kind payload.now ≡ true) }
     {
         peers_stand_in_link_info();
         match kind {
@@ -613,8 +593,8 @@ impl LinkAttribute {
         family: AddressFamily,
     ) -> Result<LinkAttribute, DecodeError>
         requires { IsAttribute (storage buf.now).now }
-        ensures ok { OnOk result
-            (IsTrue (is_accepted_by (attribute_row (table_family family)) (storage buf.now).now)) }
+        ensures judged { SucceedsWhere result
+            (is_accepted_by (attribute_row (table_family family)) (storage buf.now).now) }
         ensures value { IfOk result
             (λ v. link_attribute_entry v
             ≡ rewritten_by (attribute_row (table_family family)) (storage buf.now).now) }
@@ -623,12 +603,8 @@ impl LinkAttribute {
             ≡ fits_by (attribute_row (table_family family)) (storage buf.now).now) }
         ensures names_row { IfOk result
             (λ v. link_attribute_names_row (table_family family) v) }
-        ensures err { IfErr result
-            (λ e. is_memory e ≡ false
-            → is_accepted_by (attribute_row (table_family family)) (storage buf.now).now ≡ false) }
-        ensures memory { IfErr result
-            (λ e. is_memory e ≡ true
-            → link_attribute_may_want_memory (table_family family) (storage buf.now).now ≡ true) }
+        ensures memory { IfMemory result
+            (link_attribute_may_want_memory (table_family family) (storage buf.now).now ≡ true) }
     {
         match Self::read_row(alloc, family, buf.kind(), buf.value()) {
             Ok(Some(value)) => Ok(value),
@@ -649,8 +625,8 @@ impl LinkAttribute {
         family: AddressFamily,
     ) -> Result<LinkAttribute, DecodeError>
         requires { IsAttribute (storage buf.now).now }
-        ensures ok { OnOk result
-            (IsTrue (is_accepted_by (attribute_row (table_family family)) (storage buf.now).now)) }
+        ensures judged { IsRefusedUnless result
+            (is_accepted_by (attribute_row (table_family family)) (storage buf.now).now) }
         ensures value { IfOk result
             (λ v. link_attribute_entry v
             ≡ rewritten_by (attribute_row (table_family family)) (storage buf.now).now) }
@@ -659,12 +635,8 @@ impl LinkAttribute {
             ≡ fits_by (attribute_row (table_family family)) (storage buf.now).now) }
         ensures names_row { IfOk result
             (λ v. link_attribute_names_row (table_family family) v) }
-        ensures err { IfErr result
-            (λ e. is_accepted_by (attribute_row (table_family family)) (storage buf.now).now
-            ≡ is_memory e) }
-        ensures memory { IfErr result
-            (λ e. is_memory e ≡ true
-            → link_attribute_may_want_memory (table_family family) (storage buf.now).now ≡ true) }
+        ensures memory { IfMemory result
+            (link_attribute_may_want_memory (table_family family) (storage buf.now).now ≡ true) }
     {
         let error = match Self::read(alloc, buf, family) {
             Ok(value) => return Ok(value),
@@ -684,22 +656,14 @@ impl LinkAttribute {
         bytes: &[u8],
         family: AddressFamily,
     ) -> Result<Vec<LinkAttribute>, DecodeError>
-        ensures ok { OnOk result
-            (IsTrue ((attributes_rule (table_family family)).accepted bytes.now)) }
-        ensures read { IfOk result
-            (λ v. reading_as any (without_context (attribute_row (table_family family))) bytes.now
-            ≡ Some (map (written_as link_attribute_entry link_attribute_fits) v.items)) }
-        ensures text { IfOk result
-            (λ v. text_by link_attribute_entry v.items
-            ≡ (attributes_rule (table_family family)).canonical bytes.now) }
-        ensures fits { IfOk result
-            (λ v. all_fit_by link_attribute_entry link_attribute_fits v.items
-            ≡ (attributes_rule (table_family family)).fits bytes.now) }
+        ensures judged { SucceedsWhere result
+            ((attributes_rule (table_family family)).accepted bytes.now) }
+        ensures read { ListIsReadAs result link_attribute_entry link_attribute_fits
+            (reading_as any (without_context (attribute_row (table_family family))) bytes.now) }
+        ensures written { ListIsWrittenBy result link_attribute_entry link_attribute_fits
+            (attributes_rule (table_family family)) bytes.now }
         ensures names_row { IfOk result
             (λ v. All (link_attribute_names_row (table_family family)) v.items) }
-        ensures err { IfErr result
-            (λ e. is_memory e ≡ false
-            → (attributes_rule (table_family family)).accepted bytes.now ≡ false) }
         ensures not_empty { IfErr result (λ _. 0 < length bytes.now) }
     {
         attributes_are_looked_up();
@@ -715,21 +679,14 @@ impl LinkAttribute {
         bytes: &[u8],
         family: AddressFamily,
     ) -> Result<Vec<LinkAttribute>, DecodeError>
-        ensures ok { OnOk result
-            (IsTrue ((attributes_rule (table_family family)).accepted bytes.now)) }
-        ensures read { IfOk result
-            (λ v. reading_as any (without_context (attribute_row (table_family family))) bytes.now
-            ≡ Some (map (written_as link_attribute_entry link_attribute_fits) v.items)) }
-        ensures text { IfOk result
-            (λ v. text_by link_attribute_entry v.items
-            ≡ (attributes_rule (table_family family)).canonical bytes.now) }
-        ensures fits { IfOk result
-            (λ v. all_fit_by link_attribute_entry link_attribute_fits v.items
-            ≡ (attributes_rule (table_family family)).fits bytes.now) }
+        ensures judged { IsRefusedUnless result
+            ((attributes_rule (table_family family)).accepted bytes.now) }
+        ensures read { ListIsReadAs result link_attribute_entry link_attribute_fits
+            (reading_as any (without_context (attribute_row (table_family family))) bytes.now) }
+        ensures written { ListIsWrittenBy result link_attribute_entry link_attribute_fits
+            (attributes_rule (table_family family)) bytes.now }
         ensures names_row { IfOk result
             (λ v. All (link_attribute_names_row (table_family family)) v.items) }
-        ensures err { IfErr result
-            (λ e. (attributes_rule (table_family family)).accepted bytes.now ≡ is_memory e) }
         ensures not_empty { IfErr result (λ _. 0 < length bytes.now) }
     {
         let error = match Self::read_list(alloc, bytes, family) {

@@ -1,7 +1,6 @@
 //! The attributes of a link that hold a number.
 
-ghost use Rattle.std.specs.Prelude.{◌≡◌, ◌≢◌, ◌∷◌, [], false, true, IsTrue, IfOk, IfErr, IfSome, IfNone, OnOk};
-ghost use Rattle.netlink_packet_core.specs.Errors.{is_memory};
+ghost use Rattle.std.specs.Prelude.{◌≡◌, ◌≢◌, ◌∷◌, [], true, IfOk, IfSome, IfNone};
 ghost use Rattle.netlink_packet_core.specs.Families.{attribute};
 ghost use Rattle.netlink_packet_core.specs.Numbers.{le4};
 ghost use Rattle.attribute_tables_grammar.specs.Lists.{rewrite};
@@ -10,6 +9,7 @@ ghost use Rattle.link_message_types.specs.AddressFamilies.{table_family};
 ghost use Rattle.link_message_attributes.specs.LinkAttributes.{IsReadAsNumber, plain_row, row_may_want_memory};
 ghost use Rattle.link_message_attributes.specs.LinkAttributes.{link_attribute_entry, link_attribute_fits};
 ghost use Rattle.link_message_attributes.specs.LinkAttributes.{link_attribute_names_row};
+ghost use Rattle.attribute_tables.specs.Outcomes.{IfMemory, IfRead, SucceedsWhere};
 
 use super::attributes::LinkAttribute;
 use super::kinds::{
@@ -100,28 +100,21 @@ impl LinkAttribute {
         payload: &[u8],
     ) -> Result<Option<Self>, DecodeError>
         requires { IsReadAsNumber kind }
-        ensures ok { OnOk result
-            (IsTrue ((plain_row (table_family family) kind).rule.accepted payload.now)) }
+        ensures judged { SucceedsWhere result
+            ((plain_row (table_family family) kind).rule.accepted payload.now) }
         ensures none { IfOk result
             (λ o. IfNone o (has_no_link_row (table_family family) kind)) }
-        ensures typed { IfOk result
-            (λ o. IfSome o (λ _. (plain_row (table_family family) kind).is_typed ≡ true)) }
-        ensures value { IfOk result
-            (λ o. IfSome o
+        ensures typed { IfRead result
+            (λ _. (plain_row (table_family family) kind).is_typed ≡ true) }
+        ensures value { IfRead result
             (λ v. link_attribute_entry v
-            ≡ rewrite (plain_row (table_family family) kind) (attribute kind payload.now))) }
-        ensures inside { IfOk result
-            (λ o. IfSome o
+            ≡ rewrite (plain_row (table_family family) kind) (attribute kind payload.now)) }
+        ensures inside { IfRead result
             (λ v. link_attribute_fits v
-            ≡ (plain_row (table_family family) kind).rule.fits payload.now)) }
-        ensures names_row { IfOk result
-            (λ o. IfSome o (λ v. link_attribute_names_row (table_family family) v)) }
-        ensures err { IfErr result
-            (λ e. is_memory e ≡ false
-            → (plain_row (table_family family) kind).rule.accepted payload.now ≡ false) }
-        ensures memory { IfErr result
-            (λ e. is_memory e ≡ true
-            → row_may_want_memory (table_family family) kind payload.now ≡ true) }
+            ≡ (plain_row (table_family family) kind).rule.fits payload.now) }
+        ensures names_row { IfRead result (λ v. link_attribute_names_row (table_family family) v) }
+        ensures memory { IfMemory result
+            (row_may_want_memory (table_family family) kind payload.now ≡ true) }
     {
         match kind {
             IFLA_OPERSTATE | IFLA_CARRIER | IFLA_PROTO_DOWN => typed!(

@@ -1,8 +1,7 @@
 //! What the attributes of a link hold.
 
-ghost use Rattle.std.specs.Prelude.{◌≡◌, ◌==◌, ◌<◌, false, true, length, IsTrue, IfOk, IfErr, OnOk};
+ghost use Rattle.std.specs.Prelude.{◌≡◌, ◌==◌, ◌<◌, true, length, IsTrue, IfOk, IfErr, OnOk};
 ghost use Rattle.netlink_packet_core.specs.Errors.{is_memory};
-ghost use Rattle.netlink_packet_core.specs.Lists.{text_by, all_fit_by};
 ghost use Rattle.netlink_packet_core.specs.Numbers.{as_usize, le4};
 ghost use Rattle.attribute_tables_grammar.specs.Lists.{nothing};
 ghost use Rattle.attribute_tables_grammar.specs.Readings.{all_named};
@@ -11,6 +10,7 @@ ghost use Rattle.link_info.specs.LinkInfo.{link_info_entry, link_info_fits, link
 ghost use Rattle.link_message_grammar.specs.Body.{info_payload_rule, link_peer};
 ghost use Rattle.link_message_types.specs.ExtentMasks.{joined_extent_masks, link_extent_masks_of};
 ghost use Rattle.link_message_attributes.specs.Payloads.{link_payload_bytes, link_payload_fits};
+ghost use Rattle.attribute_tables.specs.Outcomes.{IfMemory, IsRefusedUnless, ListIsWrittenBy};
 
 use link_info::LinkInfo;
 use link_message_af_spec::AfSpecUnspec;
@@ -159,17 +159,13 @@ pub(crate) fn parse_extent_masks(
 /// Reads link info, peers as link bodies. It succeeds exactly where the list is legal and there is
 /// an attribute in it, memory aside.
 pub(crate) fn parse_link_info(alloc: Global, payload: &[u8]) -> Result<Vec<LinkInfo>, DecodeError>
-    ensures ok { OnOk result (IsTrue (info_payload_rule.accepted payload.now)) }
-    ensures text { IfOk result
-        (λ v. text_by link_info_entry v.items ≡ info_payload_rule.canonical payload.now) }
-    ensures fits { IfOk result
-        (λ v. all_fit_by link_info_entry link_info_fits v.items
-        ≡ info_payload_rule.fits payload.now) }
+    ensures judged { IsRefusedUnless result (info_payload_rule.accepted payload.now) }
+    ensures written { ListIsWrittenBy result link_info_entry link_info_fits info_payload_rule
+        payload.now }
     ensures names_row { IfOk result
         (λ v. all_named (info_grammar_under link_peer) link_info_entry link_info_names_row nothing
         v.items) }
-    ensures err { IfErr result (λ e. info_payload_rule.accepted payload.now ≡ is_memory e) }
-    ensures not_empty { IfErr result (λ e. is_memory e ≡ true → 0 < length payload.now) }
+    ensures not_empty { IfMemory result (0 < length payload.now) }
 {
     if payload.is_empty() {
         return Err(DecodeError::from("IFLA_LINKINFO without an attribute"));

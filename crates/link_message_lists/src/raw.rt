@@ -1,14 +1,13 @@
 //! Lists of attributes that are kept as they are.
 
-ghost use Rattle.std.specs.Prelude.{◌≡◌, ◌<◌, ⊤, true, false, length, IsTrue, IfOk, IfErr, OnOk};
-ghost use Rattle.netlink_packet_core.specs.Errors.{is_memory};
+ghost use Rattle.std.specs.Prelude.{◌≡◌, ◌<◌, ⊤, true, length, IfErr};
 ghost use Rattle.netlink_packet_core.specs.Families.{family_row, may_want_memory};
-ghost use Rattle.netlink_packet_core.specs.Lists.{text_by, all_fit_by};
 ghost use Rattle.attribute_tables_grammar.specs.Lists.{any};
 ghost use Rattle.attribute_tables_grammar.specs.LookUps.{list_of, table_row};
 ghost use Rattle.attribute_tables_grammar.specs.Peers.{bytes_peer};
 ghost use Rattle.attribute_tables_grammar.specs.Tables.{Table.end};
 ghost use Rattle.attribute_tables.specs.Beginnings.{begins_accepted};
+ghost use Rattle.attribute_tables.specs.Outcomes.{IfMemory, ListIsWrittenBy, SucceedsWhere};
 
 use attribute_tables::{Reader, parse_list};
 use attribute_tables_grammar::laws::rows_are_looked_up;
@@ -36,17 +35,11 @@ impl Reader for RawReader {
 /// are a list, memory aside.
 #[tactic(auto, using(crate::proofs::RawRules::raw_rules, attribute_tables::proofs::Families::family_lists))]
 pub fn parse_raw(alloc: Global, bytes: &[u8]) -> Result<Vec<DefaultNla>, DecodeError>
-    ensures ok { OnOk result (IsTrue ((list_of bytes_peer any end).accepted bytes.now)) }
-    ensures text { IfOk result
-        (λ v. text_by (λ a. a) v.items ≡ (list_of bytes_peer any end).canonical bytes.now) }
-    ensures fits { IfOk result
-        (λ v. all_fit_by (λ a. a)
-        (λ _. true) v.items ≡ (list_of bytes_peer any end).fits bytes.now) }
-    ensures err { IfErr result
-        (λ e. is_memory e ≡ false → (list_of bytes_peer any end).accepted bytes.now ≡ false) }
+    ensures judged { SucceedsWhere result ((list_of bytes_peer any end).accepted bytes.now) }
+    ensures written { ListIsWrittenBy result (λ a. a) (λ _. true) (list_of bytes_peer any end)
+        bytes.now }
     ensures not_empty { IfErr result (λ _. 0 < length bytes.now) }
-    ensures memory { IfErr result
-        (λ e. is_memory e ≡ true → begins_accepted (family_row end) bytes.now ≡ true) }
+    ensures memory { IfMemory result (begins_accepted (family_row end) bytes.now ≡ true) }
 {
     rows_are_looked_up();
     parse_list(alloc, &RawReader, bytes)

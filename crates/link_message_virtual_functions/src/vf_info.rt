@@ -1,11 +1,9 @@
 //! Settings of virtual functions (if_link.h, IFLA_VF_*). Numbers are little-endian.
 
-ghost use Rattle.std.specs.Prelude.{◌≡◌, ◌&&◌, ◌<◌, true, false, length, IsTrue, IfOk, IfErr, OnOk};
+ghost use Rattle.std.specs.Prelude.{◌≡◌, ◌&&◌, ◌<◌, true, length, IfOk, IfErr};
 ghost use Rattle.std.specs.List.{All};
 ghost use Rattle.netlink_packet_core.specs.AttributeViews.{viewed_attribute, viewed_payload, IsAttribute};
-ghost use Rattle.netlink_packet_core.specs.Errors.{is_memory};
 ghost use Rattle.netlink_packet_core.specs.Families.{Gives, accepts, family_row};
-ghost use Rattle.netlink_packet_core.specs.Lists.{text_by, all_fit_by};
 ghost use Rattle.netlink_packet_core.specs.NlaBuffers.{storage};
 ghost use Rattle.attribute_tables_grammar.specs.Lists.{is_of_kind_one, of_kind_one};
 ghost use Rattle.attribute_tables_grammar.specs.LookUps.{list_of, table_row};
@@ -18,6 +16,7 @@ ghost use Rattle.link_message_virtual_functions.specs.VfInfos.{link_vf_info_entr
 ghost use Rattle.link_message_virtual_functions.specs.VfInfos.{link_vf_info_names_row};
 ghost use Rattle.link_message_virtual_functions.specs.VfInfos.{vf_info_row, is_vf_info, IsVfInfoOf};
 ghost use Rattle.link_message_virtual_functions.specs.VfInfos.{vf_info_begins_readable, vf_infos_begin_readable};
+ghost use Rattle.attribute_tables.specs.Outcomes.{IfMemory, ListIsWrittenBy, SucceedsWhere};
 
 use super::vf_stats::VfStats;
 use super::vf_vlan::{VfVlan, VfVlanReader};
@@ -253,22 +252,13 @@ impl EntryReader for LinkVfInfoReader {
 /// refused.
 #[tactic(auto, using(crate::proofs::VfRules::vf_rules), unfolding(crate::specs::VfInfos::vf_infos_begin_readable))]
 pub fn parse_vf_infos(alloc: Global, bytes: &[u8]) -> Result<Vec<LinkVfInfo>, DecodeError>
-    ensures ok { OnOk result
-        (IsTrue ((list_of bytes_peer of_kind_one vf_infos).accepted bytes.now)) }
-    ensures text { IfOk result
-        (λ v. text_by link_vf_info_entry v.items
-        ≡ (list_of bytes_peer of_kind_one vf_infos).canonical bytes.now) }
-    ensures fits { IfOk result
-        (λ v. all_fit_by link_vf_info_entry link_vf_info_fits v.items
-        ≡ (list_of bytes_peer of_kind_one vf_infos).fits bytes.now) }
+    ensures judged { SucceedsWhere result
+        ((list_of bytes_peer of_kind_one vf_infos).accepted bytes.now) }
+    ensures written { ListIsWrittenBy result link_vf_info_entry link_vf_info_fits
+        (list_of bytes_peer of_kind_one vf_infos) bytes.now }
     ensures names_row { IfOk result (λ v. All link_vf_info_names_row v.items) }
-    ensures err { IfErr result
-        (λ e. is_memory e ≡ false
-        → (list_of bytes_peer of_kind_one vf_infos).accepted bytes.now ≡ false) }
     ensures not_empty { IfErr result (λ _. 0 < length bytes.now) }
-    ensures memory { IfErr result
-        (λ e. is_memory e ≡ true
-        → vf_infos_begin_readable bytes.now ≡ true) }
+    ensures memory { IfMemory result (vf_infos_begin_readable bytes.now ≡ true) }
 {
     rows_are_looked_up();
     parse_entries(alloc, &LinkVfInfoReader, bytes)

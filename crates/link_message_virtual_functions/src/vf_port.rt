@@ -1,10 +1,8 @@
 //! Ports of virtual functions (if_link.h, IFLA_PORT_*), each attribute as it is.
 
-ghost use Rattle.std.specs.Prelude.{◌≡◌, ◌&&◌, ◌<◌, ⊤, true, false, length, refl, IsTrue, IfOk, IfErr, OnOk};
+ghost use Rattle.std.specs.Prelude.{◌≡◌, ◌&&◌, ◌<◌, ⊤, true, length, refl};
 ghost use Rattle.netlink_packet_core.specs.AttributeViews.{viewed_attribute, viewed_payload, IsAttribute};
-ghost use Rattle.netlink_packet_core.specs.Errors.{is_memory};
 ghost use Rattle.netlink_packet_core.specs.Families.{family_row};
-ghost use Rattle.netlink_packet_core.specs.Lists.{text_by, all_fit_by};
 ghost use Rattle.netlink_packet_core.specs.NlaBuffers.{storage};
 ghost use Rattle.attribute_tables_grammar.specs.Lists.{is_of_kind_one, ports};
 ghost use Rattle.attribute_tables_grammar.specs.LookUps.{list_of};
@@ -15,6 +13,7 @@ ghost use Rattle.link_message_grammar.specs.NestedTables.{vf_ports};
 ghost use Rattle.link_message_virtual_functions.specs.VfPorts.{vf_port_entry, link_vf_port_entry, link_vf_port_fits};
 ghost use Rattle.link_message_virtual_functions.specs.VfPorts.{vf_port_row, is_vf_port, IsVfPortOf};
 ghost use Rattle.link_message_virtual_functions.specs.VfPorts.{vf_ports_begin_readable};
+ghost use Rattle.attribute_tables.specs.Outcomes.{IfMemory, ListIsWrittenBy, SucceedsWhere};
 
 use attribute_tables::{EntryReader, parse_family, parse_ports};
 use attribute_tables_grammar::laws::rows_are_looked_up;
@@ -109,20 +108,11 @@ impl EntryReader for LinkVfPortReader {
 /// has an attribute of any kind in it. It succeeds exactly where the list is accepted, memory aside.
 #[tactic(auto, using(crate::proofs::VfRules::vf_rules), unfolding(crate::specs::VfPorts::vf_ports_begin_readable))]
 pub fn parse_vf_ports(alloc: Global, bytes: &[u8]) -> Result<Vec<LinkVfPort>, DecodeError>
-    ensures ok { OnOk result (IsTrue ((list_of bytes_peer ports vf_ports).accepted bytes.now)) }
-    ensures text { IfOk result
-        (λ v. text_by link_vf_port_entry v.items
-        ≡ (list_of bytes_peer ports vf_ports).canonical bytes.now) }
-    ensures fits { IfOk result
-        (λ v. all_fit_by link_vf_port_entry link_vf_port_fits v.items
-        ≡ (list_of bytes_peer ports vf_ports).fits bytes.now) }
-    ensures err { IfErr result
-        (λ e. is_memory e ≡ false
-        → (list_of bytes_peer ports vf_ports).accepted bytes.now ≡ false) }
-    ensures not_empty { IfErr result (λ e. is_memory e ≡ true → 0 < length bytes.now) }
-    ensures memory { IfErr result
-        (λ e. is_memory e ≡ true
-        → vf_ports_begin_readable bytes.now ≡ true) }
+    ensures judged { SucceedsWhere result ((list_of bytes_peer ports vf_ports).accepted bytes.now) }
+    ensures written { ListIsWrittenBy result link_vf_port_entry link_vf_port_fits
+        (list_of bytes_peer ports vf_ports) bytes.now }
+    ensures not_empty { IfMemory result (0 < length bytes.now) }
+    ensures memory { IfMemory result (vf_ports_begin_readable bytes.now ≡ true) }
 {
     rows_are_looked_up();
     parse_ports(alloc, &LinkVfPortReader, bytes)

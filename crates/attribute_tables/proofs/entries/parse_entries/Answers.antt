@@ -22,22 +22,22 @@ loop-rest-init g c = record {
   begun = λ e. e;
 }
 
-pub returns-in_err-buf-clause-err : goal.returns-in_err-buf-clause-err
-returns-in_err-buf-clause-err g c =
+pub returns-in_err-buf-clause-judged : goal.returns-in_err-buf-clause-judged
+returns-in_err-buf-clause-judged g c =
     let b = c.loop-rest.rest.now in
     let n : 0 < length b = grind (arith, nat_tests) in
     let k = entries_stopped c.readings_go_by_steps.ensures _ _ _ _ c.readings_tell_rules.ensures _ b (λ h. let e : false ≡ true = c.in_err-buf.ensures.whole.1 h in absurd cc) n c.loop-rest.invariant.so_far in
     search rules
 
-pub returns-in_err-read-clause-err : goal.returns-in_err-read-clause-err
-returns-in_err-read-clause-err g c =
+pub returns-in_err-read-clause-judged : goal.returns-in_err-read-clause-judged
+returns-in_err-read-clause-judged g c =
     let b = c.loop-rest.rest.now in
     let r = g.R.EntryReader.entry_row c.args.reader.now in
     let h : IsAttribute b = c.in_ok-buf.ensures.whole.0 refl in
     let one : is_of_kind_one (viewed_attribute b) ≡ true = search rules in
     let k : is_memory c.in_err-read.field-0.0 ≡ false → (rows_rule of_kind_one (only_one r)).accepted c.args.bytes.now ≡ false =
     λ m.
-    let was : r.rule.accepted (viewed_payload b) ≡ false = rw c.in_ok-buf.ensures.ok at c.in_err-read.ensures.err m in
+    let was : r.rule.accepted (viewed_payload b) ≡ false = rw c.in_ok-buf.ensures.ok at c.in_err-read.ensures.judged m in
     entries_refused c.readings_go_by_steps.ensures r _ _ _ c.readings_tell_rules.ensures _ b h one was c.loop-rest.invariant.so_far in
     search rules
 
@@ -61,7 +61,7 @@ returns-in_err-push-clause-memory g c =
     let may = g.R.EntryReader.may_want_memory c.args.reader.now in
     let h : IsAttribute b = c.in_ok-buf.ensures.whole.0 refl in
     let one : is_of_kind_one (viewed_attribute b) ≡ true = search rules in
-    let was : r.rule.accepted (viewed_payload b) ≡ true = rw c.in_ok-buf.ensures.ok at c.in_ok-read.ensures.ok in
+    let was : r.rule.accepted (viewed_payload b) ≡ true = rw c.in_ok-buf.ensures.ok at c.in_ok-read.ensures.judged in
     let k = c.loop-rest.invariant.begun (entries-accepted c.first_attributes_are_within.ensures c.first_attributes_are_viewed.ensures r may b h one was) in
     search rules
 
@@ -77,9 +77,9 @@ loop-rest-preserved g c =
       | then-kind-eq-ENTRY+in_ok-read+in_ok-push w ↦
           let v = w.in_ok-read.field-0 in
           let one : is_of_kind_one (viewed_attribute b) ≡ true = search rules in
-          let was : r.rule.accepted (viewed_payload b) ≡ true = rw c.in_ok-buf.ensures.ok at w.in_ok-read.ensures.ok in
-          let entry : g.R.Value.Nla.entry v ≡ rewrite r (viewed_attribute b) = rw c.in_ok-buf.ensures.ok at w.in_ok-read.ensures.value in
-          let inside : g.R.Value.Nla.inside_fits v ≡ r.rule.fits (viewed_payload b) = rw c.in_ok-buf.ensures.ok at w.in_ok-read.ensures.inside in
+          let was : r.rule.accepted (viewed_payload b) ≡ true = rw c.in_ok-buf.ensures.ok at w.in_ok-read.ensures.judged in
+          let entry : g.R.Value.Nla.entry v ≡ rewrite r (viewed_attribute b) = rw c.in_ok-buf.ensures.ok at w.in_ok-read.ensures.written.0 in
+          let inside : g.R.Value.Nla.inside_fits v ≡ r.rule.fits (viewed_payload b) = rw c.in_ok-buf.ensures.ok at w.in_ok-read.ensures.written.1 in
           let s = entries_more c.readings_go_by_steps.ensures r g.R.Value.Nla.entry g.R.Value.Nla.inside_fits c.args.bytes.now c.loop-rest.list.items b v h one was entry inside c.loop-rest.invariant.so_far in
           let items : c.if-kind-eq-ENTRY.list.items ≡ c.loop-rest.list.items ++ v ∷ [] = ap (λ l. l.items) w.list-is ∙ w.in_ok-push.ensures.items in
           record {
@@ -105,14 +105,13 @@ loop-rest-preserved g c =
 ended : (g : Over) (c : goal.After-loop-rest g) → EntriesDone (g.R.EntryReader.entry_row c.args.reader.now) g.R.Value.Nla.entry g.R.Value.Nla.inside_fits c.args.bytes.now c.loop-rest.list.items
 ended g c = entries_done c.readings_go_by_steps.ensures _ _ _ _ c.readings_tell_rules.ensures _ c.loop-rest.rest.now (grind (arith, nat_tests)) c.loop-rest.invariant.so_far
 
-pub returns-clause-ok : goal.returns-clause-ok
-returns-clause-ok g c = (ended g c).accepted
+pub returns-clause-judged : goal.returns-clause-judged
+returns-clause-judged g c = (ended g c).accepted
 
 pub returns-clause-read : goal.returns-clause-read
 returns-clause-read g c = (ended g c).read
 
-pub returns-clause-text : goal.returns-clause-text
-returns-clause-text g c = (ended g c).canonical
-
-pub returns-clause-fits : goal.returns-clause-fits
-returns-clause-fits g c = (ended g c).fits
+pub returns-clause-written : goal.returns-clause-written
+returns-clause-written g c =
+    let done = ended g c in
+    (done.canonical, done.fits)

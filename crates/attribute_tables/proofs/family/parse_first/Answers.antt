@@ -1,10 +1,10 @@
-use Rattle.attribute_tables.proofs.First.{family-first-err, family-first-memory}
+use Rattle.attribute_tables.proofs.First.{family-first-judged, family-first-memory}
 use Rattle.attribute_tables.proofs.family.parse_first.Goals as goal
 
-pub returns-clause-err : goal.returns-clause-err
-returns-clause-err g c =
+pub returns-clause-judged : goal.returns-clause-judged
+returns-clause-judged g c =
     let e = c.parse_first_by.ensures in
-    family-first-err c.first_attributes_are_read_alone.ensures c.readings_tell_rules.ensures c.rows_are_looked_up.ensures g.F.Family.rows c.args.bytes.now c.parse_first_by.result e.err e.whole e.wants
+    family-first-judged c.first_attributes_are_read_alone.ensures c.readings_tell_rules.ensures c.rows_are_looked_up.ensures g.F.Family.rows c.args.bytes.now c.parse_first_by.result e.judged e.whole e.wants
 
 pub returns-clause-memory : goal.returns-clause-memory
 returns-clause-memory g c =

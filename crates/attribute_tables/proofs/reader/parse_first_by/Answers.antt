@@ -8,19 +8,19 @@ use Rattle.attribute_tables.specs.Written.{written_as}
 use Rattle.attribute_tables.proofs.First.{First, first_of, first_not, first_none}
 use Rattle.attribute_tables.proofs.reader.parse_first_by.Goals as goal
 
-pub returns-in_err-buf-clause-err : goal.returns-in_err-buf-clause-err
-returns-in_err-buf-clause-err g c =
+pub returns-in_err-buf-clause-judged : goal.returns-in_err-buf-clause-judged
+returns-in_err-buf-clause-judged g c =
     let k = first_none c.first_attributes_are_read_alone.ensures c.readings_tell_rules.ensures (g.R.Reader.row_of c.args.reader.now) c.args.bytes.now (λ h. let e : false ≡ true = c.in_err-buf.ensures.whole.1 h in absurd cc) in
     search rules
 
-pub returns-in_err-value-clause-err : goal.returns-in_err-value-clause-err
-returns-in_err-value-clause-err g c =
+pub returns-in_err-value-clause-judged : goal.returns-in_err-value-clause-judged
+returns-in_err-value-clause-judged g c =
     let rows = g.R.Reader.row_of c.args.reader.now in
     let b = c.args.bytes.now in
     let h : IsAttribute b = c.in_ok-buf.ensures.whole.0 refl in
     let k : is_memory c.in_err-value.field-0.0 ≡ false → (rows_rule first_alone rows).accepted b ≡ false =
     λ m.
-    let was : is_accepted_by rows b ≡ false = rw c.in_ok-buf.ensures.ok at c.in_err-value.ensures.err m in
+    let was : is_accepted_by rows b ≡ false = rw c.in_ok-buf.ensures.ok at c.in_err-value.ensures.judged m in
     first_not c.first_attributes_are_read_alone.ensures c.readings_tell_rules.ensures rows b h was in
     search rules
 
@@ -30,16 +30,15 @@ was_first g c =
     let b = c.args.bytes.now in
     let v = c.in_ok-value.value in
     let h : IsAttribute b = c.in_ok-buf.ensures.whole.0 refl in
-    let a : is_accepted_by rows b ≡ true = rw c.in_ok-buf.ensures.ok at c.in_ok-value.ensures.ok in
-    let entry : g.R.Value.Nla.entry v ≡ rewritten_by rows b = rw c.in_ok-buf.ensures.ok at c.in_ok-value.ensures.value in
-    let inside : g.R.Value.Nla.inside_fits v ≡ fits_by rows b = rw c.in_ok-buf.ensures.ok at c.in_ok-value.ensures.inside in
+    let a : is_accepted_by rows b ≡ true = rw c.in_ok-buf.ensures.ok at c.in_ok-value.ensures.judged in
+    let entry : g.R.Value.Nla.entry v ≡ rewritten_by rows b = rw c.in_ok-buf.ensures.ok at c.in_ok-value.ensures.written.0 in
+    let inside : g.R.Value.Nla.inside_fits v ≡ fits_by rows b = rw c.in_ok-buf.ensures.ok at c.in_ok-value.ensures.written.1 in
     first_of c.first_attributes_are_read_alone.ensures c.readings_tell_rules.ensures rows b (written_as g.R.Value.Nla.entry g.R.Value.Nla.inside_fits v) h a (λ i. record { entry = entry i; inside_fits = inside i })
 
-pub returns-clause-ok : goal.returns-clause-ok
-returns-clause-ok g c = (was_first g c).accepted
+pub returns-clause-judged : goal.returns-clause-judged
+returns-clause-judged g c = (was_first g c).accepted
 
-pub returns-clause-text : goal.returns-clause-text
-returns-clause-text g c = (was_first g c).canonical
-
-pub returns-clause-fits : goal.returns-clause-fits
-returns-clause-fits g c = (was_first g c).fits
+pub returns-clause-written : goal.returns-clause-written
+returns-clause-written g c =
+    let first = was_first g c in
+    (first.canonical, first.fits)

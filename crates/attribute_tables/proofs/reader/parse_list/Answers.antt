@@ -15,22 +15,22 @@ use Rattle.attribute_tables.specs.Beginnings.{begins_readable}
 use Rattle.attribute_tables.proofs.Beginnings.{begins-accepted, begins-wanting}
 use Rattle.attribute_tables.proofs.reader.parse_list.Goals as goal
 
-pub returns-in_err-buf-clause-err : goal.returns-in_err-buf-clause-err
-returns-in_err-buf-clause-err g c =
+pub returns-in_err-buf-clause-judged : goal.returns-in_err-buf-clause-judged
+returns-in_err-buf-clause-judged g c =
     let b = c.loop-rest.rest.now in
     let n : 0 < length b = grind (arith, nat_tests) in
     let f : IsAttribute b → ⊥ = λ h. let e : false ≡ true = c.in_err-buf.ensures.whole.1 h in absurd cc in
     let k = c.readings_tell_rules.ensures.denies_rows any (g.R.Reader.row_of c.args.reader.now) c.args.bytes.now (c.readings_tell_rules.ensures.of_any _ _ ∙ c.readings_go_by_steps.ensures.stopped any _ _ _ _ b f n c.loop-rest.invariant.so_far) in
     search rules
 
-pub returns-in_err-read-clause-err : goal.returns-in_err-read-clause-err
-returns-in_err-read-clause-err g c =
+pub returns-in_err-read-clause-judged : goal.returns-in_err-read-clause-judged
+returns-in_err-read-clause-judged g c =
     let b = c.loop-rest.rest.now in
     let rows = without_context (g.R.Reader.row_of c.args.reader.now) in
     let h : IsAttribute b = c.in_ok-buf.ensures.whole.0 refl in
     let k : is_memory c.in_err-read.field-0.0 ≡ false → (rows_rule any (g.R.Reader.row_of c.args.reader.now)).accepted c.args.bytes.now ≡ false =
     λ m.
-    let was : (row_of rows nothing (viewed_attribute b)).rule.accepted (viewed_attribute b).payload ≡ false = rw c.in_ok-buf.ensures.ok at c.in_err-read.ensures.err m in
+    let was : (row_of rows nothing (viewed_attribute b)).rule.accepted (viewed_attribute b).payload ≡ false = rw c.in_ok-buf.ensures.ok at c.in_err-read.ensures.judged m in
     c.readings_tell_rules.ensures.denies_rows any (g.R.Reader.row_of c.args.reader.now) c.args.bytes.now (c.readings_tell_rules.ensures.of_any _ _ ∙ c.readings_go_by_steps.ensures.refused any rows _ _ nothing b h refl was c.loop-rest.invariant.so_far) in
     search rules
 
@@ -48,7 +48,7 @@ pub returns-in_err-push-clause-memory : goal.returns-in_err-push-clause-memory
 returns-in_err-push-clause-memory g c =
     let b = c.loop-rest.rest.now in
     let h : IsAttribute b = c.in_ok-buf.ensures.whole.0 refl in
-    let was : is_accepted_by (g.R.Reader.row_of c.args.reader.now) b ≡ true = rw c.in_ok-buf.ensures.ok at c.in_ok-read.ensures.ok in
+    let was : is_accepted_by (g.R.Reader.row_of c.args.reader.now) b ≡ true = rw c.in_ok-buf.ensures.ok at c.in_ok-read.ensures.judged in
     let k = c.loop-rest.invariant.begun (begins-accepted c.first_attributes_are_viewed.ensures (g.R.Reader.row_of c.args.reader.now) (g.R.Reader.may_want_memory c.args.reader.now) b h was) in
     search rules
 
@@ -60,9 +60,9 @@ loop-rest-preserved g c =
     let ws = map w c.loop-rest.list.items in
     let v = c.in_ok-read.field-0 in
     let h : IsAttribute b = c.in_ok-buf.ensures.whole.0 refl in
-    let was : (row_of rows nothing (viewed_attribute b)).rule.accepted (viewed_attribute b).payload ≡ true = rw c.in_ok-buf.ensures.ok at c.in_ok-read.ensures.ok in
-    let entry : g.R.Value.Nla.entry v ≡ (written_by (row_of rows nothing (viewed_attribute b)) (viewed_attribute b)).entry = rw c.in_ok-buf.ensures.ok at c.in_ok-read.ensures.value in
-    let inside : g.R.Value.Nla.inside_fits v ≡ (written_by (row_of rows nothing (viewed_attribute b)) (viewed_attribute b)).inside_fits = rw c.in_ok-buf.ensures.ok at c.in_ok-read.ensures.inside in
+    let was : (row_of rows nothing (viewed_attribute b)).rule.accepted (viewed_attribute b).payload ≡ true = rw c.in_ok-buf.ensures.ok at c.in_ok-read.ensures.judged in
+    let entry : g.R.Value.Nla.entry v ≡ (written_by (row_of rows nothing (viewed_attribute b)) (viewed_attribute b)).entry = rw c.in_ok-buf.ensures.ok at c.in_ok-read.ensures.written.0 in
+    let inside : g.R.Value.Nla.inside_fits v ≡ (written_by (row_of rows nothing (viewed_attribute b)) (viewed_attribute b)).inside_fits = rw c.in_ok-buf.ensures.ok at c.in_ok-read.ensures.written.1 in
     let is : w v ≡ written_by (row_of rows nothing (viewed_attribute b)) (viewed_attribute b) = λ i. record { entry = entry i; inside_fits = inside i } in
     let so_far = c.readings_go_by_steps.ensures.more any rows c.args.bytes.now ws nothing b (w v) h refl was is c.loop-rest.invariant.so_far in
     let items : map w c.push.new.self.items ≡ ws ++ w v ∷ [] = ap (map w) c.in_ok-push.ensures.items ∙ map-append w c.loop-rest.list.items (v ∷ []) in
@@ -77,15 +77,10 @@ loop-rest-preserved g c =
 pub returns-clause-read : goal.returns-clause-read
 returns-clause-read g c = c.readings_tell_rules.ensures.of_any _ _ ∙ c.readings_go_by_steps.ensures.done any _ _ _ _ c.loop-rest.rest.now (grind (arith, nat_tests)) c.loop-rest.invariant.so_far
 
-pub returns-clause-ok : goal.returns-clause-ok
-returns-clause-ok g c = (c.readings_tell_rules.ensures.tells_rows any (g.R.Reader.row_of c.args.reader.now) c.args.bytes.now _ (returns-clause-read g c)).accepted
+pub returns-clause-judged : goal.returns-clause-judged
+returns-clause-judged g c = (c.readings_tell_rules.ensures.tells_rows any (g.R.Reader.row_of c.args.reader.now) c.args.bytes.now _ (returns-clause-read g c)).accepted
 
-pub returns-clause-text : goal.returns-clause-text
-returns-clause-text g c =
-    sym (ap list_text (entries_written g.R.Value.Nla.entry g.R.Value.Nla.inside_fits c.loop-rest.list.items))
-    ∙ sym (c.readings_tell_rules.ensures.tells_rows any (g.R.Reader.row_of c.args.reader.now) c.args.bytes.now _ (returns-clause-read g c)).canonical
-
-pub returns-clause-fits : goal.returns-clause-fits
-returns-clause-fits g c =
-    sym (all_written g.R.Value.Nla.entry g.R.Value.Nla.inside_fits c.loop-rest.list.items)
-    ∙ sym (c.readings_tell_rules.ensures.tells_rows any (g.R.Reader.row_of c.args.reader.now) c.args.bytes.now _ (returns-clause-read g c)).fits
+pub returns-clause-written : goal.returns-clause-written
+returns-clause-written g c =
+    let told = c.readings_tell_rules.ensures.tells_rows any (g.R.Reader.row_of c.args.reader.now) c.args.bytes.now _ (returns-clause-read g c) in
+    (sym (ap list_text (entries_written g.R.Value.Nla.entry g.R.Value.Nla.inside_fits c.loop-rest.list.items)) ∙ sym told.canonical, sym (all_written g.R.Value.Nla.entry g.R.Value.Nla.inside_fits c.loop-rest.list.items) ∙ sym told.fits)

@@ -16,26 +16,26 @@ loop-force-init g c = record {
   within = omega arith;
 }
 
-pub returns-in_err-buf-clause-err : goal.returns-in_err-buf-clause-err
-returns-in_err-buf-clause-err g c =
+pub returns-in_err-buf-clause-judged : goal.returns-in_err-buf-clause-judged
+returns-in_err-buf-clause-judged g c =
     let b = c.loop-force.rest.now in
     let n : 0 < length b = grind (arith, nat_tests) in
     let k = state_stopped g.R.PeerRule.peer c.readings_go_by_steps.ensures c.readings_tell_rules.ensures _ _ _ b (λ h. let e : false ≡ true = c.in_err-buf.ensures.whole.1 h in absurd cc) n c.loop-force.invariant.state in
     search rules
 
-pub returns-in_err-read-clause-err : goal.returns-in_err-read-clause-err
-returns-in_err-read-clause-err g c =
+pub returns-in_err-read-clause-judged : goal.returns-in_err-read-clause-judged
+returns-in_err-read-clause-judged g c =
     let b = c.loop-force.rest.now in
     let f = context_of c.loop-force.force.kind c.loop-force.force.port_kind in
     let h : IsAttribute b = c.in_ok-buf.ensures.whole.0 refl in
     let k : is_memory c.in_err-read.field-0.0 ≡ false → (info_rule_under g.R.PeerRule.peer).accepted c.args.bytes.now ≡ false =
     λ m.
-    let was : (link_info_row_under g.R.PeerRule.peer f (proper_kind (viewed_kind b))).rule.accepted (viewed_payload b) ≡ false = rw c.in_ok-buf.ensures.ok at c.in_err-read.ensures.err m in
+    let was : (link_info_row_under g.R.PeerRule.peer f (proper_kind (viewed_kind b))).rule.accepted (viewed_payload b) ≡ false = rw c.in_ok-buf.ensures.ok at c.in_err-read.ensures.judged m in
     state_refused g.R.PeerRule.peer c.readings_go_by_steps.ensures c.readings_tell_rules.ensures _ _ f b h was c.loop-force.invariant.state in
     search rules
 
-pub returns-in_err-force-clause-err : goal.returns-in_err-force-clause-err
-returns-in_err-force-clause-err g c =
+pub returns-in_err-force-clause-judged : goal.returns-in_err-force-clause-judged
+returns-in_err-force-clause-judged g c =
     let b = c.loop-force.rest.now in
     let f = context_of c.loop-force.force.kind c.loop-force.force.port_kind in
     let h : IsAttribute b = c.in_ok-buf.ensures.whole.0 refl in
@@ -49,7 +49,7 @@ loop-force-preserved g c =
     let f = context_of c.loop-force.force.kind c.loop-force.force.port_kind in
     let v = c.in_ok-read.field-0 in
     let h : IsAttribute b = c.in_ok-buf.ensures.whole.0 refl in
-    let was : (link_info_row_under g.R.PeerRule.peer f (proper_kind (viewed_kind b))).rule.accepted (viewed_payload b) ≡ true = rw c.in_ok-buf.ensures.ok at c.in_ok-read.ensures.ok in
+    let was : (link_info_row_under g.R.PeerRule.peer f (proper_kind (viewed_kind b))).rule.accepted (viewed_payload b) ≡ true = rw c.in_ok-buf.ensures.ok at c.in_ok-read.ensures.judged in
     let entry : link_info_entry v ≡ rewrite (link_info_row_under g.R.PeerRule.peer f (proper_kind (viewed_kind b))) (viewed_attribute b) = rw c.in_ok-buf.ensures.ok at c.in_ok-read.ensures.value in
     let inside : link_info_fits v ≡ (link_info_row_under g.R.PeerRule.peer f (proper_kind (viewed_kind b))).rule.fits (viewed_payload b) = rw c.in_ok-buf.ensures.ok at c.in_ok-read.ensures.inside in
     let next : context_of c.in_ok-force.force.kind c.in_ok-force.force.port_kind ≡ info_next f (proper_kind (viewed_kind b)) (viewed_payload b) = rw c.in_ok-buf.ensures.ok at c.in_ok-force.ensures.next in
@@ -65,14 +65,13 @@ loop-force-preserved g c =
 ended : (g : _) (c : goal.After-loop-force g) → Done g.R.PeerRule.peer c.args.bytes.now c.loop-force.list.items
 ended g c = state_done g.R.PeerRule.peer c.readings_go_by_steps.ensures c.readings_tell_rules.ensures _ _ _ c.loop-force.rest.now (grind (arith, nat_tests)) c.loop-force.invariant.state
 
-pub returns-clause-ok : goal.returns-clause-ok
-returns-clause-ok g c = (ended g c).accepted
+pub returns-clause-judged : goal.returns-clause-judged
+returns-clause-judged g c = (ended g c).accepted
 
 pub returns-clause-read : goal.returns-clause-read
 returns-clause-read g c = (ended g c).read
 
-pub returns-clause-text : goal.returns-clause-text
-returns-clause-text g c = (ended g c).canonical
-
-pub returns-clause-fits : goal.returns-clause-fits
-returns-clause-fits g c = (ended g c).fits
+pub returns-clause-written : goal.returns-clause-written
+returns-clause-written g c =
+    let done = ended g c in
+    (done.canonical, done.fits)

@@ -7,14 +7,12 @@ use Rattle.link_info_grammar.specs.Families.{macvlan}
 use Rattle.link_info_stacked.proofs.Rows.{entry-addresses, fits-addresses, list-written}
 use Rattle.link_info_stacked.proofs.mac_vlan.MacVlanReaderReader.read.Goals as goal
 
-pub returns-in_ok-list-in-5-clause-value : goal.returns-in_ok-list-in-5-clause-value
-returns-in_ok-list-in-5-clause-value c =
+pub returns-in_ok-list-in-5-clause-written : goal.returns-in_ok-list-in-5-clause-written
+returns-in_ok-list-in-5-clause-written c =
     let b = (storage c.args.buf.now).now in
-    let h : proper_kind (viewed_kind b) ≡ 5 = cc in
-    entry-addresses c.in_ok-list-in-5.list ∙ ap (attribute 5) (rw c.value.ensures at c.in_ok-list-in-5.ensures.text) ∙ sym (list-written (viewed_attribute b) h)
-
-pub returns-in_ok-list-in-5-clause-inside : goal.returns-in_ok-list-in-5-clause-inside
-returns-in_ok-list-in-5-clause-inside c =
-    let b = (storage c.args.buf.now).now in
-    let h : proper_kind (viewed_kind b) ≡ 5 = cc in
-    fits-addresses c.in_ok-list-in-5.list ∙ (rw c.value.ensures at c.in_ok-list-in-5.ensures.fits) ∙ sym (ap (λ k. (family_row macvlan k).rule.fits (viewed_payload b)) h)
+    let list = c.in_ok-list-in-5.list in
+    let read = c.in_ok-list-in-5.ensures.written in
+    let h : proper_kind (viewed_kind b) ≡ 5 = cc in (
+      entry-addresses list ∙ ap (attribute 5) (rw c.value.ensures at read.0) ∙ sym (list-written (viewed_attribute b) h),
+      fits-addresses list ∙ (rw c.value.ensures at read.1) ∙ sym (ap (λ k. (family_row macvlan k).rule.fits (viewed_payload b)) h),
+    )

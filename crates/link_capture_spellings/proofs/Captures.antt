@@ -20,8 +20,8 @@ use Rattle.link_capture_spellings.specs.Spellings.{frame_told, link_told, told_a
 use Rattle.link_capture_spellings.proofs.Canonical.{written}
 use Rattle.link_capture_spellings.proofs.CaptureSteps as Steps
 use Rattle.link_capture_spellings.proofs.ListSteps as ListSteps
-use Rattle.link_capture_spelling_laws.specs.TextLaws.{TextsHaveNoSpelling}
-use Rattle.link_capture_spelling_laws.proofs.Bodies.{body-none}
+use Rattle.link_capture_spellings.specs.TextLaws.{TextsHaveNoSpelling}
+use Rattle.link_capture_spellings.proofs.Bodies.{body-none}
 
 -- ---- the laws of the crates below
 

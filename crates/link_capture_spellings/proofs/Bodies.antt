@@ -14,9 +14,9 @@ use Rattle.link_capture_spelling_rows.specs.SpellingTables.{family_table}
 use Rattle.link_capture_spellings.specs.SpellingLists.{told_at, list_told}
 use Rattle.link_capture_spellings.specs.SpellingLaws.{ListsGoBySteps, link_list, WrittenAttributesHaveNone}
 use Rattle.link_capture_spellings.specs.Spellings.{body_list, link_told}
-use Rattle.link_capture_spelling_laws.proofs.Lists.{Silent}
-use Rattle.link_capture_spelling_laws.proofs.KindData.{PeerHasNone}
-use Rattle.link_capture_spelling_laws.proofs.Links.{attributes-none}
+use Rattle.link_capture_spellings.proofs.Lists.{Silent}
+use Rattle.link_capture_spellings.proofs.KindData.{PeerHasNone}
+use Rattle.link_capture_spellings.proofs.Links.{attributes-none}
 
 -- the list of a family is that of the first byte
 family-list : (n : ℕ) → family_table n ≡ link_list (family_of n)

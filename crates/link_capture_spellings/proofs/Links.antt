@@ -23,9 +23,9 @@ use Rattle.link_capture_spelling_rows.specs.declared.tables.Table.TheVariants.{U
 use Rattle.link_capture_spelling_rows.specs.declared.tables.Listed.{Listed}
 use Rattle.link_capture_spelling_rows.specs.SpellingTables.{data_named, in_front, inside_link, inside_table, has_peer, next_table}
 use Rattle.link_capture_spellings.specs.SpellingLaws.{ListsGoBySteps, link_list, WrittenAttributesHaveNone}
-use Rattle.link_capture_spelling_laws.proofs.Lists.{HasNone, Silent, Quiet, list-none}
-use Rattle.link_capture_spelling_laws.proofs.Inside.{at_kind, pick, nothing-inside, whole-list, written-inside, IsDull, dull-own}
-use Rattle.link_capture_spelling_laws.proofs.KindData.{PeerHasNone, named-none, other-none}
+use Rattle.link_capture_spellings.proofs.Lists.{HasNone, Silent, Quiet, list-none}
+use Rattle.link_capture_spellings.proofs.Inside.{at_kind, pick, nothing-inside, whole-list, written-inside, IsDull, dull-own}
+use Rattle.link_capture_spellings.proofs.KindData.{PeerHasNone, named-none, other-none}
 
 -- the data of the kind in force
 abbrev in_force : Option (List ℕ) → Data

@@ -14,7 +14,7 @@ use Rattle.link_capture_spelling_rows.specs.declared.tables.Table.{Table}
 use Rattle.link_capture_spelling_rows.specs.SpellingRows.{nested_spelling, payload_spelling}
 use Rattle.link_capture_spelling_rows.specs.SpellingTables.{family_table, inside, inside_table, in_front, has_peer}
 use Rattle.link_capture_spellings.specs.SpellingLists.{told_at, own_told, inside_of, list_behind, inside_told, next_told, told_within, list_told}
-use Rattle.link_capture_spelling_laws.proofs.Lists.{HasNone, Silent}
+use Rattle.link_capture_spellings.proofs.Lists.{HasNone, Silent}
 
 -- ---- choices
 

@@ -21,8 +21,8 @@ use Rattle.link_capture_spelling_rows.specs.declared.tables.Listed.{Listed}
 use Rattle.link_capture_spelling_rows.specs.SpellingTables.{data_named, is_gre, is_gre6, is_ip_tunnel, is_pair, family_table, inside, next_data, has_peer}
 use Rattle.link_capture_spellings.specs.SpellingLists.{inside_of, list_behind, inside_told, list_told}
 use Rattle.link_capture_spellings.specs.SpellingLaws.{ListsGoBySteps, IsDataTable, WrittenAttributesHaveNone}
-use Rattle.link_capture_spelling_laws.proofs.Lists.{HasNone, Silent, Quiet, list-none}
-use Rattle.link_capture_spelling_laws.proofs.Inside.{at_kind, either, nothing-inside, without-peer, written-inside, IsDull, dull-own, none-at-all}
+use Rattle.link_capture_spellings.proofs.Lists.{HasNone, Silent, Quiet, list-none}
+use Rattle.link_capture_spellings.proofs.Inside.{at_kind, either, nothing-inside, without-peer, written-inside, IsDull, dull-own, none-at-all}
 
 -- what stands inside a peer's payload, where peers are judged
 abbrev pub in_peer : Bool → List ℕ → Option (Listed × ℕ)

@@ -4,7 +4,6 @@ use Rattle.link_capture_grammar.specs.declared.fault.FaultKind.{FaultKind}
 use Rattle.link_capture_grammar.specs.declared.fault.FaultKind.TheVariants.{Cut, ShortLength, OverLimit, Refused, EmptyPorts, Unfit, TextOverLimit, Memory, Read, Write, TooLong, Failed}
 use Rattle.link_capture_grammar.specs.declared.fault.CaptureFault.{CaptureFault}
 use Rattle.link_capture_grammar.specs.Captures.{first_fault, StopsAt}
-use Rattle.link_capture_checks.specs.declared.sameness.SideFault.{SideFault}
 use Rattle.link_capture_checks.specs.Sides.{side_text}
 use Rattle.linkcap_c.specs.declared.told.LinkcapFault.{LinkcapFault}
 

@@ -6,15 +6,16 @@ ghost use Rattle.netlink_packet_core_grammar.specs.Attributes.{first_attribute};
 use netlink_packet_core::{NlaBuffer, skip_first};
 use netlink_packet_core_grammar::laws::first_attributes_are_viewed;
 
-/// An attribute's kind with its flag bits, and its payload.
-#[derive(Clone, Copy)]
-pub(crate) struct Attribute<'a> {
+/// An attribute's kind and its payload.
+#[derive(Clone, Copy, Drop)]
+pub struct Attribute<'a> {
+    /// With its flag bits.
     pub kind: u16,
     pub payload: &'a [u8],
 }
 
 /// The attribute that begins the bytes, and what comes after its padding.
-pub(crate) fn first_attribute(bytes: &[u8]) -> Option<(Attribute<'_>, &[u8])>
+pub fn first_attribute(bytes: &[u8]) -> Option<(Attribute<'_>, &[u8])>
     ensures { first_attribute bytes.now
         ≡ option_map (λ r. (record { kind = r.0.kind; payload = r.0.payload.now }, r.1.now)) result }
 {

@@ -9,6 +9,7 @@ ghost use Rattle.link_capture_grammar.specs.Numbers.{body_attributes};
 ghost use Rattle.link_capture_grammar.specs.Same.{done_body};
 ghost use Rattle.link_capture_checks.specs.Measures.{IsBodyText, written};
 
+use crate::link_types::{RTM_NEWLINK, RTM_SETLINK};
 use crate::texts::BodyText;
 use attribute_checks::append;
 use attribute_tables_grammar::laws::measures_tell_rules;
@@ -113,8 +114,7 @@ pub(crate) fn measure_body(message_type: u16, body: &[u8]) -> Result<BodyText, F
         }),
         NLMSG_ERROR => measure_error(body),
         NLMSG_DONE => measure_done(body),
-        // RTM_NEWLINK, RTM_DELLINK, RTM_GETLINK and RTM_SETLINK (rtnetlink.h)
-        16..=19 => measure_link(body),
+        RTM_NEWLINK..=RTM_SETLINK => measure_link(body),
         _ => Ok(kept(body)),
     }
 }
@@ -143,8 +143,7 @@ pub(crate) fn push_body(
         NLMSG_NOOP => {}
         NLMSG_ERROR => append(body, out),
         NLMSG_DONE => append(with_code(body), out),
-        // RTM_NEWLINK, RTM_DELLINK, RTM_GETLINK and RTM_SETLINK (rtnetlink.h)
-        16..=19 => write_body(body, front, out),
+        RTM_NEWLINK..=RTM_SETLINK => write_body(body, front, out),
         _ => append(body, out),
     }
 }

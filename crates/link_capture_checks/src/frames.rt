@@ -42,7 +42,7 @@ pub fn frame_len(bytes: &[u8], limit: u32) -> Result<usize, FaultKind>
 }
 
 /// The body of the frame in front.
-pub(crate) fn body(bytes: &[u8]) -> &[u8]
+pub fn frame_body(bytes: &[u8]) -> &[u8]
     requires { IsFrame bytes.now }
     ensures { result.now ≡ frame_body bytes.now }
 {
@@ -64,7 +64,7 @@ pub fn measure_frame(bytes: &[u8], limit: u32) -> Result<FrameText, FaultKind>
         attributes,
         is_own,
         front,
-    } = measure_body(message_type, body(bytes))?;
+    } = measure_body(message_type, frame_body(bytes))?;
     if body_len > (limit as usize - NETLINK_HEADER_LEN) as u128 {
         return Err(FaultKind::TextOverLimit);
     }
@@ -97,7 +97,7 @@ fn push_text(bytes: &[u8], size: u32, is_own: bool, front: usize, out: &mut Vec<
     append(&size.to_le_bytes(), out);
     append(&bytes[4..NETLINK_HEADER_LEN], out);
     let message_type = NetlinkBuffer::new(bytes).message_type();
-    push_body(message_type, body(bytes), is_own, front, out);
+    push_body(message_type, frame_body(bytes), is_own, front, out);
     let size = size as usize;
     append_zeros(nla_align(size) - size, out);
 }

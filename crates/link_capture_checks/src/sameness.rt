@@ -12,7 +12,8 @@ ghost use Rattle.link_capture_checks.specs.Sides.{side_text};
 
 use crate::bodies::with_code;
 use crate::capture::check;
-use crate::frames::{body, measure_frame};
+use crate::frames::{frame_body, measure_frame};
+use crate::link_types::{RTM_NEWLINK, RTM_SETLINK};
 use arrayvec::ArrayString;
 use link_capture_grammar::fault::CaptureFault;
 use link_capture_grammar::laws::{
@@ -72,8 +73,7 @@ fn same_body(message_type: u16, left: &[u8], right: &[u8]) -> bool
     match message_type {
         NLMSG_NOOP => true,
         NLMSG_DONE => with_code(left) == with_code(right),
-        // RTM_NEWLINK, RTM_DELLINK, RTM_GETLINK and RTM_SETLINK (rtnetlink.h)
-        16..=19 => same_link(left, right),
+        RTM_NEWLINK..=RTM_SETLINK => same_link(left, right),
         _ => left == right,
     }
 }
@@ -86,7 +86,7 @@ fn same_frame(left: &[u8], right: &[u8], limit: u32) -> bool
 {
     let message_type = NetlinkBuffer::new(left).message_type();
     &left[4..NETLINK_HEADER_LEN] == &right[4..NETLINK_HEADER_LEN]
-        && same_body(message_type, body(left), body(right))
+        && same_body(message_type, frame_body(left), frame_body(right))
 }
 
 // Whether the frame in front of some bytes is legal and means the same as this legal one. One of the same bytes isn't

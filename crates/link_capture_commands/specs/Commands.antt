@@ -1,7 +1,6 @@
 -- The words and the statuses of the program.
 use Rattle.std.specs.Prelude.{◌≡◌, ℕ, ◌^◌, ◌<◌, ◌≤◌, ⊤, Bool, true, false, List, [], ◌∷◌, codes, Result, Ok, Err}
 use Rattle.std.specs.Str.Parse.{IsNumeral, digits_value}
-use Rattle.link_capture_grammar.specs.declared.fault.CaptureFault.{CaptureFault}
 use Rattle.link_capture_checks.specs.declared.sameness.SideFault.{SideFault}
 use Rattle.link_capture_commands.specs.declared.command.Command.{Command}
 use Rattle.link_capture_commands.specs.declared.command.Command.TheVariants.{Norm, Same}
@@ -33,7 +32,8 @@ abbrev pub IsCommand : List (List ℕ) → Command → Type 0
 IsCommand words (Norm limit) = IsNorm words limit
 IsCommand words (Same first second limit) = IsSame words first.now second.now limit
 
-abbrev pub status_of : Result ⊤ CaptureFault → ℕ
+-- the status of a run that is done, or met a fault
+abbrev pub status_of : {Fault : Type 0} → Result ⊤ Fault → ℕ
 status_of (Ok x) = 0
 status_of (Err fault) = 2
 

@@ -1,3 +1,4 @@
 pub mod Devices
 pub mod Known
 pub mod Outcomes
+pub mod States

@@ -5,8 +5,10 @@ mod devices;
 mod engine;
 mod sinks;
 mod sources;
+mod telling;
 
 pub use devices::{DeviceFailed, Sink, Source};
 pub use engine::{normalize, read_all, write_all};
 pub use sinks::{VecSink, WriteSink};
 pub use sources::{ReadSource, SliceSource};
+pub use telling::tell;

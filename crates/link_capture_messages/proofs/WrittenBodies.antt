@@ -15,10 +15,8 @@ use Rattle.netlink_packet_core_messages.specs.declared.payload.NetlinkPayload.Th
 use Rattle.link_message_grammar.specs.Body.{link_body}
 use Rattle.link_capture_grammar.specs.Bodies.{done_text, error_text, ruled_text, is_link_type, body_text, body_text_under}
 use Rattle.link_capture_messages.specs.Routes.{reads_route, typed_text}
-
--- the chain of tests
-guard : {A : Type 0} (b : Bool) (x y z : A) → cond b x y ≡ z → ((b ≡ true) × (x ≡ z)) ⊎ ((b ≡ false) × (y ≡ z))
-guard b x y z = elim b as (λ v. cond v x y ≡ z → ((v ≡ true) × (x ≡ z)) ⊎ ((v ≡ false) × (y ≡ z))) [ true ↦ (λ h. inl (refl, h)) | false ↦ (λ h. inr (refl, h)) ]
+use Rattle.link_capture_grammar.proofs.Frames.{guard}
+use Rattle.link_capture_grammar.proofs.Same.{error_is}
 
 -- OVERRUN is none of the types of links
 overrun : (t : ℕ) → eqb t 4 ≡ true → is_link_type t ≡ false
@@ -26,13 +24,6 @@ overrun t h = rw (eqb-true t 4 h) refl
 
 pub one_body : (x y : TypedBody) → Some x ≡ Some y → y ≡ x
 one_body x y e = cc
-
-error_written : (b text : List ℕ) → error_text b ≡ Ok text → b ≡ text
-error_written b text h =
-    elim (guard (ltb (length b) 4) _ _ _ h) [
-      | inl k ↦ (let f = k.1 in absurd (cc))
-      | inr k ↦ (let f = k.1 in cc)
-    ]
 
 last_written : (t : ℕ) (b text : List ℕ) → cond (is_link_type t) (ruled_text link_body b) (Ok b) ≡ Ok text → cond (eqb t 4) b text ≡ text
 last_written t b text h =
@@ -48,11 +39,11 @@ body_written t b text h =
     elim (guard (eqb t 1) _ _ _ h) [
       | inl k ↦ rw k.0 (let f = k.1 in cc)
       | inr k ↦ rw k.0 (elim (guard (eqb t 2) _ _ _ k.1) [
-        | inl m ↦ rw m.0 (error_written b text m.1)
+        | inl m ↦ rw m.0 (error_is b text m.1)
         | inr m ↦ rw m.0 (elim (guard (eqb t 3) _ _ _ m.1) [
           | inl n ↦ rw n.0 (elim (guard (eqb (length b) 0) _ _ _ n.1) [
             | inl o ↦ rw o.0 (let f = o.1 in cc)
-            | inr o ↦ rw o.0 (error_written b text o.1)
+            | inr o ↦ rw o.0 (error_is b text o.1)
           ])
           | inr n ↦ rw n.0 (last_written t b text n.1)
         ])

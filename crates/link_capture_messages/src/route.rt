@@ -7,22 +7,11 @@ ghost use Rattle.link_capture_messages.specs.RoundTrips.{round_trip, route_inner
 
 use super::fault::RouteFault;
 use super::types::{OtherMessage, ReadableLink};
+use link_capture_checks::{RTM_DELLINK, RTM_GETLINK, RTM_NEWLINK, RTM_SETLINK};
 use netlink_packet_core::{
     Emitable, NetlinkDeserializable, NetlinkHeader, NetlinkProtocol, NetlinkSerializable,
 };
 use std::alloc::Global;
-
-/// The type of a message that tells of a link, or makes one (rtnetlink.h).
-pub const RTM_NEWLINK: u16 = 16;
-
-/// The type of a message that tells that a link is gone, or deletes one.
-pub const RTM_DELLINK: u16 = 17;
-
-/// The type of a message that asks for links.
-pub const RTM_GETLINK: u16 = 18;
-
-/// The type of a message that changes a link.
-pub const RTM_SETLINK: u16 = 19;
 
 /// A message of a capture: of links, or of any other type. Control messages are `NetlinkPayload`'s own.
 #[derive(Debug, PartialEq, Eq, Drop)]

@@ -17,15 +17,7 @@ use Rattle.link_capture_numbers.proofs.Zeros.{front}
 use Rattle.link_capture_numbers.proofs.Fronts.{shape}
 use Rattle.link_capture_numbers.proofs.Judged.{judged, judged_cleared}
 use Rattle.link_capture_numbers.proofs.ClearedTexts.{text_of, front_of_text}
-
--- which way a judgement went
-seen : (j : Judged) → ((frame : ℕ × List ℕ) × (j ≡ Ok frame)) ⊎ ((kind : FaultKind) × (j ≡ Err kind))
-seen (Ok frame) = inl (frame, refl)
-seen (Err kind) = inr (kind, refl)
-
-raised_none : (f : Option CaptureFault) → raised 0 f ≡ f
-raised_none None = refl
-raised_none (Some f) = ap (λ n. Some (record { kind = f.kind; offset = n })) (zero-add f.offset)
+use Rattle.link_capture_grammar.proofs.Frames.{raised_zero, seen}
 
 -- what stands behind the front of a cleared capture
 behind_by : (c : List ℕ) (n : ℕ) (f rest : List ℕ) (b : Bool) → length f ≡ length c → nat_lt (length c) n ≡ b → (drop n c ≡ [] → rest ≡ []) → drop n (take n f ++ rest) ≡ rest
@@ -129,12 +121,12 @@ module _ (alone : FramesStandAlone link_body) (j : FramesAreJudged link_body) (k
       let own : first_frame limit (numbers_cleared c) ≡ Ok (frame.0, front_cleared frame.1) = first_cleared c f ∙ ap judged_cleared a.1 in
       let rest : drop n (numbers_cleared c) ≡ numbers_cleared (drop n c) = subst (λ m. drop m (numbers_cleared c) ≡ numbers_cleared (drop m c)) is (behind c f) in
       let more : first_fault limit (numbers_cleared (drop n c)) ≡ first_fault limit (drop n c) = subst (λ m. first_fault limit (numbers_cleared (drop m c)) ≡ first_fault limit (drop m c)) is h in
-      sym (raised_none (first_fault limit (numbers_cleared c)))
+      sym (raised_zero (first_fault limit (numbers_cleared c)))
       ∙ k.next_fault limit 0 (numbers_cleared c) (frame.0, front_cleared frame.1) own
       ∙ ap (λ z. raised (0 + n) (first_fault limit z)) rest
       ∙ ap (raised (0 + n)) more
       ∙ sym (k.next_fault limit 0 c frame a.1)
-      ∙ raised_none (first_fault limit c)
+      ∙ raised_zero (first_fault limit c)
 
   fault_by : (fuel : ℕ) (c : List ℕ) (b : Bool) → ((d : List ℕ) → length d ≤ fuel → first_fault limit (numbers_cleared d) ≡ first_fault limit d) → length c ≤ suc fuel → is_frame c ≡ b → first_fault limit (numbers_cleared c) ≡ first_fault limit c
   fault_by fuel c false i h f = ap (first_fault limit) (stopped c f)

@@ -13,8 +13,9 @@ use Rattle.link_capture_grammar.specs.Laws.{FramesAreJudged}
 use Rattle.link_capture_numbers.specs.Cleared.{is_frame, zeros_at, repeats_request, front_cleared, numbers_cleared}
 use Rattle.link_capture_numbers.proofs.Steps.{whole}
 use Rattle.link_capture_numbers.proofs.Zeros.{repeated, zeros_before, length-zeros, front}
-use Rattle.link_capture_numbers.proofs.Texts.{text_length, text_repeats}
+use Rattle.link_capture_numbers.proofs.Texts.{text_repeats}
 use Rattle.link_capture_numbers.proofs.Judged.{error_is, body_size}
+use Rattle.link_capture_grammar.proofs.Normal.{text_length}
 
 -- the text of an accepted frame
 pub record IsText (limit : ℕ) (c : List ℕ) (text : List ℕ) : Type 0 where

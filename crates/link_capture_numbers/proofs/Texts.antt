@@ -9,6 +9,7 @@ use Rattle.netlink_packet_core_grammar.specs.Frames.{frame_length, frame_type, f
 use Rattle.netlink_packet_core_grammar.specs.Numbers.{u16_at, u32_at, le4}
 use Rattle.link_capture_numbers.specs.Cleared.{zeros_at, repeats_request, front_cleared}
 use Rattle.link_capture_numbers.proofs.Zeros.{length-zeros, zeros_behind, zeros_before}
+use Rattle.link_capture_grammar.proofs.Normal.{text_length, text_type}
 
 four : (n : ℕ) → length (le4 n) ≡ 4
 unfolding le4
@@ -60,29 +61,9 @@ type_kept : (x y : List ℕ) → take 12 (drop 4 x) ≡ take 12 (drop 4 y) → f
 unfolding u16_at
 type_kept x y e = rw (type_byte x y 0 (omega arith) e, type_byte x y 1 (omega arith) e) refl
 
-pub text_type : (c text more : List ℕ) → 16 ≤ length c → frame_type (frame_text c text ++ more) ≡ frame_type c
-unfolding frame_text
-text_type c text more h =
-    let size : length (take 12 (drop 4 c)) ≡ 12 = length-take-le 12 (drop 4 c) (omega (arith, h, length-drop 4 c)) in
-    let l : List ℕ = le4 (16 + length text) in
-    let m : List ℕ = take 12 (drop 4 c) in
-    let rest : List ℕ = text ++ padding text in
-    type_kept ((l ++ (m ++ rest)) ++ more) c (
-    ap (λ z. take 12 (drop 4 z)) (append_assoc l (m ++ rest) more)
-    ∙ ap (take 12) (drop_at l ((m ++ rest) ++ more) 4 (four (16 + length text)) ∙ append_assoc m rest more)
-    ∙ take_at m (rest ++ more) 12 size
-    )
-
 length_kept : (n : ℕ) (more : List ℕ) → n < 2 ^ 32 → frame_length (le4 n ++ more) ≡ n
 unfolding u32_at le4
 length_kept n more h = from_le_bytes-to_le_bytes_4 n h
-
-pub text_length : (c text more : List ℕ) → 16 + length text < 2 ^ 32 → frame_length (frame_text c text ++ more) ≡ 16 + length text
-unfolding frame_text
-text_length c text more h =
-    let n = 16 + length text in
-    let rest = take 12 (drop 4 c) ++ (text ++ padding text) in
-    ap (λ z. frame_length z) (append_assoc (le4 n) rest more) ∙ length_kept n (rest ++ more) h
 
 repeats_by : (c : List ℕ) (t : ℕ) (b : Bool) → nat_eq (frame_type c) 2 ≡ b → (frame_type c ≡ 2 → t ≡ frame_length c) → (b && nat_le 36 t) ≡ (b && nat_le 36 (frame_length c))
 repeats_by c t false e h = refl

@@ -1,5 +1,5 @@
 -- What a reader of a capture stands for, and what its calls add.
-use Rattle.std.specs.Prelude.{◌≡◌, ℕ, ◌+◌, ◌-◌, ◌^◌, ◌<◌, ◌≤◌, List, [], ◌++◌, length, take, drop, Option, None, Some, IfSome, ◌⊎◌, Ok, Err, Vec, vec_capacity}
+use Rattle.std.specs.Prelude.{◌≡◌, ℕ, ◌+◌, ◌-◌, ◌^◌, ◌%◌, ◌<◌, ◌≤◌, List, [], ◌++◌, length, take, drop, Option, None, Some, IfSome, ◌⊎◌, Ok, Err, Vec, vec_capacity}
 use Rattle.link_capture_grammar.specs.declared.fault.FaultKind.{FaultKind}
 use Rattle.link_capture_grammar.specs.declared.fault.FaultKind.TheVariants.{Cut, Memory, Read, Write, TooLong, Failed}
 use Rattle.link_capture_grammar.specs.declared.fault.CaptureFault.{CaptureFault}
@@ -32,6 +32,10 @@ abbrev pub Resumes : Option CaptureFault → List ℕ → List ℕ → ℕ → T
 Resumes None s kept owed = (kept ≡ []) × (owed ≡ nla_align (length s) - length s)
 Resumes (Some fault) s kept owed = (fault.kind ≡ Cut) × (kept ≡ drop fault.offset s) × (owed ≡ 0)
 
+-- a reader that met no fault
+abbrev pub going : ℕ → ℕ → List ℕ → ℕ → ReaderState
+going limit accepted kept owed = record { limit = limit; accepted = accepted; kept = kept; owed = owed; failed = None }
+
 -- The reader stands for the string s: no fault came, and its bytes are those that s leaves.
 pub record StandsFor (r : ReaderState) (s : List ℕ) : Type 0 where
   pub going : r.failed ≡ None
@@ -54,6 +58,10 @@ FeedFault limit s piece old new Failed at = ⊥
 FeedFault limit s piece old new kind at =
     (length s + length piece < 2 ^ 64) × (first_fault limit (s ++ piece) ≡ Some (record { kind = kind; offset = at })) × Gains limit s (s ++ piece) old new
 
+-- a place of c at which a frame can start
+abbrev pub IsPlaceOf : List ℕ → ℕ → Type 0
+IsPlaceOf c at = (at < length c) × (at % 4 ≡ 0)
+
 -- the frame at this place is accepted, and there was less room than its text and the texts before it want
 abbrev pub LacksRoomAt : {Z : Type 0} → ℕ → List ℕ → ℕ → Vec ℕ Z → Type 0
 LacksRoomAt limit c at old =
@@ -62,3 +70,11 @@ LacksRoomAt limit c at old =
 -- why memory was wanting at this place: there was less room, or the frame is cut, and its bytes had to be kept
 abbrev pub WantsMemory : {Z : Type 0} → ℕ → List ℕ → ℕ → Vec ℕ Z → Type 0
 WantsMemory limit c at old = LacksRoomAt limit c at old ⊎ (first_frame limit (drop at c) ≡ Err Cut)
+
+-- c stands at start, and its fault is of this kind only for such a want of memory
+abbrev pub TellsWant : {Z : Type 0} → ℕ → ℕ → List ℕ → CaptureFault → Vec ℕ Z → Type 0
+TellsWant limit start c fault old = fault.kind ≡ Memory → (at : ℕ) × (fault.offset ≡ start + at) × WantsMemory limit c at old
+
+-- the texts of c, up to its first fault, stand behind what was there
+abbrev pub GainsTexts : {Y Z : Type 0} → ℕ → List ℕ → Vec ℕ Y → Vec ℕ Z → Type 0
+GainsTexts limit c old new = new.items ≡ old.items ++ texts limit c

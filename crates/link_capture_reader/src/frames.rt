@@ -1,8 +1,8 @@
 //! The frames of bytes, one after the other.
 
-ghost use Rattle.std.specs.Prelude.{◌≡◌, ◌≢◌, ◌+◌, ◌≤◌, ◌<◌, ◌%◌, ◌++◌, length, take, None, Some, IfErr, OnOk};
-ghost use Rattle.link_capture_grammar.specs.Captures.{first_fault, texts, StopsAt};
-ghost use Rattle.link_capture_reader.specs.Readers.{LacksRoomAt};
+ghost use Rattle.std.specs.Prelude.{◌≡◌, ◌≢◌, ◌+◌, ◌≤◌, ◌<◌, length, take, Some, IfErr, OnOk};
+ghost use Rattle.link_capture_grammar.specs.Captures.{first_fault, IsLegal, StopsAt};
+ghost use Rattle.link_capture_reader.specs.Readers.{GainsTexts, IsPlaceOf, LacksRoomAt};
 
 use link_capture_checks::push_frame;
 use link_capture_grammar::fault::{CaptureFault, FaultKind};
@@ -13,16 +13,14 @@ use netlink_packet_core::nla_align;
 /// and a cut frame is one; or want of memory at a frame.
 pub(crate) fn push_frames(bytes: &[u8], limit: u32, out: &mut Vec<u8>) -> Result<(), CaptureFault>
     requires { 16 ≤ limit }
-    ensures legal { OnOk result ((first_fault limit bytes.now ≡ None)
-        × (out.new.items ≡ out.old.items ++ texts limit bytes.now)) }
+    ensures legal { OnOk result (IsLegal limit bytes.now × GainsTexts limit bytes.now out.old out.new) }
     ensures fault { IfErr result
         (λ fault. fault.kind ≢ FaultKind.Memory → (first_fault limit bytes.now ≡ Some fault)
-        × (out.new.items ≡ out.old.items ++ texts limit bytes.now)) }
-    ensures place { IfErr result
-        (λ fault. (fault.offset < length bytes.now) × (fault.offset % 4 ≡ 0)) }
+        × GainsTexts limit bytes.now out.old out.new) }
+    ensures place { IfErr result (λ fault. IsPlaceOf bytes.now fault.offset) }
     ensures memory { IfErr result
         (λ fault. fault.kind ≡ FaultKind.Memory → StopsAt limit bytes.now fault.offset
-        × (out.new.items ≡ out.old.items ++ texts limit (take fault.offset bytes.now))) }
+        × GainsTexts limit (take fault.offset bytes.now) out.old out.new) }
     ensures room { IfErr result
         (λ fault. fault.kind ≡ FaultKind.Memory → LacksRoomAt limit bytes.now fault.offset out.old) }
 {

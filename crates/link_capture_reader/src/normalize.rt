@@ -1,10 +1,10 @@
 //! The normal text of a whole capture.
 
-ghost use Rattle.std.specs.Prelude.{◌≡◌, ◌≢◌, ◌≤◌, ◌<◌, ◌*◌, ◌%◌, ◌++◌, length, take, None, Some, IfErr, OnOk};
+ghost use Rattle.std.specs.Prelude.{◌≡◌, ◌≢◌, ◌≤◌, ◌*◌, ◌%◌, length, take, Some, IfErr, OnOk};
 ghost use Rattle.link_capture_grammar.specs.Captures.{first_fault, texts, IsLegal, StopsAt};
 ghost use Rattle.link_capture_grammar.specs.Same.{SameCapture};
 ghost use Rattle.link_capture_reader.specs.Joined.{IsJoined};
-ghost use Rattle.link_capture_reader.specs.Readers.{LacksRoomAt};
+ghost use Rattle.link_capture_reader.specs.Readers.{GainsTexts, IsPlaceOf, LacksRoomAt};
 
 use super::frames::push_frames;
 use link_capture_grammar::fault::{CaptureFault, FaultKind};
@@ -22,22 +22,20 @@ use link_capture_grammar::laws::{
 pub fn normalize_bytes(bytes: &[u8], limit: u32, out: &mut Vec<u8>) -> Result<(), CaptureFault>
     requires { 16 ≤ limit }
     // It succeeds on legal captures alone, and writes their normal text.
-    ensures legal { OnOk result ((first_fault limit bytes.now ≡ None)
-        × (out.new.items ≡ out.old.items ++ texts limit bytes.now)) }
+    ensures legal { OnOk result (IsLegal limit bytes.now × GainsTexts limit bytes.now out.old out.new) }
     // Else it answers the first fault, unless memory ran out, and writes the texts before it.
     ensures fault { IfErr result
         (λ fault. fault.kind ≢ FaultKind.Memory → (first_fault limit bytes.now ≡ Some fault)
-        × (out.new.items ≡ out.old.items ++ texts limit bytes.now)) }
+        × GainsTexts limit bytes.now out.old out.new) }
     // A fault stands at a frame's start.
-    ensures place { IfErr result
-        (λ fault. (fault.offset < length bytes.now) × (fault.offset % 4 ≡ 0)) }
+    ensures place { IfErr result (λ fault. IsPlaceOf bytes.now fault.offset) }
     // A normal text is legal, and its own normal text.
     ensures normal { IsLegal limit (texts limit bytes.now)
         × (texts limit (texts limit bytes.now) ≡ texts limit bytes.now) }
     // Where memory ran out, what stands before the place is legal, and has been written.
     ensures memory { IfErr result
         (λ fault. fault.kind ≡ FaultKind.Memory → StopsAt limit bytes.now fault.offset
-        × (out.new.items ≡ out.old.items ++ texts limit (take fault.offset bytes.now))) }
+        × GainsTexts limit (take fault.offset bytes.now) out.old out.new) }
     // Memory is wanting only for the text of an accepted frame, where `out` had less room than it and the texts before
     // it want.
     ensures room { IfErr result

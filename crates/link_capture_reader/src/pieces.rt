@@ -1,11 +1,11 @@
 //! One more piece of a capture: the bytes of the cut frame, and what comes after them.
 
 ghost use Rattle.std.specs.Prelude.{◌≡◌, ◌≢◌, ◌+◌, ◌-◌, ◌^◌, ◌<◌, ◌≤◌, ◌++◌, ◌⊎◌, ℕ, List, [], length, take, max, IfOk};
-ghost use Rattle.std.specs.Prelude.{IfErr, OnOk, OnErr, None, Err};
+ghost use Rattle.std.specs.Prelude.{IfErr, OnOk, OnErr, Err};
 ghost use Rattle.netlink_packet_core.specs.Attributes.{nla_align};
 ghost use Rattle.netlink_packet_core.specs.Frames.{frame_length};
 ghost use Rattle.link_capture_grammar.specs.Captures.{first_frame, first_fault, HeaderStands, IsOfFrames};
-ghost use Rattle.link_capture_reader.specs.Readers.{IsReader, Resumes, Gains, FeedFault, WantsMemory};
+ghost use Rattle.link_capture_reader.specs.Readers.{IsReader, Resumes, Gains, FeedFault, TellsWant, going};
 ghost use Rattle.link_capture_reader.specs.Walks.{Goes, Faults, Lacks};
 
 use super::frames::push_frames;
@@ -123,8 +123,7 @@ fn read_frames(
         (λ fault. Faults limit start bytes.now out.old.items out.new.items fault) }
     ensures memory { IfErr result
         (λ fault. Lacks limit start bytes.now out.old.items out.new.items fault) }
-    ensures room { IfErr result (λ fault. fault.kind ≡ FaultKind.Memory
-        → (at : ℕ) × (fault.offset ≡ start + at) × WantsMemory limit bytes.now at out.old) }
+    ensures room { IfErr result (λ fault. TellsWant limit start bytes.now fault out.old) }
 {
     match push_frames(bytes, limit, out) {
         Ok(()) => Ok(padding(bytes.len())),
@@ -166,8 +165,8 @@ fn resume_frame(
         out.old.items out.new.items fault) }
     ensures memory { IfErr result (λ fault. Lacks limit start (kept.old.items ++ bytes.now)
         out.old.items out.new.items fault) }
-    ensures room { IfErr result (λ fault. kept.old.items ≡ [] → fault.kind ≡ FaultKind.Memory
-        → (at : ℕ) × (fault.offset ≡ start + at) × WantsMemory limit bytes.now at out.old) }
+    ensures room { IfErr result
+        (λ fault. kept.old.items ≡ [] → TellsWant limit start bytes.now fault out.old) }
 {
     if kept.is_empty() {
         return read_frames(start, kept, bytes, limit, out);
@@ -217,21 +216,10 @@ pub(crate) fn accept_piece(
     limit: u32,
     out: &mut Vec<u8>,
 ) -> Result<usize, CaptureFault>
-    requires reader { IsReader (record {
-      limit = limit;
-      accepted = accepted;
-      kept = kept.old.items;
-      owed = owed;
-      failed = None;
-    }) }
+    requires reader { IsReader (going limit accepted kept.old.items owed) }
     ensures fits { OnOk result (accepted + length piece.now < 2 ^ 64) }
-    ensures reader { IfOk result (λ more. IsReader (record {
-      limit = limit;
-      accepted = accepted + length piece.now;
-      kept = kept.new.items;
-      owed = more;
-      failed = None;
-    })) }
+    ensures reader { IfOk result
+        (λ more. IsReader (going limit (accepted + length piece.now) kept.new.items more)) }
     ensures ok { IfOk result (λ more. (s : List ℕ) → accepted ≡ length s
         → Resumes (first_fault limit s) s kept.old.items owed
         → Resumes (first_fault limit (s ++ piece.now)) (s ++ piece.now) kept.new.items more
@@ -240,8 +228,7 @@ pub(crate) fn accept_piece(
         → Resumes (first_fault limit s) s kept.old.items owed
         → FeedFault limit s piece.now out.old.items out.new.items fault.kind fault.offset) }
     ensures room { IfErr result (λ fault. kept.old.items ≡ [] → owed ≡ 0
-        → fault.kind ≡ FaultKind.Memory → (at : ℕ) × (fault.offset ≡ accepted + at)
-        × WantsMemory limit piece.now at out.old) }
+        → TellsWant limit accepted piece.now fault out.old) }
 {
     if piece.len() as u64 > u64::MAX - accepted {
         return Err(CaptureFault {

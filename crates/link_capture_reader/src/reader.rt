@@ -2,7 +2,7 @@
 
 ghost use Rattle.std.specs.Prelude.{◌≡◌, ◌+◌, ◌^◌, ◌<◌, ◌≤◌, ◌++◌, ℕ, List, [], length, OnOk, OnErr, IfErr, IfSome, None, Some, Err};
 ghost use Rattle.link_capture_grammar.specs.Captures.{first_fault};
-ghost use Rattle.link_capture_reader.specs.Readers.{ReaderState, IsReader, StandsFor, Gains, FeedFault, WantsMemory};
+ghost use Rattle.link_capture_reader.specs.Readers.{ReaderState, IsReader, StandsFor, Gains, FeedFault, TellsWant};
 
 use super::pieces::accept_piece;
 use link_capture_grammar::fault::{CaptureFault, FaultKind};
@@ -78,8 +78,7 @@ impl CaptureReader {
         // Where no bytes were kept and no padding is owed, memory is wanting only for a text for which there was less
         // room, or to keep the bytes of a cut frame.
         ensures room { IfErr result (λ fault. self.old.kept ≡ [] → self.old.owed ≡ 0
-            → fault.kind ≡ FaultKind.Memory → (at : ℕ) × (fault.offset ≡ self.old.accepted + at)
-            × WantsMemory self.old.limit piece.now at out.old) }
+            → TellsWant self.old.limit self.old.accepted piece.now fault out.old) }
         // A fault is one for good.
         ensures failed { IfErr result (λ fault. self.new.failed ≡ Some fault.offset) }
         // Nothing of a piece with a fault is counted, nor any piece after it.

@@ -2,7 +2,7 @@
 use Rattle.std.specs.Prelude.{Option, map, option_map}
 use Rattle.netlink_packet_core_grammar.specs.Attributes.{Attribute}
 use Rattle.link_capture_refusals.specs.Refusals.{Found}
-use Rattle.link_capture_refusals.specs.declared.attribute.Attribute as declared
+use Rattle.link_capture_checks.specs.declared.attribute.Attribute as declared
 use Rattle.link_capture_refusals.specs.declared.refusal.Refusal.{Refusal}
 
 abbrev pub found : Refusal → Found

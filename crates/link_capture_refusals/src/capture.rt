@@ -1,8 +1,7 @@
 //! What of a capture is refused.
 
 ghost use Rattle.std.specs.Prelude.{◌≡◌, ◌≤◌, ◌<◌, ◌+◌, ◌^◌, drop, length};
-ghost use Rattle.netlink_packet_core.specs.Frames.{IsFrame, frame_body};
-ghost use Rattle.link_capture_grammar.specs.Bodies.{is_link_type};
+ghost use Rattle.netlink_packet_core.specs.Frames.{IsFrame};
 ghost use Rattle.link_capture_refusals.specs.Refusals.{frame_refusal, refusal};
 ghost use Rattle.link_capture_refusals.specs.RefusalViews.{all_found};
 
@@ -10,26 +9,11 @@ use crate::laws::refused_frames_are_whole;
 use crate::refusal::Refusal;
 use crate::walk::link_refusal;
 use arrayvec::ArrayVec;
-use link_capture_checks::check;
+use link_capture_checks::{check, frame_body, is_link_type};
 use link_capture_grammar::fault::{CaptureFault, FaultKind};
 use link_capture_grammar::laws::faults_stand_at_frames;
 use link_capture_refusal_rows::Reason;
 use netlink_packet_core::{NETLINK_HEADER_LEN, NetlinkBuffer};
-
-/// Whether messages of a type are links': RTM_NEWLINK, RTM_DELLINK, RTM_GETLINK and RTM_SETLINK (rtnetlink.h).
-fn is_link_type(message_type: u16) -> bool
-    ensures { result ≡ is_link_type message_type }
-{
-    16 <= message_type && message_type <= 19
-}
-
-/// The body of the frame in front.
-fn frame_body(bytes: &[u8]) -> &[u8]
-    requires { IsFrame bytes.now }
-    ensures { result.now ≡ frame_body bytes.now }
-{
-    &bytes[NETLINK_HEADER_LEN..NetlinkBuffer::new(bytes).length() as usize]
-}
 
 /// What stands behind the first bytes.
 fn behind(bytes: &[u8], front: u64) -> &[u8]

@@ -1,7 +1,6 @@
 // What of a refused body is refused.
 #![tactic(auto)]
 
-mod attribute;
 mod capture;
 pub mod laws;
 mod refusal;

@@ -10,11 +10,11 @@ ghost use Rattle.link_capture_refusals.specs.Refusals.{attribute_refusal, found_
 ghost use Rattle.link_capture_refusals.specs.Refusals.{list_refusal, no_attribute, peer_refusal, whole_refusal};
 ghost use Rattle.link_capture_refusals.specs.RefusalViews.{all_found, attribute_of};
 
-use crate::attribute::{Attribute, first_attribute};
 use crate::laws::{links_are_accepted, lists_are_accepted, lists_go_by_steps};
 use crate::refusal::Refusal;
 use attribute_checks::{Form, PeerSet, Shape, measure_shape};
 use attribute_tables_grammar::laws::measures_tell_rules;
+use link_capture_checks::{Attribute, first_attribute};
 use link_capture_refusal_rows::laws::rows_are_the_tables;
 use link_capture_refusal_rows::{
     Inside, Listed, Reason, family_table, has_empty_ports, is_kept, next_list, row_in, shape_reason,

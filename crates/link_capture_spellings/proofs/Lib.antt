@@ -4,3 +4,9 @@ pub mod Stacks
 pub mod Going
 pub mod Entering
 pub mod Canonical
+pub mod Lists
+pub mod Inside
+pub mod KindData
+pub mod Links
+pub mod Bodies
+pub mod Captures

@@ -1,6 +1,7 @@
 //! Facts of the definitions. A function here calls nothing but laws of the crates below.
 
 ghost use Rattle.link_capture_spellings.specs.SpellingLaws.{ListsGoBySteps, SpellingsGoByFrames, WrittenAttributesHaveNone};
+ghost use Rattle.link_capture_spellings.specs.TextLaws.{TextsHaveNoSpelling};
 
 use link_capture_grammar::laws::frames_stand_alone;
 use netlink_packet_core_grammar::laws::{
@@ -33,3 +34,10 @@ pub fn written_attributes_have_none()
     lists_go_by_steps();
     written_attributes_come_first();
 }
+
+/// The texts of any bytes, under a limit of 32 bits, have no spelling that kernels tell apart: not in an attribute of a
+/// link, at any depth of its lists, nor inside a judged peer, nor in a header. So a normal text has none.
+#[tactic(auto, using(crate::proofs::Captures::texts_have_no_spelling))]
+pub fn texts_have_no_spelling()
+    ensures { TextsHaveNoSpelling }
+{}

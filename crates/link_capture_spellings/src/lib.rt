@@ -1,7 +1,6 @@
 // The spellings of a capture that kernels tell apart and its normal text doesn't.
 #![tactic(auto)]
 
-mod attribute;
 mod capture;
 pub mod laws;
 mod walk;

@@ -7,9 +7,9 @@ ghost use Rattle.link_capture_spellings.specs.SpellingLists.{told_at};
 ghost use Rattle.link_capture_spellings.specs.Spellings.{frame_told};
 ghost use Rattle.link_capture_spellings.specs.SpellingWalks.{one_told, levels_told, walk_told, AreWithin, weight};
 
-use crate::attribute::first_attribute;
 use crate::laws::lists_go_by_steps;
 use arrayvec::ArrayVec;
+use link_capture_checks::{first_attribute, frame_body, is_link_type};
 use link_capture_spelling_rows::{
     Listed, PlacedSpelling, Spelling, Table, attribute_spellings, family_table, header_spelling,
     inside, next_list,
@@ -65,21 +65,6 @@ fn placed(place: usize, spelling: Option<Spelling>) -> Option<PlacedSpelling>
         }),
         None => None,
     }
-}
-
-/// Whether messages of a type are links': RTM_NEWLINK, RTM_DELLINK, RTM_GETLINK and RTM_SETLINK (rtnetlink.h).
-fn is_link_type(message_type: u16) -> bool
-    ensures { result ≡ is_link_type message_type }
-{
-    16 <= message_type && message_type <= 19
-}
-
-/// The body of the frame in front.
-fn frame_body(bytes: &[u8]) -> &[u8]
-    requires { IsFrame bytes.now }
-    ensures { result.now ≡ frame_body bytes.now }
-{
-    &bytes[NETLINK_HEADER_LEN..NetlinkBuffer::new(bytes).length() as usize]
 }
 
 /// What stands behind the first bytes.

@@ -1,6 +1,7 @@
 pub mod Options
 pub mod Refused
 pub mod Outcomes
+pub mod Meanings
 pub use Rattle.link_lines_texts.specs.Captures
 pub use Rattle.link_capture_engine.specs.Devices
 pub use Rattle.link_capture_engine.specs.Known

@@ -1,11 +1,13 @@
 //! The lines of a whole capture.
 
-ghost use Rattle.std.specs.Prelude.{◌≡◌, ◌≢◌, ◌≤◌, ◌<◌, ◌%◌, ◌++◌, ℕ, List, length, take, None, Some, IfErr, OnOk, OnErr};
+ghost use Rattle.std.specs.Prelude.{◌≡◌, ◌≢◌, ◌≤◌, ◌<◌, ◌%◌, ◌++◌, ℕ, List, length, take, Some, IfErr, OnOk, OnErr};
 ghost use Rattle.link_capture_grammar.specs.Captures.{first_fault, texts, IsLegal, StopsAt};
 ghost use Rattle.link_capture_grammar.specs.Same.{SameCapture};
+ghost use Rattle.link_capture_reader.specs.Readers.{IsPlaceOf};
+ghost use Rattle.link_lines.specs.Meanings.{GainsLines, IsShownInFront, ShownAlike};
 ghost use Rattle.link_lines.specs.Options.{choice_of};
 ghost use Rattle.link_lines.specs.Outcomes.{WantsMemoryAt};
-ghost use Rattle.link_lines_texts.specs.Captures.{lines, text_lines};
+ghost use Rattle.link_lines_texts.specs.Captures.{text_lines};
 
 use crate::lines::push_lines;
 use crate::options::LineOptions;
@@ -56,33 +58,29 @@ pub fn show_bytes(
 ) -> Result<(), CaptureFault>
     requires { 16 ≤ limit }
     // It succeeds on legal captures alone, and writes their lines.
-    ensures legal { OnOk result ((first_fault limit bytes.now ≡ None)
-        × (out.new.items ≡ out.old.items ++ lines (choice_of options.entry) limit bytes.now)) }
+    ensures legal { OnOk result (IsLegal limit bytes.now
+        × GainsLines (choice_of options.entry) limit bytes.now out.old out.new) }
     // Else it answers the first fault, unless memory ran out, and writes the lines before it.
     ensures fault { IfErr result
         (λ fault. fault.kind ≢ FaultKind.Memory → (first_fault limit bytes.now ≡ Some fault)
-        × (out.new.items ≡ out.old.items ++ lines (choice_of options.entry) limit bytes.now)) }
+        × GainsLines (choice_of options.entry) limit bytes.now out.old out.new) }
     // A fault stands at a frame's start.
-    ensures place { IfErr result
-        (λ fault. (fault.offset < length bytes.now) × (fault.offset % 4 ≡ 0)) }
+    ensures place { IfErr result (λ fault. IsPlaceOf bytes.now fault.offset) }
     // Where memory ran out, what stands before the place is legal, and its lines are written.
     ensures memory { IfErr result
         (λ fault. fault.kind ≡ FaultKind.Memory → StopsAt limit bytes.now fault.offset
-        × (out.new.items ≡ out.old.items ++ lines (choice_of options.entry) limit (take fault.offset bytes.now))) }
+        × GainsLines (choice_of options.entry) limit (take fault.offset bytes.now) out.old out.new) }
     // Memory is wanting only where what stands at the place is accepted.
     ensures cause { IfErr result
         (λ fault. fault.kind ≡ FaultKind.Memory → WantsMemoryAt limit bytes.now fault.offset) }
     // A capture and its texts have the same lines.
-    ensures normal { lines (choice_of options.entry) limit (texts limit bytes.now) ≡ lines (choice_of options.entry) limit bytes.now }
+    ensures normal { ShownAlike (choice_of options.entry) limit (texts limit bytes.now) bytes.now }
     // Captures that mean the same have the same lines.
     ensures same { (other : List ℕ) → SameCapture limit bytes.now other
-        → lines (choice_of options.entry) limit other ≡ lines (choice_of options.entry) limit bytes.now }
+        → ShownAlike (choice_of options.entry) limit other bytes.now }
     // What follows a legal capture whose size is a multiple of 4 is shown by itself.
     ensures joined { IsLegal limit bytes.now → length bytes.now % 4 ≡ 0
-        → (more : List ℕ)
-        → lines (choice_of options.entry) limit (bytes.now ++ more)
-        ≡ lines (choice_of options.entry) limit bytes.now
-        ++ lines (choice_of options.entry) limit more }
+        → IsShownInFront (choice_of options.entry) limit bytes.now }
 {
     texts_are_normal();
     texts_tell_meanings();

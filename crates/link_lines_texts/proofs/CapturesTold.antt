@@ -23,10 +23,11 @@ use Rattle.link_lines_texts.specs.Links.{labelled}
 use Rattle.link_lines_texts.specs.Captures.{Choice, everything, is_frame, lines_after, text_lines, without_numbers}
 use Rattle.link_lines_texts.specs.Laws.{LinesTellMeanings, LinesTellTexts, LinesWithoutNumbersTellClearedTexts}
 use Rattle.link_lines_texts.specs.Telling.{IsOwnFrame, StartsFrame, FramesAreTold, NumbersAreKnown}
-use Rattle.link_lines_texts.proofs.ByteParts.{first_bytes, joined_bytes, later_bytes}
 use Rattle.link_lines_texts.proofs.FrameSteps.{InFront, in_front, accepted_is, stands_in_front}
 use Rattle.link_lines_texts.proofs.NumbersLeft.{cleared_shape, numbers_are_left}
 use Rattle.link_lines_texts.proofs.NumbersKnown.{cleared_bytes, known_front}
+use Rattle.netlink_packet_core_grammar.proofs.Bytes.{AreBytes-append, AreBytes-drop, AreBytes-take}
+use Rattle.link_capture_grammar.proofs.Normal.{header_size}
 
 -- ---- bytes
 
@@ -80,9 +81,6 @@ four_long : (n : ℕ) → length (le4 n) ≡ 4
 unfolding le4
 four_long n = refl
 
-header_long : (c : List ℕ) → 16 ≤ length c → length (take 12 (drop 4 c)) ≡ 12
-header_long c h = length-take 12 (drop 4 c) ∙ omega (arith, h, length-drop 4 c)
-
 -- they stand in front of its text
 in_text : (c body : List ℕ) → 16 ≤ length c → take (16 + length body) (frame_text c body) ≡ own_frame c body
 unfolding frame_text
@@ -91,7 +89,7 @@ in_text c body h =
     let header : List ℕ = take 12 (drop 4 c) in
     let pad : List ℕ = zeros (nla_align n - n) in
     let long = four_long n in
-    let twelve = header_long c h in
+    let twelve = header_size c h in
     let inner = length-append header body in
     let whole = length-append (le4 n) (header ++ body) in
     let all : le4 n ++ (header ++ (body ++ pad)) ≡ (le4 n ++ (header ++ body)) ++ pad =
@@ -105,13 +103,13 @@ own_size : (c body : List ℕ) → 16 ≤ length c → length (own_frame c body)
 own_size c body h =
     let n : ℕ = 16 + length body in
     let header : List ℕ = take 12 (drop 4 c) in
-    omega (arith, four_long n, header_long c h, length-append header body, length-append (le4 n) (header ++ body))
+    omega (arith, four_long n, header_size c h, length-append header body, length-append (le4 n) (header ++ body))
 
 own_body : (c body : List ℕ) → 16 ≤ length c → drop 16 (own_frame c body) ≡ body
 own_body c body h =
     let head : List ℕ = le4 (16 + length body) ++ take 12 (drop 4 c) in
     let both = length-append (le4 (16 + length body)) (take 12 (drop 4 c)) in
-    let long : length head ≡ 16 = omega (arith, both, four_long (16 + length body), header_long c h) in
+    let long : length head ≡ 16 = omega (arith, both, four_long (16 + length body), header_size c h) in
     ap (drop 16) (sym (append_assoc (le4 (16 + length body)) (take 12 (drop 4 c)) body)) ∙ drop_at head body 16 long
 
 own_type : (c body : List ℕ) → 16 ≤ length c → u16_at 4 (own_frame c body) ≡ frame_type c
@@ -127,8 +125,8 @@ text_told c d body more h k e =
     let x : List ℕ = take 12 (drop 4 c) in
     let y : List ℕ = take 12 (drop 4 d) in
     let both : x ++ body ≡ y ++ more = sym (behind_length c body) ∙ e ∙ behind_length d more in
-    let header : x ≡ y = sym (take_at x body 12 (header_long c h)) ∙ ap (take 12) both ∙ take_at y more 12 (header_long d k) in
-    let rest : body ≡ more = sym (drop_at x body 12 (header_long c h)) ∙ ap (drop 12) both ∙ drop_at y more 12 (header_long d k) in
+    let header : x ≡ y = sym (take_at x body 12 (header_size c h)) ∙ ap (take 12) both ∙ take_at y more 12 (header_size d k) in
+    let rest : body ≡ more = sym (drop_at x body 12 (header_size c h)) ∙ ap (drop 12) both ∙ drop_at y more 12 (header_size d k) in
     ap (λ z. le4 (16 + length z) ++ (x ++ (z ++ zeros (nla_align (16 + length z) - (16 + length z))))) rest
     ∙ ap (λ z. le4 (16 + length more) ++ (z ++ (more ++ zeros (nla_align (16 + length more) - (16 + length more))))) header
 
@@ -209,13 +207,13 @@ module _ (n : Bool) (judged : FramesAreJudged link_body) (counted : CapturesAreC
   own_is : (c body : List ℕ) → 16 ≤ length c → AreBytes c → body_text (frame_type c) (frame_body c) ≡ Ok body → IsOwnFrame (own_frame c body)
   own_is c body h p o =
       let size = own_size c body h in
-      let given : AreBytes (frame_body c) = first_bytes (frame_length c - 16) (drop 16 c) (later_bytes 16 c p) in
+      let given : AreBytes (frame_body c) = AreBytes-take (frame_length c - 16) (drop 16 c) (AreBytes-drop 16 c p) in
       let held = body_bytes lawful (frame_type c) (frame_body c) body given o in
       let again : body_text (frame_type c) body ≡ Ok body = normal (frame_type c) (frame_body c) body o in
       let is = own_body c body h in
       record {
-        bytes = joined_bytes (le4 (16 + length body)) (take 12 (drop 4 c) ++ body) (of_number (16 + length body))
-            (joined_bytes (take 12 (drop 4 c)) body (first_bytes 12 (drop 4 c) (later_bytes 4 c p)) held);
+        bytes = AreBytes-append (le4 (16 + length body)) (take 12 (drop 4 c) ++ body) (of_number (16 + length body))
+            (AreBytes-append (take 12 (drop 4 c)) body (AreBytes-take 12 (drop 4 c) (AreBytes-drop 4 c p)) held);
         header = omega (arith, size);
         body = ap (λ t. body_text t (drop 16 (own_frame c body))) (own_type c body h)
             ∙ ap (body_text (frame_type c)) is ∙ again ∙ ap (λ z. Ok z) (sym is);
@@ -241,7 +239,7 @@ module _ (n : Bool) (judged : FramesAreJudged link_body) (counted : CapturesAreC
             ∙ ap (λ z. frame_lines n z ++ text_lines (all_of n) (texts limit after)) (in_text s i.body header);
         known = text_known n s i.body (texts limit after) (texts limit s) header front text;
         shorter = omega (arith, size, low, header);
-        bytes = later_bytes (nla_align frame.0) s p;
+        bytes = AreBytes-drop (nla_align frame.0) s p;
       }
 
   first_of_capture : (limit : ℕ) (s : List ℕ) (j : Judged) → limit < 2 ^ 32 → AreBytes s → first_frame limit s ≡ j → (texts limit s ≡ []) ⊎ Front n limit s

@@ -14,19 +14,14 @@ use Rattle.link_capture_grammar.specs.Captures.{Judged, judged_text, first_frame
 use Rattle.link_capture_grammar.specs.Laws.{FramesAreJudged}
 use Rattle.link_lines_texts.specs.Captures.{Choice, is_frame, lines_after, shown_lines, text_lines}
 use Rattle.link_lines_texts.specs.Laws.{LinesGoByFrames, LinesAreJoined}
+use Rattle.link_capture_grammar.proofs.Normal.{text_length}
+use Rattle.link_capture_numbers.proofs.Steps.{length_of}
 
 passed : (o : Choice) (k : ℕ) (c : List ℕ) → lines_after o k c ≡ text_lines o (drop k c)
 unfolding lines_after text_lines
 passed o zero c = refl
 passed o (suc k) [] = refl
 passed o (suc k) (b ∷ c) = passed o k c
-
--- a whole frame has a length of at least 16, which its bytes reach
-length_of : (c : List ℕ) → is_frame c ≡ true → (16 ≤ frame_length c) × (frame_length c ≤ length c)
-length_of c h =
-    let p = and_parts (nat_le 16 (length c)) (nat_le 16 (frame_length c) && nat_le (frame_length c) (length c)) h in
-    let q = and_parts (nat_le 16 (frame_length c)) (nat_le (frame_length c) (length c)) p.1 in
-    (leb-true 16 (frame_length c) q.0, leb-true (frame_length c) (length c) q.1)
 
 pub whole : (o : Choice) (c : List ℕ) → is_frame c ≡ true → text_lines o c ≡ shown_lines o (take (frame_length c) c) ++ text_lines o (drop (nla_align (frame_length c)) c)
 unfolding text_lines lines_after
@@ -55,13 +50,6 @@ length_kept : (n : ℕ) (more : List ℕ) → n < 2 ^ 32 → frame_length (le4 n
 unfolding u32_at le4
 length_kept n more h = from_le_bytes-to_le_bytes_4 n h
 
-told_length : (c body r : List ℕ) → 16 + length body < 2 ^ 32 → frame_length (frame_text c body ++ r) ≡ 16 + length body
-unfolding frame_text
-told_length c body r h =
-    let n = 16 + length body in
-    let more = take 12 (drop 4 c) ++ (body ++ zeros (nla_align n - n)) in
-    ap (λ z. frame_length z) (append_assoc (le4 n) more r) ∙ length_kept n (more ++ r) h
-
 -- a frame's text in front of other bytes begins with a whole frame
 pub record InFront (c body r : List ℕ) : Type 0 where
   pub is : is_frame (frame_text c body ++ r) ≡ true
@@ -73,7 +61,7 @@ pub stands_in_front : FramesAreJudged link_body → (c body r : List ℕ) → 16
 stands_in_front j c body r h b =
     let n = 16 + length body in
     let t = frame_text c body in
-    let told = told_length c body r b in
+    let told = text_length c body r b in
     let size : length t ≡ nla_align n = j.size c body h in
     let low : 16 ≤ nla_align n = omega arith in
     let high : n ≤ nla_align n = omega arith in

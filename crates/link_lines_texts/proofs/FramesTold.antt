@@ -15,10 +15,10 @@ use Rattle.link_lines_values.specs.Values.{value_text}
 use Rattle.link_lines_values.specs.Laws.{BytesAreTold, DigitsAreTold, NumbersAreTold, ValuesStandOnALine}
 use Rattle.link_lines_texts.specs.Frames.{behind_code, bytes_line, body_lines, code_lines, frame_lines, header_line, link_lines, request_line, type_text}
 use Rattle.link_lines_texts.specs.Telling.{AreKnown, FramesAreTold, IsOwnFrame, IsShallow, ListsAreTold, NumbersAreKnown, StartsFrame}
-use Rattle.link_lines_texts.proofs.ByteParts.{first_bytes, later_bytes}
 use Rattle.link_lines_texts.proofs.LineCuts.{behind, cut_line}
 use Rattle.link_lines_texts.proofs.HeadersTold.{flags_part, header_told, request_told, type_starts}
 use Rattle.link_lines_texts.proofs.LinkBodiesTold.{IsOwnLink, link_part, link_told, own_link}
+use Rattle.netlink_packet_core_grammar.proofs.Bytes.{AreBytes-drop, AreBytes-take}
 
 -- ---- lines of bytes, and of codes
 
@@ -73,7 +73,7 @@ requests_by d k v n p q s t true true a b x y h m i j e =
     let u = bytes_line (codes "rest") (drop 16 p) in
     let w = bytes_line (codes "rest") (drop 16 q) in
     let told = request_told d n p q (u ++ s) (w ++ t) a b l o (h l) (m o) (behind (request_line n p) u s (request_line n q) w t e) in
-    let r = bytes_line_told k v (codes "rest") (drop 16 p) (drop 16 q) s t (later_bytes 16 p a) (later_bytes 16 q b) i j told.1 in
+    let r = bytes_line_told k v (codes "rest") (drop 16 p) (drop 16 q) s t (AreBytes-drop 16 p a) (AreBytes-drop 16 q b) i j told.1 in
     (told.0 r.0, r.1)
 
 behind_error : DigitsAreTold → BytesAreTold → ValuesStandOnALine → (n : Bool) → BehindIsTold n 2
@@ -105,9 +105,9 @@ code_told numbers v n m told p q s t a b l o g h i j e =
     let lines = sym (ap (λ z. z ++ s) (code_lines_are n m p l)) ∙ e ∙ ap (λ z. z ++ t) (code_lines_are n m q o) in
     let shown = behind x (10 ∷ rest_part n m p) s y (10 ∷ rest_part n m q) t (ap (drop 6) lines) in
     let c = cut_line x y (rest_part n m p ++ s) (rest_part n m q ++ t) (v.line Signed (take 4 p) refl) (v.line Signed (take 4 q) refl) shown in
-    let r = told (drop 4 p) (drop 4 q) s t (later_bytes 4 p a) (later_bytes 4 q b)
+    let r = told (drop 4 p) (drop 4 q) s t (AreBytes-drop 4 p a) (AreBytes-drop 4 q b)
     (λ two z. g two (omega (arith, z, length-drop 4 p))) (λ two z. h two (omega (arith, z, length-drop 4 q))) i j c.1 in
-    let code = numbers.signed (take 4 p) (take 4 q) (first_bytes 4 p a) (first_bytes 4 q b) (omega (arith, length-take 4 p)) (omega (arith, length-take 4 q)) c.0 in
+    let code = numbers.signed (take 4 p) (take 4 q) (AreBytes-take 4 p a) (AreBytes-take 4 q b) (omega (arith, length-take 4 p)) (omega (arith, length-take 4 q)) c.0 in
     (joined 4 p q code r.0, r.1)
 
 -- ---- a link's body
@@ -264,7 +264,7 @@ frames_told w numbers f g s t h k x y i j e =
     let other = subst (λ n. body_text n (drop 16 g) ≡ Ok (drop 16 g)) back k.body in
     let asked : RequestIsKnown numbers (u16_at 4 f) (drop 16 g) = λ two. y.request (back ∙ two) in
     let rest = same.rest ∙ ap (λ n. lines n g ++ t) back in
-    let r = bodies_told w numbers (u16_at 4 f) (drop 16 f) (drop 16 g) s t (later_bytes 16 f h.bytes) (later_bytes 16 g k.bytes) h.body other x.request asked i j rest in
+    let r = bodies_told w numbers (u16_at 4 f) (drop 16 f) (drop 16 g) s t (AreBytes-drop 16 f h.bytes) (AreBytes-drop 16 g k.bytes) h.body other x.request asked i j rest in
     (same.bytes r.0, r.1)
 
 pub told : Premises → FramesAreTold

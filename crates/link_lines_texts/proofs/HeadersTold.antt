@@ -14,8 +14,9 @@ use Rattle.link_lines_names.specs.Names.{is_word}
 use Rattle.link_lines_texts.specs.Frames.{flag_names, header_line, message_types, numbers_text, or_number, request_line, type_text}
 use Rattle.link_lines_texts.specs.Links.{labelled}
 use Rattle.link_lines_texts.specs.Telling.{AreKnown, HasNoNumbers, StartsFrame}
-use Rattle.link_lines_texts.proofs.ByteParts.{later_bytes}
 use Rattle.link_lines_texts.proofs.LineCuts.{IsWord, behind, cut_word, word_of}
+use Rattle.netlink_packet_core_grammar.proofs.Numbers.{u16_at-bytes}
+use Rattle.netlink_packet_core_grammar.proofs.Bytes.{AreBytes-drop}
 
 -- ---- numbers with their names
 
@@ -134,10 +135,6 @@ u32_small i p a = omega (arith, byte_at p i a, byte_at p (i + 1) a, byte_at p (i
 low_byte : (a b c d : ℕ) → a < 256 → c < 256 → a + 256 * b ≡ c + 256 * d → (a ≡ c) × (b ≡ d)
 low_byte a b c d h k e = (omega arith, omega arith)
 
-two_bytes : (a b : ℕ) (p : List ℕ) → u16_at 0 (a ∷ b ∷ p) ≡ a + 256 * b
-unfolding u16_at
-two_bytes a b p = omega arith
-
 four_bytes : (a b c d : ℕ) (p : List ℕ) → u32_at 0 (a ∷ b ∷ c ∷ d ∷ p) ≡ a + 256 * (b + 256 * (c + 256 * d))
 unfolding u32_at
 four_bytes a b c d p = omega arith
@@ -145,7 +142,7 @@ four_bytes a b c d p = omega arith
 -- two bytes in front are told by their number
 two_told : (p q : List ℕ) → AreBytes p → AreBytes q → 2 ≤ length p → 2 ≤ length q → u16_at 0 p ≡ u16_at 0 q → drop 2 p ≡ drop 2 q → p ≡ q
 two_told (a ∷ b ∷ p) (c ∷ d ∷ q) h k l m e r =
-    let x = low_byte a b c d h.0 k.0 (sym (two_bytes a b p) ∙ e ∙ two_bytes c d q) in
+    let x = low_byte a b c d h.0 k.0 (sym (u16_at-bytes a b p) ∙ e ∙ u16_at-bytes c d q) in
     λ i. x.0 i ∷ x.1 i ∷ r i
 two_told p q h k l m e r = absurd (omega arith)
 
@@ -186,12 +183,12 @@ skipped i n p = drop-drop n i p
 -- bytes from a place on are told by the number there and by the bytes behind it
 pub two_further : (i : ℕ) (p q : List ℕ) → AreBytes p → AreBytes q → i + 2 ≤ length p → i + 2 ≤ length q → u16_at i p ≡ u16_at i q → drop (i + 2) p ≡ drop (i + 2) q → drop i p ≡ drop i q
 two_further i p q h k l m e r =
-    two_told (drop i p) (drop i q) (later_bytes i p h) (later_bytes i q k) (omega (arith, length-drop i p)) (omega (arith, length-drop i q))
+    two_told (drop i p) (drop i q) (AreBytes-drop i p h) (AreBytes-drop i q k) (omega (arith, length-drop i p)) (omega (arith, length-drop i q))
     (u16_after i p ∙ e ∙ sym (u16_after i q)) (skipped i 2 p ∙ r ∙ sym (skipped i 2 q))
 
 pub four_further : (i : ℕ) (p q : List ℕ) → AreBytes p → AreBytes q → i + 4 ≤ length p → i + 4 ≤ length q → u32_at i p ≡ u32_at i q → drop (i + 4) p ≡ drop (i + 4) q → drop i p ≡ drop i q
 four_further i p q h k l m e r =
-    four_told (drop i p) (drop i q) (later_bytes i p h) (later_bytes i q k) (omega (arith, length-drop i p)) (omega (arith, length-drop i q))
+    four_told (drop i p) (drop i q) (AreBytes-drop i p h) (AreBytes-drop i q k) (omega (arith, length-drop i p)) (omega (arith, length-drop i q))
     (u32_after i p ∙ e ∙ sym (u32_after i q)) (skipped i 4 p ∙ r ∙ sym (skipped i 4 q))
 
 -- ---- the header's line

@@ -12,9 +12,9 @@ use Rattle.link_lines_values.specs.Laws.{DigitsAreTold}
 use Rattle.link_lines_texts.specs.Links.{link_header_line}
 use Rattle.link_lines_texts.specs.Lists.{list_lines, of_link}
 use Rattle.link_lines_texts.specs.Telling.{IsOwn, IsShallow, of_family}
-use Rattle.link_lines_texts.proofs.ByteParts.{later_bytes}
 use Rattle.link_lines_texts.proofs.LineCuts.{behind}
 use Rattle.link_lines_texts.proofs.LinkHeadersTold.{link_header_told}
+use Rattle.netlink_packet_core_grammar.proofs.Bytes.{AreBytes-drop}
 
 -- a body of a link that is its own text, under a rule of peers
 pub record IsOwnLink (peer : Peer) (b : List ℕ) : Type 0 where
@@ -45,7 +45,7 @@ own_link peer h b a accepts canonical =
     let text : header_text b ++ rule.canonical (drop 16 b) ≡ b = sym parts.canonical ∙ canonical in
     let list = rule.canonical (drop 16 b) in
     let kept = sym (drop_at (header_text b) list 16 (header_size b size)) ∙ ap (drop 16) text in
-    record { size = size; second = second_is b _ size text; attributes = record { bytes = later_bytes 16 b a; accepted = accepted.1; canonical = kept } }
+    record { size = size; second = second_is b _ size text; attributes = record { bytes = AreBytes-drop 16 b a; accepted = accepted.1; canonical = kept } }
 
 -- the lists of all families are told
 abbrev pub FamiliesTold : Peer → Bool → Type 0

@@ -13,8 +13,8 @@ use Rattle.link_capture_numbers.proofs.Steps.{length_of, whole, stopped}
 use Rattle.link_capture_numbers.proofs.Fronts.{Shape, body_cleared, byte_of, length_same, type_same}
 use Rattle.link_lines_texts.specs.Captures.{is_frame}
 use Rattle.link_lines_texts.specs.Telling.{HasNoNumbers, NumbersAreKnown}
-use Rattle.link_lines_texts.proofs.ByteParts.{first_bytes, joined_bytes, later_bytes}
 use Rattle.link_lines_texts.proofs.NumbersLeft.{cleared_shape, own_body}
+use Rattle.netlink_packet_core_grammar.proofs.Bytes.{AreBytes-append, AreBytes-drop, AreBytes-take}
 
 -- ---- zeros over both numbers
 
@@ -88,8 +88,8 @@ known_front c h =
 zeros_bytes : (place : ℕ) (c : List ℕ) → AreBytes c → AreBytes (zeros_at place c)
 unfolding zeros_at
 zeros_bytes place c h =
-    joined_bytes (take place c) (zeros 8 ++ drop (place + 8) c) (first_bytes place c h)
-    (joined_bytes (zeros 8) (drop (place + 8) c) (omega arith, (omega arith, (omega arith, (omega arith, (omega arith, (omega arith, (omega arith, (omega arith, tt)))))))) (later_bytes (place + 8) c h))
+    AreBytes-append (take place c) (zeros 8 ++ drop (place + 8) c) (AreBytes-take place c h)
+    (AreBytes-append (zeros 8) (drop (place + 8) c) (omega arith, (omega arith, (omega arith, (omega arith, (omega arith, (omega arith, (omega arith, (omega arith, tt)))))))) (AreBytes-drop (place + 8) c h))
 
 front_by : (c : List ℕ) (b : Bool) → AreBytes c → AreBytes (cond b (zeros_at 28 (zeros_at 8 c)) (zeros_at 8 c))
 front_by c false h = zeros_bytes 8 c h
@@ -107,7 +107,7 @@ next_bytes fuel c true h l a rest =
     let low = bounds.0 in
     let left = length-drop n c in
     subst AreBytes (sym (whole c h))
-    (joined_bytes (take n (front_cleared c)) (numbers_cleared (drop n c)) (first_bytes n (front_cleared c) (front_is c a)) (rest (drop n c) (omega (arith, left, low, l)) (later_bytes n c a)))
+    (AreBytes-append (take n (front_cleared c)) (numbers_cleared (drop n c)) (AreBytes-take n (front_cleared c) (front_is c a)) (rest (drop n c) (omega (arith, left, low, l)) (AreBytes-drop n c a)))
 
 bytes_by : (c : List ℕ) (b : Bool) → is_frame c ≡ b → length c ≤ 0 → AreBytes c → AreBytes (numbers_cleared c)
 bytes_by c false h l a = subst AreBytes (sym (stopped c h)) a

@@ -8,6 +8,7 @@ use Rattle.netlink_packet_core_grammar.specs.Texts.{without_nul}
 use Rattle.link_lines_values.specs.Bytes.{bytes_text, colon_byte, colons, escaped, hardware_text, hex_text, quoted}
 use Rattle.link_lines_values.specs.Digits.{hex_byte}
 use Rattle.link_lines_values.specs.Laws.{BytesAreTold}
+use Rattle.netlink_packet_core_grammar.proofs.Texts.{without_nul-bytes}
 
 glyph_by : (d e : ℕ) (s t : Bool) → nat_lt d 10 ≡ s → nat_lt e 10 ≡ t → d < 16 → e < 16 → digit_glyph false d ≡ digit_glyph false e → d ≡ e
 glyph_by d e s t h k p q same = grind (arith, nat_tests)
@@ -105,15 +106,8 @@ escaped_told (x ∷ p) (y ∷ q) s t a b e =
     let rest = escaped_told p q s t a.1 b.1 first.1 in
     (λ i. first.0 i ∷ rest.0 i, rest.1)
 
--- without its last NUL, a text is of bytes still
-kept_bytes : (p : List ℕ) → AreBytes p → AreBytes (without_nul p)
-kept_bytes [] a = a
-kept_bytes (zero ∷ []) a = record {}
-kept_bytes (suc b ∷ []) a = a
-kept_bytes (x ∷ y ∷ p) a = (a.0, kept_bytes (y ∷ p) a.1)
-
 text : (p q : List ℕ) → AreBytes p → AreBytes q → quoted p ≡ quoted q → without_nul p ≡ without_nul q
-text p q a b e = (escaped_told (without_nul p) (without_nul q) [] [] (kept_bytes p a) (kept_bytes q b) (ap (drop 1) e)).0
+text p q a b e = (escaped_told (without_nul p) (without_nul q) [] [] (without_nul-bytes p a) (without_nul-bytes q b) (ap (drop 1) e)).0
 
 pub bytes_told : BytesAreTold
 bytes_told = record { bytes = bytes; hardware = hardware; text = text }

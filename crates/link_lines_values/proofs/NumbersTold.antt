@@ -14,6 +14,7 @@ use Rattle.link_lines_values.specs.Flags.{listed, named_flags, nameless, names_s
 use Rattle.link_lines_values.specs.Laws.{DigitsAreTold, Ends, NumbersAreTold}
 use Rattle.link_lines_values.specs.Values.{number_value, big_endian_value, flags_value, named_flags_value, signed_value}
 use Rattle.link_lines_values.specs.Names.{Text, bracketed, named_number, text_in}
+use Rattle.netlink_packet_core_grammar.proofs.Bytes.{AreBytes-append}
 
 -- ---- digits end where a smaller byte stands
 
@@ -118,13 +119,9 @@ little texts p q a b l h e =
     let n = decimal_told (number p) (number q) (bracketed (text_in texts (number p))) (bracketed (text_in texts (number q))) (small p a h) (small q b k) (name_ends _) (name_ends _) (ap (drop 1) same) in
     number_told p q a b l n.0
 
-joined : (p q : List ℕ) → AreBytes p → AreBytes q → AreBytes (p ++ q)
-joined [] q a b = b
-joined (x ∷ p) q a b = (a.0, joined p q a.1 b)
-
 pub turned : (p : List ℕ) → AreBytes p → AreBytes (reverse p)
 turned [] a = record {}
-turned (x ∷ p) a = subst AreBytes (sym (reverse-append (x ∷ []) p)) (joined (reverse p) (x ∷ []) (turned p a.1) (a.0, record {}))
+turned (x ∷ p) a = subst AreBytes (sym (reverse-append (x ∷ []) p)) (AreBytes-append (reverse p) (x ∷ []) (turned p a.1) (a.0, record {}))
 
 pub turned_size : (p : List ℕ) → is_number p ≡ true → is_number (reverse p) ≡ true
 turned_size p h = same_size p (reverse p) (sym (length-reverse p)) h

@@ -17,7 +17,8 @@ use Rattle.link_lines_values.specs.Laws.{AllKnown, Ends, IsKnown, RecordsAreTold
 use Rattle.link_lines_values.specs.Records.{Field, field_text, field_value, fields_tell, fields_text, has_size, lacks, names_apart, no_equals, record_text, sizes_known, total_size}
 use Rattle.link_lines_values.proofs.BytesTold.{colons_are_told}
 use Rattle.link_lines_values.proofs.NumbersTold.{Digits, cut, shown_by, bounded, small, number_told, big_told, same_size, turned, turned_size, decimal_told, signed_told, high_by}
-use Rattle.link_lines_values.proofs.ValuesTold.{bytes_front, bytes_back, both_parts, true_is_false, zero_number, truth_told}
+use Rattle.link_lines_values.proofs.ValuesTold.{both_parts, true_is_false, zero_number, truth_told}
+use Rattle.netlink_packet_core_grammar.proofs.Bytes.{AreBytes-drop, AreBytes-take}
 
 -- ---- an address without the zeros at its end
 
@@ -58,7 +59,7 @@ address_told p q s t a b l h k e =
     let i = max 6 (count_without_zeros p) in
     let j = max 6 (count_without_zeros q) in
     let r = cut (colons (take i p)) (colons (take j q)) s t (high_address _) (high_address _) h k e in
-    let same : take i p ≡ take j q = colons_are_told _ _ (bytes_front i p a) (bytes_front j q b) r.0 in
+    let same : take i p ≡ take j q = colons_are_told _ _ (AreBytes-take i p a) (AreBytes-take j q b) r.0 in
     let n : number p ≡ number q = sym (trimmed p i (at_most_max (count_without_zeros p))) ∙ ap number same ∙ trimmed q j (at_most_max (count_without_zeros q)) in
     (number_told p q a b l n, r.1)
 
@@ -131,9 +132,9 @@ plain_told (f ∷ fs) p q a b l k z i j e =
     let front_p = size_of_front n m p l in
     let front_q = size_of_front n m q k in
     let sizes = and_parts (has_size f.2 n) (sizes_known fs) z in
-    let r = shown_field f (take n p) (take n q) (fields_text false fs (drop n p)) (fields_text false fs (drop n q)) (bytes_front n p a) (bytes_front n q b) (front_p ∙ sym front_q)
+    let r = shown_field f (take n p) (take n q) (fields_text false fs (drop n p)) (fields_text false fs (drop n q)) (AreBytes-take n p a) (AreBytes-take n q b) (front_p ∙ sym front_q)
     (ap (has_size f.2) front_p ∙ sizes.0) i.0 j.0 (fields_end false fs _) (fields_end false fs _) e in
-    both_parts n p q r.0 (plain_told fs (drop n p) (drop n q) (bytes_back n p a) (bytes_back n q b) (size_of_back n m p l) (size_of_back n m q k) sizes.1 i.1 j.1 r.1)
+    both_parts n p q r.0 (plain_told fs (drop n p) (drop n q) (AreBytes-drop n p a) (AreBytes-drop n q b) (size_of_back n m p l) (size_of_back n m q k) sizes.1 i.1 j.1 r.1)
 
 -- ---- names in front of a sign of equality
 
@@ -194,10 +195,10 @@ sparse_told (f ∷ fs) p q a b l k z u i j e =
     let sizes = and_parts (has_size f.2 n) (sizes_known fs) z in
     let named = and_parts (no_equals f.0) _ u in
     let others = and_parts (lacks f.0 fs) _ named.1 in
-    let r = sparse_field f (take n p) (take n q) (fields_text true fs (drop n p)) (fields_text true fs (drop n q)) _ _ refl refl (bytes_front n p a) (bytes_front n q b) (front_p ∙ sym front_q)
+    let r = sparse_field f (take n p) (take n q) (fields_text true fs (drop n p)) (fields_text true fs (drop n q)) _ _ refl refl (AreBytes-take n p a) (AreBytes-take n q b) (front_p ∙ sym front_q)
     (ap (has_size f.2) front_p ∙ sizes.0) i.0 j.0 (fields_end true fs _) (fields_end true fs _)
     (λ r. absent f.0 fs (drop n p) r named.0 others.0 others.1) (λ r. absent f.0 fs (drop n q) r named.0 others.0 others.1) e in
-    both_parts n p q r.0 (sparse_told fs (drop n p) (drop n q) (bytes_back n p a) (bytes_back n q b) (size_of_back n m p l) (size_of_back n m q k) sizes.1 others.1 i.1 j.1 r.1)
+    both_parts n p q r.0 (sparse_told fs (drop n p) (drop n q) (AreBytes-drop n p a) (AreBytes-drop n q b) (size_of_back n m p l) (size_of_back n m q k) sizes.1 others.1 i.1 j.1 r.1)
 
 -- ---- records
 either_told : (sparse : Bool) (fs : List Field) (p q : List ℕ) → AreBytes p → AreBytes q → length p ≡ total_size fs → length q ≡ total_size fs → fields_tell fs ≡ true → AllKnown fs p → AllKnown fs q →
@@ -218,6 +219,6 @@ records_told sparse fs p q t h k l e =
     (both _ _ (le-leb n (length p) h.whole) h.zeros) (both _ _ (le-leb n (length q) k.whole) k.zeros) e in
     let whole_p = h.whole in
     let whole_q = k.whole in
-    let front : take n p ≡ take n q = either_told sparse fs (take n p) (take n q) (bytes_front n p h.bytes) (bytes_front n q k.bytes) (omega (arith, length-take n p)) (omega (arith, length-take n q)) t h.known k.known same in
-    let back : drop n p ≡ drop n q = number_told (drop n p) (drop n q) (bytes_back n p h.bytes) (bytes_back n q k.bytes) (omega (arith, length-drop n p, length-drop n q)) (zero_number _ h.zeros ∙ sym (zero_number _ k.zeros)) in
+    let front : take n p ≡ take n q = either_told sparse fs (take n p) (take n q) (AreBytes-take n p h.bytes) (AreBytes-take n q k.bytes) (omega (arith, length-take n p)) (omega (arith, length-take n q)) t h.known k.known same in
+    let back : drop n p ≡ drop n q = number_told (drop n p) (drop n q) (AreBytes-drop n p h.bytes) (AreBytes-drop n q k.bytes) (omega (arith, length-drop n p, length-drop n q)) (zero_number _ h.zeros ∙ sym (zero_number _ k.zeros)) in
     both_parts n p q front back

@@ -19,6 +19,7 @@ use Rattle.link_lines_values.specs.Laws.{Ends, SettingsAreTold}
 use Rattle.std.specs.Fmt.{decimal}
 use Rattle.std.proofs.lemmas.List.{take-append-drop, length-reverse, length-take, length-drop}
 use Rattle.link_lines_values.proofs.NumbersTold.{shown_by, same_size, turned, turned_size, small, bounded, number_told, big_told, hex_told, decimal_told}
+use Rattle.netlink_packet_core_grammar.proofs.Bytes.{AreBytes-drop, AreBytes-take}
 
 -- ---- addresses
 
@@ -90,16 +91,6 @@ address_16 p q a b l k e =
 
 -- ---- parts
 
-pub bytes_front : (n : ℕ) (p : List ℕ) → AreBytes p → AreBytes (take n p)
-bytes_front zero p a = record {}
-bytes_front (suc n) [] a = record {}
-bytes_front (suc n) (x ∷ p) a = (a.0, bytes_front n p a.1)
-
-pub bytes_back : (n : ℕ) (p : List ℕ) → AreBytes p → AreBytes (drop n p)
-bytes_back zero p a = a
-bytes_back (suc n) [] a = a
-bytes_back (suc n) (x ∷ p) a = bytes_back n p a.1
-
 pub both_parts : (n : ℕ) (p q : List ℕ) → take n p ≡ take n q → drop n p ≡ drop n q → p ≡ q
 both_parts n p q h k = sym (take-append-drop n p) ∙ (λ t. h t ++ k t) ∙ take-append-drop n q
 
@@ -139,9 +130,9 @@ masked p q a b l k e =
     let back_q : length (drop 4 q) ≡ 4 = omega (arith, length-drop 4 q) in
     let ends : (n : ℕ) → Ends (codes " mask " ++ hex_number n) = λ n. omega arith in
     let first = hex_told (number (take 4 p)) (number (take 4 q)) (codes " mask " ++ hex_number (number (drop 4 p))) (codes " mask " ++ hex_number (number (drop 4 q)))
-    (within_8 _ (bytes_front 4 p a) (omega arith)) (within_8 _ (bytes_front 4 q b) (omega arith)) (ends (number (drop 4 p))) (ends (number (drop 4 q))) (ap (drop 1) same) in
-    let second = hex_told (number (drop 4 p)) (number (drop 4 q)) [] [] (within_8 _ (bytes_back 4 p a) (omega arith)) (within_8 _ (bytes_back 4 q b) (omega arith)) (record {}) (record {}) (ap (λ x. drop 6 x ++ []) first.1) in
-    both_parts 4 p q (number_told _ _ (bytes_front 4 p a) (bytes_front 4 q b) (front_p ∙ sym front_q) first.0) (number_told _ _ (bytes_back 4 p a) (bytes_back 4 q b) (back_p ∙ sym back_q) second.0)
+    (within_8 _ (AreBytes-take 4 p a) (omega arith)) (within_8 _ (AreBytes-take 4 q b) (omega arith)) (ends (number (drop 4 p))) (ends (number (drop 4 q))) (ap (drop 1) same) in
+    let second = hex_told (number (drop 4 p)) (number (drop 4 q)) [] [] (within_8 _ (AreBytes-drop 4 p a) (omega arith)) (within_8 _ (AreBytes-drop 4 q b) (omega arith)) (record {}) (record {}) (ap (λ x. drop 6 x ++ []) first.1) in
+    both_parts 4 p q (number_told _ _ (AreBytes-take 4 p a) (AreBytes-take 4 q b) (front_p ∙ sym front_q) first.0) (number_told _ _ (AreBytes-drop 4 p a) (AreBytes-drop 4 q b) (back_p ∙ sym back_q) second.0)
 
 -- ---- a byte or none, and two port numbers
 
@@ -169,9 +160,9 @@ ports p q a b l k e =
     let back_q : length (drop 2 q) ≡ 2 = omega (arith, length-drop 2 q) in
     let ends : (n : ℕ) → Ends (32 ∷ decimal n) = λ n. omega arith in
     let first = decimal_told (big_endian (take 2 p)) (big_endian (take 2 q)) (32 ∷ decimal (big_endian (drop 2 p))) (32 ∷ decimal (big_endian (drop 2 q)))
-    (turned_8 2 _ (bytes_front 2 p a) front_p (omega arith)) (turned_8 2 _ (bytes_front 2 q b) front_q (omega arith)) (ends (big_endian (drop 2 p))) (ends (big_endian (drop 2 q))) (ap (drop 1) same) in
-    let second = decimal_told (big_endian (drop 2 p)) (big_endian (drop 2 q)) [] [] (turned_8 2 _ (bytes_back 2 p a) back_p (omega arith)) (turned_8 2 _ (bytes_back 2 q b) back_q (omega arith)) (record {}) (record {}) (ap (λ x. drop 1 x ++ []) first.1) in
-    both_parts 2 p q (big_told _ _ (bytes_front 2 p a) (bytes_front 2 q b) (front_p ∙ sym front_q) first.0) (big_told _ _ (bytes_back 2 p a) (bytes_back 2 q b) (back_p ∙ sym back_q) second.0)
+    (turned_8 2 _ (AreBytes-take 2 p a) front_p (omega arith)) (turned_8 2 _ (AreBytes-take 2 q b) front_q (omega arith)) (ends (big_endian (drop 2 p))) (ends (big_endian (drop 2 q))) (ap (drop 1) same) in
+    let second = decimal_told (big_endian (drop 2 p)) (big_endian (drop 2 q)) [] [] (turned_8 2 _ (AreBytes-drop 2 p a) back_p (omega arith)) (turned_8 2 _ (AreBytes-drop 2 q b) back_q (omega arith)) (record {}) (record {}) (ap (λ x. drop 1 x ++ []) first.1) in
+    both_parts 2 p q (big_told _ _ (AreBytes-take 2 p a) (AreBytes-take 2 q b) (front_p ∙ sym front_q) first.0) (big_told _ _ (AreBytes-drop 2 p a) (AreBytes-drop 2 q b) (back_p ∙ sym back_q) second.0)
 
 -- ---- truths
 

@@ -131,7 +131,7 @@ module _ (faults : JoinedFaults link_body) (joins : JoinedTexts link_body) where
   there frames limit false rest more kind m bad =
       frames.followed limit rest more (λ e. bad.for_good refl (let z : Err kind ≡ Err Cut = sym bad.is ∙ e in cc)) ∙ bad.is
 
-  pub fails : CapturesGoByFrames link_body → FramesStandAlone link_body → (limit : ℕ) (last : Bool) (c : List ℕ) (used written : ℕ) (before more : List ℕ) (kind : FaultKind) → IsUsed limit last c used written → IsWhole limit before → (last ≡ true → more ≡ []) → IsFaulty limit last (drop used c) kind → Fails limit kind used (texts limit (take used c)) before (before ++ (c ++ more))
+  pub fails : CapturesGoByFrames link_body → FramesStandAlone link_body → (limit : ℕ) (last : Bool) (c : List ℕ) (used written : ℕ) (before more : List ℕ) (kind : FaultKind) → IsUsed limit last c used written → IsWhole limit before → (last ≡ true → more ≡ []) → IsFaulty limit last (drop used c) kind → Fails limit kind used c before more
   fails go frames limit last c used written before more kind u b m bad =
       let l : used < length c = omega (arith, bad.more, length-drop used c) in
       let n = length_front used c u.inside in

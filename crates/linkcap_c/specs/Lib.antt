@@ -2,3 +2,4 @@ pub mod Buffers
 pub mod Pieces
 pub mod Told
 pub mod Choices
+pub mod Answers

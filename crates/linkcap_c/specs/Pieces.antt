@@ -18,6 +18,10 @@ pub record IsUsed (limit : ℕ) (last : Bool) (c : List ℕ) (used size : ℕ) :
 abbrev pub HasText : ℕ → List ℕ → List ℕ → Type 0
 HasText limit rest text = (n : ℕ) × (first_frame limit rest ≡ Ok (n, text))
 
+-- it has one
+abbrev pub IsAccepted : ℕ → List ℕ → Type 0
+IsAccepted limit rest = (text : List ℕ) × HasText limit rest text
+
 -- the frame in front is accepted, and its padding isn't all there
 abbrev pub LacksPadding : ℕ → List ℕ → Type 0
 LacksPadding limit rest = (n : ℕ) × (text : List ℕ) × (first_frame limit rest ≡ Ok (n, text)) × (length rest < nla_align n)
@@ -42,20 +46,20 @@ abbrev pub Stops : ℕ → Bool → List ℕ → ℕ → Stop → Type 0
 Stops limit last rest room Ended = IsEnded limit last rest
 Stops limit last rest room (Fault kind) = IsFaulty limit last rest kind
 Stops limit last rest room (Room wanted) = (room < wanted) × Wants limit rest wanted
-Stops limit last rest room Memory = (text : List ℕ) × HasText limit rest text
+Stops limit last rest room Memory = IsAccepted limit rest
 
 -- a legal capture whose frames all have their padding
 pub record IsWhole (limit : ℕ) (s : List ℕ) : Type 0 where
   pub legal : IsLegal limit s
   pub padded : length s % 4 ≡ 0
 
--- Behind each whole capture, what was used of the piece is legal, has these texts, and is whole where more is to come.
-pub record GoesOn (limit : ℕ) (last : Bool) (used text before : List ℕ) : Type 0 where
+-- Behind each whole capture, what was used of the piece is legal, has its texts, and is whole where more is to come.
+pub record GoesOn (limit : ℕ) (last : Bool) (used before : List ℕ) : Type 0 where
   pub legal : IsLegal limit (before ++ used)
-  pub written : texts limit (before ++ used) ≡ texts limit before ++ text
+  pub written : texts limit (before ++ used) ≡ texts limit before ++ texts limit used
   pub whole : last ≡ false → IsWhole limit (before ++ used)
 
--- the capture's first fault, where so much of a piece was used, and its texts
-pub record Fails (limit : ℕ) (kind : FaultKind) (used : ℕ) (text : List ℕ) (before all : List ℕ) : Type 0 where
-  pub fault : first_fault limit all ≡ Some (record { kind = kind; offset = length before + used })
-  pub written : texts limit all ≡ texts limit before ++ text
+-- A piece stands behind a whole capture and in front of more, and so much of it was used: the first fault of all, and its texts.
+pub record Fails (limit : ℕ) (kind : FaultKind) (used : ℕ) (piece before more : List ℕ) : Type 0 where
+  pub fault : first_fault limit (before ++ (piece ++ more)) ≡ Some (record { kind = kind; offset = length before + used })
+  pub written : texts limit (before ++ (piece ++ more)) ≡ texts limit before ++ texts limit (take used piece)

@@ -1,8 +1,10 @@
 -- Faults as C is told of them.
-use Rattle.std.specs.Prelude.{ℕ, ◌-◌, ◌^◌, Bool, cond, Option, None, Some}
+use Rattle.std.specs.Prelude.{◌≡◌, ◌⊎◌, ℕ, ◌-◌, ◌^◌, Bool, cond, List, Option, None, Some, option_map}
 use Rattle.link_capture_grammar.specs.declared.fault.FaultKind.{FaultKind}
 use Rattle.link_capture_grammar.specs.declared.fault.FaultKind.TheVariants.{Cut, ShortLength, OverLimit, Refused, EmptyPorts, Unfit, TextOverLimit, Memory, Read, Write, TooLong, Failed}
 use Rattle.link_capture_grammar.specs.declared.fault.CaptureFault.{CaptureFault}
+use Rattle.link_capture_grammar.specs.Captures.{first_fault, StopsAt}
+use Rattle.link_capture_checks.specs.Sides.{side_text}
 use Rattle.linkcap_c.specs.declared.told.LinkcapFault.{LinkcapFault}
 
 -- the number of a kind
@@ -27,6 +29,22 @@ side_number second = cond second 2 1
 -- a fault with this number of its side
 abbrev pub told : ℕ → CaptureFault → LinkcapFault
 told side fault = record { kind = kind_number fault.kind; side = side; offset = fault.offset }
+
+-- this is one, of a capture that is alone or of one of two
+abbrev pub IsFault : LinkcapFault → Type 0
+IsFault fault = (found : CaptureFault) × ((fault ≡ told 0 found) ⊎ (fault ≡ told 1 found) ⊎ (fault ≡ told 2 found))
+
+-- the words of a fault of the second of two captures, or of the first
+abbrev pub words_of_side : Bool → CaptureFault → List ℕ
+words_of_side second fault = side_text (record { second = second; fault = fault })
+
+-- the first fault of a capture with this number of its side is told so
+abbrev pub TellsFault : ℕ → ℕ → List ℕ → LinkcapFault → Type 0
+TellsFault side limit c fault = option_map (told side) (first_fault limit c) ≡ Some fault
+
+-- want of memory is told at a place where a frame starts, before which the capture is legal
+abbrev pub TellsMemory : ℕ → List ℕ → LinkcapFault → Type 0
+TellsMemory limit c fault = (fault.kind ≡ kind_number Memory) × StopsAt limit c fault.offset
 
 -- the number for a place: the greatest where there is none
 abbrev pub place_number : Option ℕ → ℕ

@@ -1,9 +1,9 @@
 //! Two captures compared.
 
-ghost use Rattle.std.specs.Prelude.{◌≡◌, ◌<◌, ◌≤◌, ◌↔◌, ◌⊎◌, Some, option_map};
-ghost use Rattle.link_capture_grammar.specs.Captures.{first_fault, texts, IsLegal};
+ghost use Rattle.std.specs.Prelude.{◌≡◌, ◌<◌, ◌≤◌, ◌↔◌, ◌⊎◌};
+ghost use Rattle.link_capture_grammar.specs.Captures.{texts, IsLegal};
 ghost use Rattle.link_capture_grammar.specs.Same.{SameCapture};
-ghost use Rattle.linkcap_c.specs.Told.{told};
+ghost use Rattle.linkcap_c.specs.Told.{TellsFault};
 
 use crate::statuses::{DIFFERENT, FAULT, OK, WRONG, is_limit};
 use crate::told::{LinkcapFault, of_two};
@@ -24,10 +24,9 @@ pub extern "C" fn linkcap_same(
     ensures different { result ≡ 1 → SameCapture limit first.now second.now → ⊥ }
     ensures texts { (result ≡ 0) ⊎ (result ≡ 1)
         → (result ≡ 0) ↔ (texts limit first.now ≡ texts limit second.now) }
-    ensures first_side { result ≡ 2 → (fault.new.side ≡ 1)
-        → option_map (told 1) (first_fault limit first.now) ≡ Some fault.new }
-    ensures second_side { result ≡ 2 → (fault.new.side ≡ 2) → IsLegal limit first.now
-        × (option_map (told 2) (first_fault limit second.now) ≡ Some fault.new) }
+    ensures first_side { result ≡ 2 → fault.new.side ≡ 1 → TellsFault 1 limit first.now fault.new }
+    ensures second_side { result ≡ 2 → fault.new.side ≡ 2
+        → IsLegal limit first.now × TellsFault 2 limit second.now fault.new }
     ensures side { result ≡ 2 → (fault.new.side ≡ 1) ⊎ (fault.new.side ≡ 2) }
     ensures limit { (result ≡ 3) ↔ (limit < 16) }
     ensures answers { result ≤ 3 }

@@ -1,9 +1,9 @@
 //! One capture judged and measured.
 
-ghost use Rattle.std.specs.Prelude.{◌≡◌, ◌+◌, ◌*◌, ◌^◌, ◌<◌, ◌↔◌, ◌⊎◌, length, Some, option_map};
-ghost use Rattle.link_capture_grammar.specs.Captures.{first_fault, texts, IsLegal};
+ghost use Rattle.std.specs.Prelude.{◌≡◌, ◌+◌, ◌*◌, ◌^◌, length};
+ghost use Rattle.link_capture_grammar.specs.Captures.{texts};
 ghost use Rattle.link_capture_grammar.specs.Numbers.{attributes, frames};
-ghost use Rattle.linkcap_c.specs.Told.{told};
+ghost use Rattle.linkcap_c.specs.Answers.{IsJudgement, Judges};
 
 use crate::statuses::{FAULT, OK, WRONG, is_limit};
 use crate::told::{LinkcapFault, of_one};
@@ -27,11 +27,8 @@ pub struct LinkcapMeasure {
 /// memory.
 #[unsafe(no_mangle)]
 pub extern "C" fn linkcap_check(capture: &[u8], limit: u32, fault: &mut LinkcapFault) -> u32
-    ensures legal { result ≡ 0 → IsLegal limit capture.now }
-    ensures fault { result ≡ 2
-        → option_map (told 0) (first_fault limit capture.now) ≡ Some fault.new }
-    ensures limit { (result ≡ 3) ↔ (limit < 16) }
-    ensures answers { (result ≡ 0) ⊎ (result ≡ 2) ⊎ (result ≡ 3) }
+    ensures judged { Judges limit capture.now result fault.new }
+    ensures answers { IsJudgement result }
 {
     if !is_limit(limit) {
         return WRONG;
@@ -53,15 +50,12 @@ pub extern "C" fn linkcap_measure(
     numbers: &mut LinkcapMeasure,
     fault: &mut LinkcapFault,
 ) -> u32
-    ensures legal { result ≡ 0 → IsLegal limit capture.now }
+    ensures judged { Judges limit capture.now result fault.new }
     ensures frames { result ≡ 0 → numbers.new.frames ≡ frames limit capture.now }
     ensures attributes { result ≡ 0 → numbers.new.attributes ≡ attributes limit capture.now }
     ensures text { result ≡ 0 → numbers.new.text_low + 2 ^ 64 * numbers.new.text_high
         ≡ length (texts limit capture.now) }
-    ensures fault { result ≡ 2
-        → option_map (told 0) (first_fault limit capture.now) ≡ Some fault.new }
-    ensures limit { (result ≡ 3) ↔ (limit < 16) }
-    ensures answers { (result ≡ 0) ⊎ (result ≡ 2) ⊎ (result ≡ 3) }
+    ensures answers { IsJudgement result }
 {
     if !is_limit(limit) {
         return WRONG;

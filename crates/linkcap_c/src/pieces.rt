@@ -131,13 +131,11 @@ pub(crate) fn write_piece(
         (length out.old - result.written) result.stop }
     // What the pieces write one after the other is what the whole writes.
     ensures goes_on { (before : List ℕ) → IsWhole limit before
-        → GoesOn limit last (take result.used bytes.now)
-        (texts limit (take result.used bytes.now)) before }
+        → GoesOn limit last (take result.used bytes.now) before }
     // And the first fault is the whole's.
     ensures fails { (before more : List ℕ) (kind : FaultKind) → IsWhole limit before
         → (last ≡ true → more ≡ []) → IsFaulty limit last (drop result.used bytes.now) kind
-        → Fails limit kind result.used (texts limit (take result.used bytes.now)) before
-        (before ++ (bytes.now ++ more)) }
+        → Fails limit kind result.used bytes.now before more }
 {
     captures_go_by_frames();
     frames_stand_alone();

@@ -3,7 +3,8 @@
 ghost use Rattle.std.specs.Prelude.{◌≡◌, ◌<◌, ◌≤◌, ◌↔◌, ◌⊎◌, length, None, Some};
 ghost use Rattle.link_capture_refusals.specs.Refusals.{Found, refusal};
 ghost use Rattle.link_capture_refusals.specs.RefusalWords.{refusal_text};
-ghost use Rattle.linkcap_c.specs.Buffers.{Holds};
+ghost use Rattle.linkcap_c.specs.Answers.{IsAnswer};
+ghost use Rattle.linkcap_c.specs.Buffers.{Holds, Lacks};
 ghost use Rattle.linkcap_c.specs.Told.{place_number};
 
 use crate::room::hand_over;
@@ -39,11 +40,10 @@ pub extern "C" fn linkcap_why(
     ensures nothing { result ≡ 0 → refusal limit capture.now ≡ None }
     ensures limit { (result ≡ 3) ↔ (limit < 16) }
     ensures room { result ≡ 4 → (found : Found) × (refusal limit capture.now ≡ Some found)
-        × (length out.old < length (refusal_text found))
-        × (size.new ≡ length (refusal_text found)) }
+        × Lacks (refusal_text found) size.new out.old }
     ensures memory { result ≡ 5 → (found : Found) × (refusal limit capture.now ≡ Some found) }
     ensures kept { (result ≡ 0) ⊎ (result ≡ 3) ⊎ (result ≡ 4) ⊎ (result ≡ 5) → out.new ≡ out.old }
-    ensures answers { (result ≡ 0) ⊎ ((2 ≤ result) × (result ≤ 5)) }
+    ensures answers { IsAnswer result }
 {
     if !is_limit(limit) {
         return WRONG;

@@ -3,8 +3,9 @@
 ghost use Rattle.std.specs.Prelude.{◌≡◌, ◌≢◌, ◌+◌, ◌<◌, ◌≤◌, ◌↔◌, ◌⊎◌, ◌++◌, ℕ, List, [], true, length, take, drop};
 ghost use Rattle.link_capture_grammar.specs.declared.fault.FaultKind.{FaultKind};
 ghost use Rattle.link_capture_grammar.specs.Captures.{texts};
+ghost use Rattle.linkcap_c.specs.Answers.{IsAnswer};
 ghost use Rattle.linkcap_c.specs.Buffers.{Holds};
-ghost use Rattle.linkcap_c.specs.Pieces.{IsUsed, IsEnded, IsFaulty, HasText, Wants, IsWhole, GoesOn, Fails};
+ghost use Rattle.linkcap_c.specs.Pieces.{IsUsed, IsAccepted, IsEnded, IsFaulty, Wants, IsWhole, GoesOn, Fails};
 ghost use Rattle.linkcap_c.specs.Told.{kind_number, told};
 
 use crate::pieces::{Stop, write_piece};
@@ -52,18 +53,15 @@ pub extern "C" fn linkcap_normalize_some(
         × Wants limit (drop progress.new.used piece.now) progress.new.wanted }
     ensures nothing_wanted { (result ≡ 0) ⊎ (result ≡ 2) ⊎ (result ≡ 5) → progress.new.wanted ≡ 0 }
     ensures memory { result ≡ 5 → (fault.new.kind ≡ 8) × (fault.new.offset ≡ progress.new.used)
-        × (text : List ℕ) × HasText limit (drop progress.new.used piece.now) text }
-    ensures answers { (result ≡ 0) ⊎ ((2 ≤ result) × (result ≤ 5)) }
+        × IsAccepted limit (drop progress.new.used piece.now) }
+    ensures answers { IsAnswer result }
     // What the pieces write one after the other is what the whole writes.
     ensures goes_on { result ≢ 3 → (before : List ℕ) → IsWhole limit before
-        → GoesOn limit last (take progress.new.used piece.now)
-        (texts limit (take progress.new.used piece.now)) before }
+        → GoesOn limit last (take progress.new.used piece.now) before }
     // And the first fault is the whole's.
     ensures fails { result ≡ 2 → (before more : List ℕ) → IsWhole limit before
         → (last ≡ true → more ≡ []) → (kind : FaultKind) × (fault.new.kind ≡ kind_number kind)
-        × Fails limit kind progress.new.used
-        (texts limit (take progress.new.used piece.now)) before
-        (before ++ (piece.now ++ more)) }
+        × Fails limit kind progress.new.used piece.now before more }
 {
     if !is_limit(limit) {
         return WRONG;

@@ -1,11 +1,10 @@
 //! The words of faults, and the version, for C.
 
-ghost use Rattle.std.specs.Prelude.{◌≡◌, ◌⊎◌, true, false};
+ghost use Rattle.std.specs.Prelude.{◌≡◌, true, false};
 ghost use Rattle.link_capture_grammar.specs.declared.fault.CaptureFault.{CaptureFault};
 ghost use Rattle.link_capture_grammar.specs.Faults.{fault_text};
-ghost use Rattle.link_capture_checks.specs.Sides.{side_text};
 ghost use Rattle.linkcap_c.specs.Buffers.{HandsOver};
-ghost use Rattle.linkcap_c.specs.Told.{told};
+ghost use Rattle.linkcap_c.specs.Told.{IsFault, told, words_of_side};
 
 use crate::room::hand_over;
 use crate::statuses::{OK, WRONG};
@@ -22,13 +21,10 @@ pub extern "C" fn linkcap_fault_text(fault: &LinkcapFault, out: &mut [u8], size:
     ensures alone { (found : CaptureFault) → fault.now ≡ told 0 found
         → HandsOver 0 (fault_text found) result size.new out.old out.new }
     ensures first { (found : CaptureFault) → fault.now ≡ told 1 found
-        → HandsOver 0 (side_text (record { second = false; fault = found })) result size.new
-        out.old out.new }
+        → HandsOver 0 (words_of_side false found) result size.new out.old out.new }
     ensures second { (found : CaptureFault) → fault.now ≡ told 2 found
-        → HandsOver 0 (side_text (record { second = true; fault = found })) result size.new
-        out.old out.new }
-    ensures wrong { result ≡ 3 → (found : CaptureFault) → (fault.now ≡ told 0 found)
-        ⊎ (fault.now ≡ told 1 found) ⊎ (fault.now ≡ told 2 found) → ⊥ }
+        → HandsOver 0 (words_of_side true found) result size.new out.old out.new }
+    ensures wrong { result ≡ 3 → IsFault fault.now → ⊥ }
     ensures kept { result ≡ 3 → out.new ≡ out.old }
 {
     let Some(kind) = kind_of(fault.kind) else {

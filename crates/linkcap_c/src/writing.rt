@@ -1,17 +1,19 @@
 //! Texts and lines written to a caller's buffer.
 
-ghost use Rattle.std.specs.Prelude.{◌≡◌, ◌-◌, ◌*◌, ◌^◌, ◌%◌, ◌<◌, ◌≤◌, ◌↔◌, ◌⊎◌, ◌++◌, ℕ, List, length, drop, min};
-ghost use Rattle.std.specs.Prelude.{Some, option_map};
-ghost use Rattle.link_capture_grammar.specs.Captures.{first_fault, texts, IsLegal, StopsAt};
+ghost use Rattle.std.specs.Prelude.{◌≡◌, ◌*◌, ◌%◌, ◌<◌, ◌≤◌, ◌↔◌, ◌⊎◌, length, drop};
+ghost use Rattle.link_capture_grammar.specs.Captures.{texts, IsLegal};
 ghost use Rattle.link_capture_grammar.specs.Same.{SameCapture};
 ghost use Rattle.link_capture_reader.specs.Joined.{IsJoined};
+ghost use Rattle.link_capture_reader.specs.Readers.{IsPlaceOf};
+ghost use Rattle.link_lines.specs.Meanings.{GoesByMeaning};
 ghost use Rattle.link_lines.specs.Outcomes.{WantsMemoryAt};
 ghost use Rattle.link_lines.specs.Captures.{everything, lines};
 ghost use Rattle.link_lines.specs.Options.{choice_of};
-ghost use Rattle.linkcap_c.specs.Buffers.{Holds};
+ghost use Rattle.linkcap_c.specs.Answers.{IsAnswer, Judges, Writes};
+ghost use Rattle.linkcap_c.specs.Buffers.{told_length};
 ghost use Rattle.linkcap_c.specs.Choices.{asked};
-ghost use Rattle.linkcap_c.specs.Pieces.{HasText};
-ghost use Rattle.linkcap_c.specs.Told.{told};
+ghost use Rattle.linkcap_c.specs.Pieces.{IsAccepted};
+ghost use Rattle.linkcap_c.specs.Told.{TellsMemory};
 
 use crate::room::hand_over;
 use crate::statuses::{FAULT, NO_MEMORY, NO_ROOM, OK, WRONG, is_limit};
@@ -43,7 +45,7 @@ fn texts_len(bytes: &[u8], limit: u32) -> u128
 fn lacking_memory(bytes: &[u8], limit: u32, room: usize, size: &mut u64) -> u32
     ensures room { (result ≡ 4) ↔ (room < length (texts limit bytes.now)) }
     ensures memory { (result ≡ 4) ⊎ (result ≡ 5) }
-    ensures size { size.new ≡ min (length (texts limit bytes.now)) (2 ^ 64 - 1) }
+    ensures size { size.new ≡ told_length (texts limit bytes.now) }
 {
     let wanted = texts_len(bytes, limit);
     *size = wanted.min(u64::MAX as u128) as u64;
@@ -65,24 +67,17 @@ pub extern "C" fn linkcap_normalize(
     size: &mut u64,
     fault: &mut LinkcapFault,
 ) -> u32
-    ensures legal { result ≡ 0 → IsLegal limit capture.now
-        × Holds (texts limit capture.now) size.new out.old out.new }
-    ensures fault { result ≡ 2
-        → (option_map (told 0) (first_fault limit capture.now) ≡ Some fault.new)
-        × Holds (texts limit capture.now) size.new out.old out.new }
-    ensures limit { (result ≡ 3) ↔ (limit < 16) }
+    ensures judged { Judges limit capture.now result fault.new }
+    ensures written { Writes (texts limit capture.now) result size.new out.old out.new }
+    ensures place { result ≡ 2 → IsPlaceOf capture.now fault.new.offset }
+    ensures memory { result ≡ 5 → TellsMemory limit capture.now fault.new }
+    ensures answers { IsAnswer result }
     // Room is answered first.
     ensures room { 16 ≤ limit
         → (result ≡ 4) ↔ (length out.old < length (texts limit capture.now)) }
-    ensures wanted { result ≡ 4
-        → size.new ≡ min (length (texts limit capture.now)) (2 ^ 64 - 1) }
-    ensures memory { result ≡ 5 → (fault.new.kind ≡ 8) × StopsAt limit capture.now fault.new.offset }
+    ensures wanted { result ≡ 4 → size.new ≡ told_length (texts limit capture.now) }
     // Memory is wanting only for the text of an accepted frame.
-    ensures cause { result ≡ 5 → (text : List ℕ) × HasText limit (drop fault.new.offset capture.now) text }
-    ensures kept { (result ≡ 3) ⊎ (result ≡ 4) ⊎ (result ≡ 5) → out.new ≡ out.old }
-    ensures place { result ≡ 2
-        → (fault.new.offset < length capture.now) × (fault.new.offset % 4 ≡ 0) }
-    ensures answers { (result ≡ 0) ⊎ ((2 ≤ result) × (result ≤ 5)) }
+    ensures cause { result ≡ 5 → IsAccepted limit (drop fault.new.offset capture.now) }
     // A normal text is legal, and its own normal text.
     ensures normal { 16 ≤ limit → IsLegal limit (texts limit capture.now)
         × (texts limit (texts limit capture.now) ≡ texts limit capture.now) }
@@ -122,31 +117,14 @@ fn show_as(
     size: &mut u64,
     fault: &mut LinkcapFault,
 ) -> u32
-    ensures legal { result ≡ 0 → IsLegal limit capture.now
-        × Holds (lines (choice_of options.entry) limit capture.now) size.new out.old out.new }
-    ensures fault { result ≡ 2
-        → (option_map (told 0) (first_fault limit capture.now) ≡ Some fault.new)
-        × Holds (lines (choice_of options.entry) limit capture.now) size.new out.old out.new }
-    ensures limit { (result ≡ 3) ↔ (limit < 16) }
-    ensures room { result ≡ 4 → length out.old < length (lines (choice_of options.entry) limit capture.now) }
+    ensures judged { Judges limit capture.now result fault.new }
+    ensures written { Writes (lines (choice_of options.entry) limit capture.now) result size.new out.old out.new }
+    ensures place { result ≡ 2 → IsPlaceOf capture.now fault.new.offset }
+    ensures memory { result ≡ 5 → TellsMemory limit capture.now fault.new }
+    ensures answers { IsAnswer result }
     ensures wanted { result ≡ 4 → size.new ≡ length (lines (choice_of options.entry) limit capture.now) }
-    ensures memory { result ≡ 5 → (fault.new.kind ≡ 8) × StopsAt limit capture.now fault.new.offset }
     ensures cause { result ≡ 5 → WantsMemoryAt limit capture.now fault.new.offset }
-    ensures kept { (result ≡ 3) ⊎ (result ≡ 4) ⊎ (result ≡ 5) → out.new ≡ out.old }
-    ensures place { result ≡ 2
-        → (fault.new.offset < length capture.now) × (fault.new.offset % 4 ≡ 0) }
-    ensures answers { (result ≡ 0) ⊎ ((2 ≤ result) × (result ≤ 5)) }
-    // A capture and its texts have the same lines, and so have captures that mean the same.
-    ensures normal { 16 ≤ limit
-        → lines (choice_of options.entry) limit (texts limit capture.now)
-        ≡ lines (choice_of options.entry) limit capture.now }
-    ensures same { 16 ≤ limit → (other : List ℕ) → SameCapture limit capture.now other
-        → lines (choice_of options.entry) limit other ≡ lines (choice_of options.entry) limit capture.now }
-    // What follows a legal capture whose size is a multiple of 4 is shown by itself.
-    ensures joined { 16 ≤ limit → IsLegal limit capture.now → length capture.now % 4 ≡ 0
-        → (more : List ℕ)
-        → lines (choice_of options.entry) limit (capture.now ++ more)
-        ≡ lines (choice_of options.entry) limit capture.now ++ lines (choice_of options.entry) limit more }
+    ensures shown { 16 ≤ limit → GoesByMeaning (choice_of options.entry) limit capture.now }
 {
     if !is_limit(limit) {
         return WRONG;
@@ -176,29 +154,14 @@ pub extern "C" fn linkcap_show(
     size: &mut u64,
     fault: &mut LinkcapFault,
 ) -> u32
-    ensures legal { result ≡ 0 → IsLegal limit capture.now
-        × Holds (lines everything limit capture.now) size.new out.old out.new }
-    ensures fault { result ≡ 2
-        → (option_map (told 0) (first_fault limit capture.now) ≡ Some fault.new)
-        × Holds (lines everything limit capture.now) size.new out.old out.new }
-    ensures limit { (result ≡ 3) ↔ (limit < 16) }
-    ensures room { result ≡ 4 → length out.old < length (lines everything limit capture.now) }
+    ensures judged { Judges limit capture.now result fault.new }
+    ensures written { Writes (lines everything limit capture.now) result size.new out.old out.new }
+    ensures place { result ≡ 2 → IsPlaceOf capture.now fault.new.offset }
+    ensures memory { result ≡ 5 → TellsMemory limit capture.now fault.new }
+    ensures answers { IsAnswer result }
     ensures wanted { result ≡ 4 → size.new ≡ length (lines everything limit capture.now) }
-    ensures memory { result ≡ 5 → (fault.new.kind ≡ 8) × StopsAt limit capture.now fault.new.offset }
     ensures cause { result ≡ 5 → WantsMemoryAt limit capture.now fault.new.offset }
-    ensures kept { (result ≡ 3) ⊎ (result ≡ 4) ⊎ (result ≡ 5) → out.new ≡ out.old }
-    ensures place { result ≡ 2
-        → (fault.new.offset < length capture.now) × (fault.new.offset % 4 ≡ 0) }
-    ensures answers { (result ≡ 0) ⊎ ((2 ≤ result) × (result ≤ 5)) }
-    // A capture and its texts have the same lines, and so have captures that mean the same.
-    ensures normal { 16 ≤ limit
-        → lines everything limit (texts limit capture.now) ≡ lines everything limit capture.now }
-    ensures same { 16 ≤ limit → (other : List ℕ) → SameCapture limit capture.now other
-        → lines everything limit other ≡ lines everything limit capture.now }
-    // What follows a legal capture whose size is a multiple of 4 is shown by itself.
-    ensures joined { 16 ≤ limit → IsLegal limit capture.now → length capture.now % 4 ≡ 0
-        → (more : List ℕ)
-        → lines everything limit (capture.now ++ more) ≡ lines everything limit capture.now ++ lines everything limit more }
+    ensures shown { 16 ≤ limit → GoesByMeaning everything limit capture.now }
 {
     show_as(
         alloc,
@@ -224,31 +187,14 @@ pub extern "C" fn linkcap_show_with(
     size: &mut u64,
     fault: &mut LinkcapFault,
 ) -> u32
-    ensures legal { result ≡ 0 → IsLegal limit capture.now
-        × Holds (lines (asked without_numbers only.now) limit capture.now) size.new out.old out.new }
-    ensures fault { result ≡ 2
-        → (option_map (told 0) (first_fault limit capture.now) ≡ Some fault.new)
-        × Holds (lines (asked without_numbers only.now) limit capture.now) size.new out.old out.new }
-    ensures limit { (result ≡ 3) ↔ (limit < 16) }
-    ensures room { result ≡ 4 → length out.old < length (lines (asked without_numbers only.now) limit capture.now) }
+    ensures judged { Judges limit capture.now result fault.new }
+    ensures written { Writes (lines (asked without_numbers only.now) limit capture.now) result size.new out.old out.new }
+    ensures place { result ≡ 2 → IsPlaceOf capture.now fault.new.offset }
+    ensures memory { result ≡ 5 → TellsMemory limit capture.now fault.new }
+    ensures answers { IsAnswer result }
     ensures wanted { result ≡ 4 → size.new ≡ length (lines (asked without_numbers only.now) limit capture.now) }
-    ensures memory { result ≡ 5 → (fault.new.kind ≡ 8) × StopsAt limit capture.now fault.new.offset }
     ensures cause { result ≡ 5 → WantsMemoryAt limit capture.now fault.new.offset }
-    ensures kept { (result ≡ 3) ⊎ (result ≡ 4) ⊎ (result ≡ 5) → out.new ≡ out.old }
-    ensures place { result ≡ 2
-        → (fault.new.offset < length capture.now) × (fault.new.offset % 4 ≡ 0) }
-    ensures answers { (result ≡ 0) ⊎ ((2 ≤ result) × (result ≤ 5)) }
-    // A capture and its texts have the same lines, and so have captures that mean the same.
-    ensures normal { 16 ≤ limit
-        → lines (asked without_numbers only.now) limit (texts limit capture.now)
-        ≡ lines (asked without_numbers only.now) limit capture.now }
-    ensures same { 16 ≤ limit → (other : List ℕ) → SameCapture limit capture.now other
-        → lines (asked without_numbers only.now) limit other ≡ lines (asked without_numbers only.now) limit capture.now }
-    // What follows a legal capture whose size is a multiple of 4 is shown by itself.
-    ensures joined { 16 ≤ limit → IsLegal limit capture.now → length capture.now % 4 ≡ 0
-        → (more : List ℕ)
-        → lines (asked without_numbers only.now) limit (capture.now ++ more)
-        ≡ lines (asked without_numbers only.now) limit capture.now ++ lines (asked without_numbers only.now) limit more }
+    ensures shown { 16 ≤ limit → GoesByMeaning (asked without_numbers only.now) limit capture.now }
 {
     let options = LineOptions {
         without_numbers,

@@ -1,38 +1,52 @@
 -- What the program's words ask for, what it tells, and its status.
 use Rattle.std.specs.Prelude.{◌≡◌, ℕ, Bool, true, false, List, [], ◌∷◌, ◌++◌, codes, cond, Option, None, Some, Result, Ok, Err, ⊤}
-use Rattle.std.specs.Io.KnownBytes.{Appends}
 use Rattle.link_capture_grammar.specs.declared.fault.CaptureFault.{CaptureFault}
 use Rattle.link_capture_grammar.specs.declared.fault.FaultKind.TheVariants.{Write}
 use Rattle.link_capture_grammar.specs.Faults.{fault_text}
 use Rattle.link_capture_checks.specs.declared.sameness.SideFault.{SideFault}
 use Rattle.link_capture_checks.specs.Sides.{side_text}
 use Rattle.link_capture_commands.specs.Commands.{IsCommand, status_of, status_of_same}
-use Rattle.link_capture_engine.specs.Outcomes.{IsPrefix}
+use Rattle.link_capture_engine.specs.Devices.{Rises, TellsItsEnd}
+use Rattle.link_capture_engine.specs.Outcomes.{Normalizes}
+use Rattle.link_capture_engine.specs.States.{IsTold, SinkState, SourceState, Tells}
 use Rattle.link_capture_commands.specs.declared.command.Command.{Command}
 use Rattle.link_capture_commands.specs.declared.command.Command.TheVariants.{Norm, Same}
 
--- A writer that held the first bytes holds the second: all of the text has come to it, or the front of the text and
--- then it failed.
-abbrev pub IsTold : Option (List ℕ) → Option (List ℕ) → Type 0 → List ℕ → Bool → Type 0
-IsTold held holds failed text true = Appends held holds text
-IsTold held holds failed text false = failed × ((front : List ℕ) × IsPrefix front text × Appends held holds front)
+-- One run: the source before and after it; the sink of what is printed; and that of what is told.
+pub record Run : Type 0 where
+  pub from : SourceState
+  pub left : SourceState
+  pub held : SinkState
+  pub holds : SinkState
+  pub told : SinkState
+  pub tells : SinkState
 
--- one of both
-abbrev pub Tells : Option (List ℕ) → Option (List ℕ) → Type 0 → List ℕ → Type 0
-Tells held holds failed text = (told : Bool) × IsTold held holds failed text told
+abbrev pub run_of : {S K E : Type 0} → (S → SourceState) → (K → SinkState) → (E → SinkState) → S → S → K → K → E → E → Run
+run_of source sink errors from left held holds told tells = record {
+  from = source from;
+  left = source left;
+  held = sink held;
+  holds = sink holds;
+  told = errors told;
+  tells = errors tells;
+}
 
 -- wrong words: this is told, with this status
-abbrev pub UsageAnswer : (List ℕ → Type 0) → ℕ → Type 0
-UsageAnswer Told status = Told (codes "usage: linkcap norm [LIMIT] or linkcap same FILE FILE [LIMIT]" ++ 10 ∷ []) × (status ≡ 3)
+abbrev pub UsageAnswer : SinkState → SinkState → ℕ → Type 0
+UsageAnswer told tells status = Tells told tells (codes "usage: linkcap norm [LIMIT] or linkcap same FILE FILE [LIMIT]" ++ 10 ∷ []) × (status ≡ 3)
 
 -- what is told of a normalised capture: a line of the fault, or nothing
 abbrev pub norm_line : Result ⊤ CaptureFault → List ℕ
 norm_line (Ok x) = []
 norm_line (Err fault) = fault_text fault ++ 10 ∷ []
 
--- a capture was normalised, and this is told of it, with this status
-abbrev pub NormAnswer : (Result ⊤ CaptureFault → Type 0) → (List ℕ → Type 0) → ℕ → Type 0
-NormAnswer Normalized Told status = (outcome : Result ⊤ CaptureFault) × Normalized outcome × Told (norm_line outcome) × (status ≡ status_of outcome)
+-- the source's capture was normalised to the sink, and this is told of it, with this status
+abbrev pub NormAnswer : Run → ℕ → ℕ → Type 0
+NormAnswer r limit status =
+    (outcome : Result ⊤ CaptureFault)
+    × Normalizes r.from.to_come r.left.to_come r.held.holds r.holds.holds (TellsItsEnd r.from.ends_told r.left.ends_told r.left.to_come)
+    (Rises r.from.failures r.left.failures) (Rises r.held.failures r.holds.failures) limit outcome
+    × Tells r.told r.tells (norm_line outcome) × (status ≡ status_of outcome)
 
 -- what is printed of two captures: a line of whether they mean the same, or nothing after a fault
 abbrev pub same_line : Result Bool SideFault → List ℕ
@@ -46,23 +60,29 @@ same_error printed (Err e) = side_text e ++ 10 ∷ []
 same_error true (Ok is_same) = []
 same_error false (Ok is_same) = fault_text (record { kind = Write; offset = 0 }) ++ 10 ∷ []
 
+-- a comparison is printed in its line where it can be, and told of where it or the printing failed, with this status
+abbrev pub SameTold : SinkState → SinkState → SinkState → SinkState → Result Bool SideFault → ℕ → Type 0
+SameTold held holds told tells outcome status =
+    (printed : Bool) × IsTold held holds (same_line outcome) printed × Tells told tells (same_error printed outcome) × (status ≡ cond printed (status_of_same outcome) 2)
+
 -- two captures were compared, and this is printed and told of them, with this status
-abbrev pub SameAnswer : (Result Bool SideFault → Type 0) → (List ℕ → Bool → Type 0) → (List ℕ → Type 0) → ℕ → Type 0
-SameAnswer Compared Printed Told status =
-    (outcome : Result Bool SideFault) × (printed : Bool) × Compared outcome × Printed (same_line outcome) printed
-    × Told (same_error printed outcome) × (status ≡ cond printed (status_of_same outcome) 2)
+abbrev pub SameAnswer : (Result Bool SideFault → Type 0) → SinkState → SinkState → SinkState → SinkState → ℕ → Type 0
+SameAnswer Compared held holds told tells status = (outcome : Result Bool SideFault) × Compared outcome × SameTold held holds told tells outcome status
 
 -- the words ask for a command, or no command fits them
 abbrev pub Asks : List (List ℕ) → Option Command → Type 0
 Asks words None = (command : Command) → IsCommand words command → ⊥
 Asks words (Some command) = IsCommand words command
 
--- what holds after such a command
-abbrev pub Does : Type 0 → (ℕ → Type 0) → (List ℕ → List ℕ → ℕ → Type 0) → Option Command → Type 0
-Does Misused Normalized Compared None = Misused
-Does Misused Normalized Compared (Some (Norm limit)) = Normalized limit
-Does Misused Normalized Compared (Some (Same first second limit)) = Compared first.now second.now limit
+-- What holds after such a command. Where the words ask for nothing, nothing is opened, read or printed; for a normal text no file is opened; and where two
+-- files are compared, the source isn't read.
+abbrev pub Does : Type 0 → Type 0 → Type 0 → Run → (List ℕ → List ℕ → ℕ → Result Bool SideFault → Type 0) → ℕ → Option Command → Type 0
+Does unopened unread unwritten r Compared status None = unopened × unread × unwritten × UsageAnswer r.told r.tells status
+Does unopened unread unwritten r Compared status (Some (Norm limit)) = unopened × NormAnswer r limit status
+Does unopened unread unwritten r Compared status (Some (Same first second limit)) =
+    unread × SameAnswer (Compared first.now second.now limit) r.held r.holds r.told r.tells status
 
 -- what the words ask for was done
-abbrev pub Answers : List (List ℕ) → Type 0 → (ℕ → Type 0) → (List ℕ → List ℕ → ℕ → Type 0) → Type 0
-Answers words Misused Normalized Compared = (asked : Option Command) × Asks words asked × Does Misused Normalized Compared asked
+abbrev pub Answers : List (List ℕ) → Type 0 → Type 0 → Type 0 → Run → (List ℕ → List ℕ → ℕ → Result Bool SideFault → Type 0) → ℕ → Type 0
+Answers words unopened unread unwritten r Compared status =
+    (asked : Option Command) × Asks words asked × Does unopened unread unwritten r Compared status asked

@@ -1,21 +1,18 @@
 //! Whether the captures in two files mean the same.
 
-ghost use Rattle.std.specs.Prelude.{◌≡◌, Bool, Ok, IfOk, IfErr, OnOk, cond};
+ghost use Rattle.std.specs.Prelude.{◌≡◌, Ok, IfOk, IfErr, OnOk};
 ghost use Rattle.std.specs.Process.{exit_status};
-ghost use Rattle.link_capture_commands.specs.Commands.{status_of_same};
-ghost use Rattle.link_capture_engine.specs.Devices.{Rises};
-ghost use Rattle.link_capture_engine.specs.Known.{sink_writer, sink_failures};
+ghost use Rattle.link_capture_engine.specs.States.{sink_state};
 ghost use Rattle.linkcap_program.specs.Comparisons.{Holds, IsUnread, CannotRead, Compares, opened};
-ghost use Rattle.linkcap_program.specs.Runs.{SameAnswer, IsTold, Tells, same_line, same_error};
+ghost use Rattle.linkcap_program.specs.Runs.{SameAnswer, SameTold, same_line};
 
 use super::files::FileSystem;
-use super::lines::{line, tell};
+use super::lines::line;
 use link_capture_checks::{SideFault, same};
 use link_capture_commands::status_same;
-use link_capture_engine::{WriteSink, read_all};
+use link_capture_engine::{Sink, read_all, tell};
 use link_capture_grammar::fault::{CaptureFault, FaultKind};
 use std::alloc::Global;
-use std::io::Write;
 use std::process::ExitCode;
 
 /// What is told of a file that can't be opened.
@@ -88,17 +85,14 @@ fn line_of(is_same: bool) -> &'static str
 
 /// Prints in one line whether two captures mean the same, or tells in one line what went wrong. The answer is the
 /// program's status.
-fn report<W: Write, E: Write>(
-    sink: &mut WriteSink<W>,
-    errors: &mut WriteSink<E>,
+fn report<K: Sink, E: Sink>(
+    sink: &mut K,
+    errors: &mut E,
     outcome: Result<bool, SideFault>,
 ) -> ExitCode
-    ensures { (printed : Bool)
-        × IsTold (W.contents (sink_writer sink.old)) (W.contents (sink_writer sink.new))
-        (Rises (sink_failures sink.old) (sink_failures sink.new)) (same_line outcome) printed
-        × Tells (E.contents (sink_writer errors.old)) (E.contents (sink_writer errors.new))
-        (Rises (sink_failures errors.old) (sink_failures errors.new)) (same_error printed outcome)
-        × (exit_status result ≡ cond printed (status_of_same outcome) 2) }
+    ensures { SameTold (sink_state K.holds K.failures sink.old)
+        (sink_state K.holds K.failures sink.new) (sink_state E.holds E.failures errors.old)
+        (sink_state E.holds E.failures errors.new) outcome (exit_status result) }
 {
     match outcome {
         Ok(is_same) => {
@@ -117,23 +111,20 @@ fn report<W: Write, E: Write>(
 
 /// Prints in one line whether the captures in the files of two names mean the same, and tells on the error writer what
 /// went wrong. The answer is the program's status.
-pub fn answer_same<F: FileSystem, W: Write, E: Write>(
+pub fn answer_same<F: FileSystem, K: Sink, E: Sink>(
     alloc: Global,
     files: &mut F,
-    sink: &mut WriteSink<W>,
-    errors: &mut WriteSink<E>,
+    sink: &mut K,
+    errors: &mut E,
     first: &str,
     second: &str,
     limit: u32,
 ) -> ExitCode
-    ensures { SameAnswer
-        (Compares (IsUnread F.File.to_come F.File.failures)
+    ensures { SameAnswer (Compares (IsUnread F.File.to_come F.File.failures)
         (F.contents files.old first.now) (F.contents files.old second.now)
-        (F.counts files.old) (F.counts files.new) limit)
-        (IsTold (W.contents (sink_writer sink.old)) (W.contents (sink_writer sink.new))
-        (Rises (sink_failures sink.old) (sink_failures sink.new)))
-        (Tells (E.contents (sink_writer errors.old)) (E.contents (sink_writer errors.new))
-        (Rises (sink_failures errors.old) (sink_failures errors.new))) (exit_status result) }
+        (F.counts files.old) (F.counts files.new) limit) (sink_state K.holds K.failures sink.old)
+        (sink_state K.holds K.failures sink.new) (sink_state E.holds E.failures errors.old)
+        (sink_state E.holds E.failures errors.new) (exit_status result) }
 {
     let outcome = compare(alloc, files, first, second, limit);
     report(sink, errors, outcome)

@@ -2,12 +2,10 @@
 //! to standard output; or whether the captures in two files mean the same.
 #![tactic(auto)]
 
-ghost use Rattle.std.specs.Prelude.{◌≡◌, ◌++◌, ◌∷◌, [], codes, map, string_bytes};
+ghost use Rattle.std.specs.Prelude.{◌≡◌, map, string_bytes};
 ghost use Rattle.std.specs.Process.{exit_status};
-ghost use Rattle.link_capture_engine.specs.Devices.{Rises, TellsItsEnd};
-ghost use Rattle.link_capture_engine.specs.Known.{source_reader, source_failures, source_ends_told, sink_writer, sink_failures};
-ghost use Rattle.link_capture_engine.specs.Outcomes.{Normalizes};
-ghost use Rattle.linkcap_program.specs.Runs.{Answers, NormAnswer, SameAnswer, UsageAnswer, IsTold, Tells};
+ghost use Rattle.link_capture_engine.specs.States.{sink_state, source_state};
+ghost use Rattle.linkcap_program.specs.Runs.{Answers, UsageAnswer, run_of};
 ghost use Rattle.linkcap_program.specs.Comparisons.{Compares, IsUnread};
 
 mod comparing;
@@ -18,22 +16,20 @@ mod normalizing;
 pub use comparing::{answer_same, compare};
 pub use files::FileSystem;
 use files::HostFiles;
-use lines::tell;
 use link_capture_commands::{Command, read_words, words};
-use link_capture_engine::{ReadSource, WriteSink};
-pub use normalizing::{answer_norm, norm};
+use link_capture_engine::{ReadSource, Sink, Source, WriteSink, tell};
+pub use normalizing::answer_norm;
 use std::alloc::Global;
-use std::io::{self, Read, Write};
+use std::io;
 use std::process::ExitCode;
 
 /// What is told of wrong words, as a line.
 const USAGE: &str = "usage: linkcap norm [LIMIT] or linkcap same FILE FILE [LIMIT]\n";
 
 /// Tells on the error writer how the program is used. The answer is the program's status.
-fn answer_usage<E: Write>(errors: &mut WriteSink<E>) -> ExitCode
-    ensures { UsageAnswer (Tells (E.contents (sink_writer errors.old))
-        (E.contents (sink_writer errors.new))
-        (Rises (sink_failures errors.old) (sink_failures errors.new))) (exit_status result) }
+fn answer_usage<E: Sink>(errors: &mut E) -> ExitCode
+    ensures { UsageAnswer (sink_state E.holds E.failures errors.old)
+        (sink_state E.holds E.failures errors.new) (exit_status result) }
 {
     tell(errors, USAGE);
     ExitCode::from(3)
@@ -42,36 +38,21 @@ fn answer_usage<E: Write>(errors: &mut WriteSink<E>) -> ExitCode
 /// The program: does what the words behind its name ask for, tells on the error writer what went wrong, and answers
 /// with its status. Where the words ask for nothing, nothing is opened, read or printed; for a normal text no file is
 /// opened; and where they ask whether two files mean the same, the source isn't read.
-pub fn answer<F: FileSystem, R: Read, W: Write, E: Write>(
+pub fn answer<F: FileSystem, S: Source, K: Sink, E: Sink>(
     alloc: Global,
     words: &[String],
     files: &mut F,
-    source: &mut ReadSource<R>,
-    sink: &mut WriteSink<W>,
-    errors: &mut WriteSink<E>,
+    source: &mut S,
+    sink: &mut K,
+    errors: &mut E,
 ) -> ExitCode
     ensures { Answers (map string_bytes words.now)
-        ((files.new ≡ files.old) × (source.new ≡ source.old) × (sink.new ≡ sink.old)
-        × UsageAnswer (Tells (E.contents (sink_writer errors.old))
-        (E.contents (sink_writer errors.new))
-        (Rises (sink_failures errors.old) (sink_failures errors.new))) (exit_status result))
-        (λ limit. (files.new ≡ files.old) × NormAnswer (Normalizes
-        (R.remaining (source_reader source.old)) (R.remaining (source_reader source.new))
-        (W.contents (sink_writer sink.old)) (W.contents (sink_writer sink.new))
-        (TellsItsEnd (source_ends_told source.old) (source_ends_told source.new)
-        (R.remaining (source_reader source.new)))
-        (Rises (source_failures source.old) (source_failures source.new))
-        (Rises (sink_failures sink.old) (sink_failures sink.new)) limit)
-        (Tells (E.contents (sink_writer errors.old)) (E.contents (sink_writer errors.new))
-        (Rises (sink_failures errors.old) (sink_failures errors.new))) (exit_status result))
-        (λ first second limit. (source.new ≡ source.old)
-        × SameAnswer (Compares (IsUnread F.File.to_come F.File.failures)
+        (files.new ≡ files.old) (source.new ≡ source.old) (sink.new ≡ sink.old)
+        (run_of (source_state S.to_come S.failures S.ends_told) (sink_state K.holds K.failures)
+        (sink_state E.holds E.failures) source.old source.new sink.old sink.new errors.old errors.new)
+        (λ first second. Compares (IsUnread F.File.to_come F.File.failures)
         (F.contents files.old first) (F.contents files.old second)
-        (F.counts files.old) (F.counts files.new) limit)
-        (IsTold (W.contents (sink_writer sink.old)) (W.contents (sink_writer sink.new))
-        (Rises (sink_failures sink.old) (sink_failures sink.new)))
-        (Tells (E.contents (sink_writer errors.old)) (E.contents (sink_writer errors.new))
-        (Rises (sink_failures errors.old) (sink_failures errors.new))) (exit_status result)) }
+        (F.counts files.old) (F.counts files.new)) (exit_status result) }
 {
     match read_words(words) {
         None => answer_usage(errors),

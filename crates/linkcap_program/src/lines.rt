@@ -1,13 +1,8 @@
-//! Lines, and where they are told.
+//! Lines.
 
 ghost use Rattle.std.specs.Prelude.{◌≡◌, ◌≤◌, ◌++◌, ◌∷◌, [], length};
-ghost use Rattle.link_capture_engine.specs.Devices.{Rises};
-ghost use Rattle.link_capture_engine.specs.Known.{sink_writer, sink_failures};
-ghost use Rattle.linkcap_program.specs.Runs.{IsTold};
 
 use arrayvec::ArrayString;
-use link_capture_engine::{WriteSink, write_all};
-use std::io::Write;
 
 /// A text as a line.
 pub(crate) fn line(text: &str) -> ArrayString<129>
@@ -18,15 +13,4 @@ pub(crate) fn line(text: &str) -> ArrayString<129>
     line.push_str(text);
     line.push_str("\n");
     line
-}
-
-/// Writes a text. Whether all of it was written: where the writer fails, the rest of it isn't.
-pub(crate) fn tell<W: Write>(writer: &mut WriteSink<W>, text: &str) -> bool
-    ensures { IsTold (W.contents (sink_writer writer.old)) (W.contents (sink_writer writer.new))
-        (Rises (sink_failures writer.old) (sink_failures writer.new)) text.now result }
-{
-    match write_all(writer, text.as_bytes(), 0) {
-        Ok(_) => true,
-        Err(_) => false,
-    }
 }

@@ -3,45 +3,21 @@
 ghost use Rattle.std.specs.Prelude.{◌≡◌, ◌≤◌};
 ghost use Rattle.std.specs.Process.{exit_status};
 ghost use Rattle.link_capture_commands.specs.Commands.{status_of};
-ghost use Rattle.link_capture_engine.specs.Devices.{Rises, TellsItsEnd};
-ghost use Rattle.link_capture_engine.specs.Known.{source_reader, source_failures, source_ends_told, sink_writer, sink_failures};
-ghost use Rattle.link_capture_engine.specs.Outcomes.{Normalizes};
-ghost use Rattle.linkcap_program.specs.Runs.{NormAnswer, Tells, norm_line};
+ghost use Rattle.link_capture_engine.specs.States.{Tells, sink_state, source_state};
+ghost use Rattle.linkcap_program.specs.Runs.{NormAnswer, norm_line, run_of};
 
-use super::lines::{line, tell};
+use super::lines::line;
 use link_capture_commands::status_norm;
-use link_capture_engine::{ReadSource, WriteSink, normalize};
+use link_capture_engine::{Sink, Source, normalize, tell};
 use link_capture_grammar::fault::CaptureFault;
 use std::alloc::Global;
-use std::io::{Read, Write};
 use std::process::ExitCode;
 
-/// Writes the normal text of all that a source has, as its frames come. A failed write is told in place of any other
-/// fault.
-pub fn norm<R: Read, W: Write>(
-    alloc: Global,
-    source: &mut ReadSource<R>,
-    sink: &mut WriteSink<W>,
-    limit: u32,
-) -> Result<(), CaptureFault>
-    requires { 16 ≤ limit }
-    ensures { Normalizes
-        (R.remaining (source_reader source.old)) (R.remaining (source_reader source.new))
-        (W.contents (sink_writer sink.old)) (W.contents (sink_writer sink.new))
-        (TellsItsEnd (source_ends_told source.old) (source_ends_told source.new)
-        (R.remaining (source_reader source.new)))
-        (Rises (source_failures source.old) (source_failures source.new))
-        (Rises (sink_failures sink.old) (sink_failures sink.new)) limit result }
-{
-    normalize(alloc, source, sink, limit)
-}
-
 /// Tells in one line what went wrong, and nothing where nothing did. The answer is the program's status.
-fn report<E: Write>(errors: &mut WriteSink<E>, outcome: Result<(), CaptureFault>) -> ExitCode
+fn report<E: Sink>(errors: &mut E, outcome: Result<(), CaptureFault>) -> ExitCode
     ensures status { exit_status result ≡ status_of outcome }
-    ensures told { Tells
-        (E.contents (sink_writer errors.old)) (E.contents (sink_writer errors.new))
-        (Rises (sink_failures errors.old) (sink_failures errors.new)) (norm_line outcome) }
+    ensures told { Tells (sink_state E.holds E.failures errors.old)
+        (sink_state E.holds E.failures errors.new) (norm_line outcome) }
 {
     match outcome {
         Ok(()) => ExitCode::from(status_norm(&outcome)),
@@ -52,26 +28,20 @@ fn report<E: Write>(errors: &mut WriteSink<E>, outcome: Result<(), CaptureFault>
     }
 }
 
-/// Writes the normal text of all that a source has, and tells on the error writer what went wrong. The answer is the
-/// program's status.
-pub fn answer_norm<R: Read, W: Write, E: Write>(
+/// Writes the normal text of all that a source has, as its frames come, and tells what went wrong: a failed write in
+/// place of any other fault. The answer is the program's status.
+pub fn answer_norm<S: Source, K: Sink, E: Sink>(
     alloc: Global,
-    source: &mut ReadSource<R>,
-    sink: &mut WriteSink<W>,
-    errors: &mut WriteSink<E>,
+    source: &mut S,
+    sink: &mut K,
+    errors: &mut E,
     limit: u32,
 ) -> ExitCode
     requires { 16 ≤ limit }
-    ensures { NormAnswer (Normalizes
-        (R.remaining (source_reader source.old)) (R.remaining (source_reader source.new))
-        (W.contents (sink_writer sink.old)) (W.contents (sink_writer sink.new))
-        (TellsItsEnd (source_ends_told source.old) (source_ends_told source.new)
-        (R.remaining (source_reader source.new)))
-        (Rises (source_failures source.old) (source_failures source.new))
-        (Rises (sink_failures sink.old) (sink_failures sink.new)) limit)
-        (Tells (E.contents (sink_writer errors.old)) (E.contents (sink_writer errors.new))
-        (Rises (sink_failures errors.old) (sink_failures errors.new))) (exit_status result) }
+    ensures { NormAnswer (run_of (source_state S.to_come S.failures S.ends_told)
+        (sink_state K.holds K.failures) (sink_state E.holds E.failures)
+        source.old source.new sink.old sink.new errors.old errors.new) limit (exit_status result) }
 {
-    let outcome = norm(alloc, source, sink, limit);
+    let outcome = normalize(alloc, source, sink, limit);
     report(errors, outcome)
 }

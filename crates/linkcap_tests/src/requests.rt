@@ -1,6 +1,6 @@
 //! Requests as bytes, written by hand from the kernel's headers, and why a request isn't written.
 
-use callers::{RequestFault, new_link_request, request, vxlan_request};
+use examples::{RequestFault, new_link_request, request, vxlan_request};
 use link_capture::{ReadableLink, RouteLink};
 use link_message::{LinkAttribute, LinkHeader, LinkMessage};
 use std::alloc::Global;

@@ -1,9 +1,10 @@
-//! Runs of `norm` between devices. No clause says that a run succeeds where no device fails, tells a failure where one
+//! Runs of `normalize` between devices. No clause says that a run succeeds where no device fails, tells a failure where one
 //! does, and then neither reads nor writes.
 
 use super::devices::{Giver, Plan, Taker};
-use link_capture::{CaptureFault, FaultKind, ReadSource, WriteSink, read_all, write_all};
-use linkcap_program::norm;
+use link_capture::{
+    CaptureFault, FaultKind, ReadSource, WriteSink, normalize, read_all, write_all,
+};
 use std::alloc::Global;
 use std::test::Fail;
 
@@ -44,7 +45,7 @@ struct Run {
     unread: usize,
 }
 
-/// A run of `norm` under the limit 1000.
+/// A run of `normalize` under the limit 1000.
 fn norm_between(alloc: Global, capture: &[u8], reads: Plan, writes: Plan) -> Run {
     let mut reader = Giver {
         rest: capture,
@@ -56,7 +57,7 @@ fn norm_between(alloc: Global, capture: &[u8], reads: Plan, writes: Plan) -> Run
     };
     let mut source = ReadSource::new(&mut reader);
     let mut sink = WriteSink::new(&mut writer);
-    let outcome = norm(alloc, &mut source, &mut sink, 1000);
+    let outcome = normalize(alloc, &mut source, &mut sink, 1000);
     let Taker { taken, .. } = writer;
     Run {
         outcome,

@@ -1,7 +1,7 @@
 //! Values that the calls give. The wanted ones come from outside this project's code.
 
 use bitflags::Flags;
-use callers::{Finding, Interfaces, NotStored, Store, hold_against, learn_all};
+use examples::{Finding, Interfaces, NotStored, Store, hold_against, learn_all};
 use link_capture::{CaptureFault, FaultKind};
 use std::collections::BTreeMap;
 use std::test::Fail;

@@ -1,17 +1,13 @@
 -- What has come to a sink.
 use Rattle.std.proofs.Common.{◌≡◌, ◌≤◌, ◌<◌, ℕ, ◌-◌, Bool, List, [], ◌∷◌, ◌++◌, true, false, length, map, take, drop, get_or, Bor, refl, sym, ap, subst, ◌∙◌, append_assoc, append-nil, arith}
-use Rattle.std.proofs.lemmas.List.{take-append-drop, take_rest}
+use Rattle.std.proofs.lemmas.List.{take_rest}
 use Rattle.std.proofs.KnownBytes.{Appends-nil, Appends-trans}
 use Rattle.std.specs.Io.KnownBytes.{Appends}
 use Rattle.link_capture_engine.specs.Devices.{Rises}
 use Rattle.link_capture_refusals.specs.RefusalWords.{behind_name, path_text}
 use Rattle.link_capture_refusals.proofs.Words.{cut}
-use Rattle.linkshow_program.specs.Devices.{SinkState}
-use Rattle.linkshow_program.specs.Telling.{IsTold, texts_joined}
-
--- the sink failed behind the front of the text
-pub untold : (before after : SinkState) (bytes text : List ℕ) (n : ℕ) → bytes ≡ text → Rises before.failures after.failures → Appends before.holds after.holds (take n bytes) → IsTold before after text false
-untold before after bytes text n e r a = (r, (take n bytes, (drop n bytes, sym e ∙ sym (take-append-drop n bytes)), a))
+use Rattle.link_capture_engine.specs.States.{IsTold, SinkState}
+use Rattle.linkshow_program.specs.Telling.{texts_joined}
 
 -- The front of a text has come to a sink that didn't fail, and the rest is left.
 pub record Come (before now : SinkState) (left text : List ℕ) : Type 0 where
@@ -23,36 +19,48 @@ pub record Come (before now : SinkState) (left text : List ℕ) : Type 0 where
 pub come_none : (before : SinkState) (text : List ℕ) → Come before before text text
 come_none before text = record { front = []; came = Appends-nil before.holds; same = refl; whole = refl }
 
+-- an answer, and a text, that are known by others
+pub told_by : (before after : SinkState) (text : List ℕ) (a b : Bool) → a ≡ b → IsTold before after text a → IsTold before after text b
+told_by before after text a b e t = subst (λ r. IsTold before after text r) e t
+
+pub retold : (before after : SinkState) (x text : List ℕ) (r : Bool) → x ≡ text → IsTold before after x r → IsTold before after text r
+retold before after x text r e t = subst (λ y. IsTold before after y r) e t
+
 -- one more piece has come
-pub come_more : (before now next : SinkState) (left piece more text : List ℕ) → Come before now left text → left ≡ piece ++ more → IsTold now next piece true → Come before next more text
-come_more before now next left piece more text c e i = record {
-  front = c.front ++ piece;
-  came = Appends-trans before.holds now.holds next.holds c.front piece c.came i.0;
-  same = i.1 ∙ c.same;
-  whole = append_assoc c.front piece more ∙ ap (λ z. c.front ++ z) (sym e) ∙ c.whole;
-}
+pub come_more : (before now next : SinkState) (left piece more text : List ℕ) (r : Bool) → Come before now left text → left ≡ piece ++ more → r ≡ true → IsTold now next piece r → Come before next more text
+come_more before now next left piece more text r c e b i =
+    let all = told_by now next piece r true b i in
+    record {
+      front = c.front ++ piece;
+      came = Appends-trans before.holds now.holds next.holds c.front piece c.came all.0;
+      same = all.1 ∙ c.same;
+      whole = append_assoc c.front piece more ∙ ap (λ z. c.front ++ z) (sym e) ∙ c.whole;
+    }
 
 -- all of it has come
 pub come_all : (before now : SinkState) (left text : List ℕ) → Come before now left text → left ≡ [] → IsTold before now text true
 come_all before now left text c e = (subst (Appends before.holds now.holds) (sym (append-nil c.front) ∙ ap (λ z. c.front ++ z) (sym e) ∙ c.whole) c.came, c.same)
 
 -- the sink failed inside a piece
-pub come_failed : (before now next : SinkState) (left piece more text : List ℕ) → Come before now left text → left ≡ piece ++ more → IsTold now next piece false → IsTold before next text false
-come_failed before now next left piece more text c e i =
-    let front : List ℕ = i.1.0 in
-    let rest : List ℕ = i.1.1.0 in
+pub come_failed : (before now next : SinkState) (left piece more text : List ℕ) (r : Bool) → Come before now left text → left ≡ piece ++ more → r ≡ false → IsTold now next piece r → IsTold before next text false
+come_failed before now next left piece more text r c e b i =
+    let part = told_by now next piece r false b i in
+    let front : List ℕ = part.1.0 in
+    let rest : List ℕ = part.1.1.0 in
     let whole : text ≡ (c.front ++ front) ++ (rest ++ more) =
-    sym c.whole ∙ ap (λ z. c.front ++ z) (e ∙ ap (λ z. z ++ more) i.1.1.1 ∙ append_assoc front rest more) ∙ sym (append_assoc c.front front (rest ++ more)) in
-    (subst (λ n. Rises n next.failures) c.same i.0, (c.front ++ front, (rest ++ more, whole), Appends-trans before.holds now.holds next.holds c.front front c.came i.1.2))
+    sym c.whole ∙ ap (λ z. c.front ++ z) (e ∙ ap (λ z. z ++ more) part.1.1.1 ∙ append_assoc front rest more) ∙ sym (append_assoc c.front front (rest ++ more)) in
+    (subst (λ n. Rises n next.failures) c.same part.0, (c.front ++ front, (rest ++ more, whole), Appends-trans before.holds now.holds next.holds c.front front c.came part.1.2))
 
 -- one text has come, and then another; or the first hasn't
-pub told_then : (before between after : SinkState) (first second : List ℕ) (r : Bool) → IsTold before between first true → IsTold between after second r → IsTold before after (first ++ second) r
-told_then before between after first second true f s = (Appends-trans before.holds between.holds after.holds first second f.0 s.0, s.1 ∙ f.1)
-told_then before between after first second false f s =
-    come_failed before between after second second [] (first ++ second) (come_more before before between (first ++ second) first second (first ++ second) (come_none before (first ++ second)) refl f) (sym (append-nil second)) s
+pub told_then : (before between after : SinkState) (x first second : List ℕ) (a r : Bool) → a ≡ true → x ≡ first → IsTold before between x a → IsTold between after second r → IsTold before after (first ++ second) r
+told_then before between after x first second a true b e f s =
+    let all = retold before between x first true e (told_by before between x a true b f) in
+    (Appends-trans before.holds between.holds after.holds first second all.0 s.0, s.1 ∙ all.1)
+told_then before between after x first second a false b e f s =
+    come_failed before between after second second [] (first ++ second) false (come_more before before between (first ++ second) first second (first ++ second) a (come_none before (first ++ second)) refl b (retold before between x first a e f)) (sym (append-nil second)) refl s
 
-pub told_no_more : (before after : SinkState) (first second : List ℕ) → IsTold before after first false → IsTold before after (first ++ second) false
-told_no_more before after first second f = come_failed before before after (first ++ second) first second (first ++ second) (come_none before (first ++ second)) refl f
+pub told_no_more : (before after : SinkState) (x first second : List ℕ) (a : Bool) → a ≡ false → x ≡ first → IsTold before after x a → IsTold before after (first ++ second) false
+told_no_more before after x first second a b e f = come_failed before before after (first ++ second) first second (first ++ second) a (come_none before (first ++ second)) refl b (retold before after x first a e f)
 
 -- ---- texts, one behind the other
 
@@ -68,8 +76,8 @@ texts_cut [] d m = absurd (omega arith)
 texts_cut (x ∷ more) d m = ap (λ t. x.now ++ texts_joined t) (sym (take_rest (x ∷ more) 1))
 
 -- one more text has come
-pub told_more : (before now next : SinkState) (left texts : List (Bor (List ℕ))) (d : Bor (List ℕ)) → 1 ≤ length left → Told before now left texts → IsTold now next (get_or left 0 d).now true → Told before next (take (length left - 1) (drop 1 left)) texts
-told_more before now next left texts d m t i = come_more before now next (texts_joined left) (get_or left 0 d).now _ (texts_joined texts) t (texts_cut left d m) i
+pub told_more : (before now next : SinkState) (left texts : List (Bor (List ℕ))) (d : Bor (List ℕ)) (r : Bool) → 1 ≤ length left → Told before now left texts → r ≡ true → IsTold now next (get_or left 0 d).now r → Told before next (take (length left - 1) (drop 1 left)) texts
+told_more before now next left texts d r m t b i = come_more before now next (texts_joined left) (get_or left 0 d).now _ (texts_joined texts) r t (texts_cut left d m) b i
 
 none_left : (left : List (Bor (List ℕ))) → length left < 1 → texts_joined left ≡ []
 none_left [] m = refl
@@ -80,8 +88,8 @@ pub told_all : (before now : SinkState) (left texts : List (Bor (List ℕ))) →
 told_all before now left texts m t = come_all before now (texts_joined left) (texts_joined texts) t (none_left left m)
 
 -- the sink failed inside a text
-pub told_failed : (before now next : SinkState) (left texts : List (Bor (List ℕ))) (d : Bor (List ℕ)) → 1 ≤ length left → Told before now left texts → IsTold now next (get_or left 0 d).now false → IsTold before next (texts_joined texts) false
-told_failed before now next left texts d m t i = come_failed before now next (texts_joined left) (get_or left 0 d).now _ (texts_joined texts) t (texts_cut left d m) i
+pub told_failed : (before now next : SinkState) (left texts : List (Bor (List ℕ))) (d : Bor (List ℕ)) (r : Bool) → 1 ≤ length left → Told before now left texts → r ≡ false → IsTold now next (get_or left 0 d).now r → IsTold before next (texts_joined texts) false
+told_failed before now next left texts d r m t b i = come_failed before now next (texts_joined left) (get_or left 0 d).now _ (texts_joined texts) r t (texts_cut left d m) b i
 
 -- ---- names from outside in
 
@@ -95,13 +103,13 @@ path_step left d sign m e =
     let name = (get_or left 0 d).now in
     cut left d m ∙ ap (λ z. name ++ (z ++ rest)) (sym e) ∙ sym (append_assoc name sign.now rest) ∙ ap (λ z. (name ++ z) ++ rest) (sym (append-nil sign.now))
 
-pub path_more : (before now next : SinkState) (left path : List (Bor (List ℕ))) (d sign : Bor (List ℕ)) → 1 ≤ length left → sign.now ≡ behind_name (map (λ n. n.now) (take (length left - 1) (drop 1 left))) → Come before now (path_left left) (path_left path) → IsTold now next (texts_joined (get_or left 0 d ∷ sign ∷ [])) true →
+pub path_more : (before now next : SinkState) (left path : List (Bor (List ℕ))) (d sign : Bor (List ℕ)) (r : Bool) → 1 ≤ length left → sign.now ≡ behind_name (map (λ n. n.now) (take (length left - 1) (drop 1 left))) → Come before now (path_left left) (path_left path) → r ≡ true → IsTold now next (texts_joined (get_or left 0 d ∷ sign ∷ [])) r →
     Come before next (path_left (take (length left - 1) (drop 1 left))) (path_left path)
-path_more before now next left path d sign m e c i = come_more before now next (path_left left) _ _ (path_left path) c (path_step left d sign m e) i
+path_more before now next left path d sign r m e c b i = come_more before now next (path_left left) _ _ (path_left path) r c (path_step left d sign m e) b i
 
-pub path_failed : (before now next : SinkState) (left path : List (Bor (List ℕ))) (d sign : Bor (List ℕ)) → 1 ≤ length left → sign.now ≡ behind_name (map (λ n. n.now) (take (length left - 1) (drop 1 left))) → Come before now (path_left left) (path_left path) → IsTold now next (texts_joined (get_or left 0 d ∷ sign ∷ [])) false →
+pub path_failed : (before now next : SinkState) (left path : List (Bor (List ℕ))) (d sign : Bor (List ℕ)) (r : Bool) → 1 ≤ length left → sign.now ≡ behind_name (map (λ n. n.now) (take (length left - 1) (drop 1 left))) → Come before now (path_left left) (path_left path) → r ≡ false → IsTold now next (texts_joined (get_or left 0 d ∷ sign ∷ [])) r →
     IsTold before next (path_left path) false
-path_failed before now next left path d sign m e c i = come_failed before now next (path_left left) _ _ (path_left path) c (path_step left d sign m e) i
+path_failed before now next left path d sign r m e c b i = come_failed before now next (path_left left) _ _ (path_left path) r c (path_step left d sign m e) b i
 
 no_name : (left : List (Bor (List ℕ))) → length left < 1 → path_left left ≡ []
 no_name [] m = refl

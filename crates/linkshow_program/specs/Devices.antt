@@ -1,18 +1,8 @@
--- What is known of sources, sinks and files.
+-- What is known of files, and of the devices of a run.
 use Rattle.std.specs.Prelude.{ℕ, List, Option, None, Some, Result, Ok, Err}
 use Rattle.std.specs.declared.io.ErrorKind.{ErrorKind}
+use Rattle.link_capture_engine.specs.States.{SinkState, SourceState}
 use Rattle.linkshow_program.specs.declared.first_kept.FirstKept.{FirstKept}
-
--- a source: the bytes to come, where they are known; how often it failed; and how often it told its end
-pub record SourceState : Type 0 where
-  pub to_come : Option (List ℕ)
-  pub failures : ℕ
-  pub ends_told : ℕ
-
--- a sink: the bytes that it holds, where they are known; and how often it failed
-pub record SinkState : Type 0 where
-  pub holds : Option (List ℕ)
-  pub failures : ℕ
 
 -- the source that a `FirstKept` reads, and the first bytes that it gave
 abbrev pub kept_source : {S : Type 0} → FirstKept S → S
@@ -21,16 +11,21 @@ kept_source s = s.source
 abbrev pub kept_first : {S : Type 0} → FirstKept S → List ℕ
 kept_first s = s.first.items
 
-abbrev pub source_state : {S : Type 0} → (S → Option (List ℕ)) → (S → ℕ) → (S → ℕ) → S → SourceState
-source_state to_come failures ends_told s = record { to_come = to_come s; failures = failures s; ends_told = ends_told s }
-
-abbrev pub sink_state : {K : Type 0} → (K → Option (List ℕ)) → (K → ℕ) → K → SinkState
-sink_state holds failures k = record { holds = holds k; failures = failures k }
-
 -- why a file couldn't be opened, where it couldn't
 abbrev pub refusal_of : {File : Type 0} → Result File ErrorKind → Option ErrorKind
 refusal_of (Ok file) = None
 refusal_of (Err kind) = Some kind
+
+-- Files before a call and after it: the bytes of the file of a name, where they are known; how often a file was asked for; and why the last one couldn't be
+-- opened, where it couldn't.
+pub record Opening : Type 0 where
+  pub contents : List ℕ → Option (List ℕ)
+  pub asked : ℕ
+  pub asks : ℕ
+  pub refusal : Option ErrorKind
+
+abbrev pub opening : {F : Type 0} → (F → List ℕ → Option (List ℕ)) → (F → ℕ) → (F → Option ErrorKind) → F → F → Opening
+opening contents asked refusal before after = record { contents = contents before; asked = asked before; asks = asked after; refusal = refusal after }
 
 -- One capture is shown: the source before and after, and the first bytes that it gave; the sink of its lines; and that of what is told.
 pub record Run : Type 0 where

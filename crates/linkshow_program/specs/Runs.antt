@@ -6,7 +6,8 @@ use Rattle.link_capture_grammar.specs.declared.fault.CaptureFault.{CaptureFault}
 use Rattle.link_capture_grammar.specs.declared.fault.FaultKind.{FaultKind}
 use Rattle.link_capture_grammar.specs.declared.fault.FaultKind.TheVariants.{Read, Write}
 use Rattle.link_capture_grammar.specs.Faults.{fault_text}
-use Rattle.link_capture_engine.specs.Devices.{Rises, TellsItsEnd}
+use Rattle.link_capture_commands.specs.Commands.{status_of}
+use Rattle.link_capture_engine.specs.Devices.{Rises, TellsItsEnd, risen}
 use Rattle.link_capture_engine.specs.Outcomes.{ReadFault}
 use Rattle.link_capture_spelling_rows.specs.declared.placed.PlacedSpelling.{PlacedSpelling}
 use Rattle.link_capture_spelling_rows.specs.SpellingWords.{placed_text}
@@ -20,8 +21,10 @@ use Rattle.linkshow_words.specs.declared.words.Asked.{Asked}
 use Rattle.linkshow_words.specs.declared.words.Asked.TheVariants.{Help, Version, Show}
 use Rattle.linkshow_words.specs.Words.{Asks}
 use Rattle.linkshow_words.specs.Texts.{cause, advice}
-use Rattle.linkshow_program.specs.Devices.{SourceState, SinkState, Run}
-use Rattle.linkshow_program.specs.Telling.{IsTold, Tells, TellsBoth}
+use Rattle.linkshow_words.specs.declared.texts.TheConstants as Texts
+use Rattle.link_capture_engine.specs.States.{IsTold, SinkState, SourceState, Tells}
+use Rattle.linkshow_program.specs.Devices.{Opening, Run}
+use Rattle.linkshow_program.specs.Telling.{TellsBoth}
 
 -- ---- what is told
 
@@ -48,11 +51,6 @@ nothing_read (x ∷ more) = []
 abbrev pub told_of : Option (List ℕ) → List ℕ → Result ⊤ ShowFault → List ℕ
 told_of file first (Ok x) = nothing_read first
 told_of file first (Err e) = fault_told file first e
-
--- the program's status
-abbrev pub status_of : Result ⊤ ShowFault → ℕ
-status_of (Ok x) = 0
-status_of (Err e) = 2
 
 -- of a file that couldn't be opened
 abbrev pub unopened : List ℕ → ErrorKind → List ℕ
@@ -132,14 +130,18 @@ abbrev pub ShowsFrom : Type 0 → (List ℕ → Type 0) → Option (List ℕ) �
 ShowsFrom FromInput FromFile None = FromInput
 ShowsFrom FromInput FromFile (Some name) = FromFile name
 
--- what holds then
-abbrev pub Does : Type 0 → Type 0 → Type 0 → (Bool → Choice → ℕ → Type 0) → (List ℕ → Bool → Choice → ℕ → Type 0) → Option Asked → Type 0
-Does Misused Helped Told FromInput FromFile None = Misused
-Does Misused Helped Told FromInput FromFile (Some Help) = Helped
-Does Misused Helped Told FromInput FromFile (Some Version) = Told
-Does Misused Helped Told FromInput FromFile (Some (Show o)) =
-    ShowsFrom (FromInput o.kernels (chosen o) o.limit) (λ name. FromFile name o.kernels (chosen o) o.limit) (option_map (λ name. name.now) o.file)
+-- What holds then. Where they ask how the program is used or for its version, or for nothing that it knows, no file is opened and nothing is read; and the
+-- source isn't read where they name a file.
+abbrev pub Does : {File : Type 0} → Type 0 → Type 0 → Type 0 → Run → Opening → (File → SourceState) → ℕ → Option Asked → Type 0
+Does unopened unread unwritten r o state status None = unopened × unread × unwritten × UsageAnswer r.told r.tells status
+Does unopened unread unwritten r o state status (Some Help) = unopened × unread × PrintAnswer r.held r.holds r.told r.tells Texts.HELP.now status
+Does unopened unread unwritten r o state status (Some Version) = unopened × unread × PrintAnswer r.held r.holds r.told r.tells Texts.VERSION.now status
+Does unopened unread unwritten r o state status (Some (Show options)) =
+    ShowsFrom (unopened × CaptureAnswer options.kernels (chosen options) r unwritten None options.limit status)
+    (λ name. unread × (o.asks ≡ risen o.asked)
+    × FileAnswer state (o.contents name) o.refusal name r.held r.holds r.told r.tells unwritten options.kernels (chosen options) options.limit status)
+    (option_map (λ name. name.now) options.file)
 
 -- what the words ask for was done
-abbrev pub Answers : List (List ℕ) → Type 0 → Type 0 → Type 0 → (Bool → Choice → ℕ → Type 0) → (List ℕ → Bool → Choice → ℕ → Type 0) → Type 0
-Answers words Misused Helped Told FromInput FromFile = (given : Option Asked) × Gives words given × Does Misused Helped Told FromInput FromFile given
+abbrev pub Answers : {File : Type 0} → List (List ℕ) → Type 0 → Type 0 → Type 0 → Run → Opening → (File → SourceState) → ℕ → Type 0
+Answers words unopened unread unwritten r o state status = (given : Option Asked) × Gives words given × Does unopened unread unwritten r o state status given

@@ -1,12 +1,12 @@
 //! What the program `linkshow` does: the lines of a netlink link capture, from standard input or a file to standard output.
 #![tactic(auto)]
 
-ghost use Rattle.std.specs.Prelude.{◌≡◌, ◌≤◌, map, option_map, string_bytes, Some, None};
+ghost use Rattle.std.specs.Prelude.{◌≡◌, ◌≤◌, map, option_map, string_bytes, Some};
 ghost use Rattle.std.specs.Process.{exit_status};
 ghost use Rattle.link_capture_engine.specs.Devices.{risen};
-ghost use Rattle.linkshow_words.specs.declared.texts.TheConstants as Texts;
-ghost use Rattle.linkshow_program.specs.Devices.{source_state, sink_state, run_of};
-ghost use Rattle.linkshow_program.specs.Runs.{Answers, CaptureAnswer, FileAnswer, PrintAnswer, UsageAnswer, chosen};
+ghost use Rattle.link_capture_engine.specs.States.{sink_state, source_state};
+ghost use Rattle.linkshow_program.specs.Devices.{opening, run_of};
+ghost use Rattle.linkshow_program.specs.Runs.{Answers, CaptureAnswer, FileAnswer, UsageAnswer, chosen};
 
 mod files;
 mod first_kept;
@@ -19,9 +19,8 @@ mod showing;
 pub use files::Files;
 use files::HostFiles;
 pub use first_kept::FirstKept;
-use lines::tell;
 use link_capture_commands::words;
-use link_capture_engine::{ReadSource, Sink, Source, WriteSink};
+use link_capture_engine::{ReadSource, Sink, Source, WriteSink, tell};
 use linkshow_words::{Asked, HELP, Options, USAGE, VERSION, read_words};
 pub use notes::answer_notes;
 use printing::print;
@@ -105,28 +104,11 @@ pub fn answer<F: Files, S: Source, K: Sink, E: Sink>(
     errors: &mut E,
 ) -> ExitCode
     ensures { Answers (map string_bytes words.now)
-        ((files.new ≡ files.old) × (source.new ≡ source.old) × (sink.new ≡ sink.old)
-        × UsageAnswer (sink_state E.holds E.failures errors.old)
-        (sink_state E.holds E.failures errors.new) (exit_status result))
-        ((files.new ≡ files.old) × (source.new ≡ source.old)
-        × PrintAnswer (sink_state K.holds K.failures sink.old)
-        (sink_state K.holds K.failures sink.new) (sink_state E.holds E.failures errors.old)
-        (sink_state E.holds E.failures errors.new) Texts.HELP.now (exit_status result))
-        ((files.new ≡ files.old) × (source.new ≡ source.old)
-        × PrintAnswer (sink_state K.holds K.failures sink.old)
-        (sink_state K.holds K.failures sink.new) (sink_state E.holds E.failures errors.old)
-        (sink_state E.holds E.failures errors.new) Texts.VERSION.now (exit_status result))
-        (λ kernels choice limit. (files.new ≡ files.old) × CaptureAnswer kernels choice (run_of
+        (files.new ≡ files.old) (source.new ≡ source.old) (sink.new ≡ sink.old) (run_of
         (source_state S.to_come S.failures S.ends_told) (sink_state K.holds K.failures)
         (sink_state E.holds E.failures) source.old source.new sink.old sink.new
-        errors.old errors.new) (sink.new ≡ sink.old) None limit (exit_status result))
-        (λ name kernels choice limit. (source.new ≡ source.old)
-        × (F.asked files.new ≡ risen (F.asked files.old))
-        × FileAnswer (source_state F.File.to_come F.File.failures F.File.ends_told)
-        (F.contents files.old name) (F.refusal files.new) name
-        (sink_state K.holds K.failures sink.old) (sink_state K.holds K.failures sink.new)
-        (sink_state E.holds E.failures errors.old) (sink_state E.holds E.failures errors.new)
-        (sink.new ≡ sink.old) kernels choice limit (exit_status result)) }
+        errors.old errors.new) (opening F.contents F.asked F.refusal files.old files.new)
+        (source_state F.File.to_come F.File.failures F.File.ends_told) (exit_status result) }
 {
     match read_words(words) {
         None => answer_usage(errors),

@@ -1,11 +1,11 @@
 //! Lines, and where they are told.
 
 ghost use Rattle.std.specs.Prelude.{◌≡◌, ◌≤◌, ◌++◌, ◌∷◌, [], codes, length};
-ghost use Rattle.linkshow_program.specs.Devices.{sink_state};
-ghost use Rattle.linkshow_program.specs.Telling.{IsTold, texts_joined};
+ghost use Rattle.link_capture_engine.specs.States.{IsTold, sink_state};
+ghost use Rattle.linkshow_program.specs.Telling.{texts_joined};
 
 use arrayvec::ArrayString;
-use link_capture_engine::{Sink, write_all};
+use link_capture_engine::{Sink, tell};
 
 /// A text as the line of a note.
 pub(crate) fn note(text: &str) -> ArrayString<135>
@@ -19,18 +19,7 @@ pub(crate) fn note(text: &str) -> ArrayString<135>
     line
 }
 
-/// Writes a text. Whether all of it was written: where the sink fails, the rest of it isn't.
-pub(crate) fn tell<K: Sink>(sink: &mut K, text: &str) -> bool
-    ensures { IsTold (sink_state K.holds K.failures sink.old)
-        (sink_state K.holds K.failures sink.new) text.now result }
-{
-    match write_all(sink, text.as_bytes(), 0) {
-        Ok(_) => true,
-        Err(_) => false,
-    }
-}
-
-/// Writes texts, one behind the other, in the same way.
+/// Writes texts, one behind the other. Whether all of them were written: where the sink fails, the rest isn't.
 pub(crate) fn tell_all<K: Sink>(sink: &mut K, texts: &[&str]) -> bool
     ensures { IsTold (sink_state K.holds K.failures sink.old)
         (sink_state K.holds K.failures sink.new)

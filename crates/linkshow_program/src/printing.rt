@@ -2,11 +2,11 @@
 
 ghost use Rattle.std.specs.Prelude.{◌≡◌};
 ghost use Rattle.std.specs.Process.{exit_status};
-ghost use Rattle.linkshow_program.specs.Devices.{sink_state};
+ghost use Rattle.link_capture_engine.specs.States.{sink_state};
 ghost use Rattle.linkshow_program.specs.Runs.{PrintAnswer};
 
-use super::lines::{tell, tell_all};
-use link_capture_engine::Sink;
+use super::lines::tell_all;
+use link_capture_engine::{Sink, tell};
 use link_capture_grammar::fault::{CaptureFault, FaultKind};
 use std::process::ExitCode;
 

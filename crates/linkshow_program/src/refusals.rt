@@ -3,11 +3,10 @@
 ghost use Rattle.std.specs.Prelude.{◌≡◌, map};
 ghost use Rattle.link_capture_refusals.specs.RefusalWords.{path_text};
 ghost use Rattle.link_lines.specs.Refused.{fault_words, refusal_words};
-ghost use Rattle.linkshow_program.specs.Devices.{sink_state};
-ghost use Rattle.linkshow_program.specs.Telling.{IsTold};
+ghost use Rattle.link_capture_engine.specs.States.{IsTold, sink_state};
 
-use super::lines::{tell, tell_all};
-use link_capture_engine::Sink;
+use super::lines::tell_all;
+use link_capture_engine::{Sink, tell};
 use link_capture_refusals::{Refusal, behind_name};
 use link_lines::ShowFault;
 

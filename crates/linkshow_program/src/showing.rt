@@ -3,15 +3,16 @@
 ghost use Rattle.std.specs.Prelude.{◌≡◌, ◌≤◌, ◌++◌, option_map};
 ghost use Rattle.std.specs.Process.{exit_status};
 ghost use Rattle.link_lines.specs.Options.{choice_of};
-ghost use Rattle.linkshow_program.specs.Devices.{source_state, sink_state, run_of};
-ghost use Rattle.linkshow_program.specs.Telling.{IsTold, Tells};
-ghost use Rattle.linkshow_program.specs.Runs.{chosen, fault_told, is_unread, name_told, nothing_read, status_of, told_of};
+ghost use Rattle.link_capture_commands.specs.Commands.{status_of};
+ghost use Rattle.link_capture_engine.specs.States.{IsTold, Tells, sink_state, source_state};
+ghost use Rattle.linkshow_program.specs.Devices.{run_of};
+ghost use Rattle.linkshow_program.specs.Runs.{chosen, fault_told, is_unread, name_told, nothing_read, told_of};
 ghost use Rattle.linkshow_program.specs.Runs.{ShowAnswer, unopened};
 
 use super::first_kept::FirstKept;
-use super::lines::{tell, tell_all};
+use super::lines::tell_all;
 use super::refusals::tell_words;
-use link_capture_engine::{Sink, Source};
+use link_capture_engine::{Sink, Source, tell};
 use link_capture_grammar::fault::FaultKind;
 use link_lines::{LineOptions, ShowFault, show};
 use linkshow_words::{Options, advice, cause};

@@ -3,10 +3,10 @@
 
 ghost use Rattle.std.specs.Prelude.{OnOk, codes};
 ghost use Rattle.std.specs.Io.KnownBytes.{Appends};
-ghost use Rattle.callers.specs.Requests.{vxlan_text};
+ghost use Rattle.examples.specs.Requests.{vxlan_text};
 
 use anyhow::Result;
-use callers::vxlan_request;
+use examples::vxlan_request;
 use std::alloc::Global;
 use std::io::{self, Write};
 

@@ -14,7 +14,7 @@ returns-clause-text c =
     let size = c.args.size in
     let text = written (body_text (frame_type bytes) (frame_body bytes)) in
     let kind : c.message_type-message_type.result ≡ frame_type bytes = c.message_type-message_type.ensures ∙ ap (λ v. frame_type v.now) c.new.ensures in
-    let body : c.body.result.now ≡ frame_body bytes = c.body.ensures in
+    let body : c.frame_body.result.now ≡ frame_body bytes = c.frame_body.ensures in
     let head = take 12 (drop 4 bytes) in
     let rest = zeros (nla_align size - size) in
     c.append_zeros.ensures.text ∙ ap (λ n. c.push_body.new.out.items ++ zeros (n - size)) c.nla_align.ensures

@@ -1,12 +1,13 @@
 use Rattle.std.proofs.Common.{◌≡◌, ℕ, List, Some, Err, refl, subst, ◌∙◌, inl, inr}
 use Rattle.std.specs.Prelude.{option_map}
 use Rattle.std.specs.Process.{exit_status}
+use Rattle.link_capture_commands.specs.Commands.{status_of}
 use Rattle.link_capture_engine.specs.Devices.{Rises, TellsItsEnd}
 use Rattle.link_capture_spellings.specs.Spellings.{spellings}
 use Rattle.link_lines.specs.Outcomes.{Shows}
-use Rattle.linkshow_program.specs.Devices.{kept_first, sink_state}
-use Rattle.linkshow_program.specs.Telling.{Tells}
-use Rattle.linkshow_program.specs.Runs.{chosen, notes_text, status_of, told_of}
+use Rattle.link_capture_engine.specs.States.{Tells, sink_state}
+use Rattle.linkshow_program.specs.Devices.{kept_first}
+use Rattle.linkshow_program.specs.Runs.{chosen, notes_text, told_of}
 use Rattle.linkshow_program.proofs.notes.answer_notes.Goals as goal
 
 pub returns-in-Ok : goal.returns-in-Ok

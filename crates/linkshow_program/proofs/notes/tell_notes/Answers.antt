@@ -1,8 +1,6 @@
-use Rattle.std.proofs.Common.{◌≡◌, ◌++◌, ◌∷◌, [], Ok, ap, subst, ◌∙◌, rules}
+use Rattle.std.proofs.Common.{◌≡◌, ◌++◌, ◌∷◌, [], Ok, ap, ◌∙◌, rules}
 use Rattle.std.specs.Prelude.{codes}
 use Rattle.link_capture_spellings.specs.Spellings.{answers_left}
-use Rattle.linkshow_program.specs.Devices.{sink_state}
-use Rattle.linkshow_program.specs.Telling.{IsTold}
 use Rattle.linkshow_program.specs.Runs.{note_text, notes_text}
 use Rattle.linkshow_program.proofs.Noting.{noted-none, noted-more, noted-failed}
 use Rattle.linkshow_program.proofs.notes.tell_notes.Goals as goal
@@ -19,8 +17,7 @@ returns-then-not-tell g c =
     let line : c.as_str-in-notes.result.now ≡ note_text c.in-Some-Ok.found = c.as_str-in-notes.ensures.value ∙ c.note.ensures ∙ ap (λ z. codes "note: " ++ (z ++ 10 ∷ [])) (c.as_str.ensures.value ∙ c.text.ensures.text) in
     let found : c.in-Some-Ok.field-0 ≡ Ok c.in-Some-Ok.found = search rules in
     let steps : answers_left c.notes.left ≡ Ok c.in-Some-Ok.found ∷ answers_left c.next.new.self = c.in-Some-Ok.ensures.steps ∙ ap (λ z. z ∷ answers_left c.next.new.self) found in
-    noted-failed _ _ _ _ _ _ _ c.in-Some-Ok.found c.notes.invariant.noted steps line
-    (subst (λ b. IsTold (sink_state g.E.Sink.holds g.E.Sink.failures c.notes.errors) (sink_state g.E.Sink.holds g.E.Sink.failures c.tell.new.sink) c.as_str-in-notes.result.now b) c.if-not-tell.true c.tell.ensures)
+    noted-failed _ _ _ _ _ _ _ c.in-Some-Ok.found _ c.notes.invariant.noted steps line c.if-not-tell.true c.tell.ensures
 
 pub notes-preserved : goal.notes-preserved
 notes-preserved g c =
@@ -30,6 +27,5 @@ notes-preserved g c =
     record {
       can = tt;
       finite = tt;
-      noted = noted-more _ _ _ _ _ _ _ c.in-Some-Ok.found c.notes.invariant.noted steps line
-          (subst (λ b. IsTold (sink_state g.E.Sink.holds g.E.Sink.failures c.notes.errors) (sink_state g.E.Sink.holds g.E.Sink.failures c.tell.new.sink) c.as_str-in-notes.result.now b) c.if-not-tell.false c.tell.ensures);
+      noted = noted-more _ _ _ _ _ _ _ c.in-Some-Ok.found _ c.notes.invariant.noted steps line c.if-not-tell.false c.tell.ensures;
     }

@@ -1,7 +1,0 @@
--- what was passed tells no name
-use Rattle.std.proofs.Common.{◌≡◌, drop}
-use Rattle.callers.specs.Interfaces.{name_told}
-use Rattle.callers.proofs.interfaces.name.Given as goal
-
-abbrev pub invariant-loop-attribute : goal.invariant-loop-attribute
-invariant-loop-attribute l = name_told l.message.attributes.items ≡ name_told (drop l.attribute-index l.message.attributes.items)

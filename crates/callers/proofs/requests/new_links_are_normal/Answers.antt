@@ -1,8 +1,0 @@
-use Rattle.callers.proofs.RequestFrames.{message_aligned, normal}
-use Rattle.callers.proofs.requests.new_links_are_normal.Goals as goal
-
-pub returns-clause-normal : goal.returns-clause-normal
-returns-clause-normal c = normal c.frames_are_judged.ensures c.captures_are_counted.ensures
-
-pub returns-clause-aligned : goal.returns-clause-aligned
-returns-clause-aligned c = message_aligned c.headers_are_sixteen_bytes.ensures c.texts_are_cut_again.ensures

@@ -1,0 +1,145 @@
+-- What a vxlan is written as is legal, and its own canonical text.
+use Rattle.std.proofs.Common.{◌≡◌, ℕ, ◌+◌, ◌≤◌, List, [], ◌∷◌, ◌++◌, length, Ok, Some, refl, sym, ap, ◌∙◌, arith, length-append}
+use Rattle.std.specs.Prelude.{true, false, ◌&&◌, ◌||◌, nat_le, codes}
+use Rattle.std.specs.Str.{is_utf8, chars}
+use lib.Utf8.{encode}
+use Rattle.std.proofs.lemmas.Bool.{le-leb}
+use Rattle.std.proofs.lemmas.List.{length-replicate}
+use Rattle.netlink_packet_core.specs.Attributes.{Attribute, attribute_text, if_some, list_text, zeros}
+use Rattle.netlink_packet_core.specs.Families.{attribute}
+use Rattle.netlink_packet_core.specs.Laws.{TextIsCut}
+use Rattle.netlink_packet_core.specs.Numbers.{be2, le4}
+use Rattle.netlink_packet_core.specs.Texts.{without_nul}
+use Rattle.netlink_packet_core.specs.TypedBodies.{TypedBody}
+use Rattle.link_info.specs.Families.{kinds, port_kinds, vxlan}
+use Rattle.link_info.specs.Lists.{nothing, Grammar, all_accepted, all_fit, some_empty_ports, rewritten, any, non_empty, not_empty, if_read, list_rule, without_context}
+use Rattle.link_info.specs.Tables.{named, names_grammar, row_in, rule}
+use Rattle.link_message.specs.Body.{body_rule, is_listed, link_body, link_peer, list_rule_of}
+use Rattle.link_message.specs.LinkTables.{info, link_table, unspec}
+use Rattle.link_info.specs.Rules.{Rule}
+use Rattle.link_capture_grammar.specs.Bodies.{body_text_under, ruled_text}
+use Rattle.link_capture.specs.Routes.{reads_route, typed_text}
+use Rattle.examples.specs.Requests.{vxlan_attributes, vxlan_body, vxlan_info, vxlan_info_text, vxlan_settings}
+
+-- bytes that a rule accepts, with no list of ports of which nothing is kept, that fit and are their own canonical text
+pub record IsOwnText (r : Rule) (b : List ℕ) : Type 0 where
+  pub accepted : r.accepted b ≡ true
+  pub fits : r.fits b ≡ true
+  pub empty_ports : r.empty_ports b ≡ false
+  pub canonical : r.canonical b ≡ b
+
+-- ---- a list of attributes that are their own
+
+record OwnAttributes (g : Grammar) (es : List Attribute) : Type 0 where
+  accepted : all_accepted g nothing es ≡ true
+  fits : all_fit g nothing es ≡ true
+  empty_ports : some_empty_ports g nothing es ≡ false
+  written : rewritten g nothing es ≡ es
+
+own_list : TextIsCut → (g : Grammar) (es : List Attribute) → OwnAttributes g es → IsOwnText (list_rule any g) (list_text es)
+own_list cut g es o = record {
+  accepted = ap (if_read false (all_accepted g nothing)) (cut es).0 ∙ o.accepted;
+  fits = ap (if_read true (all_fit g nothing)) (cut es).0 ∙ o.fits;
+  empty_ports = ap (if_read false (some_empty_ports g nothing)) (cut es).0 ∙ o.empty_ports;
+  canonical = ap (if_read [] (λ fs. list_text (rewritten g nothing fs))) (cut es).0 ∙ ap list_text o.written;
+}
+
+own_some : TextIsCut → (g : Grammar) (e : Attribute) (es : List Attribute) → OwnAttributes g (e ∷ es) → IsOwnText (list_rule non_empty g) (list_text (e ∷ es))
+own_some cut g e es o = record {
+  accepted = ap (λ r. if_read false (all_accepted g nothing) (if_some r not_empty)) (cut (e ∷ es)).0 ∙ o.accepted;
+  fits = ap (λ r. if_read true (all_fit g nothing) (if_some r not_empty)) (cut (e ∷ es)).0 ∙ o.fits;
+  empty_ports = ap (λ r. if_read false (some_empty_ports g nothing) (if_some r not_empty)) (cut (e ∷ es)).0 ∙ o.empty_ports;
+  canonical = ap (λ r. if_read [] (λ fs. list_text (rewritten g nothing fs)) (if_some r not_empty)) (cut (e ∷ es)).0 ∙ ap list_text o.written;
+}
+
+-- ---- the data
+
+settings : (vni : ℕ) → OwnAttributes (without_context (row_in link_peer vxlan)) (vxlan_settings vni)
+unfolding all_accepted all_fit some_empty_ports rewritten le4 be2
+settings vni = record { accepted = refl; fits = refl; empty_ports = refl; written = refl }
+
+own_data : TextIsCut → (vni : ℕ) → IsOwnText (named link_peer kinds (codes "vxlan")) (list_text (vxlan_settings vni))
+own_data cut vni = own_list cut (without_context (row_in link_peer vxlan)) (vxlan_settings vni) (settings vni)
+
+data_size : (vni : ℕ) → nat_le (4 + length (list_text (vxlan_settings vni))) 65535 ≡ true
+unfolding list_text attribute_text le4 be2
+data_size vni = refl
+
+-- ---- the link info
+
+infos : TextIsCut → (vni : ℕ) → OwnAttributes (names_grammar (named link_peer kinds) (named link_peer port_kinds)) (vxlan_info vni)
+unfolding all_accepted all_fit some_empty_ports rewritten is_utf8 chars encode
+infos cut vni =
+    let r = named link_peer kinds (codes "vxlan") in
+    let d = list_text (vxlan_settings vni) in
+    let own = own_data cut vni in
+    record {
+      accepted = ap (λ a. a && true) own.accepted;
+      fits = ap (λ x. (nat_le (4 + length x) 65535 && r.fits d) && true) own.canonical ∙ ap (λ f. (nat_le (4 + length d) 65535 && f) && true) own.fits ∙ ap (λ s. (s && true) && true) (data_size vni);
+      empty_ports = ap (λ a. a || false) own.empty_ports;
+      written = ap (λ p. attribute 1 (codes "vxlan" ++ 0 ∷ []) ∷ attribute 2 p ∷ []) own.canonical;
+    }
+
+own_info : TextIsCut → (vni : ℕ) → IsOwnText (rule link_peer info) (vxlan_info_text vni)
+own_info cut vni = own_some cut (names_grammar (named link_peer kinds) (named link_peer port_kinds)) (attribute 1 (codes "vxlan" ++ 0 ∷ [])) (attribute 2 (list_text (vxlan_settings vni)) ∷ []) (infos cut vni)
+
+info_size : (vni : ℕ) → nat_le (4 + length (vxlan_info_text vni)) 65535 ≡ true
+unfolding list_text attribute_text le4 be2
+info_size vni = refl
+
+-- ---- the attributes of the link
+
+without_last : (name : List ℕ) → without_nul (name ++ 0 ∷ []) ≡ name
+without_last [] = refl
+without_last (b ∷ []) = refl
+without_last (b ∷ c ∷ name) = ap (λ x. b ∷ x) (without_last (c ∷ name))
+
+attributes : TextIsCut → (name : List ℕ) (vni mtu : ℕ) → is_utf8 name ≡ true → length name ≤ 65530 → OwnAttributes (without_context (row_in link_peer (link_table unspec))) (vxlan_attributes name vni mtu)
+unfolding all_accepted all_fit some_empty_ports rewritten le4
+attributes cut name vni mtu utf8 short =
+    let r = rule link_peer info in
+    let t = vxlan_info_text vni in
+    let own = own_info cut vni in
+    let same = without_last name in
+    let fits : nat_le (4 + length (name ++ 0 ∷ [])) 65535 ≡ true = le-leb (4 + length (name ++ 0 ∷ [])) 65535 (omega (arith, length-append name (0 ∷ []))) in
+    record {
+      accepted = ap (λ n. is_utf8 n && (r.accepted t && true)) same ∙ ap (λ u. u && (r.accepted t && true)) utf8 ∙ ap (λ a. a && true) own.accepted;
+      fits =
+          ap (λ n. (nat_le (4 + length (n ++ 0 ∷ [])) 65535 && true) && ((nat_le (4 + length (r.canonical t)) 65535 && r.fits t) && true)) same
+          ∙ ap (λ s. (s && true) && ((nat_le (4 + length (r.canonical t)) 65535 && r.fits t) && true)) fits
+          ∙ ap (λ x. (nat_le (4 + length x) 65535 && r.fits t) && true) own.canonical
+          ∙ ap (λ f. (nat_le (4 + length t) 65535 && f) && true) own.fits
+          ∙ ap (λ s. (s && true) && true) (info_size vni);
+      empty_ports = ap (λ a. a || false) own.empty_ports;
+      written =
+          ap (λ n. attribute 3 (n ++ 0 ∷ []) ∷ attribute 4 (le4 mtu) ∷ attribute 18 (r.canonical t) ∷ []) same
+          ∙ ap (λ x. attribute 3 (name ++ 0 ∷ []) ∷ attribute 4 (le4 mtu) ∷ attribute 18 x ∷ []) own.canonical;
+    }
+
+-- ---- the body
+
+pub own_body : TextIsCut → (name : List ℕ) (vni mtu : ℕ) → is_utf8 name ≡ true → length name ≤ 65530 → IsOwnText link_body (vxlan_body name vni mtu)
+unfolding list_rule_of body_rule is_listed
+own_body cut name vni mtu utf8 short =
+    let t = list_text (vxlan_attributes name vni mtu) in
+    let own = own_list cut (without_context (row_in link_peer (link_table unspec))) (vxlan_attributes name vni mtu) (attributes cut name vni mtu utf8 short) in
+    let long : nat_le 16 (length (zeros 16 ++ t)) ≡ true = le-leb 16 (length (zeros 16 ++ t)) (omega (arith, length-append (zeros 16) t, length-replicate {A = ℕ} 16 0)) in
+    record {
+      accepted = ap (λ a. a && (list_rule any (without_context (row_in link_peer (link_table unspec)))).accepted t) long ∙ own.accepted;
+      fits = own.fits;
+      empty_ports = own.empty_ports;
+      canonical = ap (λ x. zeros 16 ++ x) own.canonical;
+    }
+
+-- so it is its own canonical text
+pub own_ruled : (r : Rule) (b : List ℕ) → IsOwnText r b → ruled_text r b ≡ Ok b
+own_ruled r b o = rw (o.accepted, o.empty_ports, o.fits) (ap Ok o.canonical)
+
+-- ---- what is read of a body of RTM_NEWLINK that is its own canonical text
+
+read_as : (b : List ℕ) (x : TypedBody) → ruled_text link_body b ≡ Ok b → reads_route 16 b ≡ Some x → x ≡ (16, b)
+unfolding body_text_under
+read_as b x own h = let e = sym (ap (typed_text 16) own) ∙ h in cc
+
+pub read_back : (b bytes : List ℕ) (x : TypedBody) → bytes ≡ b → ruled_text link_body b ≡ Ok b → reads_route 16 bytes ≡ Some x → x ≡ (16, b)
+read_back b bytes x e own h = read_as b x own (ap (reads_route 16) (sym e) ∙ h)

@@ -1,0 +1,15 @@
+-- what is before the place is learned
+use Rattle.std.proofs.Common.{◌≡◌, ◌-◌, length}
+use Rattle.examples.proofs.Learning.{LearnedTo}
+use Rattle.examples.proofs.interfaces.learn_all.Given as goal
+
+abbrev pub invariant-loop-message : goal.invariant-loop-message
+invariant-loop-message l = record {
+  limit : l.messages.limit ≡ l.limit;
+  capture : l.messages.capture ≡ l.capture;
+  place : l.messages.place ≡ l.place;
+  learned : LearnedTo l.limit l.capture l.place l.fn.interfaces l.interfaces;
+}
+
+abbrev pub decreases-loop-message : goal.decreases-loop-message
+decreases-loop-message l = length l.capture - l.place

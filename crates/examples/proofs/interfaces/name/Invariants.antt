@@ -1,0 +1,7 @@
+-- what was passed tells no name
+use Rattle.std.proofs.Common.{◌≡◌, drop}
+use Rattle.examples.specs.Interfaces.{name_told}
+use Rattle.examples.proofs.interfaces.name.Given as goal
+
+abbrev pub invariant-loop-attribute : goal.invariant-loop-attribute
+invariant-loop-attribute l = name_told l.message.attributes.items ≡ name_told (drop l.attribute-index l.message.attributes.items)

@@ -1,0 +1,12 @@
+-- What is found of a capture that is held against a golden file.
+use Rattle.std.specs.Prelude.{◌≡◌, ◌≢◌, ℕ, List, Some}
+use Rattle.link_capture.specs.Captures.{first_fault, texts, IsLegal}
+use Rattle.examples.specs.declared.golden.Finding.{Finding}
+use Rattle.examples.specs.declared.golden.Finding.TheVariants.{Golden, Changed, Fault, GoldenFault}
+
+-- this is found of a golden file and a capture, under a limit
+abbrev pub IsFinding : ℕ → List ℕ → List ℕ → Finding → Type 0
+IsFinding limit golden capture Golden = IsLegal limit golden × IsLegal limit capture × (texts limit golden ≡ texts limit capture)
+IsFinding limit golden capture Changed = IsLegal limit golden × IsLegal limit capture × (texts limit golden ≢ texts limit capture)
+IsFinding limit golden capture (Fault fault) = IsLegal limit golden × (first_fault limit capture ≡ Some fault)
+IsFinding limit golden capture (GoldenFault fault) = first_fault limit golden ≡ Some fault

@@ -1,0 +1,57 @@
+-- What a table of interfaces has, and what it learns from messages.
+use Rattle.std.specs.Prelude.{◌≡◌, ◌≢◌, ℕ, ◌+◌, Bool, true, false, List, [], ◌∷◌, drop, option_map, Option, None, Some, string_bytes}
+use Rattle.std.specs.BTreeMap.{get, BTreeMap}
+use Rattle.std.specs.Ordering.{nat_cmp}
+use Rattle.netlink_packet_core_grammar.specs.Attributes.{nla_align}
+use Rattle.netlink_packet_core_messages.specs.declared.message.NetlinkMessage.{NetlinkMessage}
+use Rattle.netlink_packet_core_messages.specs.declared.payload.NetlinkPayload.{NetlinkPayload}
+use Rattle.netlink_packet_core_messages.specs.declared.payload.NetlinkPayload.TheVariants.{InnerMessage}
+use Rattle.link_message_types.specs.declared.link_flag.LinkFlags.{LinkFlags}
+use Rattle.link_message_attributes.specs.declared.attributes.LinkAttribute.{LinkAttribute}
+use Rattle.link_capture_messages.specs.declared.route.RouteLink.{RouteLink}
+use Rattle.link_capture_messages.specs.Texts.{GivesMessage}
+use Rattle.link_capture_messages.specs.Views.{readable_message}
+use Rattle.examples.specs.declared.interfaces.Interface.{Interface}
+
+-- interfaces by their index
+abbrev pub Interfaces : Type 0
+Interfaces = BTreeMap ℕ Interface
+
+-- the name that attributes tell, in bytes: that of the first IFLA_IFNAME, or none
+abbrev pub name_told : List LinkAttribute → List ℕ
+name_told [] = []
+name_told (LinkAttribute.IfName name ∷ rest) = string_bytes name
+name_told (_ ∷ rest) = name_told rest
+
+-- what is known of the interface of an index: its name in bytes, and its flags
+abbrev pub known : Interfaces → ℕ → Option (List ℕ × LinkFlags)
+known table index = option_map (λ i. (string_bytes i.name, i.flags)) (get nat_cmp table index)
+
+-- this is known of the index in the new table, and of all others what was known in the old one
+pub record Sets (index : ℕ) (told : Option (List ℕ × LinkFlags)) (old new : Interfaces) : Type 0 where
+  pub it : known new index ≡ told
+  pub others : (other : ℕ) → other ≢ index → known new other ≡ known old other
+
+-- a message tells of a link that is there
+abbrev pub is_new_link : NetlinkPayload RouteLink → Bool
+is_new_link (InnerMessage (RouteLink.NewLink link)) = true
+is_new_link _ = false
+
+-- what a table learns from a message
+abbrev pub Learns : NetlinkPayload RouteLink → Interfaces → Interfaces → Type 0
+Learns (InnerMessage (RouteLink.NewLink link)) old new =
+    let m = readable_message link in
+    Sets m.header.index (Some (name_told m.attributes.items, m.header.flags)) old new
+Learns (InnerMessage (RouteLink.DelLink link)) old new = Sets (readable_message link).header.index None old new
+Learns _ old new = (index : ℕ) → known new index ≡ known old index
+
+-- from some messages, in their order
+abbrev pub LearnsAll : List (NetlinkMessage RouteLink) → Interfaces → Interfaces → Type 0
+LearnsAll [] old new = (index : ℕ) → known new index ≡ known old index
+LearnsAll (m ∷ messages) old new = (between : Interfaces) × Learns m.payload old between × LearnsAll messages between new
+
+-- these are the messages that a capture has before this place
+abbrev pub AreMessages : ℕ → List ℕ → List (NetlinkMessage RouteLink) → ℕ → Type 0
+AreMessages limit c [] place = place ≡ 0
+AreMessages limit c (m ∷ messages) place =
+    (n : ℕ) × GivesMessage limit c n m × ((left : ℕ) × (place ≡ nla_align n + left) × AreMessages limit (drop (nla_align n) c) messages left)

@@ -1,0 +1,106 @@
+//! A table of interfaces, kept from the messages of links.
+
+ghost use Rattle.std.specs.Prelude.{◌≡◌, ◌≢◌, ◌≤◌, ℕ, List, length, true, Some, IfErr, OnOk, OnErr, MatchResult};
+ghost use Rattle.std.specs.BTreeMap.{IsUnchanged};
+ghost use Rattle.link_capture.specs.Captures.{first_fault, IsLegal};
+ghost use Rattle.examples.specs.Interfaces.{AreMessages, Learns, LearnsAll, is_new_link, name_told};
+
+use link_capture::{CaptureFault, FaultKind, Messages, RouteLink};
+use link_message::{LinkAttribute, LinkFlags, LinkMessage};
+use netlink_packet_core::{NetlinkMessage, NetlinkPayload};
+use std::alloc::{AllocError, Global};
+use std::collections::BTreeMap;
+
+/// What is known of an interface.
+#[derive(Debug, PartialEq, Eq, Drop)]
+pub struct Interface {
+    /// Its name, IFLA_IFNAME; empty where none was told.
+    pub name: String,
+    /// Its flags, `ifi_flags`.
+    pub flags: LinkFlags,
+}
+
+/// Interfaces by their index, `ifi_index`.
+pub type Interfaces = BTreeMap<u32, Interface>;
+
+/// The name that a link message tells: that of its first IFLA_IFNAME, or none, which is empty.
+pub fn name(message: &LinkMessage) -> &str
+    ensures { result.now ≡ name_told message.now.attributes.items }
+{
+    for attribute in message.attributes.as_slice() {
+        if let LinkAttribute::IfName(name) = attribute {
+            return name.as_str();
+        }
+    }
+    ""
+}
+
+/// Learns from a message: of a link that is there its name and flags, and of one that is gone to forget it. Other
+/// messages tell nothing. Memory is wanted for a link that is there alone.
+pub fn learn(
+    alloc: Global,
+    message: &NetlinkMessage<RouteLink>,
+    interfaces: &mut Interfaces,
+) -> Result<(), AllocError>
+    ensures ok { OnOk result (Learns message.now.payload interfaces.old interfaces.new) }
+    ensures err { OnErr result (IsUnchanged interfaces.old interfaces.new) }
+    ensures memory { OnErr result (is_new_link message.now.payload ≡ true) }
+{
+    match &message.payload {
+        NetlinkPayload::InnerMessage(RouteLink::NewLink(link)) => {
+            let link = link.message();
+            let interface = Interface {
+                name: String::from_str(alloc, name(link))?,
+                flags: link.header.flags,
+            };
+            interfaces.insert(link.header.index, interface)?;
+        }
+        NetlinkPayload::InnerMessage(RouteLink::DelLink(link)) => {
+            interfaces.remove(&link.message().header.index);
+        }
+        _ => {}
+    }
+    Ok(())
+}
+
+// Learns from a message that is there for no more.
+fn learn_last(
+    alloc: Global,
+    message: NetlinkMessage<RouteLink>,
+    interfaces: &mut Interfaces,
+) -> Result<(), AllocError>
+    ensures ok { OnOk result (Learns message.payload interfaces.old interfaces.new) }
+    ensures err { OnErr result (IsUnchanged interfaces.old interfaces.new) }
+{
+    learn(alloc, &message, interfaces)
+}
+
+/// Learns from the messages of a capture, one after the other, up to its first fault, which is the answer, or want of
+/// memory. `limit` is the greatest length in bytes that a message, read or written, may have.
+pub fn learn_all(
+    alloc: Global,
+    capture: &[u8],
+    limit: u32,
+    interfaces: &mut Interfaces,
+) -> Result<(), CaptureFault>
+    ensures legal { OnOk result (IsLegal limit capture.now) }
+    ensures fault { IfErr result (λ fault. fault.kind ≢ FaultKind.Memory
+        → first_fault limit capture.now ≡ Some fault) }
+    ensures learned { (messages : List (NetlinkMessage RouteLink)) × (place : ℕ)
+        × AreMessages limit capture.now messages place
+        × LearnsAll messages interfaces.old interfaces.new
+        × MatchResult result (λ _. length capture.now ≤ place) (λ fault. fault.offset ≡ place) }
+{
+    let mut messages = Messages::new(alloc, capture, limit);
+    let mut place = 0;
+    while let Some(message) = messages.next() {
+        let Ok(()) = learn_last(alloc, message?, interfaces) else {
+            return Err(CaptureFault {
+                kind: FaultKind::Memory,
+                offset: place as u64,
+            });
+        };
+        place = messages.place();
+    }
+    Ok(())
+}

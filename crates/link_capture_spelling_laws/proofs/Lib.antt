@@ -1,6 +1,0 @@
-pub mod Lists
-pub mod Inside
-pub mod KindData
-pub mod Links
-pub mod Bodies
-pub mod Captures

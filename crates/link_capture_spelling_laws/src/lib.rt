@@ -1,4 +1,0 @@
-// The law of normal texts and the spellings that kernels tell apart.
-#![tactic(auto)]
-
-pub mod laws;

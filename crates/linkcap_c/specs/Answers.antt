@@ -1,0 +1,26 @@
+-- What calls answer of a capture.
+use Rattle.std.specs.Prelude.{◌≡◌, ℕ, ◌<◌, ◌≤◌, ◌↔◌, ◌⊎◌, List, length}
+use Rattle.link_capture_grammar.specs.Captures.{IsLegal}
+use Rattle.linkcap_c.specs.Buffers.{Holds}
+use Rattle.linkcap_c.specs.Told.{TellsFault}
+use Rattle.linkcap_c.specs.declared.told.LinkcapFault.{LinkcapFault}
+
+-- The capture is legal; or its first fault is told; or no run can have this limit.
+pub record Judges (limit : ℕ) (c : List ℕ) (answer : ℕ) (fault : LinkcapFault) : Type 0 where
+  pub legal : answer ≡ 0 → IsLegal limit c
+  pub faulty : answer ≡ 2 → TellsFault 0 limit c fault
+  pub wrong : (answer ≡ 3) ↔ (limit < 16)
+
+-- The text of a capture that is judged, up to its first fault, is in the buffer's front; or the buffer lacks room for it. Where a text isn't
+-- written, the buffer stays as it was.
+pub record Writes (text : List ℕ) (answer size : ℕ) (old new : List ℕ) : Type 0 where
+  pub held : (answer ≡ 0) ⊎ (answer ≡ 2) → Holds text size old new
+  pub room : answer ≡ 4 → length old < length text
+  pub kept : (answer ≡ 3) ⊎ (answer ≡ 4) ⊎ (answer ≡ 5) → new ≡ old
+
+-- the answers of calls that judge a capture, and of those that write a text
+abbrev pub IsJudgement : ℕ → Type 0
+IsJudgement answer = (answer ≡ 0) ⊎ (answer ≡ 2) ⊎ (answer ≡ 3)
+
+abbrev pub IsAnswer : ℕ → Type 0
+IsAnswer answer = (answer ≡ 0) ⊎ ((2 ≤ answer) × (answer ≤ 5))

@@ -1,7 +1,0 @@
-use Rattle.linkcap_program.proofs.Telling.{untold}
-use Rattle.linkcap_program.proofs.lines.tell.Goals as goal
-
-pub returns-in-Err : goal.returns-in-Err
-returns-in-Err g c =
-    let fault = c.in-Err.ensures.fault in
-    untold _ _ _ _ _ _ c.as_bytes.ensures.value fault.1 fault.2

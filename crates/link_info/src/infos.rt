@@ -22,7 +22,7 @@ use attribute_checks::{BytesPeer, PeerRule};
 use attribute_tables_grammar::laws::{
     contexts_go_by_steps, readings_go_by_steps, readings_tell_rules,
 };
-use link_info_checks::check_list_with;
+use link_info_checks::list_error_with;
 use link_info_data::{InfoData, InfoPortData, LinkXstats};
 use link_info_grammar::laws::info_grammar_is_lawful;
 use link_info_kinds::{InfoKind, InfoPortKind};
@@ -282,13 +282,9 @@ impl LinkInfo {
             (λ v. all_named (info_grammar_under R.peer) link_info_entry link_info_names_row nothing v.items) }
         ensures not_empty { IfErr result (λ _. 0 < length bytes.now) }
     {
-        let error = match Self::read_list(alloc, bytes, rule) {
-            Ok(list) => return Ok(list),
-            Err(error) => error,
-        };
-        if error.is_memory() {
-            check_list_with(bytes, rule)?;
+        match Self::read_list(alloc, bytes, rule) {
+            Ok(list) => Ok(list),
+            Err(error) => Err(list_error_with(bytes, rule, error)),
         }
-        Err(error)
     }
 }

@@ -183,3 +183,19 @@ pub fn same_list_with<R: PeerRule>(left: &[u8], right: &[u8], rule: &R) -> bool
 {
     same_list_over(&Ruled(rule), left, right)
 }
+
+/// What is told where link info wasn't read, its peers by a rule: want of memory where the list is
+/// accepted, and a refusal where it isn't. The error may be want of memory in front of a refusal.
+pub fn list_error_with<R: PeerRule>(bytes: &[u8], rule: &R, error: DecodeError) -> DecodeError
+    requires refused { is_memory error ≡ false
+        → (info_rule_under R.peer).accepted bytes.now ≡ false }
+    ensures { (info_rule_under R.peer).accepted bytes.now ≡ is_memory result }
+{
+    if !error.is_memory() {
+        return error;
+    }
+    match check_list_with(bytes, rule) {
+        Err(refusal) => refusal,
+        Ok(_) => error,
+    }
+}

@@ -1,6 +1,7 @@
 //! The data of a kind of links (if_link.h, IFLA_INFO_DATA).
 
-ghost use Rattle.std.specs.Prelude.{◌≡◌, ◌<◌, true, length, IfOk};
+ghost use Rattle.std.specs.Prelude.{◌≡◌, ◌<◌, false, true, length, IfOk};
+ghost use Rattle.netlink_packet_core.specs.Errors.{is_memory};
 ghost use Rattle.link_info_data.specs.Data.{info_data_entry, info_data_fits, info_data_payload, info_data_names_row};
 ghost use Rattle.link_info_data.specs.Data.{data_rule_of, data_rule_of_under};
 ghost use Rattle.attribute_tables.specs.Outcomes.{IfMemory, IsRefusedUnless, IsWrittenBy, SucceedsWhere};
@@ -8,7 +9,7 @@ ghost use Rattle.attribute_tables.specs.Outcomes.{IfMemory, IsRefusedUnless, IsW
 use super::laws::{data_without_peers_have_one_rule, names_tell_rules};
 use attribute_checks::PeerRule;
 use attribute_tables::{parse_bytes, parse_family, parse_first};
-use link_info_checks::{BytesPeer, PeerSet, Ruled, accepts_data};
+use link_info_checks::{BytesPeer, PeerSet, Ruled, data_error};
 use link_info_devices::{
     InfoBatAdv, InfoIpVlan, InfoIpVtap, InfoIpoib, InfoRmNet, InfoVrf, InfoWwan,
 };
@@ -26,9 +27,6 @@ use netlink_packet_core::{DecodeError, Nla, emit_all, fits_all, len_all};
 use std::alloc::Global;
 
 const IFLA_INFO_DATA: u16 = 2;
-
-/// The refusal of data that aren't accepted.
-const NO_DATA: &str = "no data of their kind";
 
 /// The data of a kind of links: a list of the kind's attributes, or bytes.
 #[derive(Debug, PartialEq, Eq, Drop)]
@@ -117,14 +115,21 @@ macro_rules! data {
     };
 }
 
-// Whether the data of a kind are accepted over these peers. It takes no memory.
-fn accepts<P: PeerSet>(peers: &P, kind: &InfoKind, payload: &[u8]) -> bool
-    ensures { result ≡ (data_rule_of_under P.peer kind.now).accepted payload.now }
+// What is told where the data of a kind weren't read over these peers. It takes no memory.
+fn error_of<P: PeerSet>(
+    peers: &P,
+    kind: &InfoKind,
+    payload: &[u8],
+    error: DecodeError,
+) -> DecodeError
+    requires refused { is_memory error ≡ false
+        → (data_rule_of_under P.peer kind.now).accepted payload.now ≡ false }
+    ensures { (data_rule_of_under P.peer kind.now).accepted payload.now ≡ is_memory result }
 {
     names_tell_rules();
     match kind {
-        InfoKind::Other(_) => true,
-        _ => accepts_data(peers, kind.as_str().as_bytes(), payload),
+        InfoKind::Other(_) => error,
+        _ => data_error(peers, kind.as_str().as_bytes(), payload, error),
     }
 }
 
@@ -205,14 +210,10 @@ impl InfoData {
         ensures names_row { IfOk result (λ d. info_data_names_row kind.now d) }
         ensures not_empty { IfMemory result (0 < length payload.now) }
     {
-        let error = match Self::read(alloc, payload, kind) {
-            Ok(data) => return Ok(data),
-            Err(error) => error,
-        };
-        if error.is_memory() && !accepts(&BytesPeer, kind, payload) {
-            return Err(DecodeError::from(NO_DATA));
+        match Self::read(alloc, payload, kind) {
+            Ok(data) => Ok(data),
+            Err(error) => Err(error_of(&BytesPeer, kind, payload, error)),
         }
-        Err(error)
     }
 
     // Reads the data of a kind, peers by a rule, and may tell want of memory in front of a refusal.
@@ -257,14 +258,10 @@ impl InfoData {
         ensures names_row { IfOk result (λ d. info_data_names_row kind.now d) }
         ensures not_empty { IfMemory result (0 < length payload.now) }
     {
-        let error = match Self::read_with(alloc, payload, kind, rule) {
-            Ok(data) => return Ok(data),
-            Err(error) => error,
-        };
-        if error.is_memory() && !accepts(&Ruled(rule), kind, payload) {
-            return Err(DecodeError::from(NO_DATA));
+        match Self::read_with(alloc, payload, kind, rule) {
+            Ok(data) => Ok(data),
+            Err(error) => Err(error_of(&Ruled(rule), kind, payload, error)),
         }
-        Err(error)
     }
 }
 

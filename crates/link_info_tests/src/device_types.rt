@@ -19,7 +19,7 @@ fn numbers_name_values(rt: HostRuntime) {
     assert!(rt; is_numbered(1u32, NetkitMode::L3));
     assert!(rt; is_numbered(7u32, NetkitPolicy::Redirect));
     assert!(rt; is_numbered(1u32, NetkitScrub::Default));
-    assert_eq!(rt; NetkitScrub::from(2), NetkitScrub::Default);
+    assert!(rt; NetkitScrub::from(2) == NetkitScrub::Default);
 }
 
 #[test]
@@ -46,15 +46,15 @@ fn flags_have_their_bits(rt: HostRuntime) {
             RmNetFlags::EgressMapCksumV4
         )
     );
-    assert_eq!(rt; RmNetFlags::from_bits_retain(u32::MAX).bits(), u32::MAX);
-    assert_eq!(rt; IpVlanFlags::default(), IpVlanFlags::empty());
+    assert!(rt; RmNetFlags::from_bits_retain(u32::MAX).bits() == u32::MAX);
+    assert!(rt; IpVlanFlags::default() == IpVlanFlags::empty());
 }
 
 #[test]
 fn taps_have_the_types_of_vlans(rt: HostRuntime) {
-    assert_eq!(rt; IpVtapMode::L2, IpVlanMode::L2);
-    assert_eq!(rt; IpVtapFlags::Vepa, IpVlanFlags::Vepa);
-    assert_eq!(rt; MacVtapMode::Vepa, MacVlanMode::Vepa);
-    assert_eq!(rt; MacVtapFlags::NoDst, MacVlanFlags::NoDst);
-    assert_eq!(rt; MacVtapMacAddressMode::Del, MacVlanMacAddressMode::Del);
+    assert!(rt; IpVtapMode::L2 == IpVlanMode::L2);
+    assert!(rt; IpVtapFlags::Vepa == IpVlanFlags::Vepa);
+    assert!(rt; MacVtapMode::Vepa == MacVlanMode::Vepa);
+    assert!(rt; MacVtapFlags::NoDst == MacVlanFlags::NoDst);
+    assert!(rt; MacVtapMacAddressMode::Del == MacVlanMacAddressMode::Del);
 }

@@ -16,34 +16,75 @@ const XFRM_TWICE: &[u8] = b"\x09\0\x01\0xfrm\0\0\0\0\x04\0\x02\0\x04\0\x02\0";
 // A name that ends in two NULs: one is dropped, and what is left isn't listed.
 const UNLISTED: &[u8] = b"\x09\0\x01\0vti\0\0\0\0\0\x06\0\x02\0\xab\xcd\0\0";
 
-// Link info that is refused.
-const REFUSED: [&[u8]; 4] = [
+// Link info, and what is told of it: a word for each value, and whether it is written as it was read.
+const LISTS: [(&[u8], &[&str]); 9] = [
+    (b"", &["written again"]),
+    (XFRM, &["xfrm", "data of xfrm", "written again"]),
+    (BOND_PORT, &["port of a bond", "its data", "written again"]),
+    (
+        XFRM_TWICE,
+        &["xfrm", "data of xfrm", "data of xfrm", "written again"],
+    ),
+    (UNLISTED, &["unlisted", "bytes", "written again"]),
     // data before a kind
-    b"\x04\0\x02\0",
+    (b"\x04\0\x02\0", &["refused"]),
     // statistics before a kind
-    b"\x04\0\x03\0",
+    (b"\x04\0\x03\0", &["refused"]),
     // port data before a port kind
-    b"\x04\0\x05\0",
+    (b"\x04\0\x05\0", &["refused"]),
     // a port kind is used up
-    b"\x09\0\x04\0bond\0\0\0\0\x04\0\x05\0\x04\0\x05\0",
+    (
+        b"\x09\0\x04\0bond\0\0\0\0\x04\0\x05\0\x04\0\x05\0",
+        &["refused"],
+    ),
 ];
 
-/// Whether link info, of 64 bytes at most, is written as it was read.
-fn is_rewritten(alloc: Global, bytes: &[u8]) -> Result<bool, Fail> {
-    let list = LinkInfo::parse_list(alloc, bytes)?;
-    let mut buffer = [0xffu8; 64];
-    let size = len_all(&list);
-    if !fits_all(&list) || size > buffer.len() {
-        return Ok(false);
+/// A word for a value.
+fn word_of(value: &LinkInfo) -> &'static str {
+    match value {
+        LinkInfo::Kind(InfoKind::Xfrm) => "xfrm",
+        LinkInfo::Kind(InfoKind::Other(_)) => "unlisted",
+        LinkInfo::Data(InfoData::Xfrm(_)) => "data of xfrm",
+        LinkInfo::Data(InfoData::Other(_)) => "bytes",
+        LinkInfo::PortKind(InfoPortKind::Bond) => "port of a bond",
+        LinkInfo::PortData(InfoPortData::BondPort(_)) => "its data",
+        _ => "another value",
     }
-    emit_all(&list, &mut buffer);
-    Ok(&buffer[..size] == bytes)
+}
+
+/// Whether link info, of 64 bytes at most, is written as these bytes.
+fn is_written_as(list: &[LinkInfo], bytes: &[u8]) -> bool {
+    let mut buffer = [0xffu8; 64];
+    let size = len_all(list);
+    if !fits_all(list) || size > buffer.len() {
+        return false;
+    }
+    emit_all(list, &mut buffer);
+    &buffer[..size] == bytes
+}
+
+/// What is told of link info. One function owns the values, since each that does is proved to drop them.
+fn words_of(alloc: Global, bytes: &[u8]) -> Result<Vec<&'static str>, Fail> {
+    let mut words = Vec::new(alloc);
+    match LinkInfo::parse_list(alloc, bytes) {
+        Ok(list) => {
+            for value in &list {
+                words.push(word_of(value))?;
+            }
+            if is_written_as(&list, bytes) {
+                words.push("written again")?;
+            }
+        }
+        Err(error) if error.is_memory() => words.push("no memory")?,
+        Err(_) => words.push("refused")?,
+    }
+    Ok(words)
 }
 
 #[test]
-fn worked_lists_are_their_own_text(rt: HostRuntime) -> Result<(), Fail> {
-    for bytes in [b"".as_slice(), XFRM, BOND_PORT, XFRM_TWICE, UNLISTED] {
-        assert!(rt; is_rewritten(rt.alloc(), bytes)?);
+fn lists_are_read_written_and_refused(rt: HostRuntime) -> Result<(), Fail> {
+    for (bytes, words) in LISTS {
+        assert!(rt; words_of(rt.alloc(), bytes)?.as_slice() == words);
     }
     Ok(())
 }
@@ -58,53 +99,6 @@ fn a_link_of_ipsec(rt: HostRuntime) -> Result<(), Fail> {
     else {
         return Err(Fail::from("other values"));
     };
-    assert_eq!(rt;
-        data.as_slice(),
-        [InfoXfrm::Link(2), InfoXfrm::IfId(10)].as_slice()
-    );
-    Ok(())
-}
-
-#[test]
-fn values_stand_under_the_kinds_in_force(rt: HostRuntime) -> Result<(), Fail> {
-    assert!(rt;
-        matches!(
-            LinkInfo::parse_list(rt.alloc(), BOND_PORT)?.as_slice(),
-            [
-                LinkInfo::PortKind(InfoPortKind::Bond),
-                LinkInfo::PortData(InfoPortData::BondPort(_)),
-            ]
-        )
-    );
-    assert!(rt;
-        matches!(
-            LinkInfo::parse_list(rt.alloc(), XFRM_TWICE)?.as_slice(),
-            [
-                LinkInfo::Kind(InfoKind::Xfrm),
-                LinkInfo::Data(InfoData::Xfrm(_)),
-                LinkInfo::Data(InfoData::Xfrm(_)),
-            ]
-        )
-    );
-    assert!(rt;
-        matches!(
-            LinkInfo::parse_list(rt.alloc(), UNLISTED)?.as_slice(),
-            [
-                LinkInfo::Kind(InfoKind::Other(_)),
-                LinkInfo::Data(InfoData::Other(_)),
-            ]
-        )
-    );
-    Ok(())
-}
-
-#[test]
-fn other_lists_are_refused(rt: HostRuntime) -> Result<(), Fail> {
-    for bytes in REFUSED {
-        let Err(error) = LinkInfo::parse_list(rt.alloc(), bytes) else {
-            return Err(Fail::from("accepted"));
-        };
-        assert!(rt; !error.is_memory());
-    }
+    assert!(rt; data.as_slice() == [InfoXfrm::Link(2), InfoXfrm::IfId(10)].as_slice());
     Ok(())
 }

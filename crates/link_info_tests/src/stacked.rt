@@ -36,14 +36,14 @@ fn macvlan(rt: HostRuntime) -> Result<(), Fail> {
         0xff,
     ];
     let list = parse_mac_vlan(rt.alloc(), bytes)?;
-    assert_eq!(rt;
-        list.as_slice(),
-        [
-            InfoMacVlan::Mode(MacVlanMode::Source),
-            InfoMacVlan::MacAddr([2, 0, 0, 0, 0, 1]),
-            InfoMacVlan::BcCutoff(-5),
-        ]
-        .as_slice()
+    assert!(rt;
+        list.as_slice()
+            == [
+                InfoMacVlan::Mode(MacVlanMode::Source),
+                InfoMacVlan::MacAddr([2, 0, 0, 0, 0, 1]),
+                InfoMacVlan::BcCutoff(-5),
+            ]
+            .as_slice()
     );
     assert!(rt; is_written_as(&list[1], &bytes[8..20]));
     Ok(())
@@ -70,7 +70,7 @@ fn a_list_inside_a_list_is_kept(rt: HostRuntime) -> Result<(), Fail> {
         return Err(Fail::from("another variant"));
     };
     let kept = [InfoMacVlan::Other(DefaultNla::new(5, Vec::new(rt.alloc())))];
-    assert_eq!(rt; inner.as_slice(), kept.as_slice());
+    assert!(rt; inner.as_slice() == kept.as_slice());
     assert!(rt; is_written_as(&list[0], bytes));
     Ok(())
 }
@@ -90,6 +90,6 @@ fn a_deep_list_is_read_one_level(rt: HostRuntime) -> Result<(), Fail> {
     let [InfoMacVlan::Other(nla)] = inner.as_slice() else {
         return Err(Fail::from("read further"));
     };
-    assert_eq!(rt; Some(nla.value()), bytes.get(8..));
+    assert!(rt; Some(nla.value()) == bytes.get(8..));
     Ok(())
 }

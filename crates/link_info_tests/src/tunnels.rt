@@ -107,7 +107,7 @@ fn flags_of_ip_tunnels_go_by_the_kind(rt: HostRuntime) -> Result<(), Fail> {
         (InfoKind::Dummy, None),
     ] {
         let read = InfoIpTunnel::parse_with_param(rt.alloc(), &buf, &kind);
-        assert_eq!(rt; read.ok(), value);
+        assert!(rt; read.ok() == value);
     }
     Ok(())
 }
@@ -118,14 +118,14 @@ fn ip_tunnels(rt: HostRuntime) -> Result<(), Fail> {
         8, 0, 8, 0, 1, 0, 0, 0, 5, 0, 9, 0, 41, 0, 0, 0, 8, 0, 7, 0, 0, 15, 255, 255,
     ];
     let list = parse_ip_tunnel(rt.alloc(), bytes, &InfoKind::Ip6Tnl)?;
-    assert_eq!(rt;
-        list.as_slice(),
-        [
-            InfoIpTunnel::Ipv6Flags(Ip6TunnelFlags::IgnEncapLimit),
-            InfoIpTunnel::Protocol(IpProtocol::Ipv6),
-            InfoIpTunnel::FlowInfo(0x000fffff),
-        ]
-        .as_slice()
+    assert!(rt;
+        list.as_slice()
+            == [
+                InfoIpTunnel::Ipv6Flags(Ip6TunnelFlags::IgnEncapLimit),
+                InfoIpTunnel::Protocol(IpProtocol::Ipv6),
+                InfoIpTunnel::FlowInfo(0x000fffff),
+            ]
+            .as_slice()
     );
     assert!(rt; is_written_as(&list[2], &bytes[16..]));
     Ok(())

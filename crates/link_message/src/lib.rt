@@ -14,16 +14,16 @@ pub use link_message_lists::{
 pub use link_message_messages::LinkMessage;
 pub use link_message_records::{
     FieldRecord, Icmp6Stats, Icmp6StatsBuffer, Inet6CacheInfo, Inet6CacheInfoBuffer, Inet6DevConf,
-    Inet6DevConfBuffer, Inet6Stats, Inet6StatsBuffer, InetDevConf, InetDevConfBuffer,
-    LinkStatistics, Map, MapBuffer, Stats, Stats64, Stats64Buffer, StatsBuffer, Values,
-    VfInfoBroadcast, VfInfoBroadcastBuffer, VfInfoLinkState, VfInfoLinkStateBuffer, VfInfoMac,
-    VfInfoMacBuffer, VfInfoRate, VfInfoRateBuffer, VfInfoRssQueryEn, VfInfoRssQueryEnBuffer,
-    VfInfoSetting, VfInfoSpoofCheck, VfInfoSpoofCheckBuffer, VfInfoTrust, VfInfoTrustBuffer,
-    VfInfoTxRate, VfInfoTxRateBuffer, VfInfoVlan, VfInfoVlanBuffer, VfVlanInfo,
+    Inet6DevConfBuffer, Inet6Stats, Inet6StatsBuffer, InetDevConf, InetDevConfBuffer, Map,
+    MapBuffer, Stats, Stats64, Stats64Buffer, StatsBuffer, Values, VfInfoBroadcast,
+    VfInfoBroadcastBuffer, VfInfoLinkState, VfInfoLinkStateBuffer, VfInfoMac, VfInfoMacBuffer,
+    VfInfoRate, VfInfoRateBuffer, VfInfoRssQueryEn, VfInfoRssQueryEnBuffer, VfInfoSetting,
+    VfInfoSpoofCheck, VfInfoSpoofCheckBuffer, VfInfoTrust, VfInfoTrustBuffer, VfInfoTxRate,
+    VfInfoTxRateBuffer, VfInfoVlan, VfInfoVlanBuffer, VfVlanInfo,
 };
 pub use link_message_types::{
     AddressFamily, Flags, In6AddrGenMode, Inet6IfaceFlags, LINK_HEADER_LEN, LinkEvent,
     LinkExtentMask, LinkFlags, LinkHeader, LinkLayerType, LinkMessageBuffer, LinkMode, LinkPhysId,
-    MctpPhysBinding, State, VfLinkState, VlanProtocol, XdpAttached,
+    LinkStatistics, MctpPhysBinding, State, VfLinkState, VlanProtocol, XdpAttached,
 };
 pub use link_message_virtual_functions::{LinkVfInfo, LinkVfPort, VfInfo, VfPort, VfStats, VfVlan};

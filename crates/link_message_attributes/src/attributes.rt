@@ -90,8 +90,8 @@ use attribute_tables::typed;
 use link_info::LinkInfo;
 use link_message_af_spec::AfSpecUnspec;
 use link_message_af_spec::parse_families;
-use link_message_checks::accepts_attribute;
-use link_message_checks::accepts_attributes;
+use link_message_checks::attribute_error;
+use link_message_checks::attributes_error;
 use link_message_grammar::laws::attributes_are_looked_up;
 use link_message_grammar::laws::peers_stand_in_link_info;
 use link_message_lists::DevlinkPort;
@@ -638,15 +638,13 @@ impl LinkAttribute {
         ensures memory { IfMemory result
             (link_attribute_may_want_memory (table_family family) (storage buf.now).now ≡ true) }
     {
-        let error = match Self::read(alloc, buf, family) {
-            Ok(value) => return Ok(value),
-            Err(error) => error,
-        };
-        let table = number_of_table(family);
-        if error.is_memory() && !accepts_attribute(table, buf.raw_kind(), buf.value()) {
-            return Err(DecodeError::from("no attribute of its kind"));
+        match Self::read(alloc, buf, family) {
+            Ok(value) => Ok(value),
+            Err(error) => {
+                let table = number_of_table(family);
+                Err(attribute_error(table, buf.raw_kind(), buf.value(), error))
+            }
         }
-        Err(error)
     }
 
     // Reads attributes, and may tell want of memory in front of a refusal.
@@ -689,14 +687,10 @@ impl LinkAttribute {
             (λ v. All (link_attribute_names_row (table_family family)) v.items) }
         ensures not_empty { IfErr result (λ _. 0 < length bytes.now) }
     {
-        let error = match Self::read_list(alloc, bytes, family) {
-            Ok(list) => return Ok(list),
-            Err(error) => error,
-        };
-        if error.is_memory() && !accepts_attributes(number_of_table(family), bytes) {
-            return Err(DecodeError::from("no attributes of a link"));
+        match Self::read_list(alloc, bytes, family) {
+            Ok(list) => Ok(list),
+            Err(error) => Err(attributes_error(number_of_table(family), bytes, error)),
         }
-        Err(error)
     }
 }
 

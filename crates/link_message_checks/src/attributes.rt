@@ -1,8 +1,9 @@
 //! Checks of attributes under an address family, without memory and without a typed value; for the
 //! crates that read them.
 
-ghost use Rattle.std.specs.Prelude.{◌≡◌};
+ghost use Rattle.std.specs.Prelude.{◌≡◌, false};
 ghost use Rattle.netlink_packet_core_grammar.specs.Attributes.{proper_kind};
+ghost use Rattle.netlink_packet_core_numbers.specs.Errors.{is_memory};
 ghost use Rattle.link_message_grammar.specs.LinkMessage.{family_of};
 ghost use Rattle.link_message_grammar.specs.Body.{attribute_row, attributes_rule};
 
@@ -11,6 +12,7 @@ use crate::peer::LinkPeer;
 use attribute_checks::{find, measure_held};
 use attribute_tables_grammar::laws::measures_tell_rules;
 use link_message_grammar::laws::kinds_are_looked_up;
+use netlink_packet_core_numbers::DecodeError;
 
 /// Whether an attribute's payload is accepted as what the row of its kind holds under an address
 /// family. The kind may have its flag bits.
@@ -31,4 +33,31 @@ pub fn accepts_attributes(family: u8, bytes: &[u8]) -> bool
 {
     measures_tell_rules();
     walk_attributes(&LinkPeer, family, bytes).is_some()
+}
+
+/// What is told where an attribute wasn't read: want of memory where its payload is accepted, and a
+/// refusal where it isn't. The error may be want of memory in front of a refusal.
+pub fn attribute_error(family: u8, kind: u16, payload: &[u8], error: DecodeError) -> DecodeError
+    requires refused { is_memory error ≡ false
+        → (attribute_row (family_of family) (proper_kind kind)).rule.accepted payload.now ≡ false }
+    ensures { (attribute_row (family_of family) (proper_kind kind)).rule.accepted payload.now
+        ≡ is_memory result }
+{
+    if error.is_memory() && !accepts_attribute(family, kind, payload) {
+        return DecodeError::from("no attribute of its kind");
+    }
+    error
+}
+
+/// What is told where attributes of an address family weren't read: want of memory where they are
+/// accepted, and a refusal where they aren't. The error may be want of memory in front of a refusal.
+pub fn attributes_error(family: u8, bytes: &[u8], error: DecodeError) -> DecodeError
+    requires refused { is_memory error ≡ false
+        → (attributes_rule (family_of family)).accepted bytes.now ≡ false }
+    ensures { (attributes_rule (family_of family)).accepted bytes.now ≡ is_memory result }
+{
+    if error.is_memory() && !accepts_attributes(family, bytes) {
+        return DecodeError::from("no attributes of a link");
+    }
+    error
 }

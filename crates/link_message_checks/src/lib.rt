@@ -9,6 +9,6 @@ mod message;
 mod peer;
 mod rows;
 
-pub use attributes::{accepts_attribute, accepts_attributes};
+pub use attributes::{accepts_attribute, accepts_attributes, attribute_error, attributes_error};
 pub use message::{BodyMeasure, check, same, walk_body, write_body, write_canonical};
 pub use peer::LinkPeer;

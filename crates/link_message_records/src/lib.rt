@@ -16,7 +16,6 @@ pub use cache_info::{Inet6CacheInfo, Inet6CacheInfoBuffer};
 pub use fields::Fields;
 pub use map::{Map, MapBuffer};
 pub use record::{FieldRecord, emit_record};
-pub use stats::LinkStatistics;
 pub use values::{
     Icmp6Stats, Icmp6StatsBuffer, Inet6DevConf, Inet6DevConfBuffer, Inet6Stats, Inet6StatsBuffer,
     InetDevConf, InetDevConfBuffer, Number, Stats, Stats64, Stats64Buffer, StatsBuffer, Values,

@@ -46,7 +46,7 @@ fn statistics_have_the_kernels_names(rt: HostRuntime) {
         stats.rx_nohandler(),
         stats.rx_otherhost_dropped(),
     ];
-    assert_eq!(rt; named, PLACES);
+    assert!(rt; named == PLACES);
 }
 
 // The places of settings and numbers, in the order of the kernel's headers.

@@ -8,38 +8,35 @@ use std::test::Fail;
 
 #[test]
 fn numbers_name_values(rt: HostRuntime) {
-    assert_eq!(rt; AddressFamily::from(45), AddressFamily::Mctp);
-    assert_eq!(rt; LinkLayerType::from(513), LinkLayerType::Cisco);
-    assert_eq!(rt; LinkLayerType::from(1280), LinkLayerType::Void);
-    assert_eq!(rt; u16::from(LinkLayerType::Ieee80211Radiotap), 803);
-    assert_eq!(rt; VfLinkState::from(2), VfLinkState::Disable);
-    assert_eq!(rt; VlanProtocol::from(0x88a8), VlanProtocol::Ieee8021Ad);
-    assert_eq!(rt; u8::from(&MctpPhysBinding::Ucie), 9);
-    assert_eq!(rt; u8::from(&In6AddrGenMode::Random), 3);
+    assert!(rt; AddressFamily::from(45) == AddressFamily::Mctp);
+    assert!(rt; LinkLayerType::from(513) == LinkLayerType::Cisco);
+    assert!(rt; LinkLayerType::from(1280) == LinkLayerType::Void);
+    assert!(rt; u16::from(LinkLayerType::Ieee80211Radiotap) == 803);
+    assert!(rt; VfLinkState::from(2) == VfLinkState::Disable);
+    assert!(rt; VlanProtocol::from(0x88a8) == VlanProtocol::Ieee8021Ad);
+    assert!(rt; u8::from(&MctpPhysBinding::Ucie) == 9);
+    assert!(rt; u8::from(&In6AddrGenMode::Random) == 3);
 }
 
 #[test]
 fn texts_name_values(rt: HostRuntime) -> Result<(), Fail> {
-    assert_eq!(rt;
-        State::from_str("LOWERLAYERDOWN"),
-        Ok(State::LowerLayerDown)
-    );
+    assert!(rt; State::from_str("LOWERLAYERDOWN") == Ok(State::LowerLayerDown));
     assert!(rt; State::from_str("up").is_err());
     let layer = LinkLayerType::Sixlowpan;
     let mode = LinkMode::Other(9);
     let state = State::LowerLayerDown;
     let generated = In6AddrGenMode::StablePrivacy;
     let binding = MctpPhysBinding::PcieVdm;
-    assert_eq!(rt;
-        format!(in rt.alloc(); "{layer} {mode} {state} {generated} {binding}")?.as_str(),
-        "sixlowpan 9 LOWERLAYERDOWN stable-privacy pcievdm"
+    assert!(rt;
+        format!(in rt.alloc(); "{layer} {mode} {state} {generated} {binding}")?.as_str()
+            == "sixlowpan 9 LOWERLAYERDOWN stable-privacy pcievdm"
     );
     Ok(())
 }
 
 #[test]
 fn events_have_four_bytes(rt: HostRuntime) {
-    assert_eq!(rt; LinkEvent::parse(&[4, 0, 0, 0]), Ok(LinkEvent::NotifyPeers));
+    assert!(rt; LinkEvent::parse(&[4, 0, 0, 0]) == Ok(LinkEvent::NotifyPeers));
     assert!(rt; LinkEvent::parse(&[4, 0, 0]).is_err());
 }
 
@@ -52,7 +49,7 @@ fn masks_are_listed(rt: HostRuntime) -> Result<(), Fail> {
         LinkExtentMask::Other(0x100),
     ];
     assert!(rt; masks.as_slice() == listed.as_slice());
-    assert_eq!(rt; LinkExtentMask::join(&masks), 0x109);
+    assert!(rt; LinkExtentMask::join(&masks) == 0x109);
     Ok(())
 }
 
@@ -69,7 +66,7 @@ fn flags_are_displayed_by_name(rt: HostRuntime) -> Result<(), Fail> {
     ];
     for (bits, text) in texts {
         let flags = LinkFlags::from_bits_retain(bits);
-        assert_eq!(rt; format!(in rt.alloc(); "{flags}")?.as_str(), text);
+        assert!(rt; format!(in rt.alloc(); "{flags}")?.as_str() == text);
     }
     Ok(())
 }
@@ -91,7 +88,7 @@ fn headers_have_sixteen_bytes(rt: HostRuntime) -> Result<(), Fail> {
         flags: LinkFlags::Up.union(LinkFlags::Multicast),
         change_mask: LinkFlags::Up,
     };
-    assert_eq!(rt; LinkHeader::parse(bytes), Ok(header));
+    assert!(rt; LinkHeader::parse(bytes) == Ok(header));
     assert!(rt; LinkHeader::parse(&bytes[..15]).is_err());
     let written = &[0, 0, 255, 255, 7, 0, 0, 0, 1, 16, 0, 0, 1, 0, 0, 0];
     assert!(rt; LinkMessageBuffer::from(&header).as_bytes() == written.as_slice());

@@ -58,8 +58,8 @@ const TEXTS: [(FaultKind, &str, u64, &str); 12] = [
 fn faults_are_displayed(rt: HostRuntime) -> Result<(), Fail> {
     for (kind, words, offset, text) in TEXTS {
         let fault = CaptureFault { kind, offset };
-        assert_eq!(rt; format!(in rt.alloc(); "{kind}")?.as_str(), words);
-        assert_eq!(rt; format!(in rt.alloc(); "{fault}")?.as_str(), text);
+        assert!(rt; format!(in rt.alloc(); "{kind}")?.as_str() == words);
+        assert!(rt; format!(in rt.alloc(); "{fault}")?.as_str() == text);
     }
     Ok(())
 }

@@ -139,6 +139,6 @@ fn an_answer_that_is_not_printed_is_told(rt: HostRuntime) {
         "text",
         1000,
     );
-    assert_eq!(rt; writer.taken.as_slice(), b"same".as_slice());
-    assert_eq!(rt; told.as_slice(), b"write failed at 0\n".as_slice());
+    assert!(rt; writer.taken.as_slice() == b"same".as_slice());
+    assert!(rt; told.as_slice() == b"write failed at 0\n".as_slice());
 }

@@ -72,10 +72,10 @@ fn a_run_without_a_fault_has_status_0(rt: HostRuntime) {
         kind: FaultKind::Cut,
         offset: 0,
     };
-    assert_eq!(rt; status_norm(&Ok(())), 0);
-    assert_eq!(rt; status_norm(&Err(fault)), 2);
+    assert!(rt; status_norm(&Ok(())) == 0);
+    assert!(rt; status_norm(&Err(fault)) == 2);
     let second = false;
-    assert_eq!(rt; status_same(&Ok(true)), 0);
-    assert_eq!(rt; status_same(&Ok(false)), 1);
-    assert_eq!(rt; status_same(&Err(SideFault { second, fault })), 2);
+    assert!(rt; status_same(&Ok(true)) == 0);
+    assert!(rt; status_same(&Ok(false)) == 1);
+    assert!(rt; status_same(&Err(SideFault { second, fault })) == 2);
 }

@@ -25,9 +25,9 @@ fn a_whole_capture(rt: HostRuntime) -> Result<(), Fail> {
             println!(rt; "normalize_bytes: ok")?;
         }
         Err(fault) => {
-            assert_eq!(rt; fault.kind, FaultKind::Memory);
+            assert!(rt; fault.kind == FaultKind::Memory);
             assert!(rt; fault.offset == 0 || fault.offset == 48);
-            assert_eq!(rt; out.as_slice(), &CAPTURE[..fault.offset.min(96) as usize]);
+            assert!(rt; out.as_slice() == &CAPTURE[..fault.offset.min(96) as usize]);
             println!(rt; "normalize_bytes: {fault}")?;
         }
     }
@@ -45,9 +45,9 @@ fn a_capture_in_pieces(rt: HostRuntime) -> Result<(), Fail> {
         let answer = reader.feed(piece, &mut out);
         if let Some(CaptureFault { offset, .. }) = first {
             let kind = FaultKind::Failed;
-            assert_eq!(rt; answer, Err(CaptureFault { kind, offset }));
+            assert!(rt; answer == Err(CaptureFault { kind, offset }));
         } else if let Err(fault) = answer {
-            assert_eq!(rt; fault.kind, FaultKind::Memory);
+            assert!(rt; fault.kind == FaultKind::Memory);
             assert!(rt; fault.offset == 0 || fault.offset == 48);
             first = Some(fault);
         }
@@ -59,7 +59,7 @@ fn a_capture_in_pieces(rt: HostRuntime) -> Result<(), Fail> {
             println!(rt; "feed: ok")?;
         }
         Some(fault) => {
-            assert_eq!(rt; out.as_slice(), &CAPTURE[..fault.offset.min(96) as usize]);
+            assert!(rt; out.as_slice() == &CAPTURE[..fault.offset.min(96) as usize]);
             println!(rt; "feed: {fault}")?;
         }
     }
@@ -80,7 +80,7 @@ fn a_source_and_a_sink(rt: HostRuntime) -> Result<(), Fail> {
         Err(fault) => {
             assert!(rt; fault.kind == FaultKind::Memory || fault.kind == FaultKind::Write);
             assert!(rt; fault.offset == 0 || fault.offset == 48);
-            assert_eq!(rt; sink.bytes(), &CAPTURE[..fault.offset.min(96) as usize]);
+            assert!(rt; sink.bytes() == &CAPTURE[..fault.offset.min(96) as usize]);
             println!(rt; "normalize: {fault}")?;
         }
     }
@@ -97,8 +97,8 @@ fn all_of_a_source(rt: HostRuntime) -> Result<(), Fail> {
             println!(rt; "read_all: ok")?;
         }
         Err(fault) => {
-            assert_eq!(rt; fault.kind, FaultKind::Memory);
-            assert_eq!(rt; fault.offset, 96);
+            assert!(rt; fault.kind == FaultKind::Memory);
+            assert!(rt; fault.offset == 96);
             println!(rt; "read_all: {fault}")?;
         }
     }

@@ -14,10 +14,9 @@ fn numbers_and_texts(rt: HostRuntime) -> Result<(), Fail> {
         (0xffff, EthernetProtocol::Other(0xffff), "65535"),
     ];
     for (number, protocol, text) in listed {
-        assert_eq!(rt; EthernetProtocol::from(number), protocol);
-        assert_eq!(rt; protocol.value(), number);
-        assert_eq!(rt; u16::from(protocol), number);
-        assert_eq!(rt; format!(in rt.alloc(); "{protocol}")?.as_str(), text);
+        let shown = format!(in rt.alloc(); "{protocol}")?;
+        assert!(rt; EthernetProtocol::from(number) == protocol && shown.as_str() == text);
+        assert!(rt; protocol.value() == number && u16::from(protocol) == number);
     }
     Ok(())
 }

@@ -2,6 +2,7 @@ use netlink_packet_core::{
     DefaultNla, Nla, NlaBuffer, NlasIterator, Parseable, emit_all, fits_all, len_all, nla_align,
     skip_first,
 };
+use std::alloc::Global;
 use std::test::Fail;
 
 /// The payload of the first attribute of a kind, as a caller finds it.
@@ -19,28 +20,35 @@ fn find(bytes: &[u8], kind: u16) -> Option<&[u8]> {
 
 #[test]
 fn lengths_are_aligned(rt: HostRuntime) {
-    assert_eq!(rt; nla_align(13), 16);
-    assert_eq!(rt; nla_align(16), 16);
-    assert_eq!(rt; nla_align(0), 0);
-    assert_eq!(rt; nla_align(1), 4);
-    assert_eq!(rt; nla_align(usize::MAX - 4), usize::MAX - 3);
+    assert!(rt; nla_align(13) == 16);
+    assert!(rt; nla_align(16) == 16);
+    assert!(rt; nla_align(0) == 0);
+    assert!(rt; nla_align(1) == 4);
+    assert!(rt; nla_align(usize::MAX - 4) == usize::MAX - 3);
+}
+
+/// The kinds and flags that are read of an attribute, which then has its first flag alone.
+fn with_nested_flag(bytes: &mut [u8; 4]) -> (u16, u16, bool, bool) {
+    let mut view = NlaBuffer::new(bytes.as_mut_slice());
+    let kinds = (view.raw_kind(), view.kind());
+    let flags = (view.nested_flag(), view.network_byte_order_flag());
+    view.set_nested_flag();
+    (kinds.0, kinds.1, flags.0, flags.1)
+}
+
+/// An attribute in a vector, whose second flag alone is set.
+fn with_order_flag(alloc: Global) -> Result<Vec<u8>, Fail> {
+    let mut view = NlaBuffer::new([4u8, 0, 0x46, 0xc0].to_vec(alloc)?);
+    view.set_network_byte_order_flag();
+    Ok(view.into_inner())
 }
 
 #[test]
 fn flags_are_read_and_written(rt: HostRuntime) -> Result<(), Fail> {
     let mut bytes = [4u8, 0, 0x46, 0xc0];
-    let mut view = NlaBuffer::new(bytes.as_mut_slice());
-    assert_eq!(rt; view.raw_kind(), 0xc046);
-    assert_eq!(rt; view.kind(), 70);
-    assert!(rt; view.nested_flag() && view.network_byte_order_flag());
-    view.set_nested_flag();
-    assert_eq!(rt; &bytes[2..], [0x46u8, 0x80].as_slice());
-    let mut view = NlaBuffer::new([4u8, 0, 0x46, 0xc0].to_vec(rt.alloc())?);
-    view.set_network_byte_order_flag();
-    assert_eq!(rt;
-        view.into_inner().as_slice(),
-        [4u8, 0, 0x46, 0x40].as_slice()
-    );
+    assert!(rt; with_nested_flag(&mut bytes) == (0xc046, 70, true, true));
+    assert!(rt; bytes == [4, 0, 0x46, 0x80]);
+    assert!(rt; with_order_flag(rt.alloc())?.as_slice() == [4u8, 0, 0x46, 0x40].as_slice());
     Ok(())
 }
 
@@ -52,7 +60,7 @@ fn payloads_are_written_in_place(rt: HostRuntime) -> Result<(), Fail> {
         return Err(Fail::from("refused"));
     };
     view.value_mut().fill(8);
-    assert_eq!(rt; bytes.as_slice(), [5u8, 0, 2, 0, 8].as_slice());
+    assert!(rt; bytes.as_slice() == [5u8, 0, 2, 0, 8].as_slice());
     Ok(())
 }
 
@@ -63,13 +71,12 @@ fn a_list_is_walked_to_its_end(rt: HostRuntime) -> Result<(), Fail> {
     let Some(Ok(first)) = walk.next() else {
         return Err(Fail::from("no first attribute"));
     };
-    assert_eq!(rt; (first.raw_kind(), first.value().len()), (1, 0));
-    assert_eq!(rt; skip_first(first.into_inner()), &bytes[4..]);
+    assert!(rt; (first.raw_kind(), first.value().len()) == (1, 0));
+    assert!(rt; skip_first(first.into_inner()) == &bytes[4..]);
     let Some(Ok(second)) = walk.next() else {
         return Err(Fail::from("no second attribute"));
     };
-    assert_eq!(rt; second.raw_kind(), 2);
-    assert_eq!(rt; second.value(), [0xaau8].as_slice());
+    assert!(rt; second.raw_kind() == 2 && second.value() == [0xaau8].as_slice());
     assert!(rt; walk.next().is_none());
     assert!(rt; find(bytes, 2) == Some([0xaau8].as_slice()));
     Ok(())
@@ -82,10 +89,8 @@ fn a_fault_ends_the_walk(rt: HostRuntime) -> Result<(), Fail> {
     let Some(Ok(first)) = walk.next() else {
         return Err(Fail::from("no first attribute"));
     };
-    assert_eq!(rt; first.raw_kind(), 1);
-    assert!(rt; matches!(walk.next(), Some(Err(_))));
-    assert!(rt; walk.next().is_none());
-    assert!(rt; walk.next().is_none());
+    assert!(rt; first.raw_kind() == 1 && matches!(walk.next(), Some(Err(_))));
+    assert!(rt; walk.next().is_none() && walk.next().is_none());
     Ok(())
 }
 
@@ -98,17 +103,16 @@ fn attributes_are_kept_and_written(rt: HostRuntime) -> Result<(), Fail> {
     let Ok(kept) = DefaultNla::parse(rt.alloc(), &view) else {
         return Err(Fail::from("refused"));
     };
-    assert!(rt; kept.is_nested() && kept.is_network_byteorder());
-    assert!(rt; kept.clone()? == kept);
+    assert!(rt; kept.is_nested() && kept.is_network_byteorder() && kept.clone()? == kept);
     let none = DefaultNla::new(1, Vec::new(rt.alloc()));
     let items = vec![in rt.alloc(); none, kept]?;
-    assert_eq!(rt; len_all(&items), 12);
+    assert!(rt; len_all(&items) == 12);
     let mut buffer = [9u8; 13];
     if !fits_all(&items) {
         return Err(Fail::from("does not fit"));
     }
     emit_all(&items, &mut buffer);
     let expected = [4u8, 0, 1, 0, 5, 0, 0x46, 0xc0, 1, 0, 0, 0, 9];
-    assert_eq!(rt; buffer.as_slice(), expected.as_slice());
+    assert!(rt; buffer.as_slice() == expected.as_slice());
     Ok(())
 }

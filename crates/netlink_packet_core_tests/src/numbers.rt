@@ -7,43 +7,39 @@ use std::test::Fail;
 
 #[test]
 fn numbers_are_read_in_each_order(rt: HostRuntime) {
-    assert_eq!(rt; parse_u16_be(&[0x12, 0x34]), Ok(0x1234));
-    assert_eq!(rt; parse_u32(&[0x34, 0x0e, 0xf9, 0x5a]), Ok(1526271540));
-    assert_eq!(rt; parse_i16(&[0xfe, 0xff]), Ok(-2));
+    assert!(rt; parse_u16_be(&[0x12, 0x34]) == Ok(0x1234));
+    assert!(rt; parse_u32(&[0x34, 0x0e, 0xf9, 0x5a]) == Ok(1526271540));
+    assert!(rt; parse_i16(&[0xfe, 0xff]) == Ok(-2));
     let address = [0x20, 0x01, 0x0d, 0xb8, 0, 0, 0, 0, 0, 0, 0, 0, 0, 0, 0, 1];
-    assert_eq!(rt;
-        parse_u128_be(&address),
-        Ok(0x20010db8000000000000000000000001)
-    );
+    assert!(rt; parse_u128_be(&address) == Ok(0x20010db8000000000000000000000001));
 }
 
 #[test]
 fn numbers_are_written_in_each_order(rt: HostRuntime) {
     let mut buffer = [9u8; 17];
-    assert_eq!(rt; emit_i32(&mut buffer, -19), Ok(()));
-    assert_eq!(rt; &buffer[..5], [0xedu8, 0xff, 0xff, 0xff, 9].as_slice());
-    assert_eq!(rt; emit_u64_be(&mut buffer, 0x0102030405060708), Ok(()));
-    assert_eq!(rt; &buffer[..9], [1u8, 2, 3, 4, 5, 6, 7, 8, 9].as_slice());
-    assert_eq!(rt; emit_u128_le(&mut buffer, 0x0807060504030201), Ok(()));
-    let expected = [1u8, 2, 3, 4, 5, 6, 7, 8, 0, 0, 0, 0, 0, 0, 0, 0, 9];
-    assert_eq!(rt; buffer, expected);
+    let told = emit_i32(&mut buffer, -19);
+    assert!(rt; told.is_ok() && buffer.starts_with(&[0xed, 0xff, 0xff, 0xff, 9]));
+    let told = emit_u64_be(&mut buffer, 0x0102030405060708);
+    assert!(rt; told.is_ok() && buffer.starts_with(&[1, 2, 3, 4, 5, 6, 7, 8, 9]));
+    let told = emit_u128_le(&mut buffer, 0x0807060504030201);
+    assert!(rt; told.is_ok() && buffer == [1, 2, 3, 4, 5, 6, 7, 8, 0, 0, 0, 0, 0, 0, 0, 0, 9]);
 }
 
 #[test]
 fn truths_and_addresses_are_read(rt: HostRuntime) {
-    assert_eq!(rt; (parse_bool(&[2]), parse_one(&[2])), (Ok(true), Ok(false)));
-    assert_eq!(rt; parse_mac(&[0, 0, 94, 0, 83, 1]), Ok([0, 0, 94, 0, 83, 1]));
+    assert!(rt; (parse_bool(&[2]), parse_one(&[2])) == (Ok(true), Ok(false)));
+    assert!(rt; parse_mac(&[0, 0, 94, 0, 83, 1]) == Ok([0, 0, 94, 0, 83, 1]));
     let localhost = IpAddr::V4(Ipv4Addr::new(127, 0, 0, 1));
-    assert_eq!(rt; parse_ip(&[127, 0, 0, 1]), Ok(localhost));
+    assert!(rt; parse_ip(&[127, 0, 0, 1]) == Ok(localhost));
     let octets = [0x20, 0x01, 0x0d, 0xb8, 0, 0, 0, 0, 0, 0, 0, 0, 0, 0, 0, 1];
     let documentation = Ipv6Addr::new(0x2001, 0xdb8, 0, 0, 0, 0, 0, 1);
-    assert_eq!(rt; parse_ip(&octets), Ok(IpAddr::V6(documentation)));
+    assert!(rt; parse_ip(&octets) == Ok(IpAddr::V6(documentation)));
 }
 
 #[test]
 fn texts_are_read(rt: HostRuntime) -> Result<(), Fail> {
     match parse_string(rt.alloc(), &[0x6c, 0x6f, 0x00]) {
-        Ok(text) => assert_eq!(rt; text.as_str(), "lo"),
+        Ok(text) => assert!(rt; text.as_str() == "lo"),
         Err(_) => return Err(Fail::from("refused")),
     }
     match parse_string(rt.alloc(), &[0xff, 0x00]) {
@@ -57,10 +53,10 @@ fn texts_are_read(rt: HostRuntime) -> Result<(), Fail> {
 fn whole_payloads_are_written(rt: HostRuntime) {
     let mut four = [9u8; 4];
     fill_range(&mut four, (32768, 61000));
-    assert_eq!(rt; four, [0x80, 0x00, 0xee, 0x48]);
+    assert!(rt; four == [0x80, 0x00, 0xee, 0x48]);
     fill_ip(&mut four, &IpAddr::V4(Ipv4Addr::new(127, 0, 0, 1)));
-    assert_eq!(rt; four, [127, 0, 0, 1]);
+    assert!(rt; four == [127, 0, 0, 1]);
     let mut text = [9u8; 3];
     fill_text(&mut text, "lo");
-    assert_eq!(rt; text, [0x6c, 0x6f, 0x00]);
+    assert!(rt; text == [0x6c, 0x6f, 0x00]);
 }

@@ -24,7 +24,7 @@ use Rattle.link_message.specs.LinkLayerTypes.{link_layer_type_number}
 use Rattle.link_message.specs.TypeLaws.{HeadersAreSixteenBytes}
 use Rattle.link_message.specs.LinkAttributes.{link_attribute_entry}
 use Rattle.link_message.specs.LinkMessages.{link_message_text}
-use Rattle.link_message_messages.specs.declared.message.LinkMessage.{LinkMessage}
+use Rattle.link_message.specs.declared.message.LinkMessage.{LinkMessage}
 use Rattle.link_message_types.specs.declared.header.LinkHeader.{LinkHeader}
 use Rattle.link_capture_grammar.specs.declared.fault.CaptureFault.{CaptureFault}
 use Rattle.link_capture_grammar.specs.Bodies.{body_text, body_text_under, ruled_text}

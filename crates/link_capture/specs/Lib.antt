@@ -7,9 +7,9 @@ pub use Rattle.link_capture_grammar.specs.Numbers
 pub use Rattle.link_capture_checks.specs.Measures
 pub use Rattle.link_capture_checks.specs.Sides
 pub use Rattle.link_capture_reader.specs.Readers
-pub use Rattle.link_capture_engine.specs.Devices
-pub use Rattle.link_capture_engine.specs.Known
-pub use Rattle.link_capture_engine.specs.Outcomes
+pub use Rattle.link_capture_reader.specs.Devices
+pub use Rattle.link_capture_reader.specs.Known
+pub use Rattle.link_capture_reader.specs.Outcomes
 pub use Rattle.link_capture_grammar.specs.Same
 pub use Rattle.link_capture_messages.specs.KeptTypes
 pub use Rattle.link_capture_messages.specs.Readable

@@ -3,10 +3,6 @@
 
 pub use link_capture_checks::{Measure, SideFault, check, measure, normal_len, same};
 pub use link_capture_commands::{Command, DEFAULT_LIMIT, read_words, status_norm, status_same};
-pub use link_capture_engine::{
-    DeviceFailed, ReadSource, Sink, SliceSource, Source, VecSink, WriteSink, normalize, read_all,
-    write_all,
-};
 pub use link_capture_grammar::fault::{CaptureFault, FaultKind};
 pub use link_capture_grammar::laws;
 pub use link_capture_messages::{
@@ -15,7 +11,10 @@ pub use link_capture_messages::{
 };
 pub use link_capture_numbers::clear_numbers;
 pub use link_capture_numbers::laws::cleared_captures_have_cleared_texts;
-pub use link_capture_reader::{CaptureReader, normalize_bytes};
+pub use link_capture_reader::{
+    CaptureReader, DeviceFailed, ReadSource, Sink, SliceSource, Source, VecSink, WriteSink,
+    normalize, normalize_bytes, read_all, write_all,
+};
 pub use link_capture_refusals::laws::{refused_bodies_are_told, refused_frames_stand_alone};
 pub use link_capture_refusals::{Reason, Refusal, why, why_frame};
 pub use link_capture_spelling_rows::{PlacedSpelling, Spelling};

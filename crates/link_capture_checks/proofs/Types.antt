@@ -11,7 +11,7 @@ use Rattle.link_capture_grammar.specs.Captures.{faulty}
 use Rattle.link_capture_grammar.specs.Same.{done_body, same_body, same_body_under}
 use Rattle.link_capture_grammar.proofs.Meanings.{type_at}
 use Rattle.link_capture_grammar.specs.Numbers.{body_attributes}
-use Rattle.link_capture_checks.specs.declared.texts.BodyText.{BodyText}
+use Rattle.link_capture_checks.specs.declared.texts.MeasuredBody.{MeasuredBody}
 use Rattle.link_capture_checks.specs.Measures.{IsBodyText}
 
 -- what a type makes of a body
@@ -53,10 +53,10 @@ other t b n m k o = record {
 }
 
 -- a measure of what is judged is one of the body, and so is a refusal
-pub measured : (t : ℕ) (b : List ℕ) (judged : Result (List ℕ) Refusal) (inside : ℕ) → Judges t b judged inside → (r : Result BodyText FaultKind) → IfOk r (λ m. IsBodyText b judged inside m) → IfOk r (λ m. IsBodyText b (body_text t b) (body_attributes t b) m)
+pub measured : (t : ℕ) (b : List ℕ) (judged : Result (List ℕ) Refusal) (inside : ℕ) → Judges t b judged inside → (r : Result MeasuredBody FaultKind) → IfOk r (λ m. IsBodyText b judged inside m) → IfOk r (λ m. IsBodyText b (body_text t b) (body_attributes t b) m)
 measured t b judged inside j r h = rw (j.text, j.attributes) h
 
-pub refused : (t : ℕ) (b : List ℕ) (judged : Result (List ℕ) Refusal) (inside : ℕ) → Judges t b judged inside → (r : Result BodyText FaultKind) → IfErr r (λ kind. faulty judged ≡ Err kind) → IfErr r (λ kind. faulty (body_text t b) ≡ Err kind)
+pub refused : (t : ℕ) (b : List ℕ) (judged : Result (List ℕ) Refusal) (inside : ℕ) → Judges t b judged inside → (r : Result MeasuredBody FaultKind) → IfErr r (λ kind. faulty judged ≡ Err kind) → IfErr r (λ kind. faulty (body_text t b) ≡ Err kind)
 refused t b judged inside j r h = rw j.text h
 
 -- what two bodies of a type are compared by

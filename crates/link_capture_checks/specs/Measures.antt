@@ -7,12 +7,12 @@ use Rattle.link_message_checks.specs.Fronts.{IsBodyFront}
 use Rattle.link_capture_grammar.specs.Bodies.{Refusal, body_text}
 use Rattle.link_capture_grammar.specs.Captures.{first_frame, texts}
 use Rattle.link_capture_grammar.specs.Numbers.{attributes, frame_attributes, frames}
-use Rattle.link_capture_checks.specs.declared.texts.BodyText.{BodyText}
+use Rattle.link_capture_checks.specs.declared.texts.MeasuredBody.{MeasuredBody}
 use Rattle.link_capture_checks.specs.declared.texts.Measure.{Measure}
-use Rattle.link_capture_checks.specs.declared.texts.FrameText.{FrameText}
+use Rattle.link_capture_checks.specs.declared.texts.MeasuredFrame.{MeasuredFrame}
 
 -- a body has a text, it is so long, and so many attributes are inside
-pub record IsBodyText (body : List ℕ) (judged : Result (List ℕ) Refusal) (inside : ℕ) (m : BodyText) : Type 0 where
+pub record IsBodyText (body : List ℕ) (judged : Result (List ℕ) Refusal) (inside : ℕ) (m : MeasuredBody) : Type 0 where
   pub text : List ℕ
   pub is : judged ≡ Ok text
   pub len : m.len ≡ length text
@@ -20,7 +20,7 @@ pub record IsBodyText (body : List ℕ) (judged : Result (List ℕ) Refusal) (in
   pub own : m.is_own ≡ true → text ≡ body
 
 -- the frame in front is accepted, and the numbers are its own
-pub record IsFrameText (limit : ℕ) (c : List ℕ) (m : FrameText) : Type 0 where
+pub record IsFrameText (limit : ℕ) (c : List ℕ) (m : MeasuredFrame) : Type 0 where
   pub whole : IsFrame c
   pub body : List ℕ
   pub judged : body_text (frame_type c) (frame_body c) ≡ Ok body

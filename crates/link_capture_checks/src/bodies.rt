@@ -10,7 +10,7 @@ ghost use Rattle.link_capture_grammar.specs.Same.{done_body};
 ghost use Rattle.link_capture_checks.specs.Measures.{IsBodyText, written};
 
 use crate::link_types::{RTM_NEWLINK, RTM_SETLINK};
-use crate::texts::BodyText;
+use crate::texts::MeasuredBody;
 use attribute_checks::append;
 use attribute_tables_grammar::laws::measures_tell_rules;
 use link_capture_grammar::fault::FaultKind;
@@ -31,11 +31,11 @@ pub(crate) fn with_code(body: &[u8]) -> &[u8]
 }
 
 // A body that is written as it stands.
-fn kept(body: &[u8]) -> BodyText
+fn kept(body: &[u8]) -> MeasuredBody
     ensures text { IsBodyText body.now (Ok body.now) 0 result }
     ensures front { result.front ≡ 0 }
 {
-    BodyText {
+    MeasuredBody {
         len: body.len() as u128,
         attributes: 0,
         is_own: true,
@@ -44,7 +44,7 @@ fn kept(body: &[u8]) -> BodyText
 }
 
 // The body of an ERROR message: a code and more.
-fn measure_error(body: &[u8]) -> Result<BodyText, FaultKind>
+fn measure_error(body: &[u8]) -> Result<MeasuredBody, FaultKind>
     ensures ok { IfOk result (λ m. IsBodyText body.now (error_text body.now) 0 m) }
     ensures front { IfOk result (λ m. m.front ≡ 0) }
     ensures err { IfErr result (λ kind. faulty (error_text body.now) ≡ Err kind) }
@@ -57,13 +57,13 @@ fn measure_error(body: &[u8]) -> Result<BodyText, FaultKind>
 }
 
 // The body of a DONE message: a code and more, or nothing, which is the code 0.
-fn measure_done(body: &[u8]) -> Result<BodyText, FaultKind>
+fn measure_done(body: &[u8]) -> Result<MeasuredBody, FaultKind>
     ensures ok { IfOk result (λ m. IsBodyText body.now (done_text body.now) 0 m) }
     ensures front { IfOk result (λ m. m.front ≡ 0) }
     ensures err { IfErr result (λ kind. faulty (done_text body.now) ≡ Err kind) }
 {
     if body.is_empty() {
-        return Ok(BodyText {
+        return Ok(MeasuredBody {
             len: CODE_LEN as u128,
             attributes: 0,
             is_own: false,
@@ -74,7 +74,7 @@ fn measure_done(body: &[u8]) -> Result<BodyText, FaultKind>
 }
 
 // The body of a link message.
-fn measure_link(body: &[u8]) -> Result<BodyText, FaultKind>
+fn measure_link(body: &[u8]) -> Result<MeasuredBody, FaultKind>
     ensures ok { IfOk result
         (λ m. IsBodyText body.now (ruled_text link_body body.now) (link_body.attributes body.now) m) }
     ensures front { IfOk result (λ m. IsBodyFront link_peer body.now m.front) }
@@ -90,7 +90,7 @@ fn measure_link(body: &[u8]) -> Result<BodyText, FaultKind>
     if !found.fits {
         return Err(FaultKind::Unfit);
     }
-    Ok(BodyText {
+    Ok(MeasuredBody {
         len: found.text_len,
         attributes: found.attributes,
         is_own: found.is_own,
@@ -99,14 +99,14 @@ fn measure_link(body: &[u8]) -> Result<BodyText, FaultKind>
 }
 
 /// The body of a message of a type.
-pub(crate) fn measure_body(message_type: u16, body: &[u8]) -> Result<BodyText, FaultKind>
+pub(crate) fn measure_body(message_type: u16, body: &[u8]) -> Result<MeasuredBody, FaultKind>
     ensures ok { IfOk result (λ m. IsBodyText body.now (body_text message_type body.now)
         (body_attributes message_type body.now) m) }
     ensures front { IfOk result (λ m. IsBodyFront link_peer body.now m.front) }
     ensures err { IfErr result (λ kind. faulty (body_text message_type body.now) ≡ Err kind) }
 {
     match message_type {
-        NLMSG_NOOP => Ok(BodyText {
+        NLMSG_NOOP => Ok(MeasuredBody {
             len: 0,
             attributes: 0,
             is_own: false,
@@ -121,7 +121,7 @@ pub(crate) fn measure_body(message_type: u16, body: &[u8]) -> Result<BodyText, F
 
 /// Appends the text of a body that has one, of which so many bytes in front are known to be written as they stand where it
 /// is a link message's, for which there has to be room.
-pub(crate) fn push_body(
+pub(crate) fn write_frame_body(
     message_type: u16,
     body: &[u8],
     is_own: bool,

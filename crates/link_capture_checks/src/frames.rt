@@ -10,8 +10,8 @@ ghost use Rattle.link_capture_grammar.specs.Bodies.{body_text};
 ghost use Rattle.link_capture_grammar.specs.Captures.{IsOfFrames, Judged, first_frame, tested};
 ghost use Rattle.link_capture_checks.specs.Measures.{IsFrameText, LacksRoom, written};
 
-use crate::bodies::{measure_body, push_body};
-use crate::texts::{BodyText, FrameText};
+use crate::bodies::{measure_body, write_frame_body};
+use crate::texts::{MeasuredBody, MeasuredFrame};
 use attribute_checks::{append, append_zeros};
 use link_capture_grammar::fault::FaultKind;
 use link_capture_grammar::laws::frames_are_judged;
@@ -50,7 +50,7 @@ pub fn frame_body(bytes: &[u8]) -> &[u8]
 }
 
 /// Judges the frame in front of these bytes, and tells what it is written as.
-pub fn measure_frame(bytes: &[u8], limit: u32) -> Result<FrameText, FaultKind>
+pub fn measure_frame(bytes: &[u8], limit: u32) -> Result<MeasuredFrame, FaultKind>
     ensures ok { IfOk result (λ m. IsFrameText limit bytes.now m) }
     ensures bounds { IfOk result (λ m. (16 ≤ m.len) × (m.len ≤ length bytes.now)) }
     ensures err { IfErr result (λ kind. first_frame limit bytes.now ≡ Err kind) }
@@ -59,7 +59,7 @@ pub fn measure_frame(bytes: &[u8], limit: u32) -> Result<FrameText, FaultKind>
     frames_are_judged();
     let len = frame_len(bytes, limit)?;
     let message_type = NetlinkBuffer::new(bytes).message_type();
-    let BodyText {
+    let MeasuredBody {
         len: body_len,
         attributes,
         is_own,
@@ -69,7 +69,7 @@ pub fn measure_frame(bytes: &[u8], limit: u32) -> Result<FrameText, FaultKind>
         return Err(FaultKind::TextOverLimit);
     }
     let size = NETLINK_HEADER_LEN + body_len as usize;
-    Ok(FrameText {
+    Ok(MeasuredFrame {
         len,
         size,
         text_len: nla_align(size),
@@ -81,7 +81,7 @@ pub fn measure_frame(bytes: &[u8], limit: u32) -> Result<FrameText, FaultKind>
 
 // Appends the text of the frame in front, whose body has one, with this size in its header, for which there has to be
 // room.
-fn push_text(bytes: &[u8], size: u32, is_own: bool, front: usize, out: &mut Vec<u8>)
+fn write_frame_text(bytes: &[u8], size: u32, is_own: bool, front: usize, out: &mut Vec<u8>)
     requires frame { IsFrame bytes.now }
     requires text { is_ok (body_text (frame_type bytes.now) (frame_body bytes.now)) ≡ true }
     requires own { is_own ≡ true
@@ -97,7 +97,7 @@ fn push_text(bytes: &[u8], size: u32, is_own: bool, front: usize, out: &mut Vec<
     append(&size.to_le_bytes(), out);
     append(&bytes[4..NETLINK_HEADER_LEN], out);
     let message_type = NetlinkBuffer::new(bytes).message_type();
-    push_body(message_type, frame_body(bytes), is_own, front, out);
+    write_frame_body(message_type, frame_body(bytes), is_own, front, out);
     let size = size as usize;
     append_zeros(nla_align(size) - size, out);
 }
@@ -118,7 +118,7 @@ pub fn push_frame(bytes: &[u8], limit: u32, out: &mut Vec<u8>) -> Result<usize, 
         (λ kind. kind ≡ FaultKind.Memory → LacksRoom limit bytes.now out.old) }
     ensures room { vec_capacity out.old ≤ vec_capacity out.new }
 {
-    let FrameText {
+    let MeasuredFrame {
         len,
         size,
         text_len,
@@ -129,6 +129,6 @@ pub fn push_frame(bytes: &[u8], limit: u32, out: &mut Vec<u8>) -> Result<usize, 
     let Ok(()) = out.reserve(text_len) else {
         return Err(FaultKind::Memory);
     };
-    push_text(bytes, size as u32, is_own, front, out);
+    write_frame_text(bytes, size as u32, is_own, front, out);
     Ok(len)
 }

@@ -14,4 +14,4 @@ pub use capture::{check, measure, normal_len};
 pub use frames::{frame_body, frame_len, measure_frame, push_frame};
 pub use link_types::{RTM_DELLINK, RTM_GETLINK, RTM_NEWLINK, RTM_SETLINK, is_link_type};
 pub use sameness::{SideFault, same};
-pub use texts::{FrameText, Measure};
+pub use texts::{Measure, MeasuredFrame};

@@ -2,7 +2,7 @@
 
 /// What a body is written as.
 #[derive(Clone, Copy)]
-pub(crate) struct BodyText {
+pub(crate) struct MeasuredBody {
     /// Its length in bytes.
     pub len: u128,
     /// The attribute headers inside, at all depths.
@@ -15,7 +15,7 @@ pub(crate) struct BodyText {
 
 /// What a frame is written as.
 #[derive(Clone, Copy)]
-pub struct FrameText {
+pub struct MeasuredFrame {
     /// The length that its header tells, in bytes.
     pub len: usize,
     /// The length that the header of its text tells, in bytes.

@@ -7,9 +7,9 @@ use Rattle.std.proofs.lemmas.Grind.{merely}
 use Rattle.link_message_grammar.specs.Body.{header_text, link_body, link_peer}
 use Rattle.link_message_grammar.specs.Laws.{BodiesAreHeadersAndAttributes}
 use Rattle.link_message_types.specs.AddressFamilies.{address_family_of}
-use Rattle.link_message_messages.specs.declared.message.LinkMessage.{LinkMessage}
-use Rattle.link_message_messages.specs.LinkMessages.{link_message_text, link_message_fits, link_message_names_row}
-use Rattle.link_message_messages.specs.contracts.message.LinkMessageEq.TheImpl.Laws.{laws-law}
+use Rattle.link_message.specs.declared.message.LinkMessage.{LinkMessage}
+use Rattle.link_message.specs.LinkMessages.{link_message_text, link_message_fits, link_message_names_row}
+use Rattle.link_message.specs.contracts.message.LinkMessageEq.TheImpl.Laws.{laws-law}
 use Rattle.link_capture_grammar.specs.Bodies.{refused, empty_ports, unfit, ruled_text, body_text_under}
 use Rattle.link_capture_grammar.specs.Laws.{BodiesAreNormal}
 use Rattle.link_capture_messages.specs.Readable.{IsReadFrom, IsReadable, equal_messages, says_the_same}

@@ -1,7 +1,7 @@
 -- What the messages of a capture hold.
 use Rattle.std.specs.Prelude.{ℕ, List}
-use Rattle.link_message_messages.specs.declared.message.LinkMessage.{LinkMessage}
-use Rattle.link_message_messages.specs.LinkMessages.{link_message_text}
+use Rattle.link_message.specs.declared.message.LinkMessage.{LinkMessage}
+use Rattle.link_message.specs.LinkMessages.{link_message_text}
 use Rattle.link_capture_messages.specs.declared.types.OtherMessage.{OtherMessage}
 use Rattle.link_capture_messages.specs.declared.types.ReadableLink.{ReadableLink}
 

@@ -3,7 +3,7 @@
 ghost use Rattle.link_capture_messages.specs.KeptTypes.{IsKeptType};
 ghost use Rattle.link_capture_messages.specs.Readable.{IsReadable};
 
-use link_message_messages::LinkMessage;
+use link_message::LinkMessage;
 use netlink_packet_core::ByteVec;
 
 /// A message of links that fits, and is read back equal from what it is written as.

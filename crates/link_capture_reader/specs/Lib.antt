@@ -1,3 +1,7 @@
 pub mod Readers
 pub mod Walks
 pub mod Joined
+pub mod Devices
+pub mod Known
+pub mod Outcomes
+pub mod States

@@ -1,10 +1,21 @@
-// Link captures that come in pieces: a reader, and the normal text of a whole capture by it.
+// Link captures that come in pieces: a reader, the normal text of a whole capture by it, and the engine, which reads a
+// capture from a source and writes its normal text to a sink.
 #![tactic(auto)]
 
+mod devices;
+mod engine;
 mod frames;
-mod normalize;
 mod pieces;
 mod reader;
+mod sinks;
+mod sources;
+mod telling;
+mod whole;
 
-pub use normalize::normalize_bytes;
+pub use devices::{DeviceFailed, Sink, Source};
+pub use engine::{normalize, read_all, write_all};
 pub use reader::CaptureReader;
+pub use sinks::{VecSink, WriteSink};
+pub use sources::{ReadSource, SliceSource};
+pub use telling::tell;
+pub use whole::normalize_bytes;

@@ -12,26 +12,20 @@ pub use infos::LinkInfo;
 pub use link_info_checks::{ListMeasure, check_list, check_list_with, same_list, same_list_with};
 pub use link_info_data::{InfoData, InfoPortData, InfoVrfPort, LinkXstats};
 pub use link_info_devices::{
-    InfoBatAdv, InfoIpVlan, InfoIpVtap, InfoIpoib, InfoRmNet, InfoRmNetFlags, InfoVrf, InfoWwan,
-    IpVlanData,
+    InfoBatAdv, InfoBond, InfoBondPort, InfoBridge, InfoBridgePort, InfoCan, InfoDsa, InfoHsr,
+    InfoIpVlan, InfoIpVtap, InfoIpoib, InfoMacSec, InfoMacVlan, InfoMacVtap, InfoNetkit, InfoRmNet,
+    InfoRmNetFlags, InfoTeamPort, InfoTun, InfoVeth, InfoVlan, InfoVrf, InfoVxcan, InfoWireguard,
+    InfoWwan, IpVlanData, PairData, RawData, parse_mac_vlan,
 };
 pub use link_info_kinds::{InfoKind, InfoPortKind};
-pub use link_info_overlays::{InfoAmt, InfoGeneve, InfoGtp, InfoVxlan};
-pub use link_info_pairs::{InfoNetkit, InfoVeth, InfoVxcan, PairData};
-pub use link_info_raw::{
-    InfoBond, InfoBondPort, InfoBridge, InfoBridgePort, InfoCan, InfoDsa, InfoHsr, InfoTeamPort,
-    InfoTun, InfoVlan, InfoWireguard, RawData,
-};
-pub use link_info_stacked::{InfoMacSec, InfoMacVlan, InfoMacVtap, parse_mac_vlan};
-pub use link_info_tunnel_types::{
-    AmtMode, ErSpanDir, GeneveDf, GreEncapFlags, GreEncapType, GreIOFlags, GtpRole, Ip6TunnelFlags,
-    IpProtocol, TunnelEncapFlags, TunnelEncapType, VxlanDf,
-};
 pub use link_info_tunnels::{
-    InfoBareUdp, InfoGre, InfoGre6, InfoIpTunnel, InfoVti, InfoXfrm, parse_ip_tunnel,
+    InfoAmt, InfoBareUdp, InfoGeneve, InfoGre, InfoGre6, InfoGtp, InfoIpTunnel, InfoVti, InfoVxlan,
+    InfoXfrm, parse_ip_tunnel,
 };
 pub use link_info_types::{
-    Flags, IpVlanFlags, IpVlanMode, IpVtapFlags, IpVtapMode, IpoibMode, MacSecCipherId,
-    MacSecOffload, MacSecValidate, MacVlanFlags, MacVlanMacAddressMode, MacVlanMode, MacVtapFlags,
-    MacVtapMacAddressMode, MacVtapMode, NetkitMode, NetkitPolicy, NetkitScrub, RmNetFlags,
+    AmtMode, ErSpanDir, Flags, GeneveDf, GreEncapFlags, GreEncapType, GreIOFlags, GtpRole,
+    Ip6TunnelFlags, IpProtocol, IpVlanFlags, IpVlanMode, IpVtapFlags, IpVtapMode, IpoibMode,
+    MacSecCipherId, MacSecOffload, MacSecValidate, MacVlanFlags, MacVlanMacAddressMode,
+    MacVlanMode, MacVtapFlags, MacVtapMacAddressMode, MacVtapMode, NetkitMode, NetkitPolicy,
+    NetkitScrub, RmNetFlags, TunnelEncapFlags, TunnelEncapType, VxlanDf,
 };

@@ -16,15 +16,15 @@ use Rattle.link_info_devices.specs.Ipvlan.{ipvlan_entry, ipvlan_names_row}
 use Rattle.link_info_devices.specs.Rmnet.{rmnet_entry, rmnet_names_row}
 use Rattle.link_info_devices.specs.Vrf.{vrf_entry, vrf_names_row}
 use Rattle.link_info_devices.specs.Wwan.{wwan_entry, wwan_names_row}
-use Rattle.link_info_overlays.specs.Amt.{amt_entry, amt_names_row}
-use Rattle.link_info_overlays.specs.Geneve.{geneve_entry, geneve_names_row}
-use Rattle.link_info_overlays.specs.Gtp.{gtp_entry, gtp_names_row}
-use Rattle.link_info_overlays.specs.Vxlan.{vxlan_entry, vxlan_names_row}
-use Rattle.link_info_raw.specs.RawData.{raw_entry}
-use Rattle.link_info_pairs.specs.Netkit.{netkit_entry, netkit_names_row}
-use Rattle.link_info_pairs.specs.Veth.{pair_entry, pair_names_row}
-use Rattle.link_info_stacked.specs.MacVlan.{mac_vlan_entry, mac_vlan_fits, mac_vlan_names_row}
-use Rattle.link_info_stacked.specs.Macsec.{macsec_entry, macsec_names_row}
+use Rattle.link_info_tunnels.specs.Amt.{amt_entry, amt_names_row}
+use Rattle.link_info_tunnels.specs.Geneve.{geneve_entry, geneve_names_row}
+use Rattle.link_info_tunnels.specs.Gtp.{gtp_entry, gtp_names_row}
+use Rattle.link_info_tunnels.specs.Vxlan.{vxlan_entry, vxlan_names_row}
+use Rattle.link_info_devices.specs.RawData.{raw_entry}
+use Rattle.link_info_devices.specs.Netkit.{netkit_entry, netkit_names_row}
+use Rattle.link_info_devices.specs.Veth.{pair_entry, pair_names_row}
+use Rattle.link_info_devices.specs.MacVlan.{mac_vlan_entry, mac_vlan_fits, mac_vlan_names_row}
+use Rattle.link_info_devices.specs.Macsec.{macsec_entry, macsec_names_row}
 use Rattle.link_info_tunnels.specs.Bareudp.{bareudp_entry, bareudp_names_row}
 use Rattle.link_info_tunnels.specs.Gre.{gre_entry, gre_names_row}
 use Rattle.link_info_tunnels.specs.Gre6.{gre6_entry, gre6_names_row}

@@ -9,7 +9,7 @@ use Rattle.attribute_tables_grammar.specs.Rules.{Rule}
 use Rattle.attribute_tables_grammar.specs.Tables.{Payload}
 use Rattle.link_info_grammar.specs.Families.{port_kinds}
 use Rattle.link_info_devices.specs.Vrf.{vrf_entry, vrf_names_row}
-use Rattle.link_info_raw.specs.RawData.{raw_entry}
+use Rattle.link_info_devices.specs.RawData.{raw_entry}
 use Rattle.link_info_kinds.specs.PortKinds.{info_port_kind_text}
 use Rattle.link_info_kinds.specs.declared.info_port_kind.InfoPortKind.{InfoPortKind}
 use Rattle.link_info_kinds.specs.declared.info_port_kind.InfoPortKind.TheVariants as PortKind

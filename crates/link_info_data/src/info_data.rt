@@ -2,8 +2,7 @@
 
 ghost use Rattle.std.specs.Prelude.{◌≡◌, ◌<◌, false, true, length, IfOk};
 ghost use Rattle.netlink_packet_core.specs.Errors.{is_memory};
-ghost use Rattle.link_info_data.specs.Data.{info_data_entry, info_data_fits, info_data_payload, info_data_names_row};
-ghost use Rattle.link_info_data.specs.Data.{data_rule_of, data_rule_of_under};
+ghost use Rattle.link_info_data.specs.Data.{info_data_entry, info_data_fits, info_data_payload, info_data_names_row, data_rule_of, data_rule_of_under};
 ghost use Rattle.attribute_tables.specs.Outcomes.{IfMemory, IsRefusedUnless, IsWrittenBy, SucceedsWhere};
 
 use super::laws::{data_without_peers_have_one_rule, names_tell_rules};
@@ -11,17 +10,15 @@ use attribute_checks::PeerRule;
 use attribute_tables::{parse_bytes, parse_family, parse_first};
 use link_info_checks::{BytesPeer, PeerSet, Ruled, data_error};
 use link_info_devices::{
-    InfoBatAdv, InfoIpVlan, InfoIpVtap, InfoIpoib, InfoRmNet, InfoVrf, InfoWwan,
+    InfoBatAdv, InfoBond, InfoBridge, InfoCan, InfoDsa, InfoHsr, InfoIpVlan, InfoIpVtap, InfoIpoib,
+    InfoMacSec, InfoMacVlan, InfoMacVtap, InfoNetkit, InfoRmNet, InfoTun, InfoVeth, InfoVlan,
+    InfoVrf, InfoVxcan, InfoWireguard, InfoWwan, parse_mac_vlan, parse_netkit_with,
+    parse_pair_with,
 };
 use link_info_kinds::InfoKind;
-use link_info_overlays::{InfoAmt, InfoGeneve, InfoGtp, InfoVxlan};
-use link_info_pairs::{InfoNetkit, InfoVeth, InfoVxcan, parse_netkit_with, parse_pair_with};
-use link_info_raw::{
-    InfoBond, InfoBridge, InfoCan, InfoDsa, InfoHsr, InfoTun, InfoVlan, InfoWireguard,
-};
-use link_info_stacked::{InfoMacSec, InfoMacVlan, InfoMacVtap, parse_mac_vlan};
 use link_info_tunnels::{
-    InfoBareUdp, InfoGre, InfoGre6, InfoIpTunnel, InfoVti, InfoXfrm, parse_ip_tunnel,
+    InfoAmt, InfoBareUdp, InfoGeneve, InfoGre, InfoGre6, InfoGtp, InfoIpTunnel, InfoVti, InfoVxlan,
+    InfoXfrm, parse_ip_tunnel,
 };
 use netlink_packet_core::{DecodeError, Nla, emit_all, fits_all, len_all};
 use std::alloc::Global;

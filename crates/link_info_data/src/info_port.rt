@@ -1,16 +1,14 @@
 //! The data of a kind of ports (if_link.h, IFLA_INFO_SLAVE_DATA).
 
 ghost use Rattle.std.specs.Prelude.{◌≡◌, ◌<◌, true, length, IfOk};
-ghost use Rattle.link_info_data.specs.PortData.{info_port_data_entry, info_port_data_fits, info_port_data_payload};
-ghost use Rattle.link_info_data.specs.PortData.{info_port_data_names_row, port_data_rule_of};
+ghost use Rattle.link_info_data.specs.PortData.{info_port_data_entry, info_port_data_fits, info_port_data_payload, info_port_data_names_row, port_data_rule_of};
 ghost use Rattle.attribute_tables.specs.Outcomes.{IfMemory, IsRefusedUnless, IsWrittenBy, SucceedsWhere};
 
 use super::laws::port_names_tell_rules;
 use attribute_tables::{parse_bytes, parse_family};
 use link_info_checks::{BytesPeer, accepts_port_data};
-use link_info_devices::InfoVrf;
+use link_info_devices::{InfoBondPort, InfoBridgePort, InfoTeamPort, InfoVrf};
 use link_info_kinds::InfoPortKind;
-use link_info_raw::{InfoBondPort, InfoBridgePort, InfoTeamPort};
 use netlink_packet_core::{DecodeError, Nla, emit_all, fits_all, len_all};
 use std::alloc::Global;
 

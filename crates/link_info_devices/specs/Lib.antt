@@ -4,3 +4,8 @@ pub mod Ipvlan
 pub mod Rmnet
 pub mod Vrf
 pub mod Wwan
+pub mod MacVlan
+pub mod Macsec
+pub mod Netkit
+pub mod Veth
+pub mod RawData

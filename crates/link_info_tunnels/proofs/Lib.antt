@@ -1,1 +1,2 @@
 pub mod IpTunnels
+pub mod Sizes

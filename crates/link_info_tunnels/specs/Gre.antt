@@ -4,7 +4,7 @@ use Rattle.std.specs.Net.Addr.{ipv4_octets}
 use Rattle.netlink_packet_core.specs.Attributes.{Attribute, proper_kind}
 use Rattle.netlink_packet_core.specs.Numbers.{be2, be4, le2, le4}
 use Rattle.netlink_packet_core.specs.Truths.{truth_byte}
-use Rattle.link_info_tunnel_types.specs.GreTypes.{gre_io_flags_bits, gre_encap_flags_bits, gre_encap_type_number, gre_encap_type_of, er_span_dir_number, er_span_dir_of}
+use Rattle.link_info_types.specs.GreTypes.{gre_io_flags_bits, gre_encap_flags_bits, gre_encap_type_number, gre_encap_type_of, er_span_dir_number, er_span_dir_of}
 use Rattle.link_info_grammar.specs.Families.{gre}
 use Rattle.attribute_tables_grammar.specs.LookUps.{has_no_row}
 use Rattle.netlink_packet_core.specs.Families.{attribute}

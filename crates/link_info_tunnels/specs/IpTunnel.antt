@@ -16,8 +16,8 @@ use Rattle.attribute_tables.specs.Beginnings.{begins_accepted}
 use Rattle.link_info_grammar.specs.Families.{ip_tunnel}
 use Rattle.link_info_kinds.specs.declared.info_kind.InfoKind.{InfoKind}
 use Rattle.link_info_kinds.specs.declared.info_kind.InfoKind.TheVariants as Kind
-use Rattle.link_info_tunnel_types.specs.IpProtocols.{ip_protocol_number, ip_protocol_of}
-use Rattle.link_info_tunnel_types.specs.IpTunnelTypes.{ip6_tunnel_flags_bits, tunnel_encap_flags_bits, tunnel_encap_type_number, tunnel_encap_type_of}
+use Rattle.link_info_types.specs.IpProtocols.{ip_protocol_number, ip_protocol_of}
+use Rattle.link_info_types.specs.IpTunnelTypes.{ip6_tunnel_flags_bits, tunnel_encap_flags_bits, tunnel_encap_type_number, tunnel_encap_type_of}
 use Rattle.link_info_tunnels.specs.declared.iptunnel.InfoIpTunnel.{InfoIpTunnel}
 use Rattle.link_info_tunnels.specs.declared.iptunnel.InfoIpTunnel.TheVariants.{Link, Local, Remote, Ttl, Tos, EncapLimit, FlowInfo, Ipv4Flags, Ipv6SitFlags, Ipv6Flags, Protocol, PMtuDisc, Ipv6RdPrefix, Ipv6RdRelayPrefix, Ipv6RdPrefixLen, Ipv6RdRelayPrefixLen, EncapType, EncapFlags, EncapSPort, EncapDPort, CollectMetadata, FwMark, Other}
 

@@ -4,3 +4,7 @@ pub mod Gre6
 pub mod IpTunnel
 pub mod Vti
 pub mod Xfrm
+pub mod Amt
+pub mod Geneve
+pub mod Gtp
+pub mod Vxlan

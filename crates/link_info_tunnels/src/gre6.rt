@@ -16,7 +16,7 @@ use super::gre_common::{
     IFLA_GRE_REMOTE, IFLA_GRE_TOS, IFLA_GRE_TTL,
 };
 use attribute_tables::typed;
-use link_info_tunnel_types::{ErSpanDir, Flags, GreEncapFlags, GreEncapType, GreIOFlags};
+use link_info_types::{ErSpanDir, Flags, GreEncapFlags, GreEncapType, GreIOFlags};
 use netlink_packet_core::{
     DecodeError, DefaultNla, Family, Field, FieldNla, Nla, parse_ipv6_addr, parse_u8, parse_u16,
     parse_u16_be, parse_u32, parse_u32_be,

@@ -14,16 +14,13 @@ ghost use Rattle.attribute_tables_grammar.specs.Lists.{any, without_context};
 ghost use Rattle.attribute_tables_grammar.specs.LookUps.{has_no_row};
 ghost use Rattle.attribute_tables_grammar.specs.Readings.{reading_as};
 ghost use Rattle.link_info_kinds.specs.declared.info_kind.InfoKind.{InfoKind};
-ghost use Rattle.link_info_tunnels.specs.IpTunnel.{ip_tunnel_entry, ip_tunnel_names_row, ip_tunnel_of};
-ghost use Rattle.link_info_tunnels.specs.IpTunnel.{ip_tunnel_begins_accepted, ip_tunnel_rule};
+ghost use Rattle.link_info_tunnels.specs.IpTunnel.{ip_tunnel_entry, ip_tunnel_names_row, ip_tunnel_of, ip_tunnel_begins_accepted, ip_tunnel_rule};
 ghost use Rattle.attribute_tables.specs.Outcomes.{IfMemory, IfRead, ListIsReadAs, ListIsWrittenBy, SucceedsExactlyWhere, SucceedsWhere};
 
 use attribute_tables::{Reader, parse_list, typed};
 use attribute_tables_grammar::laws::{rows_are_looked_up, rows_without_lists_fit};
 use link_info_kinds::InfoKind;
-use link_info_tunnel_types::{
-    Flags, Ip6TunnelFlags, IpProtocol, TunnelEncapFlags, TunnelEncapType,
-};
+use link_info_types::{Flags, Ip6TunnelFlags, IpProtocol, TunnelEncapFlags, TunnelEncapType};
 use netlink_packet_core::{
     DecodeError, DefaultNla, Field, FieldNla, Nla, NlaBuffer, Parseable, ParseableParametrized,
     parse_bool, parse_ip, parse_ipv4_addr, parse_ipv6_addr, parse_u8, parse_u16, parse_u16_be,

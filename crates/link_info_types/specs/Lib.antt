@@ -5,3 +5,11 @@ pub mod MacSecTypes
 pub mod NetkitTypes
 pub mod RmNetTypes
 pub mod Laws
+pub mod AmtTypes
+pub mod GeneveTypes
+pub mod GreTypes
+pub mod GtpTypes
+pub mod IpProtocols
+pub mod IpTunnelTypes
+pub mod VxlanTypes
+pub mod TunnelLaws

@@ -3,7 +3,7 @@ use Rattle.std.proofs.Common.{◌≡◌, ℕ, ◌^◌, ◌<◌, List, [], ◌∷
 use Rattle.std.proofs.lemmas.List.{append-nil}
 use Rattle.link_capture_grammar.specs.Captures.{texts, texts_after_under}
 use Rattle.link_capture_reader.specs.Readers.{Gains}
-use Rattle.link_capture_engine.specs.Outcomes.{IsPrefix}
+use Rattle.link_capture_reader.specs.Outcomes.{IsPrefix}
 use Rattle.link_lines_texts.specs.Captures.{Choice, text_lines, lines}
 use Rattle.link_lines_texts.specs.Laws.{LinesAreJoined}
 

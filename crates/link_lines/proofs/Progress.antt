@@ -11,9 +11,9 @@ use Rattle.link_capture_grammar.specs.declared.fault.FaultKind.TheVariants.{Cut,
 use Rattle.link_capture_grammar.specs.Captures.{first_fault, texts, StopsAt}
 use Rattle.link_capture_grammar.specs.Laws.{PrefixTexts}
 use Rattle.link_capture_reader.specs.Readers.{ReaderState, StandsFor, Gains, FeedFault}
-use Rattle.link_capture_engine.specs.Devices.{counted, is_end}
-use Rattle.link_capture_engine.specs.Outcomes.{IsOpen, IsPrefix}
-use Rattle.link_capture_engine.proofs.Progress.{open_from, part_front, FeedOk, FeedErr}
+use Rattle.link_capture_reader.specs.Devices.{counted, is_end}
+use Rattle.link_capture_reader.specs.Outcomes.{IsOpen, IsPrefix}
+use Rattle.link_capture_reader.proofs.Progress.{open_from, part_front, FeedOk, FeedErr}
 use Rattle.link_lines_texts.specs.Captures.{Choice, text_lines, lines}
 use Rattle.link_lines_texts.specs.Laws.{LinesAreJoined}
 use Rattle.link_lines.specs.Outcomes.{ShowsFront, ShownAt}

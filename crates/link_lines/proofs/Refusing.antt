@@ -12,7 +12,7 @@ use Rattle.link_capture_grammar.specs.Captures.{first_fault, raised, reach, reac
 use Rattle.link_capture_grammar.specs.Laws.{CapturesGoByFrames}
 use Rattle.link_capture_refusals.specs.RefusalLaws.{RefusedFramesAreWhole}
 use Rattle.link_capture_reader.specs.Readers.{ReaderState, Resumes, StandsFor, FeedFault}
-use Rattle.link_capture_engine.proofs.Progress.{FeedErr}
+use Rattle.link_capture_reader.proofs.Progress.{FeedErr}
 use Rattle.link_capture_refusals.specs.RefusalViews.{all_found}
 use Rattle.link_lines_texts.specs.Captures.{Choice, lines}
 use Rattle.link_lines.specs.Outcomes.{Shown, ShownAt}

@@ -4,7 +4,7 @@ use Rattle.std.specs.Io.KnownBytes.{Consumes, Appends}
 use Rattle.link_capture_grammar.specs.declared.fault.FaultKind.{FaultKind}
 use Rattle.link_capture_grammar.specs.declared.fault.FaultKind.TheVariants.{Cut, Memory, Read, Write, TooLong, Failed}
 use Rattle.link_capture_grammar.specs.Captures.{first_fault, first_frame, IsLegal}
-use Rattle.link_capture_engine.specs.Outcomes.{IsOpen, IsPrefix}
+use Rattle.link_capture_reader.specs.Outcomes.{IsOpen, IsPrefix}
 use Rattle.link_capture_refusals.specs.RefusalViews.{all_found}
 use Rattle.link_lines_texts.specs.Captures.{Choice, lines}
 use Rattle.link_lines.specs.Refused.{refusal_told}

@@ -1,7 +1,7 @@
 //! From a source to a sink.
 
 ghost use Rattle.std.specs.Prelude.{◌≡◌, ◌≤◌};
-ghost use Rattle.link_capture_engine.specs.Devices.{Rises, TellsItsEnd};
+ghost use Rattle.link_capture_reader.specs.Devices.{Rises, TellsItsEnd};
 ghost use Rattle.link_lines.specs.Options.{choice_of};
 ghost use Rattle.link_lines.specs.Outcomes.{Shows};
 ghost use Rattle.link_lines.specs.Refused.{alone};
@@ -9,10 +9,9 @@ ghost use Rattle.link_lines.specs.Refused.{alone};
 use crate::lines::push_lines;
 use crate::options::LineOptions;
 use crate::refused::{ShowFault, keep, told};
-use link_capture_engine::{Sink, Source, write_all};
 use link_capture_grammar::fault::{CaptureFault, FaultKind};
 use link_capture_grammar::laws::{captures_go_by_frames, texts_of_a_prefix_stay};
-use link_capture_reader::CaptureReader;
+use link_capture_reader::{CaptureReader, Sink, Source, write_all};
 use link_capture_refusals::laws::refused_frames_are_whole;
 use link_lines_texts::laws::lines_are_joined;
 use std::alloc::Global;

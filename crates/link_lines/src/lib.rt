@@ -10,11 +10,11 @@ mod whole;
 pub use engine::show;
 pub use lines::push_lines;
 pub use link_capture_commands::DEFAULT_LIMIT;
-pub use link_capture_engine::{
-    DeviceFailed, ReadSource, Sink, SliceSource, Source, VecSink, WriteSink, read_all, write_all,
-};
 pub use link_capture_grammar::fault::{CaptureFault, FaultKind};
-pub use link_capture_reader::{CaptureReader, normalize_bytes};
+pub use link_capture_reader::{
+    CaptureReader, DeviceFailed, ReadSource, Sink, SliceSource, Source, VecSink, WriteSink,
+    normalize_bytes, read_all, write_all,
+};
 pub use link_capture_refusals::{Reason, Refusal};
 pub use link_lines_texts::laws;
 pub use options::LineOptions;

@@ -6,12 +6,12 @@ use Rattle.link_lines_values.specs.declared.flags.TheConstants.{LINK_FLAGS}
 use Rattle.link_lines_values.specs.declared.number_texts.TheConstants.{AMT_MODE, GENEVE_DF, VXLAN_DF, GTP_ROLE, TUNNEL_ENCAP_TYPE, GRE_ENCAP_TYPE, ER_SPAN_DIR, IP_VLAN_MODE, MAC_VLAN_MODE, NETKIT_MODE, NETKIT_POLICY, NETKIT_SCRUB, STATE, LINK_MODE, IN6_ADDR_GEN_MODE, MCTP_PHYS_BINDING, LINK_LAYER_TYPE, MESSAGE_TYPE}
 use Rattle.linkshow_words.specs.declared.types.TheConstants.{TYPE_WORDS}
 use Rattle.linkshow_words.specs.Types.{words_of}
-use Rattle.link_info_tunnel_types.specs.AmtTypes.{amt_mode_number, amt_mode_text, listed_amt_modes}
-use Rattle.link_info_tunnel_types.specs.GeneveTypes.{geneve_df_number, geneve_df_text, listed_geneve_dfs}
-use Rattle.link_info_tunnel_types.specs.GreTypes.{er_span_dir_number, er_span_dir_text, gre_encap_type_number, gre_encap_type_text, listed_er_span_dirs, listed_gre_encap_types}
-use Rattle.link_info_tunnel_types.specs.GtpTypes.{gtp_role_number, gtp_role_text, listed_gtp_roles}
-use Rattle.link_info_tunnel_types.specs.IpTunnelTypes.{listed_tunnel_encap_types, tunnel_encap_type_number, tunnel_encap_type_text}
-use Rattle.link_info_tunnel_types.specs.VxlanTypes.{listed_vxlan_dfs, vxlan_df_number, vxlan_df_text}
+use Rattle.link_info_types.specs.AmtTypes.{amt_mode_number, amt_mode_text, listed_amt_modes}
+use Rattle.link_info_types.specs.GeneveTypes.{geneve_df_number, geneve_df_text, listed_geneve_dfs}
+use Rattle.link_info_types.specs.GreTypes.{er_span_dir_number, er_span_dir_text, gre_encap_type_number, gre_encap_type_text, listed_er_span_dirs, listed_gre_encap_types}
+use Rattle.link_info_types.specs.GtpTypes.{gtp_role_number, gtp_role_text, listed_gtp_roles}
+use Rattle.link_info_types.specs.IpTunnelTypes.{listed_tunnel_encap_types, tunnel_encap_type_number, tunnel_encap_type_text}
+use Rattle.link_info_types.specs.VxlanTypes.{listed_vxlan_dfs, vxlan_df_number, vxlan_df_text}
 use Rattle.link_info_types.specs.IpVlanTypes.{ip_vlan_mode_number, ip_vlan_mode_text, listed_ip_vlan_modes}
 use Rattle.link_info_types.specs.MacVlanTypes.{listed_mac_vlan_modes, mac_vlan_mode_number, mac_vlan_mode_text}
 use Rattle.link_info_types.specs.NetkitTypes.{listed_netkit_modes, listed_netkit_policies, listed_netkit_scrubs, netkit_mode_number, netkit_mode_text, netkit_policy_number, netkit_policy_text, netkit_scrub_number, netkit_scrub_text}

@@ -17,25 +17,25 @@ pub use Rattle.link_message_types.specs.VfTypes
 pub use Rattle.link_message_types.specs.VlanTypes
 pub use Rattle.link_message_types.specs.XdpTypes
 pub use Rattle.link_message_attributes.specs.LinkAttributes
-pub use Rattle.link_message_messages.specs.LinkMessages
+pub mod LinkMessages
 pub use Rattle.link_message_checks.specs.Tables as CheckTables
 pub use Rattle.link_message_grammar.specs.NestedTables
-pub use Rattle.link_message_af_spec.specs.AddressFamilies as SpecificFamilies
-pub use Rattle.link_message_af_spec.specs.InetSettings
-pub use Rattle.link_message_af_spec.specs.Inet6Settings
-pub use Rattle.link_message_lists.specs.Devlink
-pub use Rattle.link_message_lists.specs.DownReasons
-pub use Rattle.link_message_lists.specs.Dpll
-pub use Rattle.link_message_lists.specs.Mctp
-pub use Rattle.link_message_lists.specs.Props
-pub use Rattle.link_message_lists.specs.ProtocolInfos
-pub use Rattle.link_message_lists.specs.Xdp
+pub use Rattle.link_message_nested.specs.AddressFamilies as SpecificFamilies
+pub use Rattle.link_message_nested.specs.InetSettings
+pub use Rattle.link_message_nested.specs.Inet6Settings
+pub use Rattle.link_message_nested.specs.Devlink
+pub use Rattle.link_message_nested.specs.DownReasons
+pub use Rattle.link_message_nested.specs.Dpll
+pub use Rattle.link_message_nested.specs.Mctp
+pub use Rattle.link_message_nested.specs.Props
+pub use Rattle.link_message_nested.specs.ProtocolInfos
+pub use Rattle.link_message_nested.specs.Xdp
 pub use Rattle.link_message_records.specs.CacheInfos
 pub use Rattle.link_message_records.specs.Maps
 pub use Rattle.link_message_records.specs.ValueRecords
 pub use Rattle.link_message_records.specs.VfRecords
 pub use Rattle.link_message_records.specs.VfSettings
-pub use Rattle.link_message_virtual_functions.specs.VfInfos
-pub use Rattle.link_message_virtual_functions.specs.VfPorts
-pub use Rattle.link_message_virtual_functions.specs.VfStatistics
-pub use Rattle.link_message_virtual_functions.specs.VfVlans
+pub use Rattle.link_message_nested.specs.VfInfos
+pub use Rattle.link_message_nested.specs.VfPorts
+pub use Rattle.link_message_nested.specs.VfStatistics
+pub use Rattle.link_message_nested.specs.VfVlans

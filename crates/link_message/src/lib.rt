@@ -1,17 +1,17 @@
 //! Link messages (rtnetlink.h, RTM_NEWLINK and its like): a header and the attributes of a link.
 //!
-//! This crate offers the items of its parts again, so a caller needs no other.
+//! Beside messages this crate offers the items of its parts again, so a caller needs no other.
 #![tactic(auto)]
 
 pub mod laws;
+mod message;
 
-pub use link_message_af_spec::{AfSpecInet, AfSpecInet6, AfSpecUnspec};
 pub use link_message_attributes::LinkAttribute;
 pub use link_message_checks::{BodyMeasure, LinkPeer, check, same, write_canonical};
-pub use link_message_lists::{
-    AfSpecMctp, DevlinkPort, DpllPin, LinkProtoInfoInet6, LinkProtocolDownReason, LinkXdp, Prop,
+pub use link_message_nested::{
+    AfSpecInet, AfSpecInet6, AfSpecMctp, AfSpecUnspec, DevlinkPort, DpllPin, LinkProtoInfoInet6,
+    LinkProtocolDownReason, LinkVfInfo, LinkVfPort, LinkXdp, Prop, VfInfo, VfPort, VfStats, VfVlan,
 };
-pub use link_message_messages::LinkMessage;
 pub use link_message_records::{
     FieldRecord, Icmp6Stats, Icmp6StatsBuffer, Inet6CacheInfo, Inet6CacheInfoBuffer, Inet6DevConf,
     Inet6DevConfBuffer, Inet6Stats, Inet6StatsBuffer, InetDevConf, InetDevConfBuffer, Map,
@@ -26,4 +26,4 @@ pub use link_message_types::{
     LinkExtentMask, LinkFlags, LinkHeader, LinkLayerType, LinkMessageBuffer, LinkMode, LinkPhysId,
     LinkStatistics, MctpPhysBinding, State, VfLinkState, VlanProtocol, XdpAttached,
 };
-pub use link_message_virtual_functions::{LinkVfInfo, LinkVfPort, VfInfo, VfPort, VfStats, VfVlan};
+pub use message::LinkMessage;

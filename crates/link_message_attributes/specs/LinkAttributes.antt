@@ -19,13 +19,13 @@ use Rattle.link_info.specs.LinkInfo.{link_info_entry, link_info_fits, link_info_
 use Rattle.link_message_grammar.specs.LinkMessage.{Family, unspec, bridge, inet_6, family_payload, has_no_link_row, link_line}
 use Rattle.link_message_grammar.specs.Body.{attribute_row, attribute_row_under, info_payload_rule, link_peer}
 use Rattle.link_message_grammar.specs.NestedTables.{specific}
-use Rattle.link_message_af_spec.specs.AddressFamilies.{af_spec_unspec_entry, af_spec_unspec_fits, af_spec_unspec_names_row}
-use Rattle.link_message_lists.specs.ProtocolInfos.{link_proto_info_inet_6_entry}
-use Rattle.link_message_lists.specs.Devlink.{devlink_port_entry, devlink_port_names_row}
-use Rattle.link_message_lists.specs.DownReasons.{link_protocol_down_reason_entry, link_protocol_down_reason_names_row}
-use Rattle.link_message_lists.specs.Dpll.{dpll_pin_entry, dpll_pin_names_row}
-use Rattle.link_message_lists.specs.Props.{prop_entry, prop_names_row}
-use Rattle.link_message_lists.specs.Xdp.{link_xdp_entry, link_xdp_names_row}
+use Rattle.link_message_nested.specs.AddressFamilies.{af_spec_unspec_entry, af_spec_unspec_fits, af_spec_unspec_names_row}
+use Rattle.link_message_nested.specs.ProtocolInfos.{link_proto_info_inet_6_entry}
+use Rattle.link_message_nested.specs.Devlink.{devlink_port_entry, devlink_port_names_row}
+use Rattle.link_message_nested.specs.DownReasons.{link_protocol_down_reason_entry, link_protocol_down_reason_names_row}
+use Rattle.link_message_nested.specs.Dpll.{dpll_pin_entry, dpll_pin_names_row}
+use Rattle.link_message_nested.specs.Props.{prop_entry, prop_names_row}
+use Rattle.link_message_nested.specs.Xdp.{link_xdp_entry, link_xdp_names_row}
 use Rattle.link_message_records.specs.Maps.{map_bytes}
 use Rattle.link_message_records.specs.ValueRecords.{u32_values_bytes, u64_values_bytes}
 use Rattle.link_message_types.specs.Events.{link_event_number, link_event_of}
@@ -33,8 +33,8 @@ use Rattle.link_message_types.specs.ExtentMasks.{joined_extent_masks, link_exten
 use Rattle.link_message_types.specs.LinkModes.{link_mode_number, link_mode_of}
 use Rattle.link_message_types.specs.LinkStates.{state_number, state_of}
 use Rattle.link_message_types.specs.PhysIds.{link_phys_id_bytes}
-use Rattle.link_message_virtual_functions.specs.VfInfos.{link_vf_info_entry, link_vf_info_fits, link_vf_info_names_row, vf_infos_begin_readable}
-use Rattle.link_message_virtual_functions.specs.VfPorts.{vf_port_entry, link_vf_port_entry, link_vf_port_fits, vf_ports_begin_readable}
+use Rattle.link_message_nested.specs.VfInfos.{link_vf_info_entry, link_vf_info_fits, link_vf_info_names_row, vf_infos_begin_readable}
+use Rattle.link_message_nested.specs.VfPorts.{vf_port_entry, link_vf_port_entry, link_vf_port_fits, vf_ports_begin_readable}
 use Rattle.link_message_attributes.specs.declared.attributes.LinkAttribute.{LinkAttribute}
 use Rattle.link_message_attributes.specs.declared.attributes.LinkAttribute.TheVariants as Link
 

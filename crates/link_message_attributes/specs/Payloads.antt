@@ -3,17 +3,17 @@ use Rattle.std.specs.Prelude.{ℕ, Bool, true, List}
 use Rattle.netlink_packet_core.specs.Fields.{field_bytes}
 use Rattle.netlink_packet_core.specs.Lists.{text_by, all_fit_by}
 use Rattle.link_info.specs.LinkInfo.{link_info_entry, link_info_fits}
-use Rattle.link_message_af_spec.specs.AddressFamilies.{af_spec_unspec_entry, af_spec_unspec_fits}
-use Rattle.link_message_lists.specs.ProtocolInfos.{link_proto_info_inet_6_entry}
-use Rattle.link_message_lists.specs.Devlink.{devlink_port_entry}
-use Rattle.link_message_lists.specs.DownReasons.{link_protocol_down_reason_entry}
-use Rattle.link_message_lists.specs.Dpll.{dpll_pin_entry}
-use Rattle.link_message_lists.specs.Props.{prop_entry}
-use Rattle.link_message_lists.specs.Xdp.{link_xdp_entry}
+use Rattle.link_message_nested.specs.AddressFamilies.{af_spec_unspec_entry, af_spec_unspec_fits}
+use Rattle.link_message_nested.specs.ProtocolInfos.{link_proto_info_inet_6_entry}
+use Rattle.link_message_nested.specs.Devlink.{devlink_port_entry}
+use Rattle.link_message_nested.specs.DownReasons.{link_protocol_down_reason_entry}
+use Rattle.link_message_nested.specs.Dpll.{dpll_pin_entry}
+use Rattle.link_message_nested.specs.Props.{prop_entry}
+use Rattle.link_message_nested.specs.Xdp.{link_xdp_entry}
 use Rattle.link_message_records.specs.Maps.{map_bytes}
 use Rattle.link_message_records.specs.ValueRecords.{u32_values_bytes, u64_values_bytes}
-use Rattle.link_message_virtual_functions.specs.VfInfos.{link_vf_info_entry, link_vf_info_fits}
-use Rattle.link_message_virtual_functions.specs.VfPorts.{vf_port_entry, link_vf_port_entry, link_vf_port_fits}
+use Rattle.link_message_nested.specs.VfInfos.{link_vf_info_entry, link_vf_info_fits}
+use Rattle.link_message_nested.specs.VfPorts.{vf_port_entry, link_vf_port_entry, link_vf_port_fits}
 use Rattle.link_message_attributes.specs.declared.payload.LinkPayload.{LinkPayload}
 use Rattle.link_message_attributes.specs.declared.payload.LinkPayload.TheVariants as Payload
 

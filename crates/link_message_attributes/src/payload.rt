@@ -13,15 +13,14 @@ ghost use Rattle.link_message_attributes.specs.Payloads.{link_payload_bytes, lin
 ghost use Rattle.attribute_tables.specs.Outcomes.{IfMemory, IsRefusedUnless, ListIsWrittenBy};
 
 use link_info::LinkInfo;
-use link_message_af_spec::AfSpecUnspec;
 use link_message_checks::LinkPeer;
 use link_message_grammar::laws::info_is_a_list_inside;
-use link_message_lists::{
-    DevlinkPort, DpllPin, LinkProtoInfoInet6, LinkProtocolDownReason, LinkXdp, Prop,
+use link_message_nested::{
+    AfSpecUnspec, DevlinkPort, DpllPin, LinkProtoInfoInet6, LinkProtocolDownReason, LinkVfInfo,
+    LinkVfPort, LinkXdp, Prop, VfPort,
 };
 use link_message_records::{Map, Stats, Stats64, emit_record};
 use link_message_types::LinkExtentMask;
-use link_message_virtual_functions::{LinkVfInfo, LinkVfPort, VfPort};
 use netlink_packet_core::{
     DecodeError, DefaultNla, Emitable, Field, emit_all, fits_all, len_all, parse_u32,
 };

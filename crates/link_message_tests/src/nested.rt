@@ -1,15 +1,14 @@
 use attribute_tables::parse_family;
 use link_message::{AddressFamily, LinkAttribute};
-use link_message_af_spec::{AfSpecInet, AfSpecInet6, AfSpecUnspec, parse_families};
-use link_message_lists::{
-    AfSpecMctp, DevlinkPort, DpllPin, LinkProtoInfoInet6, LinkProtocolDownReason, LinkXdp, Prop,
-    parse_raw,
+use link_message_nested::{
+    AfSpecInet, AfSpecInet6, AfSpecMctp, AfSpecUnspec, DevlinkPort, DpllPin, LinkProtoInfoInet6,
+    LinkProtocolDownReason, LinkVfInfo, LinkVfPort, LinkXdp, Prop, VfInfo, VfPort, VfVlan,
+    parse_families, parse_raw,
 };
 use link_message_records::{Map, Values, VfVlanInfo};
 use link_message_types::{
     Flags, In6AddrGenMode, Inet6IfaceFlags, MctpPhysBinding, VlanProtocol, XdpAttached,
 };
-use link_message_virtual_functions::{LinkVfInfo, LinkVfPort, VfInfo, VfPort, VfVlan};
 use netlink_packet_core::{DefaultNla, Family, Nla, emit_all, fits_all, len_all};
 use std::alloc::Global;
 use std::net::Ipv6Addr;

@@ -1,11 +1,12 @@
 //! Single attributes by their own readers, which stand beside those of lists. The bytes are written by hand from
 //! if_link.h and mctp.h.
 
-use link_message_af_spec::{AfSpecInet, AfSpecInet6, AfSpecUnspec};
-use link_message_lists::AfSpecMctp;
+use link_message_nested::{
+    AfSpecInet, AfSpecInet6, AfSpecMctp, AfSpecUnspec, LinkVfInfo, LinkVfPort, VfInfo, VfPort,
+    VfVlan,
+};
 use link_message_records::VfVlanInfo;
 use link_message_types::{MctpPhysBinding, VlanProtocol};
-use link_message_virtual_functions::{LinkVfInfo, LinkVfPort, VfInfo, VfPort, VfVlan};
 use netlink_packet_core::{DefaultNla, NlaBuffer, Parseable};
 use std::alloc::Global;
 use std::test::Fail;

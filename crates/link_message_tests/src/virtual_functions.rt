@@ -1,9 +1,7 @@
 use attribute_tables::{parse_entries, parse_ports};
+use link_message_nested::{LinkVfInfo, LinkVfInfoReader, LinkVfPortReader, VfInfo, VfVlan};
 use link_message_records::{VfInfoMac, VfVlanInfo};
 use link_message_types::VlanProtocol;
-use link_message_virtual_functions::{
-    LinkVfInfo, LinkVfInfoReader, LinkVfPortReader, VfInfo, VfVlan,
-};
 use netlink_packet_core::{emit_all, fits_all, len_all};
 use std::test::Fail;
 

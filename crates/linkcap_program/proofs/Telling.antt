@@ -3,7 +3,7 @@ use Rattle.std.proofs.Common.{◌≡◌, ℕ, Bool, false, List, [], ◌∷◌, 
 use Rattle.link_capture_grammar.specs.declared.fault.FaultKind.TheVariants.{Write}
 use Rattle.link_capture_grammar.specs.Faults.{fault_text}
 use Rattle.link_capture_checks.specs.declared.sameness.SideFault.{SideFault}
-use Rattle.link_capture_engine.specs.States.{IsTold, SinkState, Tells}
+use Rattle.link_capture_reader.specs.States.{IsTold, SinkState, Tells}
 use Rattle.linkcap_program.specs.Runs.{same_line, same_error}
 
 -- the answer of a comparison couldn't be printed

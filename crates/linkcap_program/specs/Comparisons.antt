@@ -5,8 +5,8 @@ use Rattle.link_capture_grammar.specs.declared.fault.CaptureFault.{CaptureFault}
 use Rattle.link_capture_checks.specs.declared.sameness.SideFault.{SideFault}
 use Rattle.link_capture_grammar.specs.declared.fault.FaultKind.TheVariants.{Read}
 use Rattle.link_capture_grammar.specs.Captures.{first_fault, IsLegal}
-use Rattle.link_capture_engine.specs.Devices.{risen}
-use Rattle.link_capture_engine.specs.Outcomes.{ReadFault}
+use Rattle.link_capture_reader.specs.Devices.{risen}
+use Rattle.link_capture_reader.specs.Outcomes.{ReadFault}
 use Rattle.link_capture_grammar.specs.Same.{SameCapture}
 
 -- a file holds these bytes, as far as its bytes are known

@@ -6,9 +6,9 @@ use Rattle.link_capture_grammar.specs.Faults.{fault_text}
 use Rattle.link_capture_checks.specs.declared.sameness.SideFault.{SideFault}
 use Rattle.link_capture_checks.specs.Sides.{side_text}
 use Rattle.link_capture_commands.specs.Commands.{IsCommand, status_of, status_of_same}
-use Rattle.link_capture_engine.specs.Devices.{Rises, TellsItsEnd}
-use Rattle.link_capture_engine.specs.Outcomes.{Normalizes}
-use Rattle.link_capture_engine.specs.States.{IsTold, SinkState, SourceState, Tells}
+use Rattle.link_capture_reader.specs.Devices.{Rises, TellsItsEnd}
+use Rattle.link_capture_reader.specs.Outcomes.{Normalizes}
+use Rattle.link_capture_reader.specs.States.{IsTold, SinkState, SourceState, Tells}
 use Rattle.link_capture_commands.specs.declared.command.Command.{Command}
 use Rattle.link_capture_commands.specs.declared.command.Command.TheVariants.{Norm, Same}
 

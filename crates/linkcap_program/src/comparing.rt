@@ -2,7 +2,7 @@
 
 ghost use Rattle.std.specs.Prelude.{◌≡◌, Ok, IfOk, IfErr, OnOk};
 ghost use Rattle.std.specs.Process.{exit_status};
-ghost use Rattle.link_capture_engine.specs.States.{sink_state};
+ghost use Rattle.link_capture_reader.specs.States.{sink_state};
 ghost use Rattle.linkcap_program.specs.Comparisons.{Holds, IsUnread, CannotRead, Compares, opened};
 ghost use Rattle.linkcap_program.specs.Runs.{SameAnswer, SameTold, same_line};
 
@@ -10,8 +10,8 @@ use super::files::FileSystem;
 use super::lines::line;
 use link_capture_checks::{SideFault, same};
 use link_capture_commands::status_same;
-use link_capture_engine::{Sink, read_all, tell};
 use link_capture_grammar::fault::{CaptureFault, FaultKind};
+use link_capture_reader::{Sink, read_all, tell};
 use std::alloc::Global;
 use std::process::ExitCode;
 

@@ -3,7 +3,7 @@
 ghost use Rattle.std.specs.Prelude.{◌≡◌, ℕ, List, Option, IfOk, OnErr, None};
 ghost use Rattle.linkcap_program.specs.Comparisons.{Counts, opened, unopened};
 
-use link_capture_engine::{DeviceFailed, ReadSource, Source};
+use link_capture_reader::{DeviceFailed, ReadSource, Source};
 use std::fs::File;
 
 /// What opens files by their names.

@@ -4,7 +4,7 @@
 
 ghost use Rattle.std.specs.Prelude.{◌≡◌, map, string_bytes};
 ghost use Rattle.std.specs.Process.{exit_status};
-ghost use Rattle.link_capture_engine.specs.States.{sink_state, source_state};
+ghost use Rattle.link_capture_reader.specs.States.{sink_state, source_state};
 ghost use Rattle.linkcap_program.specs.Runs.{Answers, UsageAnswer, run_of};
 ghost use Rattle.linkcap_program.specs.Comparisons.{Compares, IsUnread};
 
@@ -17,7 +17,7 @@ pub use comparing::{answer_same, compare};
 pub use files::FileSystem;
 use files::HostFiles;
 use link_capture_commands::{Command, read_words, words};
-use link_capture_engine::{ReadSource, Sink, Source, WriteSink, tell};
+use link_capture_reader::{ReadSource, Sink, Source, WriteSink, tell};
 pub use normalizing::answer_norm;
 use std::alloc::Global;
 use std::io;

@@ -3,13 +3,13 @@
 ghost use Rattle.std.specs.Prelude.{◌≡◌, ◌≤◌};
 ghost use Rattle.std.specs.Process.{exit_status};
 ghost use Rattle.link_capture_commands.specs.Commands.{status_of};
-ghost use Rattle.link_capture_engine.specs.States.{Tells, sink_state, source_state};
+ghost use Rattle.link_capture_reader.specs.States.{Tells, sink_state, source_state};
 ghost use Rattle.linkcap_program.specs.Runs.{NormAnswer, norm_line, run_of};
 
 use super::lines::line;
 use link_capture_commands::status_norm;
-use link_capture_engine::{Sink, Source, normalize, tell};
 use link_capture_grammar::fault::CaptureFault;
+use link_capture_reader::{Sink, Source, normalize, tell};
 use std::alloc::Global;
 use std::process::ExitCode;
 

@@ -3,10 +3,10 @@ use Rattle.std.proofs.Common.{◌≡◌, ◌≤◌, ◌<◌, ℕ, ◌-◌, Bool,
 use Rattle.std.proofs.lemmas.List.{take_rest}
 use Rattle.std.proofs.KnownBytes.{Appends-nil, Appends-trans}
 use Rattle.std.specs.Io.KnownBytes.{Appends}
-use Rattle.link_capture_engine.specs.Devices.{Rises}
+use Rattle.link_capture_reader.specs.Devices.{Rises}
 use Rattle.link_capture_refusals.specs.RefusalWords.{behind_name, path_text}
 use Rattle.link_capture_refusals.proofs.Words.{cut}
-use Rattle.link_capture_engine.specs.States.{IsTold, SinkState}
+use Rattle.link_capture_reader.specs.States.{IsTold, SinkState}
 use Rattle.linkshow_program.specs.Telling.{texts_joined}
 
 -- The front of a text has come to a sink that didn't fail, and the rest is left.

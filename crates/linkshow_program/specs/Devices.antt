@@ -1,7 +1,7 @@
 -- What is known of files, and of the devices of a run.
 use Rattle.std.specs.Prelude.{ℕ, List, Option, None, Some, Result, Ok, Err}
 use Rattle.std.specs.declared.io.ErrorKind.{ErrorKind}
-use Rattle.link_capture_engine.specs.States.{SinkState, SourceState}
+use Rattle.link_capture_reader.specs.States.{SinkState, SourceState}
 use Rattle.linkshow_program.specs.declared.first_kept.FirstKept.{FirstKept}
 
 -- the source that a `FirstKept` reads, and the first bytes that it gave

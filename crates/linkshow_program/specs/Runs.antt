@@ -7,8 +7,8 @@ use Rattle.link_capture_grammar.specs.declared.fault.FaultKind.{FaultKind}
 use Rattle.link_capture_grammar.specs.declared.fault.FaultKind.TheVariants.{Read, Write}
 use Rattle.link_capture_grammar.specs.Faults.{fault_text}
 use Rattle.link_capture_commands.specs.Commands.{status_of}
-use Rattle.link_capture_engine.specs.Devices.{Rises, TellsItsEnd, risen}
-use Rattle.link_capture_engine.specs.Outcomes.{ReadFault}
+use Rattle.link_capture_reader.specs.Devices.{Rises, TellsItsEnd, risen}
+use Rattle.link_capture_reader.specs.Outcomes.{ReadFault}
 use Rattle.link_capture_spelling_rows.specs.declared.placed.PlacedSpelling.{PlacedSpelling}
 use Rattle.link_capture_spelling_rows.specs.SpellingWords.{placed_text}
 use Rattle.link_capture_spellings.specs.Spellings.{spellings}
@@ -22,7 +22,7 @@ use Rattle.linkshow_words.specs.declared.words.Asked.TheVariants.{Help, Version,
 use Rattle.linkshow_words.specs.Words.{Asks}
 use Rattle.linkshow_words.specs.Texts.{cause, advice}
 use Rattle.linkshow_words.specs.declared.texts.TheConstants as Texts
-use Rattle.link_capture_engine.specs.States.{IsTold, SinkState, SourceState, Tells}
+use Rattle.link_capture_reader.specs.States.{IsTold, SinkState, SourceState, Tells}
 use Rattle.linkshow_program.specs.Devices.{Opening, Run}
 use Rattle.linkshow_program.specs.Telling.{TellsBoth}
 

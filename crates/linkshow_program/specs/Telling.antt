@@ -1,7 +1,7 @@
 -- Texts that come to a sink.
 use Rattle.std.specs.Prelude.{ℕ, List, [], ◌∷◌, ◌++◌}
 use Rattle.std.proofs.Common.{Bor}
-use Rattle.link_capture_engine.specs.States.{SinkState, Tells}
+use Rattle.link_capture_reader.specs.States.{SinkState, Tells}
 
 -- one text, and then another
 abbrev pub TellsBoth : SinkState → SinkState → List ℕ → List ℕ → Type 0

@@ -2,10 +2,10 @@
 
 ghost use Rattle.std.specs.Prelude.{◌≡◌, ℕ, List, Option, IfOk, None};
 ghost use Rattle.std.specs.declared.io.ErrorKind.{ErrorKind};
-ghost use Rattle.link_capture_engine.specs.Devices.{risen};
+ghost use Rattle.link_capture_reader.specs.Devices.{risen};
 ghost use Rattle.linkshow_program.specs.Devices.{refusal_of};
 
-use link_capture_engine::{ReadSource, Source};
+use link_capture_reader::{ReadSource, Source};
 use std::fs::File;
 use std::io::ErrorKind;
 

@@ -2,11 +2,11 @@
 
 ghost use Rattle.std.specs.Prelude.{◌≡◌, ◌≤◌, ◌++◌, [], length, take, IfOk};
 ghost use Rattle.std.specs.Io.KnownBytes.{ReadConsumes};
-ghost use Rattle.link_capture_engine.specs.Devices.{is_end, read_failed, counted};
+ghost use Rattle.link_capture_reader.specs.Devices.{is_end, read_failed, counted};
 ghost use Rattle.linkshow_program.specs.Devices.{kept_source, kept_first};
 
 use arrayvec::ArrayVec;
-use link_capture_engine::{DeviceFailed, Source};
+use link_capture_reader::{DeviceFailed, Source};
 
 /// A source that keeps the first four bytes that it gave.
 #[derive(Drop)]

@@ -3,8 +3,8 @@
 
 ghost use Rattle.std.specs.Prelude.{◌≡◌, ◌≤◌, map, option_map, string_bytes, Some};
 ghost use Rattle.std.specs.Process.{exit_status};
-ghost use Rattle.link_capture_engine.specs.Devices.{risen};
-ghost use Rattle.link_capture_engine.specs.States.{sink_state, source_state};
+ghost use Rattle.link_capture_reader.specs.Devices.{risen};
+ghost use Rattle.link_capture_reader.specs.States.{sink_state, source_state};
 ghost use Rattle.linkshow_program.specs.Devices.{opening, run_of};
 ghost use Rattle.linkshow_program.specs.Runs.{Answers, CaptureAnswer, FileAnswer, UsageAnswer, chosen};
 
@@ -20,7 +20,7 @@ pub use files::Files;
 use files::HostFiles;
 pub use first_kept::FirstKept;
 use link_capture_commands::words;
-use link_capture_engine::{ReadSource, Sink, Source, WriteSink, tell};
+use link_capture_reader::{ReadSource, Sink, Source, WriteSink, tell};
 use linkshow_words::{Asked, HELP, Options, USAGE, VERSION, read_words};
 pub use notes::answer_notes;
 use printing::print;

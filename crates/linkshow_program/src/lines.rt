@@ -1,11 +1,11 @@
 //! Lines, and where they are told.
 
 ghost use Rattle.std.specs.Prelude.{◌≡◌, ◌≤◌, ◌++◌, ◌∷◌, [], codes, length};
-ghost use Rattle.link_capture_engine.specs.States.{IsTold, sink_state};
+ghost use Rattle.link_capture_reader.specs.States.{IsTold, sink_state};
 ghost use Rattle.linkshow_program.specs.Telling.{texts_joined};
 
 use arrayvec::ArrayString;
-use link_capture_engine::{Sink, tell};
+use link_capture_reader::{Sink, tell};
 
 /// A text as the line of a note.
 pub(crate) fn note(text: &str) -> ArrayString<135>

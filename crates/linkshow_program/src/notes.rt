@@ -3,14 +3,14 @@
 ghost use Rattle.std.specs.Prelude.{◌≡◌, ◌≤◌, option_map};
 ghost use Rattle.std.specs.Process.{exit_status};
 ghost use Rattle.link_capture_spellings.specs.Spellings.{spellings};
-ghost use Rattle.link_capture_engine.specs.States.{Tells, sink_state, source_state};
+ghost use Rattle.link_capture_reader.specs.States.{Tells, sink_state, source_state};
 ghost use Rattle.linkshow_program.specs.Devices.{run_of};
 ghost use Rattle.linkshow_program.specs.Runs.{chosen, notes_text, NotesAnswer};
 
 use super::first_kept::FirstKept;
 use super::lines::note;
 use super::showing::{line_options, report};
-use link_capture_engine::{Sink, SliceSource, Source, read_all, tell};
+use link_capture_reader::{Sink, SliceSource, Source, read_all, tell};
 use link_capture_spellings::spelling;
 use link_lines::{ShowFault, show};
 use linkshow_words::Options;

@@ -2,12 +2,12 @@
 
 ghost use Rattle.std.specs.Prelude.{◌≡◌};
 ghost use Rattle.std.specs.Process.{exit_status};
-ghost use Rattle.link_capture_engine.specs.States.{sink_state};
+ghost use Rattle.link_capture_reader.specs.States.{sink_state};
 ghost use Rattle.linkshow_program.specs.Runs.{PrintAnswer};
 
 use super::lines::tell_all;
-use link_capture_engine::{Sink, tell};
 use link_capture_grammar::fault::{CaptureFault, FaultKind};
+use link_capture_reader::{Sink, tell};
 use std::process::ExitCode;
 
 /// What is told where a text can't be printed.

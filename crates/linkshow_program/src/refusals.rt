@@ -3,10 +3,10 @@
 ghost use Rattle.std.specs.Prelude.{◌≡◌, map};
 ghost use Rattle.link_capture_refusals.specs.RefusalWords.{path_text};
 ghost use Rattle.link_lines.specs.Refused.{fault_words, refusal_words};
-ghost use Rattle.link_capture_engine.specs.States.{IsTold, sink_state};
+ghost use Rattle.link_capture_reader.specs.States.{IsTold, sink_state};
 
 use super::lines::tell_all;
-use link_capture_engine::{Sink, tell};
+use link_capture_reader::{Sink, tell};
 use link_capture_refusals::{Refusal, behind_name};
 use link_lines::ShowFault;
 

@@ -10,7 +10,7 @@ use Rattle.std.proofs.lemmas.Int.{of_z-to_z}
 use Rattle.netlink_packet_core_grammar.specs.Numbers.{u32_at, le4}
 use Rattle.netlink_packet_core_grammar.specs.Frames.{frame_length, frame_type, frame_body, frame_text}
 use Rattle.netlink_packet_core_grammar.specs.Attributes.{nla_align, zeros}
-use Rattle.netlink_packet_core_buffers.specs.Codes.{code_of, code_text, raw_code, nonzero_code}
+use Rattle.netlink_packet_core_messages.specs.Codes.{code_of, code_text, raw_code, nonzero_code}
 use Rattle.netlink_packet_core_messages.specs.declared.message.NetlinkMessage.{NetlinkMessage}
 use Rattle.netlink_packet_core_messages.specs.declared.header.NetlinkHeader.{NetlinkHeader}
 use Rattle.netlink_packet_core_messages.specs.declared.payload.NetlinkPayload.{NetlinkPayload}

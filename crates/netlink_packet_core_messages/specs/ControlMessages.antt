@@ -1,6 +1,6 @@
 -- The bodies of DONE and ERROR messages (netlink.h, struct nlmsgerr): a code of 4 bytes, and more.
 use Rattle.std.specs.Prelude.{ℕ, List, [], ◌++◌, length, drop, Option, None, Some, cond, nat_lt, nat_eq, pos}
-use Rattle.netlink_packet_core_buffers.specs.Codes.{code_of, code_text, raw_code, nonzero_code}
+use Rattle.netlink_packet_core_messages.specs.Codes.{code_of, code_text, raw_code, nonzero_code}
 use Rattle.netlink_packet_core_messages.specs.declared.done.DoneMessage.{DoneMessage}
 use Rattle.netlink_packet_core_messages.specs.declared.error.ErrorMessage.{ErrorMessage}
 

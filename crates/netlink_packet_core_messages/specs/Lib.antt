@@ -1,3 +1,7 @@
+pub mod Codes
+pub mod NetlinkBuffers
+pub mod DoneBuffers
+pub mod ErrorBuffers
 pub mod Headers
 pub mod ControlMessages
 pub mod TypedBodies

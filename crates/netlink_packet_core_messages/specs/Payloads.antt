@@ -2,7 +2,7 @@
 use Rattle.std.specs.Prelude.{ℕ, List, [], ◌∷◌, length, Option, Some, option_map, Bool, true, false, cond, nat_eq, nat_lt}
 use Rattle.std.specs.Int.{w32}
 use Rattle.std.specs.Int.RustNames.{FitsSigned}
-use Rattle.netlink_packet_core_buffers.specs.Codes.{IsCode}
+use Rattle.netlink_packet_core_messages.specs.Codes.{IsCode}
 use Rattle.netlink_packet_core_messages.specs.declared.payload.NetlinkPayload.{NetlinkPayload}
 use Rattle.netlink_packet_core_messages.specs.declared.payload.NetlinkPayload.TheVariants.{Done, Error, Noop, Overrun, InnerMessage}
 use Rattle.netlink_packet_core_messages.specs.ControlMessages.{done_message_text, error_message_text, read_done, read_error}

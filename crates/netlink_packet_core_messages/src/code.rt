@@ -1,5 +1,27 @@
-ghost use Rattle.std.specs.Prelude.{◌≡◌, ◌≤◌, ◌+◌, ◌++◌, length, drop};
-ghost use Rattle.netlink_packet_core_buffers.specs.Codes.{code_text};
+ghost use Rattle.std.specs.Prelude.{◌≡◌, ◌≤◌, length, ◌+◌, ◌++◌, drop};
+ghost use Rattle.netlink_packet_core_messages.specs.Codes.{code_of, code_text};
+ghost use Rattle.netlink_packet_core_grammar.specs.Bytes.{put_at};
+
+use netlink_packet_core_attributes::view::ByteViewMut;
+
+/// The code that some bytes begin with.
+#[tactic(auto, unfolding(netlink_packet_core_grammar::specs::Numbers::u32_at))]
+pub(crate) fn read_code(bytes: &[u8]) -> i32
+    requires { 4 ≤ length bytes.now }
+    ensures { result ≡ code_of bytes.now }
+{
+    i32::from_le_bytes([bytes[0], bytes[1], bytes[2], bytes[3]])
+}
+
+/// Writes a code over the first 4 bytes.
+#[tactic(auto, unfolding(netlink_packet_core_grammar::specs::Numbers::le4))]
+pub(crate) fn write_code<T: ByteViewMut>(buffer: &mut T, code: i32)
+    requires { 4 ≤ length (T.bytes buffer.old) }
+    ensures bytes { T.bytes buffer.new ≡ put_at 0 (code_text code) (T.bytes buffer.old) }
+    ensures same { T.same_storage buffer.old buffer.new }
+{
+    buffer.write_at(0, &code.to_le_bytes());
+}
 
 /// Writes a code and the bytes behind it in front of a buffer.
 #[tactic(auto, unfolding(netlink_packet_core_grammar::specs::Numbers::le4))]

@@ -1,16 +1,135 @@
-ghost use Rattle.std.specs.Prelude.{◌≡◌, ◌≤◌, ◌<◌, ◌++◌, nat_lt, true, false, ⊤, length, drop, Some, is_some, IfOk, IfErr};
+ghost use Rattle.std.specs.Prelude.{◌≡◌, ◌↔◌, ◌≤◌, length, drop, false, IfOk, IfErr, IsOk, ◌<◌, ◌++◌, nat_lt, true, ⊤, Some, is_some};
+ghost use Rattle.std.specs.Borrow.{Lends, Array, sem, u8};
+ghost use Rattle.netlink_packet_core_grammar.specs.Bytes.{put_at};
 ghost use Rattle.netlink_packet_core_numbers.specs.Errors.{is_memory};
-ghost use Rattle.netlink_packet_core_buffers.specs.DoneBuffers.{storage};
+ghost use Rattle.netlink_packet_core_messages.specs.DoneBuffers.{storage, view_of};
+ghost use Rattle.netlink_packet_core_messages.specs.Codes.{code_of, code_text};
 ghost use Rattle.netlink_packet_core_messages.specs.ControlMessages.{done_message_text, done_of, read_done};
 ghost use Rattle.std.specs.Int.{w32};
 ghost use Rattle.std.specs.Int.RustNames.{FitsSigned};
 
 use super::byte_vec::ByteVec;
-use super::code::emit_code;
+use super::code::{emit_code, read_code, write_code};
 use netlink_packet_core_attributes::traits::{Emitable, Parseable};
-use netlink_packet_core_buffers::done::DoneBuffer;
+use netlink_packet_core_attributes::view::{ByteLend, ByteView, ByteViewMut};
 use netlink_packet_core_numbers::error::DecodeError;
 use std::alloc::Global;
+
+/// The body of a DONE message: a code of 4 bytes, little-endian, and what the kernel adds to it.
+#[derive(Clone, Copy, Debug, Drop)]
+pub struct DoneBuffer<T> {
+    buffer: T,
+}
+
+impl<T> DoneBuffer<T> {
+    ghost use Rattle.netlink_packet_core_messages.specs.contracts.done.DoneBuffer.{the_row};
+
+    /// A view of bytes that have not been looked at.
+    pub fn new(buffer: T) -> Self
+        ensures { storage result ≡ buffer }
+    {
+        DoneBuffer { buffer }
+    }
+
+    /// The storage.
+    pub fn into_inner(self) -> T
+        ensures { result ≡ storage self }
+    {
+        self.buffer
+    }
+
+    /// The storage, to be written.
+    pub fn inner_mut(&mut self) -> &mut T
+        ensures* writes_back { sem 𝓛 (Lends (the_row T.row) T.row self.entry result view_of) }
+        ensures value { result.now ≡ storage self.old }
+    {
+        &mut self.buffer
+    }
+}
+
+impl<T: ByteView> DoneBuffer<T> {
+    /// A view of bytes that hold a code: there are at least 4.
+    pub fn new_checked(buffer: T) -> Result<Self, DecodeError>
+    where
+        T: Drop,
+        ensures whole { IsOk result ↔ (4 ≤ length (T.bytes buffer)) }
+        ensures ok { IfOk result (λ view. storage view ≡ buffer) }
+        ensures err { IfErr result (λ e. is_memory e ≡ false) }
+    {
+        let size = buffer.as_bytes().len();
+        if size < 4 {
+            return Err(DecodeError::invalid_buffer("DoneBuffer", size, 4));
+        }
+        Ok(DoneBuffer { buffer })
+    }
+
+    /// The code: 0, or a negative error number.
+    pub fn code(&self) -> i32
+        requires { 4 ≤ length (T.bytes (storage self.now)) }
+        ensures { result ≡ code_of (T.bytes (storage self.now)) }
+    {
+        read_code(self.buffer.as_bytes())
+    }
+}
+
+impl<'a> DoneBuffer<&'a [u8]> {
+    /// The bytes behind the code: the attributes of an extended acknowledgement, for as long as the storage lives.
+    pub fn extended_ack(&self) -> &'a [u8]
+        requires { 4 ≤ length (storage self.now).now }
+        ensures { result.now ≡ drop 4 (storage self.now).now }
+    {
+        let buffer = self.buffer;
+        &buffer[4..]
+    }
+}
+
+impl<'a> DoneBuffer<&'a mut [u8]> {
+    /// The bytes behind the code: the attributes of an extended acknowledgement.
+    pub fn extended_ack(&self) -> &[u8]
+        requires { 4 ≤ length (storage self.now).now }
+        ensures { result.now ≡ drop 4 (storage self.now).now }
+    {
+        &self.buffer[4..]
+    }
+}
+
+impl DoneBuffer<Vec<u8>> {
+    /// The bytes behind the code: the attributes of an extended acknowledgement.
+    pub fn extended_ack(&self) -> &[u8]
+        requires { 4 ≤ length (storage self.now).items }
+        ensures { result.now ≡ drop 4 (storage self.now).items }
+    {
+        &self.buffer.as_slice()[4..]
+    }
+}
+
+impl<T: ByteViewMut> DoneBuffer<T> {
+    /// Sets the code.
+    pub fn set_code(&mut self, value: i32)
+        requires { 4 ≤ length (T.ByteView.bytes (storage self.old)) }
+        ensures bytes { T.ByteView.bytes (storage self.new)
+            ≡ put_at 0 (code_text value) (T.ByteView.bytes (storage self.old)) }
+        ensures same { T.same_storage (storage self.old) (storage self.new) }
+    {
+        write_code(&mut self.buffer, value);
+    }
+}
+
+impl<T: ByteLend> DoneBuffer<T> {
+    ghost use Rattle.netlink_packet_core_messages.specs.contracts.done.DoneBuffer.{the_row};
+
+    /// The bytes behind the code, to be written. Over a `&mut [u8]` write through `inner_mut`
+    /// instead.
+    pub fn extended_ack_mut(&mut self) -> &mut [u8]
+        requires { 4 ≤ length (T.ByteView.bytes (storage self.old)) }
+        ensures* writes_back { sem 𝓛 (Lends (the_row T.row) (Array u8 0) self.entry result
+            (λ w. view_of (T.with_part (storage self.old) 4 w))) }
+        ensures value { result.now ≡ drop 4 (T.ByteView.bytes (storage self.old)) }
+    {
+        let end = self.buffer.as_bytes().len();
+        self.buffer.part_mut(4, end)
+    }
+}
 
 /// The end of an answer of several messages.
 #[derive(Debug, Drop, PartialEq, Eq)]

@@ -1,15 +1,177 @@
-ghost use Rattle.std.specs.Prelude.{◌≡◌, ◌≤◌, ◌<◌, ◌++◌, nat_lt, true, false, ⊤, length, drop, Some, is_some, IfOk, IfErr, nat_abs};
+ghost use Rattle.std.specs.Prelude.{◌≡◌, ◌↔◌, ◌≤◌, length, drop, false, IfOk, IfErr, IsOk, ◌≢◌, pos, ◌<◌, ◌++◌, nat_lt, true, ⊤, Some, is_some, nat_abs};
+ghost use Rattle.std.specs.Borrow.{Lends, Array, sem, u8};
+ghost use Rattle.netlink_packet_core_grammar.specs.Bytes.{put_at};
 ghost use Rattle.netlink_packet_core_numbers.specs.Errors.{is_memory};
-ghost use Rattle.netlink_packet_core_buffers.specs.Codes.{raw_code, IsCode};
-ghost use Rattle.netlink_packet_core_buffers.specs.ErrorBuffers.{storage};
+ghost use Rattle.netlink_packet_core_messages.specs.ErrorBuffers.{storage, view_of};
+ghost use Rattle.netlink_packet_core_messages.specs.Codes.{code_of, code_text, nonzero_code, raw_code, IsCode};
+ghost use Rattle.std.specs.Int.{w32};
+ghost use Rattle.std.specs.Int.RustNames.{FitsSigned};
 ghost use Rattle.netlink_packet_core_messages.specs.ControlMessages.{error_message_text, error_of, read_error};
 
 use super::byte_vec::ByteVec;
-use super::code::emit_code;
+use super::code::{emit_code, read_code, write_code};
 use netlink_packet_core_attributes::traits::{Emitable, Parseable};
-use netlink_packet_core_buffers::error::{ErrorBuffer, ErrorCode};
+use netlink_packet_core_attributes::view::{ByteLend, ByteView, ByteViewMut};
 use netlink_packet_core_numbers::error::DecodeError;
 use std::alloc::Global;
+use std::marker::Model;
+
+/// The code of an error: any number of 32 bits but 0. The kernel's are negative error numbers.
+#[derive(Clone, Copy, Debug, PartialEq, Eq, Drop)]
+pub struct ErrorCode {
+    code: i32,
+}
+
+impl Model for ErrorCode {
+    ghost use Rattle.std.specs.Prelude.{◌≢◌, ℤ, pos};
+
+    ghost Value = { ℤ };
+
+    ghost view = { λ e. e.code };
+
+    ghost invariant = { λ e. e.code ≢ pos 0 };
+
+    ghost inverse = { λ z. record { code = z } };
+}
+
+impl ErrorCode {
+    /// The code of this number; 0 is none.
+    pub fn new(code: i32) -> Option<Self>
+        ensures { result ≡ nonzero_code code }
+    {
+        if code == 0 {
+            None
+        } else {
+            Some(ErrorCode { code })
+        }
+    }
+
+    /// The number.
+    pub fn get(&self) -> i32
+        ensures value { result ≡ self.now }
+        ensures not_zero { self.now ≢ pos 0 }
+        ensures fits { FitsSigned w32 self.now }
+    {
+        self.code
+    }
+}
+
+/// The body of an ERROR message (netlink.h, `struct nlmsgerr`): a code of 4 bytes, little-endian,
+/// and the header of the message that it answers, with what the kernel adds.
+#[derive(Clone, Copy, Debug, Drop)]
+pub struct ErrorBuffer<T> {
+    buffer: T,
+}
+
+impl<T> ErrorBuffer<T> {
+    ghost use Rattle.netlink_packet_core_messages.specs.contracts.error.ErrorBuffer.{the_row};
+
+    /// A view of bytes that have not been looked at.
+    pub fn new(buffer: T) -> Self
+        ensures { storage result ≡ buffer }
+    {
+        ErrorBuffer { buffer }
+    }
+
+    /// The storage.
+    pub fn into_inner(self) -> T
+        ensures { result ≡ storage self }
+    {
+        self.buffer
+    }
+
+    /// The storage, to be written.
+    pub fn inner_mut(&mut self) -> &mut T
+        ensures* writes_back { sem 𝓛 (Lends (the_row T.row) T.row self.entry result view_of) }
+        ensures value { result.now ≡ storage self.old }
+    {
+        &mut self.buffer
+    }
+}
+
+impl<T: ByteView> ErrorBuffer<T> {
+    /// A view of bytes that hold a code: there are at least 4.
+    pub fn new_checked(buffer: T) -> Result<Self, DecodeError>
+    where
+        T: Drop,
+        ensures whole { IsOk result ↔ (4 ≤ length (T.bytes buffer)) }
+        ensures ok { IfOk result (λ view. storage view ≡ buffer) }
+        ensures err { IfErr result (λ e. is_memory e ≡ false) }
+    {
+        let size = buffer.as_bytes().len();
+        if size < 4 {
+            return Err(DecodeError::invalid_buffer("ErrorBuffer", size, 4));
+        }
+        Ok(ErrorBuffer { buffer })
+    }
+
+    /// The code, if it is not 0: an ERROR message with the code 0 is an acknowledgement.
+    pub fn code(&self) -> Option<ErrorCode>
+        requires { 4 ≤ length (T.bytes (storage self.now)) }
+        ensures { result ≡ nonzero_code (code_of (T.bytes (storage self.now))) }
+    {
+        ErrorCode::new(read_code(self.buffer.as_bytes()))
+    }
+}
+
+impl<'a> ErrorBuffer<&'a [u8]> {
+    /// The bytes behind the code: the header of the message that is answered, and more, for as long as the storage lives.
+    pub fn payload(&self) -> &'a [u8]
+        requires { 4 ≤ length (storage self.now).now }
+        ensures { result.now ≡ drop 4 (storage self.now).now }
+    {
+        let buffer = self.buffer;
+        &buffer[4..]
+    }
+}
+
+impl<'a> ErrorBuffer<&'a mut [u8]> {
+    /// The bytes behind the code: the header of the message that is answered, and more.
+    pub fn payload(&self) -> &[u8]
+        requires { 4 ≤ length (storage self.now).now }
+        ensures { result.now ≡ drop 4 (storage self.now).now }
+    {
+        &self.buffer[4..]
+    }
+}
+
+impl ErrorBuffer<Vec<u8>> {
+    /// The bytes behind the code: the header of the message that is answered, and more.
+    pub fn payload(&self) -> &[u8]
+        requires { 4 ≤ length (storage self.now).items }
+        ensures { result.now ≡ drop 4 (storage self.now).items }
+    {
+        &self.buffer.as_slice()[4..]
+    }
+}
+
+impl<T: ByteViewMut> ErrorBuffer<T> {
+    /// Sets the code.
+    pub fn set_code(&mut self, value: i32)
+        requires { 4 ≤ length (T.ByteView.bytes (storage self.old)) }
+        ensures bytes { T.ByteView.bytes (storage self.new)
+            ≡ put_at 0 (code_text value) (T.ByteView.bytes (storage self.old)) }
+        ensures same { T.same_storage (storage self.old) (storage self.new) }
+    {
+        write_code(&mut self.buffer, value);
+    }
+}
+
+impl<T: ByteLend> ErrorBuffer<T> {
+    ghost use Rattle.netlink_packet_core_messages.specs.contracts.error.ErrorBuffer.{the_row};
+
+    /// The bytes behind the code, to be written. Over a `&mut [u8]` write through `inner_mut`
+    /// instead.
+    pub fn payload_mut(&mut self) -> &mut [u8]
+        requires { 4 ≤ length (T.ByteView.bytes (storage self.old)) }
+        ensures* writes_back { sem 𝓛 (Lends (the_row T.row) (Array u8 0) self.entry result
+            (λ w. view_of (T.with_part (storage self.old) 4 w))) }
+        ensures value { result.now ≡ drop 4 (T.ByteView.bytes (storage self.old)) }
+    {
+        let end = self.buffer.as_bytes().len();
+        self.buffer.part_mut(4, end)
+    }
+}
 
 /// A failure, or an acknowledgement where there is no code.
 #[derive(Debug, Drop, PartialEq, Eq)]

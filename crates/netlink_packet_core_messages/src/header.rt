@@ -1,9 +1,9 @@
 ghost use Rattle.std.specs.Prelude.{◌≡◌, ◌≤◌, ◌++◌, length, drop, true, false, ⊤};
-ghost use Rattle.netlink_packet_core_buffers.specs.NetlinkBuffers.{storage};
+ghost use Rattle.netlink_packet_core_messages.specs.NetlinkBuffers.{storage};
 ghost use Rattle.netlink_packet_core_messages.specs.Headers.{header_of, header_text, HeaderFits};
 
+use super::buffer::{NETLINK_HEADER_LEN, NetlinkBuffer};
 use netlink_packet_core_attributes::traits::{Emitable, Parseable};
-use netlink_packet_core_buffers::buffer::{NETLINK_HEADER_LEN, NetlinkBuffer};
 use netlink_packet_core_numbers::error::DecodeError;
 use std::alloc::Global;
 

@@ -1,7 +1,8 @@
-//! Netlink messages: the header of a frame, the bodies of control messages, and the payloads of
-//! protocols.
+//! Netlink messages: views of frames and of the bodies of control messages, over any storage of
+//! bytes; the header of a frame, these bodies, and the payloads of protocols.
 #![tactic(auto)]
 
+pub mod buffer;
 pub mod byte_vec;
 mod code;
 pub mod constants;
@@ -14,9 +15,10 @@ pub mod message;
 pub mod payload;
 pub mod payload_traits;
 
+pub use buffer::{NETLINK_HEADER_LEN, NetlinkBuffer};
 pub use byte_vec::ByteVec;
-pub use done::DoneMessage;
-pub use error::ErrorMessage;
+pub use done::{DoneBuffer, DoneMessage};
+pub use error::{ErrorBuffer, ErrorCode, ErrorMessage};
 pub use frame_error::FrameError;
 pub use header::NetlinkHeader;
 pub use message::NetlinkMessage;

@@ -1,18 +1,17 @@
 ghost use Rattle.std.specs.Prelude.{◌≡◌, ◌≤◌, ◌<◌, ◌^◌, ◌++◌, Some, None, true, false, length, drop, IfOk, IfErr};
 ghost use Rattle.netlink_packet_core_grammar.specs.Frames.{IsFrame, frame_type, frame_body};
 ghost use Rattle.netlink_packet_core_grammar.specs.Numbers.{as_usize};
-ghost use Rattle.netlink_packet_core_buffers.specs.NetlinkBuffers.{storage};
+ghost use Rattle.netlink_packet_core_messages.specs.NetlinkBuffers.{storage};
 ghost use Rattle.netlink_packet_core_messages.specs.Payloads.{payload_may_want_memory, OfInner};
-ghost use Rattle.netlink_packet_core_messages.specs.Messages.{message_text, message_size, message_value, read_message};
-ghost use Rattle.netlink_packet_core_messages.specs.Messages.{finalized, IsFinalized};
+ghost use Rattle.netlink_packet_core_messages.specs.Messages.{message_text, message_size, message_value, read_message, finalized, IsFinalized};
 ghost use Rattle.netlink_packet_core_messages.specs.Refusals.{wants_memory, Tells};
 
+use super::buffer::{NETLINK_HEADER_LEN, NetlinkBuffer};
 use super::frame_error::FrameError;
 use super::header::NetlinkHeader;
 use super::payload::NetlinkPayload;
 use super::payload_traits::{NetlinkDeserializable, NetlinkSerializable};
 use netlink_packet_core_attributes::traits::{Emitable, Parseable};
-use netlink_packet_core_buffers::buffer::{NETLINK_HEADER_LEN, NetlinkBuffer};
 use std::alloc::Global;
 
 /// A message: its header and its body.

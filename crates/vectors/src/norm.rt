@@ -7,9 +7,10 @@ ghost use Rattle.vectors.specs.Norm.{answer, measure_text};
 use crate::cases::{Case, LEAST_LIMIT, PIECES, read_case};
 use hex::encode;
 use link_capture_checks::{Measure, check, measure, normal_len};
-use link_capture_engine::{ReadSource, SliceSource, Source, VecSink, normalize, read_all};
 use link_capture_grammar::fault::{CaptureFault, FaultKind};
-use link_capture_reader::{CaptureReader, normalize_bytes};
+use link_capture_reader::{
+    CaptureReader, ReadSource, SliceSource, Source, VecSink, normalize, normalize_bytes, read_all,
+};
 use std::alloc::{AllocError, Global};
 use std::io::{self, ErrorKind, Read, Write};
 

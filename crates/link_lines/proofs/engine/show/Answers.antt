@@ -4,8 +4,8 @@ use Rattle.std.proofs.lemmas.List.{append-nil, length-take}
 use Rattle.std.proofs.lemmas.Result.{err_from_is_err_and}
 use Rattle.std.proofs.KnownBytes.{Appends-trans, Consumes-trans}
 use Rattle.std.specs.Io.KnownBytes.{Appends, Consumes}
-use Rattle.link_capture_engine.specs.Devices.{risen}
-use Rattle.link_capture_engine.specs.Outcomes.{IsPrefix}
+use Rattle.link_capture_reader.specs.Devices.{risen}
+use Rattle.link_capture_reader.specs.Outcomes.{IsPrefix}
 use Rattle.link_capture_refusals.specs.RefusalViews.{all_found}
 use Rattle.link_lines_texts.specs.Captures.{text_lines, lines}
 use Rattle.link_lines.specs.Options.{choice_of}

@@ -1,5 +1,5 @@
 use Rattle.std.proofs.Common.{length}
-use Rattle.link_capture_engine.specs.States.{sink_state}
+use Rattle.link_capture_reader.specs.States.{sink_state}
 use Rattle.linkshow_program.proofs.Telling.{Told}
 use Rattle.linkshow_program.proofs.lines.tell_all.Given as goal
 

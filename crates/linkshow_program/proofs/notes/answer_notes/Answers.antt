@@ -2,10 +2,10 @@ use Rattle.std.proofs.Common.{◌≡◌, ℕ, List, Some, Err, refl, subst, ◌�
 use Rattle.std.specs.Prelude.{option_map}
 use Rattle.std.specs.Process.{exit_status}
 use Rattle.link_capture_commands.specs.Commands.{status_of}
-use Rattle.link_capture_engine.specs.Devices.{Rises, TellsItsEnd}
+use Rattle.link_capture_reader.specs.Devices.{Rises, TellsItsEnd}
 use Rattle.link_capture_spellings.specs.Spellings.{spellings}
 use Rattle.link_lines.specs.Outcomes.{Shows}
-use Rattle.link_capture_engine.specs.States.{Tells, sink_state}
+use Rattle.link_capture_reader.specs.States.{Tells, sink_state}
 use Rattle.linkshow_program.specs.Devices.{kept_first}
 use Rattle.linkshow_program.specs.Runs.{chosen, notes_text, told_of}
 use Rattle.linkshow_program.proofs.notes.answer_notes.Goals as goal

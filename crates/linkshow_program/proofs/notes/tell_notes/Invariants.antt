@@ -1,5 +1,5 @@
 use Rattle.link_capture_spellings.specs.Spellings.{spellings, answers_left}
-use Rattle.link_capture_engine.specs.States.{sink_state}
+use Rattle.link_capture_reader.specs.States.{sink_state}
 use Rattle.linkshow_program.specs.Runs.{notes_text}
 use Rattle.linkshow_program.proofs.Noting.{Noted}
 use Rattle.linkshow_program.proofs.notes.tell_notes.Given as goal

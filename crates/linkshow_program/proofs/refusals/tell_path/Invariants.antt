@@ -1,6 +1,6 @@
 use Rattle.std.proofs.Common.{length, map}
 use Rattle.link_capture_refusals.specs.RefusalWords.{path_text}
-use Rattle.link_capture_engine.specs.States.{sink_state}
+use Rattle.link_capture_reader.specs.States.{sink_state}
 use Rattle.linkshow_program.proofs.Telling.{Come}
 use Rattle.linkshow_program.proofs.refusals.tell_path.Given as goal
 

@@ -1,4 +1,0 @@
-pub mod Devices
-pub mod Known
-pub mod Outcomes
-pub mod States

@@ -1,0 +1,112 @@
+//! From a source to a sink.
+
+ghost use Rattle.std.specs.Prelude.{◌≡◌, ◌+◌, ◌-◌, ◌^◌, ◌≤◌, ℕ, List, length, take, min, IfOk, IfErr, MatchResult};
+ghost use Rattle.std.specs.Io.KnownBytes.{Consumes, Appends};
+ghost use Rattle.link_capture_reader.specs.Devices.{Rises, TellsItsEnd};
+ghost use Rattle.link_capture_reader.specs.Outcomes.{Normalizes, ReadFault};
+
+use super::devices::{Sink, Source};
+use super::reader::CaptureReader;
+use link_capture_grammar::fault::{CaptureFault, FaultKind};
+use link_capture_grammar::laws::texts_of_a_prefix_stay;
+use std::alloc::Global;
+
+/// Writes all of these bytes, after so many. The answer is how many were written then; `u64::MAX` stands for more. A
+/// failed write is told at the number of bytes taken, those before counted.
+pub fn write_all<K: Sink>(sink: &mut K, bytes: &[u8], written: u64) -> Result<u64, CaptureFault>
+    ensures ok { IfOk result (λ total. (total ≡ min (written + length bytes.now) (2 ^ 64 - 1))
+        × Appends (K.holds sink.old) (K.holds sink.new) bytes.now
+        × (K.failures sink.new ≡ K.failures sink.old)) }
+    ensures fault { IfErr result (λ fault. (fault.kind ≡ FaultKind.Write)
+        × Rises (K.failures sink.old) (K.failures sink.new)
+        × ((n : ℕ) × (n ≤ length bytes.now) × (fault.offset ≡ min (written + n) (2 ^ 64 - 1))
+        × Appends (K.holds sink.old) (K.holds sink.new) (take n bytes.now))) }
+{
+    let mut at = 0usize;
+    while at < bytes.len() {
+        match sink.write(&bytes[at..]) {
+            Ok(taken) if taken > 0 => at += taken,
+            _ => {
+                return Err(CaptureFault {
+                    kind: FaultKind::Write,
+                    offset: written.saturating_add(at as u64),
+                });
+            }
+        }
+    }
+    Ok(written.saturating_add(at as u64))
+}
+
+/// Reads a capture to its end, in pieces of at most 65,536 bytes, and writes its normal text as the frames come.
+///
+/// `limit` is the greatest length in bytes that a message, read or written, may have. It is done where the source
+/// told its end and the capture is legal. Otherwise the answer is the capture's first fault with its place; a failed
+/// read at the number of bytes read; a failed write at the number of bytes taken; want of memory at a frame; or
+/// `TooLong` at the number of bytes accepted. Before any fault but a failed write, the texts of the frames before it
+/// are written.
+pub fn normalize<S: Source, K: Sink>(
+    alloc: Global,
+    source: &mut S,
+    sink: &mut K,
+    limit: u32,
+) -> Result<(), CaptureFault>
+    requires { 16 ≤ limit }
+    ensures { Normalizes (S.to_come source.old) (S.to_come source.new)
+        (K.holds sink.old) (K.holds sink.new)
+        (TellsItsEnd (S.ends_told source.old) (S.ends_told source.new) (S.to_come source.new))
+        (Rises (S.failures source.old) (S.failures source.new))
+        (Rises (K.failures sink.old) (K.failures sink.new)) limit result }
+{
+    let mut reader = CaptureReader::new(alloc, limit);
+    let mut buffer = [0u8; 65536];
+    let mut out = Vec::new(alloc);
+    let mut written = 0u64;
+    'pieces: loop {
+        let Ok(size) = source.read(&mut buffer) else {
+            return Err(CaptureFault {
+                kind: FaultKind::Read,
+                offset: reader.accepted(),
+            });
+        };
+        if size == 0 {
+            return reader.finish();
+        }
+        let fed = reader.feed(&buffer[..size], &mut out);
+        texts_of_a_prefix_stay();
+        written = write_all(sink, out.as_slice(), written)?;
+        fed?;
+        out.clear();
+    }
+}
+
+/// All bytes of a source. A failed read and want of memory are told at the number of bytes read; want of memory, of no
+/// source that failed.
+pub fn read_all<S: Source>(alloc: Global, source: &mut S) -> Result<Vec<u8>, CaptureFault>
+    // s was read.
+    ensures { (s : List ℕ) × Consumes (S.to_come source.old) (S.to_come source.new) s
+        × MatchResult result
+        (λ bytes. (bytes.items ≡ s) × (S.failures source.new ≡ S.failures source.old)
+        × TellsItsEnd (S.ends_told source.old) (S.ends_told source.new) (S.to_come source.new))
+        (λ fault. ReadFault (S.failures source.old) (S.failures source.new) s fault.kind
+        × (fault.offset ≡ length s)) }
+{
+    let mut buffer = [0u8; 65536];
+    let mut bytes = Vec::new(alloc);
+    'pieces: loop {
+        let Ok(count) = source.read(&mut buffer) else {
+            return Err(CaptureFault {
+                kind: FaultKind::Read,
+                offset: bytes.len() as u64,
+            });
+        };
+        if count == 0 {
+            return Ok(bytes);
+        }
+        if bytes.extend_from_slice(&buffer[..count]).is_err() {
+            return Err(CaptureFault {
+                kind: FaultKind::Memory,
+                offset: bytes.len() as u64 + count as u64,
+            });
+        }
+    }
+}

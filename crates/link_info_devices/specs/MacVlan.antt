@@ -1,0 +1,69 @@
+-- The data of macvlan and of macvtap: the kind and the payload of each value.
+use Rattle.std.specs.Prelude.{◌≡◌, ◌++◌, ◌&&◌, ◌==◌, cond, ℕ, Bool, true, List, []}
+use Rattle.std.specs.List.{All}
+use Rattle.std.specs.Int.{w32, cast_unsigned}
+use Rattle.netlink_packet_core.specs.Attributes.{Attribute, proper_kind, attribute_text}
+use Rattle.netlink_packet_core.specs.Fits.{attribute_fits}
+use Rattle.netlink_packet_core.specs.Numbers.{le2, le4}
+use Rattle.link_info_types.specs.MacVlanTypes.{mac_vlan_mode_number, mac_vlan_mode_of, mac_vlan_flags_bits, mac_vlan_mac_address_mode_number, mac_vlan_mac_address_mode_of}
+use Rattle.link_info_grammar.specs.Families.{macvlan, macvlan_address}
+use Rattle.attribute_tables_grammar.specs.Lists.{row_at}
+use Rattle.attribute_tables_grammar.specs.LookUps.{has_no_row}
+use Rattle.attribute_tables_grammar.specs.Tables.{Table}
+use Rattle.attribute_tables.specs.Beginnings.{begins_accepted}
+use Rattle.netlink_packet_core.specs.AttributeViews.{viewed_attribute, viewed_kind, viewed_payload}
+use Rattle.netlink_packet_core.specs.Families.{Gives, attribute, family_row, may_want_memory}
+use Rattle.link_info_devices.specs.declared.mac_vlan.InfoMacVlan.{InfoMacVlan, Row_of-InfoMacVlan, end_of-InfoMacVlan, more_of-InfoMacVlan, items-the_row-InfoMacVlan, Mode, Flags, MacAddrMode, MacAddr, MacAddrData', MacAddrCount, BcQueueLen, BcQueueLenUsed, BcCutoff, Other}
+
+-- the kind and the payload of a value, and the text of a list of values
+abbrev mutual
+  pub mac_vlan_entry : InfoMacVlan → Attribute
+  mac_vlan_entry (Mode m) = attribute 1 (le4 (mac_vlan_mode_number m))
+  mac_vlan_entry (Flags f) = attribute 2 (le2 (mac_vlan_flags_bits f))
+  mac_vlan_entry (MacAddrMode m) = attribute 3 (le4 (mac_vlan_mac_address_mode_number m))
+  mac_vlan_entry (MacAddr a) = attribute 4 a
+  mac_vlan_entry (MacAddrData' shape row) = attribute 5 (mac_vlan_texts row)
+  mac_vlan_entry (MacAddrCount m) = attribute 6 (le4 m)
+  mac_vlan_entry (BcQueueLen m) = attribute 7 (le4 m)
+  mac_vlan_entry (BcQueueLenUsed m) = attribute 8 (le4 m)
+  mac_vlan_entry (BcCutoff z) = attribute 9 (le4 (cast_unsigned w32 z))
+  mac_vlan_entry (Other a) = a
+
+  pub mac_vlan_texts : {m : _} → Row_of-InfoMacVlan m → List ℕ
+  mac_vlan_texts end_of-InfoMacVlan = []
+  mac_vlan_texts (more_of-InfoMacVlan v row) = attribute_text (mac_vlan_entry v) ++ mac_vlan_texts row
+
+-- each length inside a value fits the 2 bytes of its header, at all depths
+abbrev mutual
+  pub mac_vlan_fits : InfoMacVlan → Bool
+  mac_vlan_fits (MacAddrData' shape row) = mac_vlan_all_fit row
+  mac_vlan_fits _ = true
+
+  pub mac_vlan_all_fit : {m : _} → Row_of-InfoMacVlan m → Bool
+  mac_vlan_all_fit end_of-InfoMacVlan = true
+  mac_vlan_all_fit (more_of-InfoMacVlan v row) = (attribute_fits (mac_vlan_entry v) && mac_vlan_fits v) && mac_vlan_all_fit row
+
+-- by the rows of a table: a number that has a name is read as what it names, and no kind that has a row as another attribute
+abbrev pub mac_vlan_named_by : Table → (List InfoMacVlan → Type 0) → InfoMacVlan → Type 0
+mac_vlan_named_by t inside (Mode m) = m ≡ mac_vlan_mode_of (mac_vlan_mode_number m)
+mac_vlan_named_by t inside (MacAddrMode m) = m ≡ mac_vlan_mac_address_mode_of (mac_vlan_mac_address_mode_number m)
+mac_vlan_named_by t inside (MacAddrData' shape row) = inside (items-the_row-InfoMacVlan _ row)
+mac_vlan_named_by t inside (Other a) = has_no_row t (proper_kind a.kind)
+mac_vlan_named_by t inside _ = Unit {0}
+
+-- in the list of source addresses, where no value is a list
+abbrev pub mac_vlan_address_names_row : InfoMacVlan → Type 0
+mac_vlan_address_names_row = mac_vlan_named_by macvlan_address (λ _. ⊥)
+
+abbrev pub mac_vlan_names_row : InfoMacVlan → Type 0
+mac_vlan_names_row = mac_vlan_named_by macvlan (All mac_vlan_address_names_row)
+
+-- reading an attribute may want memory: the list where its first attribute is accepted, another one where its row holds bytes and accepts it
+abbrev pub mac_vlan_may_want_memory : List ℕ → Bool
+mac_vlan_may_want_memory b = cond (proper_kind (viewed_kind b) == 5) (begins_accepted (family_row macvlan_address) (viewed_payload b)) (may_want_memory macvlan b)
+
+-- it is the value of the attribute that the bytes begin with
+pub record MacVlanGives (b : List ℕ) (v : InfoMacVlan) : Type 0 where
+  pub entry : Gives macvlan b (mac_vlan_entry v)
+  pub fits : mac_vlan_fits v ≡ (row_at (family_row macvlan) (viewed_attribute b)).rule.fits (viewed_payload b)
+  pub names_row : mac_vlan_names_row v

@@ -1,0 +1,35 @@
+-- The data of macsec: the kind and the payload of each value.
+use Rattle.std.specs.Prelude.{◌≡◌, ◌∷◌, []}
+use Rattle.netlink_packet_core.specs.Attributes.{Attribute, proper_kind}
+use Rattle.netlink_packet_core.specs.Numbers.{be2, le4, le8}
+use Rattle.link_info_types.specs.MacSecTypes.{mac_sec_cipher_id_number, mac_sec_cipher_id_of, mac_sec_validate_number, mac_sec_validate_of, mac_sec_offload_number, mac_sec_offload_of}
+use Rattle.link_info_grammar.specs.Families.{macsec}
+use Rattle.attribute_tables_grammar.specs.LookUps.{has_no_row}
+use Rattle.netlink_packet_core.specs.Families.{attribute}
+use Rattle.link_info_devices.specs.declared.macsec.InfoMacSec.{InfoMacSec}
+use Rattle.link_info_devices.specs.declared.macsec.InfoMacSec.TheVariants as MacSec
+
+abbrev pub macsec_entry : InfoMacSec → Attribute
+macsec_entry (MacSec.Sci n) = attribute 1 (le8 n)
+macsec_entry (MacSec.Port n) = attribute 2 (be2 n)
+macsec_entry (MacSec.IcvLen n) = attribute 3 (n ∷ [])
+macsec_entry (MacSec.CipherSuite m) = attribute 4 (le8 (mac_sec_cipher_id_number m))
+macsec_entry (MacSec.Window n) = attribute 5 (le4 n)
+macsec_entry (MacSec.EncodingSa n) = attribute 6 (n ∷ [])
+macsec_entry (MacSec.Encrypt n) = attribute 7 (n ∷ [])
+macsec_entry (MacSec.Protect n) = attribute 8 (n ∷ [])
+macsec_entry (MacSec.IncSci n) = attribute 9 (n ∷ [])
+macsec_entry (MacSec.Es n) = attribute 10 (n ∷ [])
+macsec_entry (MacSec.Scb n) = attribute 11 (n ∷ [])
+macsec_entry (MacSec.ReplayProtect n) = attribute 12 (n ∷ [])
+macsec_entry (MacSec.Validation m) = attribute 13 (mac_sec_validate_number m ∷ [])
+macsec_entry (MacSec.Offload m) = attribute 15 (mac_sec_offload_number m ∷ [])
+macsec_entry (MacSec.Other a) = a
+
+-- a number that has a name is read as what it names, and no kind that has a row as another attribute
+abbrev pub macsec_names_row : InfoMacSec → Type 0
+macsec_names_row (MacSec.CipherSuite m) = m ≡ mac_sec_cipher_id_of (mac_sec_cipher_id_number m)
+macsec_names_row (MacSec.Validation m) = m ≡ mac_sec_validate_of (mac_sec_validate_number m)
+macsec_names_row (MacSec.Offload m) = m ≡ mac_sec_offload_of (mac_sec_offload_number m)
+macsec_names_row (MacSec.Other a) = has_no_row macsec (proper_kind a.kind)
+macsec_names_row _ = Unit {0}

@@ -1,0 +1,21 @@
+-- The data of veth and of vxcan: the kind and the payload of each value.
+use Rattle.std.specs.Prelude.{ℕ}
+use Rattle.netlink_packet_core.specs.Attributes.{Attribute, proper_kind}
+use Rattle.netlink_packet_core.specs.Families.{attribute}
+use Rattle.attribute_tables_grammar.specs.LookUps.{has_no_row}
+use Rattle.link_info_grammar.specs.Families.{pair}
+use Rattle.link_info_devices.specs.declared.veth.PairData.{PairData}
+use Rattle.link_info_devices.specs.declared.veth.PairData.TheVariants as Pair
+
+-- the number of the kind
+abbrev pub pair_number : {n : ℕ} → PairData n → ℕ
+pair_number {n} v = n
+
+abbrev pub pair_entry : {n : ℕ} → PairData n → Attribute
+pair_entry (Pair.Peer b) = attribute 1 b.items
+pair_entry (Pair.Other a) = a
+
+-- no kind that has a row is read as another attribute
+abbrev pub pair_names_row : {n : ℕ} → PairData n → Type 0
+pair_names_row (Pair.Other a) = has_no_row pair (proper_kind a.kind)
+pair_names_row _ = Unit {0}

@@ -1,0 +1,122 @@
+//! Data of the kind `netkit` (if_link.h, IFLA_NETKIT_*). Numbers are little-endian.
+
+ghost use Rattle.std.specs.Prelude.{◌≡◌, ◌↔◌, false, length, refl, IsOk, IfOk, IfErr};
+ghost use Rattle.netlink_packet_core.specs.Errors.{is_memory};
+ghost use Rattle.netlink_packet_core.specs.Numbers.{le4};
+ghost use Rattle.attribute_tables_grammar.specs.Shapes.{number_truth};
+ghost use Rattle.link_info_types.specs.NetkitTypes.{netkit_scrub_number};
+ghost use Rattle.link_info_grammar.specs.Families.{netkit};
+ghost use Rattle.link_info_devices.specs.Netkit.{netkit_entry, netkit_names_row};
+
+use attribute_tables::{parse_bytes, typed};
+use link_info_types::{NetkitMode, NetkitPolicy, NetkitScrub};
+use netlink_packet_core::{
+    DecodeError, DefaultNla, Family, Field, FieldNla, Nla, parse_bool, parse_u16, parse_u32,
+};
+use std::alloc::Global;
+
+const IFLA_NETKIT_PEER_INFO: u16 = 1;
+
+const IFLA_NETKIT_PRIMARY: u16 = 2;
+
+const IFLA_NETKIT_POLICY: u16 = 3;
+
+const IFLA_NETKIT_PEER_POLICY: u16 = 4;
+
+const IFLA_NETKIT_MODE: u16 = 5;
+
+const IFLA_NETKIT_SCRUB: u16 = 6;
+
+const IFLA_NETKIT_PEER_SCRUB: u16 = 7;
+
+const IFLA_NETKIT_HEADROOM: u16 = 8;
+
+const IFLA_NETKIT_TAILROOM: u16 = 9;
+
+/// An attribute of the data of `netkit`.
+#[derive(Debug, PartialEq, Eq, Drop)]
+pub enum InfoNetkit {
+    /// `IFLA_NETKIT_PEER_INFO`: the other end, a link message with its header of 16 bytes. The bytes
+    /// are kept as they are; `parse_netkit_with` keeps what its rule writes them as.
+    Peer(Vec<u8>),
+    /// `IFLA_NETKIT_PRIMARY`: whether this end is the one that programs are attached by; 1 byte,
+    /// zero or not.
+    Primary(bool),
+    /// `IFLA_NETKIT_POLICY`: what becomes of packets where no program decides; 4 bytes.
+    Policy(NetkitPolicy),
+    /// `IFLA_NETKIT_PEER_POLICY`: the same at the other end; 4 bytes.
+    PeerPolicy(NetkitPolicy),
+    /// `IFLA_NETKIT_MODE`: whether packets have Ethernet headers; 4 bytes.
+    Mode(NetkitMode),
+    /// `IFLA_NETKIT_SCRUB`: whether what the sender noted on a packet is cleared; 4 bytes, zero or
+    /// not.
+    Scrub(NetkitScrub),
+    /// `IFLA_NETKIT_PEER_SCRUB`: the same at the other end; 4 bytes, zero or not.
+    PeerScrub(NetkitScrub),
+    /// `IFLA_NETKIT_HEADROOM`: the room in front of a packet, in bytes; 2 bytes.
+    Headroom(u16),
+    /// `IFLA_NETKIT_TAILROOM`: the room behind a packet, in bytes; 2 bytes.
+    Tailroom(u16),
+    /// Any other kind, kept as it is.
+    Other(DefaultNla),
+}
+
+/// Reads 4 bytes, which are all zero or not.
+fn parse_scrub(payload: &[u8]) -> Result<NetkitScrub, DecodeError>
+    ensures size { IsOk result ↔ (length payload.now ≡ 4) }
+    ensures ok { IfOk result (λ s. le4 (netkit_scrub_number s) ≡ number_truth payload.now) }
+    ensures err { IfErr result (λ e. is_memory e ≡ false) }
+{
+    match payload {
+        [a, b, c, d] => Ok(NetkitScrub::from(
+            u32::from(*a) + u32::from(*b) + u32::from(*c) + u32::from(*d),
+        )),
+        _ => Err(DecodeError::invalid_number(4, payload.len())),
+    }
+}
+
+impl FieldNla for InfoNetkit {
+    ghost field_entry = { netkit_entry };
+
+    fn field(&self) -> (u16, Field<'_>) {
+        match self {
+            Self::Peer(bytes) => (IFLA_NETKIT_PEER_INFO, Field::Bytes(bytes)),
+            Self::Primary(truth) => (IFLA_NETKIT_PRIMARY, Field::Bool(*truth)),
+            Self::Policy(policy) => (IFLA_NETKIT_POLICY, Field::U32(u32::from(*policy))),
+            Self::PeerPolicy(policy) => (IFLA_NETKIT_PEER_POLICY, Field::U32(u32::from(*policy))),
+            Self::Mode(mode) => (IFLA_NETKIT_MODE, Field::U32(u32::from(*mode))),
+            Self::Scrub(scrub) => (IFLA_NETKIT_SCRUB, Field::U32(u32::from(*scrub))),
+            Self::PeerScrub(scrub) => (IFLA_NETKIT_PEER_SCRUB, Field::U32(u32::from(*scrub))),
+            Self::Headroom(room) => (IFLA_NETKIT_HEADROOM, Field::U16(*room)),
+            Self::Tailroom(room) => (IFLA_NETKIT_TAILROOM, Field::U16(*room)),
+            Self::Other(nla) => (nla.kind(), Field::Bytes(nla.value())),
+        }
+    }
+}
+
+impl Family for InfoNetkit {
+    ghost rows = { netkit };
+
+    ghost names_row = { netkit_names_row };
+
+    fn read_row(alloc: Global, kind: u16, payload: &[u8]) -> Result<Option<Self>, DecodeError> {
+        match kind {
+            IFLA_NETKIT_PEER_INFO => typed!(Peer, parse_bytes(alloc, payload)),
+            IFLA_NETKIT_PRIMARY => typed!(Primary, parse_bool(payload)),
+            IFLA_NETKIT_POLICY => typed!(Policy, parse_u32(payload), NetkitPolicy),
+            IFLA_NETKIT_PEER_POLICY => typed!(PeerPolicy, parse_u32(payload), NetkitPolicy),
+            IFLA_NETKIT_MODE => typed!(Mode, parse_u32(payload), NetkitMode),
+            IFLA_NETKIT_SCRUB => typed!(Scrub, parse_scrub(payload)),
+            IFLA_NETKIT_PEER_SCRUB => typed!(PeerScrub, parse_scrub(payload)),
+            IFLA_NETKIT_HEADROOM => typed!(Headroom, parse_u16(payload)),
+            IFLA_NETKIT_TAILROOM => typed!(Tailroom, parse_u16(payload)),
+            _ => Ok(None),
+        }
+    }
+
+    fn other(nla: DefaultNla) -> Self {
+        Self::Other(nla)
+    }
+
+    ghost plain = { refl };
+}

@@ -1,0 +1,172 @@
+//! Data of links that come in pairs, whose peers are read by a rule that may be the caller's own.
+
+ghost use Rattle.std.specs.Prelude.{◌≡◌, ◌<◌, false, true, length, refl, Some, IfOk, IfErr};
+ghost use Rattle.std.specs.List.{All};
+ghost use Rattle.netlink_packet_core.specs.Attributes.{attribute_text};
+ghost use Rattle.netlink_packet_core.specs.AttributeViews.{IsAttribute};
+ghost use Rattle.netlink_packet_core.specs.Families.{attribute};
+ghost use Rattle.netlink_packet_core.specs.Fits.{attribute_fits};
+ghost use Rattle.netlink_packet_core.specs.NlaBuffers.{storage};
+ghost use Rattle.attribute_tables_grammar.specs.Lists.{any, first_alone, without_context};
+ghost use Rattle.attribute_tables_grammar.specs.LookUps.{line_at, list_of, table_row};
+ghost use Rattle.attribute_tables_grammar.specs.Readings.{reading_as};
+ghost use Rattle.attribute_tables_grammar.specs.Tables.{Payload, holds_no_peers_but};
+ghost use Rattle.attribute_tables.specs.Beginnings.{begins_accepted};
+ghost use Rattle.attribute_tables.specs.Views.{fits_by, is_accepted_by, rewritten_by};
+ghost use Rattle.link_info_grammar.specs.Families.{netkit, pair};
+ghost use Rattle.link_info_devices.specs.Netkit.{netkit_entry, netkit_names_row};
+ghost use Rattle.link_info_devices.specs.Veth.{pair_entry, pair_names_row};
+ghost use Rattle.attribute_tables.specs.Outcomes.{IfMemory, IsRefusedUnless, IsWrittenBy, ListIsReadAs, ListIsWrittenBy, SucceedsWhere};
+
+use super::netkit::InfoNetkit;
+use super::veth::PairData;
+use attribute_checks::PeerRule;
+use attribute_tables::{Reader, parse_first_by, parse_list};
+use attribute_tables_grammar::laws::{
+    rows_are_looked_up, rows_without_lists_fit, rules_without_peers_are_one,
+};
+use netlink_packet_core::{DecodeError, Family, NlaBuffer, read_attribute};
+use netlink_packet_core_grammar::laws::first_attributes_are_viewed;
+use std::alloc::Global;
+
+const PEER: u16 = 1;
+
+/// A family of which the attribute of kind 1 holds a peer, and no other does.
+pub(crate) trait PeerFamily: Family {
+    /// The attribute of a peer that is written with this payload.
+    fn of_peer(payload: Vec<u8>) -> Self
+        ensures entry { Self.field_entry result ≡ attribute 1 payload.items }
+        ensures names_row { Self.names_row result };
+
+    /// Kind 1 is a peer's.
+    ghost peer_line: { line_at Self.rows 1
+        ≡ Some (record { is_nested = false; payload = Payload.peer }) };
+
+    /// No other kind is.
+    ghost one_peer: { holds_no_peers_but 1 Self.rows ≡ true };
+}
+
+impl PeerFamily for InfoNetkit {
+    fn of_peer(payload: Vec<u8>) -> Self {
+        Self::Peer(payload)
+    }
+
+    ghost peer_line = { refl };
+
+    ghost one_peer = { refl };
+}
+
+impl<const KIND: u16> PeerFamily for PairData<KIND> {
+    fn of_peer(payload: Vec<u8>) -> Self {
+        Self::Peer(payload)
+    }
+
+    ghost peer_line = { refl };
+
+    ghost one_peer = { refl };
+}
+
+// Reads one attribute of a family, a peer by a rule.
+fn read_with<F: PeerFamily, R: PeerRule>(
+    alloc: Global,
+    buf: &NlaBuffer<&[u8]>,
+    rule: &R,
+) -> Result<F, DecodeError>
+    requires { IsAttribute (storage buf.now).now }
+    ensures judged { IsRefusedUnless result
+        (is_accepted_by (table_row R.peer F.rows) (storage buf.now).now) }
+    ensures value { IfOk result
+        (λ v. F.field_entry v ≡ rewritten_by (table_row R.peer F.rows) (storage buf.now).now) }
+    ensures inside { IfOk result
+        (λ _. true ≡ fits_by (table_row R.peer F.rows) (storage buf.now).now) }
+    ensures names_row { IfOk result (λ v. F.names_row v) }
+{
+    rows_without_lists_fit();
+    rules_without_peers_are_one();
+    if buf.kind() == PEER {
+        let payload = rule.canonical(alloc, buf.value())?;
+        return Ok(F::of_peer(payload));
+    }
+    read_attribute(alloc, buf)
+}
+
+/// Reads the attributes of the data of `netkit`, their peer by a rule.
+#[derive(Drop)]
+struct NetkitReader<'r, R>(&'r R);
+
+impl<R: PeerRule> Reader for NetkitReader<'_, R> {
+    type Value = InfoNetkit;
+
+    ghost row_of = { λ _. table_row R.peer netkit };
+
+    ghost names_row = { λ _. netkit_names_row };
+
+    // Only what is accepted.
+    ghost may_want_memory = { λ _. is_accepted_by (table_row R.peer netkit) };
+
+    fn read(&self, alloc: Global, buf: &NlaBuffer<&[u8]>) -> Result<InfoNetkit, DecodeError> {
+        read_with(alloc, buf, self.0)
+    }
+}
+
+/// Reads the attribute of the data of `veth` or of `vxcan`, a peer by a rule.
+#[derive(Drop)]
+struct PairReader<'r, R, const KIND: u16>(&'r R);
+
+impl<R: PeerRule, const KIND: u16> Reader for PairReader<'_, R, KIND> {
+    type Value = PairData<KIND>;
+
+    ghost row_of = { λ _. table_row R.peer pair };
+
+    ghost names_row = { λ _. pair_names_row };
+
+    // Only what is accepted.
+    ghost may_want_memory = { λ _. is_accepted_by (table_row R.peer pair) };
+
+    fn read(&self, alloc: Global, buf: &NlaBuffer<&[u8]>) -> Result<PairData<KIND>, DecodeError> {
+        read_with(alloc, buf, self.0)
+    }
+}
+
+/// Reads the data of `netkit`, a list of attributes, their peer by a rule. It succeeds exactly where
+/// the list is accepted, memory aside; a list of no bytes is never refused. It answers want of
+/// memory only where its first attribute is accepted.
+#[tactic(auto, using(crate::proofs::Begins::begins))]
+pub fn parse_netkit_with<R: PeerRule>(
+    alloc: Global,
+    bytes: &[u8],
+    rule: &R,
+) -> Result<Vec<InfoNetkit>, DecodeError>
+    ensures judged { SucceedsWhere result ((list_of R.peer any netkit).accepted bytes.now) }
+    ensures read { ListIsReadAs result netkit_entry (λ _. true)
+        (reading_as any (without_context (table_row R.peer netkit)) bytes.now) }
+    ensures written { ListIsWrittenBy result netkit_entry (λ _. true) (list_of R.peer any netkit)
+        bytes.now }
+    ensures names_row { IfOk result (λ v. All netkit_names_row v.items) }
+    ensures not_empty { IfErr result (λ _. 0 < length bytes.now) }
+    ensures memory { IfMemory result (begins_accepted (table_row R.peer netkit) bytes.now ≡ true) }
+{
+    rows_are_looked_up();
+    parse_list(alloc, &NetkitReader(rule), bytes)
+}
+
+/// Reads the data of `veth` or of `vxcan`, the attribute that they begin with, a peer by a rule; any
+/// bytes may follow it, and are dropped. It succeeds exactly where that attribute is accepted,
+/// memory aside. It answers want of memory only where that attribute is accepted.
+#[tactic(auto, using(crate::proofs::Begins::begins))]
+pub fn parse_pair_with<R: PeerRule, const KIND: u16>(
+    alloc: Global,
+    bytes: &[u8],
+    rule: &R,
+) -> Result<PairData<KIND>, DecodeError>
+    ensures judged { SucceedsWhere result ((list_of R.peer first_alone pair).accepted bytes.now) }
+    ensures written { IsWrittenBy result (λ v. attribute_text (pair_entry v))
+        (λ v. attribute_fits (pair_entry v)) (list_of R.peer first_alone pair) bytes.now }
+    ensures names_row { IfOk result (λ v. pair_names_row v) }
+    ensures not_empty { IfMemory result (0 < length bytes.now) }
+    ensures memory { IfMemory result (begins_accepted (table_row R.peer pair) bytes.now ≡ true) }
+{
+    rows_are_looked_up();
+    first_attributes_are_viewed();
+    parse_first_by(alloc, &PairReader::<R, KIND>(rule), bytes)
+}

@@ -1,4 +1,0 @@
-pub mod Amt
-pub mod Geneve
-pub mod Gtp
-pub mod Vxlan

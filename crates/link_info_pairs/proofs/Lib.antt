@@ -1,2 +1,0 @@
-pub mod Scrubs
-pub mod Begins

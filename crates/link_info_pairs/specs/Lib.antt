@@ -1,2 +1,0 @@
-pub mod Netkit
-pub mod Veth

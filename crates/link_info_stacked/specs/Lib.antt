@@ -1,2 +1,0 @@
-pub mod MacVlan
-pub mod Macsec

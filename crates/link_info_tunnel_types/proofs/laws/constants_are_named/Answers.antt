@@ -1,5 +1,0 @@
-use Rattle.std.specs.Prelude.{refl}
-use Rattle.link_info_tunnel_types.proofs.laws.constants_are_named.Goals as goal
-
-pub returns : goal.returns
-returns c = record { flags_of_gre_headers = refl; flags_of_gre_encapsulation = refl; flags_of_encapsulation = refl; flags_of_ip6_tunnels = refl }

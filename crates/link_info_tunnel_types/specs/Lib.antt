@@ -1,8 +1,0 @@
-pub mod AmtTypes
-pub mod GeneveTypes
-pub mod GreTypes
-pub mod GtpTypes
-pub mod IpProtocols
-pub mod IpTunnelTypes
-pub mod VxlanTypes
-pub mod Laws

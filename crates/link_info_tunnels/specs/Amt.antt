@@ -1,0 +1,28 @@
+-- The data of amt: the kind and the payload of each value.
+use Rattle.std.specs.Prelude.{◌≡◌}
+use Rattle.netlink_packet_core.specs.Addresses.{ip_octets}
+use Rattle.netlink_packet_core.specs.Attributes.{Attribute, proper_kind}
+use Rattle.netlink_packet_core.specs.Numbers.{be2, le4}
+use Rattle.link_info_types.specs.AmtTypes.{amt_mode_number, amt_mode_of}
+use Rattle.link_info_grammar.specs.Families.{amt}
+use Rattle.attribute_tables_grammar.specs.LookUps.{has_no_row}
+use Rattle.netlink_packet_core.specs.Families.{attribute}
+use Rattle.link_info_tunnels.specs.declared.amt.InfoAmt.{InfoAmt}
+use Rattle.link_info_tunnels.specs.declared.amt.InfoAmt.TheVariants.{Mode, RelayPort, GatewayPort, Link, LocalIp, RemoteIp, DiscoveryIp, MaxTunnels, Other}
+
+abbrev pub amt_entry : InfoAmt → Attribute
+amt_entry (Mode m) = attribute 1 (le4 (amt_mode_number m))
+amt_entry (RelayPort n) = attribute 2 (be2 n)
+amt_entry (GatewayPort n) = attribute 3 (be2 n)
+amt_entry (Link n) = attribute 4 (le4 n)
+amt_entry (LocalIp a) = attribute 5 (ip_octets a)
+amt_entry (RemoteIp a) = attribute 6 (ip_octets a)
+amt_entry (DiscoveryIp a) = attribute 7 (ip_octets a)
+amt_entry (MaxTunnels n) = attribute 8 (le4 n)
+amt_entry (Other a) = a
+
+-- a number that names a mode is read as that mode, and no kind that has a row as another attribute
+abbrev pub amt_names_row : InfoAmt → Type 0
+amt_names_row (Mode m) = m ≡ amt_mode_of (amt_mode_number m)
+amt_names_row (Other a) = has_no_row amt (proper_kind a.kind)
+amt_names_row _ = Unit {0}

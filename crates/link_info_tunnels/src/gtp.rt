@@ -1,0 +1,97 @@
+//! Data of the kind `gtp` (if_link.h, IFLA_GTP_*). Numbers are little-endian.
+
+ghost use Rattle.std.specs.Prelude.{refl};
+ghost use Rattle.link_info_grammar.specs.Families.{gtp};
+ghost use Rattle.link_info_tunnels.specs.Gtp.{gtp_entry, gtp_names_row};
+
+use attribute_tables::typed;
+use link_info_types::GtpRole;
+use netlink_packet_core::{
+    DecodeError, DefaultNla, Family, Field, FieldNla, Nla, parse_bool, parse_ipv4_addr,
+    parse_ipv6_addr, parse_u8, parse_u32,
+};
+use std::alloc::Global;
+use std::net::{Ipv4Addr, Ipv6Addr};
+
+const IFLA_GTP_FD0: u16 = 1;
+
+const IFLA_GTP_FD1: u16 = 2;
+
+const IFLA_GTP_PDP_HASHSIZE: u16 = 3;
+
+const IFLA_GTP_ROLE: u16 = 4;
+
+const IFLA_GTP_CREATE_SOCKETS: u16 = 5;
+
+const IFLA_GTP_RESTART_COUNT: u16 = 6;
+
+const IFLA_GTP_LOCAL: u16 = 7;
+
+const IFLA_GTP_LOCAL6: u16 = 8;
+
+/// An attribute of the data of `gtp`: the GPRS tunneling protocol.
+#[derive(Debug, PartialEq, Eq, Drop)]
+pub enum InfoGtp {
+    /// `IFLA_GTP_FD0`: the descriptor of the socket for version 0; 4 bytes.
+    Fd0(u32),
+    /// `IFLA_GTP_FD1`: the descriptor of the socket for version 1; 4 bytes.
+    Fd1(u32),
+    /// `IFLA_GTP_PDP_HASHSIZE`: how many places the table of sessions has; 4 bytes.
+    PdpHashsize(u32),
+    /// `IFLA_GTP_ROLE`: which end of the tunnel the link is; 4 bytes.
+    Role(GtpRole),
+    /// `IFLA_GTP_CREATE_SOCKETS`: the kernel makes the sockets; 1 byte, zero or not.
+    CreateSockets(bool),
+    /// `IFLA_GTP_RESTART_COUNT`: the restart counter of echo answers; 1 byte.
+    RestartCount(u8),
+    /// `IFLA_GTP_LOCAL`: the address of the kernel's socket; 4 bytes.
+    Local(Ipv4Addr),
+    /// `IFLA_GTP_LOCAL6`: the address of the kernel's socket; 16 bytes.
+    Local6(Ipv6Addr),
+    /// Any other kind, kept as it is.
+    Other(DefaultNla),
+}
+
+impl FieldNla for InfoGtp {
+    ghost field_entry = { gtp_entry };
+
+    fn field(&self) -> (u16, Field<'_>) {
+        match self {
+            Self::Fd0(number) => (IFLA_GTP_FD0, Field::U32(*number)),
+            Self::Fd1(number) => (IFLA_GTP_FD1, Field::U32(*number)),
+            Self::PdpHashsize(number) => (IFLA_GTP_PDP_HASHSIZE, Field::U32(*number)),
+            Self::Role(role) => (IFLA_GTP_ROLE, Field::U32(u32::from(*role))),
+            Self::CreateSockets(truth) => (IFLA_GTP_CREATE_SOCKETS, Field::Bool(*truth)),
+            Self::RestartCount(number) => (IFLA_GTP_RESTART_COUNT, Field::U8(*number)),
+            Self::Local(address) => (IFLA_GTP_LOCAL, Field::Ipv4(*address)),
+            Self::Local6(address) => (IFLA_GTP_LOCAL6, Field::Ipv6(*address)),
+            Self::Other(nla) => (nla.kind(), Field::Bytes(nla.value())),
+        }
+    }
+}
+
+impl Family for InfoGtp {
+    ghost rows = { gtp };
+
+    ghost names_row = { gtp_names_row };
+
+    fn read_row(_alloc: Global, kind: u16, payload: &[u8]) -> Result<Option<Self>, DecodeError> {
+        match kind {
+            IFLA_GTP_FD0 => typed!(Fd0, parse_u32(payload)),
+            IFLA_GTP_FD1 => typed!(Fd1, parse_u32(payload)),
+            IFLA_GTP_PDP_HASHSIZE => typed!(PdpHashsize, parse_u32(payload)),
+            IFLA_GTP_ROLE => typed!(Role, parse_u32(payload), GtpRole),
+            IFLA_GTP_CREATE_SOCKETS => typed!(CreateSockets, parse_bool(payload)),
+            IFLA_GTP_RESTART_COUNT => typed!(RestartCount, parse_u8(payload)),
+            IFLA_GTP_LOCAL => typed!(Local, parse_ipv4_addr(payload)),
+            IFLA_GTP_LOCAL6 => typed!(Local6, parse_ipv6_addr(payload)),
+            _ => Ok(None),
+        }
+    }
+
+    fn other(nla: DefaultNla) -> Self {
+        Self::Other(nla)
+    }
+
+    ghost plain = { refl };
+}

@@ -1,0 +1,353 @@
+//! Data of the kind `vxlan` (if_link.h, IFLA_VXLAN_*). Numbers are little-endian unless told; a truth is 1 byte, zero or not.
+
+ghost use Rattle.std.specs.Prelude.{refl, IfNone, IfSome, [], ◌∷◌, ◌≡◌, ◌≢◌};
+ghost use Rattle.std.specs.Net.Addr.{ipv4_octets, ipv6_octets};
+ghost use Rattle.netlink_packet_core.specs.Truths.{truth_byte};
+ghost use Rattle.netlink_packet_core.specs.Numbers.{le4};
+ghost use Rattle.netlink_packet_core.specs.Families.{attribute};
+ghost use Rattle.link_info_grammar.specs.Families.{vxlan};
+ghost use Rattle.link_info_tunnels.specs.Vxlan.{vxlan_entry, vxlan_names_row};
+
+use attribute_tables::typed;
+use link_info_types::VxlanDf;
+use netlink_packet_core::{
+    DecodeError, DefaultNla, Family, Field, FieldNla, Nla, parse_bool, parse_ipv4_addr,
+    parse_ipv6_addr, parse_range, parse_u8, parse_u16_be, parse_u32, parse_u32_be, parse_u64_be,
+};
+use std::alloc::Global;
+use std::net::{Ipv4Addr, Ipv6Addr};
+
+const IFLA_VXLAN_ID: u16 = 1;
+
+const IFLA_VXLAN_GROUP: u16 = 2;
+
+const IFLA_VXLAN_LINK: u16 = 3;
+
+const IFLA_VXLAN_LOCAL: u16 = 4;
+
+const IFLA_VXLAN_TTL: u16 = 5;
+
+const IFLA_VXLAN_TOS: u16 = 6;
+
+const IFLA_VXLAN_LEARNING: u16 = 7;
+
+const IFLA_VXLAN_AGEING: u16 = 8;
+
+const IFLA_VXLAN_LIMIT: u16 = 9;
+
+const IFLA_VXLAN_PORT_RANGE: u16 = 10;
+
+const IFLA_VXLAN_PROXY: u16 = 11;
+
+const IFLA_VXLAN_RSC: u16 = 12;
+
+const IFLA_VXLAN_L2MISS: u16 = 13;
+
+const IFLA_VXLAN_L3MISS: u16 = 14;
+
+const IFLA_VXLAN_PORT: u16 = 15;
+
+const IFLA_VXLAN_GROUP6: u16 = 16;
+
+const IFLA_VXLAN_LOCAL6: u16 = 17;
+
+const IFLA_VXLAN_UDP_CSUM: u16 = 18;
+
+const IFLA_VXLAN_UDP_ZERO_CSUM6_TX: u16 = 19;
+
+const IFLA_VXLAN_UDP_ZERO_CSUM6_RX: u16 = 20;
+
+const IFLA_VXLAN_REMCSUM_TX: u16 = 21;
+
+const IFLA_VXLAN_REMCSUM_RX: u16 = 22;
+
+const IFLA_VXLAN_GBP: u16 = 23;
+
+const IFLA_VXLAN_REMCSUM_NOPARTIAL: u16 = 24;
+
+const IFLA_VXLAN_COLLECT_METADATA: u16 = 25;
+
+const IFLA_VXLAN_LABEL: u16 = 26;
+
+const IFLA_VXLAN_GPE: u16 = 27;
+
+const IFLA_VXLAN_TTL_INHERIT: u16 = 28;
+
+const IFLA_VXLAN_DF: u16 = 29;
+
+const IFLA_VXLAN_VNIFILTER: u16 = 30;
+
+const IFLA_VXLAN_LOCALBYPASS: u16 = 31;
+
+const IFLA_VXLAN_LABEL_POLICY: u16 = 32;
+
+const IFLA_VXLAN_RESERVED_BITS: u16 = 33;
+
+const IFLA_VXLAN_MC_ROUTE: u16 = 34;
+
+/// An attribute of the data of `vxlan`: virtual extensible local networks (RFC 7348).
+#[derive(Debug, PartialEq, Eq, Drop)]
+pub enum InfoVxlan {
+    /// `IFLA_VXLAN_ID`: the number of the virtual network; 4 bytes.
+    Id(u32),
+    /// `IFLA_VXLAN_GROUP`: the multicast group or the other end; 4 bytes.
+    Group(Ipv4Addr),
+    /// `IFLA_VXLAN_GROUP6`: the multicast group or the other end; 16 bytes.
+    Group6(Ipv6Addr),
+    /// `IFLA_VXLAN_LINK`: the index of the link below; 4 bytes.
+    Link(u32),
+    /// `IFLA_VXLAN_LOCAL`: the link's own address; 4 bytes.
+    Local(Ipv4Addr),
+    /// `IFLA_VXLAN_LOCAL6`: the link's own address; 16 bytes.
+    Local6(Ipv6Addr),
+    /// `IFLA_VXLAN_TOS`: the type of service of outer packets; 1 byte.
+    Tos(u8),
+    /// `IFLA_VXLAN_TTL`: the hop limit of outer packets; 1 byte.
+    Ttl(u8),
+    /// `IFLA_VXLAN_LABEL`: the flow label of outer IPv6 packets; 4 bytes, big-endian.
+    Label(u32),
+    /// `IFLA_VXLAN_LEARNING`: addresses are learned from packets.
+    Learning(bool),
+    /// `IFLA_VXLAN_AGEING`: for how long a learned address stays, in seconds; 4 bytes.
+    Ageing(u32),
+    /// `IFLA_VXLAN_LIMIT`: how many addresses are kept at most; 4 bytes.
+    Limit(u32),
+    /// `IFLA_VXLAN_PORT_RANGE`: the first and the last UDP port that packets come from; 2 bytes
+    /// each, big-endian.
+    PortRange((u16, u16)),
+    /// `IFLA_VXLAN_PROXY`: neighbour requests are answered here.
+    Proxy(bool),
+    /// `IFLA_VXLAN_RSC`: packets to a router go to their target straight.
+    Rsc(bool),
+    /// `IFLA_VXLAN_L2MISS`: unknown hardware addresses are told.
+    L2Miss(bool),
+    /// `IFLA_VXLAN_L3MISS`: unknown addresses are told.
+    L3Miss(bool),
+    /// `IFLA_VXLAN_COLLECT_METADATA`: each packet's own settings count.
+    CollectMetadata(bool),
+    /// `IFLA_VXLAN_PORT`: the UDP port of the other end; 2 bytes, big-endian.
+    Port(u16),
+    /// `IFLA_VXLAN_UDP_CSUM`: outer IPv4 packets have UDP checksums.
+    UDPCsum(bool),
+    /// `IFLA_VXLAN_UDP_ZERO_CSUM6_TX`: outer IPv6 packets are sent without UDP checksums.
+    UDPZeroCsumTX(bool),
+    /// `IFLA_VXLAN_UDP_ZERO_CSUM6_RX`: outer IPv6 packets without UDP checksums are taken.
+    UDPZeroCsumRX(bool),
+    /// `IFLA_VXLAN_REMCSUM_TX`: inner checksums are left to the receiver.
+    RemCsumTX(bool),
+    /// `IFLA_VXLAN_REMCSUM_RX`: inner checksums that were left are filled in.
+    RemCsumRX(bool),
+    /// `IFLA_VXLAN_GBP`: packets carry a group policy. Any payload is read, and none is written.
+    Gbp,
+    /// `IFLA_VXLAN_GPE`: packets have the generic protocol extension. Any payload is read, and none
+    /// is written.
+    Gpe,
+    /// `IFLA_VXLAN_REMCSUM_NOPARTIAL`: inner checksums are never left half done. Any payload is
+    /// read, and none is written.
+    RemCsumNoPartial,
+    /// `IFLA_VXLAN_TTL_INHERIT`: the hop limit is that of the inner packet, as requests say it; no
+    /// bytes.
+    TtlInheritFlag,
+    /// `IFLA_VXLAN_TTL_INHERIT`: the same, as a kernel tells it; 1 byte.
+    TtlInherit(u8),
+    /// `IFLA_VXLAN_DF`: the "don't fragment" bit of outer IPv4 packets; 1 byte.
+    Df(VxlanDf),
+    /// `IFLA_VXLAN_VNIFILTER`: virtual networks are filtered by number.
+    Vnifilter(bool),
+    /// `IFLA_VXLAN_LOCALBYPASS`: packets to this host don't leave it.
+    Localbypass(bool),
+    /// `IFLA_VXLAN_LABEL_POLICY`: where the flow label comes from; 4 bytes.
+    LabelPolicy(u32),
+    /// `IFLA_VXLAN_RESERVED_BITS`: bits of the header that may be set; 8 bytes, big-endian.
+    ReservedBits(u64),
+    /// `IFLA_VXLAN_MC_ROUTE`: multicast packets are routed.
+    McRoute(bool),
+    /// Any other kind, kept as it is.
+    Other(DefaultNla),
+}
+
+impl FieldNla for InfoVxlan {
+    ghost field_entry = { vxlan_entry };
+
+    fn field(&self) -> (u16, Field<'_>) {
+        match self {
+            Self::Id(number) => (IFLA_VXLAN_ID, Field::U32(*number)),
+            Self::Group(address) => (IFLA_VXLAN_GROUP, Field::Ipv4(*address)),
+            Self::Link(number) => (IFLA_VXLAN_LINK, Field::U32(*number)),
+            Self::Local(address) => (IFLA_VXLAN_LOCAL, Field::Ipv4(*address)),
+            Self::Ttl(number) => (IFLA_VXLAN_TTL, Field::U8(*number)),
+            Self::Tos(number) => (IFLA_VXLAN_TOS, Field::U8(*number)),
+            Self::Learning(truth) => (IFLA_VXLAN_LEARNING, Field::Bool(*truth)),
+            Self::Ageing(number) => (IFLA_VXLAN_AGEING, Field::U32(*number)),
+            Self::Limit(number) => (IFLA_VXLAN_LIMIT, Field::U32(*number)),
+            Self::PortRange(range) => (IFLA_VXLAN_PORT_RANGE, Field::Range(*range)),
+            Self::Proxy(truth) => (IFLA_VXLAN_PROXY, Field::Bool(*truth)),
+            Self::Rsc(truth) => (IFLA_VXLAN_RSC, Field::Bool(*truth)),
+            Self::L2Miss(truth) => (IFLA_VXLAN_L2MISS, Field::Bool(*truth)),
+            Self::L3Miss(truth) => (IFLA_VXLAN_L3MISS, Field::Bool(*truth)),
+            Self::Port(port) => (IFLA_VXLAN_PORT, Field::U16Be(*port)),
+            Self::Group6(address) => (IFLA_VXLAN_GROUP6, Field::Ipv6(*address)),
+            Self::Local6(address) => (IFLA_VXLAN_LOCAL6, Field::Ipv6(*address)),
+            Self::UDPCsum(truth) => (IFLA_VXLAN_UDP_CSUM, Field::Bool(*truth)),
+            Self::UDPZeroCsumTX(truth) => (IFLA_VXLAN_UDP_ZERO_CSUM6_TX, Field::Bool(*truth)),
+            Self::UDPZeroCsumRX(truth) => (IFLA_VXLAN_UDP_ZERO_CSUM6_RX, Field::Bool(*truth)),
+            Self::RemCsumTX(truth) => (IFLA_VXLAN_REMCSUM_TX, Field::Bool(*truth)),
+            Self::RemCsumRX(truth) => (IFLA_VXLAN_REMCSUM_RX, Field::Bool(*truth)),
+            Self::Gbp => (IFLA_VXLAN_GBP, Field::Empty),
+            Self::RemCsumNoPartial => (IFLA_VXLAN_REMCSUM_NOPARTIAL, Field::Empty),
+            Self::CollectMetadata(truth) => (IFLA_VXLAN_COLLECT_METADATA, Field::Bool(*truth)),
+            Self::Label(label) => (IFLA_VXLAN_LABEL, Field::U32Be(*label)),
+            Self::Gpe => (IFLA_VXLAN_GPE, Field::Empty),
+            Self::TtlInheritFlag => (IFLA_VXLAN_TTL_INHERIT, Field::Empty),
+            Self::TtlInherit(number) => (IFLA_VXLAN_TTL_INHERIT, Field::U8(*number)),
+            Self::Df(setting) => (IFLA_VXLAN_DF, Field::U8(u8::from(*setting))),
+            Self::Vnifilter(truth) => (IFLA_VXLAN_VNIFILTER, Field::Bool(*truth)),
+            Self::Localbypass(truth) => (IFLA_VXLAN_LOCALBYPASS, Field::Bool(*truth)),
+            Self::LabelPolicy(policy) => (IFLA_VXLAN_LABEL_POLICY, Field::U32(*policy)),
+            Self::ReservedBits(bits) => (IFLA_VXLAN_RESERVED_BITS, Field::U64Be(*bits)),
+            Self::McRoute(truth) => (IFLA_VXLAN_MC_ROUTE, Field::Bool(*truth)),
+            Self::Other(nla) => (nla.kind(), Field::Bytes(nla.value())),
+        }
+    }
+}
+
+impl InfoVxlan {
+    // The attribute of a kind that holds 4 bytes, little-endian.
+    fn of_u32(kind: u16, number: u32) -> Option<Self>
+        ensures value { IfSome result (λ v. vxlan_entry v ≡ attribute kind (le4 number)) }
+        ensures names_row { IfSome result (λ v. vxlan_names_row v) }
+        ensures none { IfNone result (kind ≢ 1 × kind ≢ 3 × kind ≢ 8 × kind ≢ 9 × kind ≢ 32) }
+    {
+        match kind {
+            IFLA_VXLAN_ID => Some(Self::Id(number)),
+            IFLA_VXLAN_LINK => Some(Self::Link(number)),
+            IFLA_VXLAN_AGEING => Some(Self::Ageing(number)),
+            IFLA_VXLAN_LIMIT => Some(Self::Limit(number)),
+            IFLA_VXLAN_LABEL_POLICY => Some(Self::LabelPolicy(number)),
+            _ => None,
+        }
+    }
+
+    // The attribute of a kind that holds an address of IPv4.
+    fn of_ipv4(kind: u16, address: Ipv4Addr) -> Option<Self>
+        ensures value { IfSome result (λ v. vxlan_entry v ≡ attribute kind (ipv4_octets address)) }
+        ensures names_row { IfSome result (λ v. vxlan_names_row v) }
+        ensures none { IfNone result (kind ≢ 2 × kind ≢ 4) }
+    {
+        match kind {
+            IFLA_VXLAN_GROUP => Some(Self::Group(address)),
+            IFLA_VXLAN_LOCAL => Some(Self::Local(address)),
+            _ => None,
+        }
+    }
+
+    // The attribute of a kind that holds 1 byte.
+    fn of_u8(kind: u16, number: u8) -> Option<Self>
+        ensures value { IfSome result (λ v. vxlan_entry v ≡ attribute kind (number ∷ [])) }
+        ensures names_row { IfSome result (λ v. vxlan_names_row v) }
+        ensures none { IfNone result (kind ≢ 5 × kind ≢ 6 × kind ≢ 28 × kind ≢ 29) }
+    {
+        match kind {
+            IFLA_VXLAN_TTL => Some(Self::Ttl(number)),
+            IFLA_VXLAN_TOS => Some(Self::Tos(number)),
+            IFLA_VXLAN_TTL_INHERIT => Some(Self::TtlInherit(number)),
+            IFLA_VXLAN_DF => Some(Self::Df(VxlanDf::from(number))),
+            _ => None,
+        }
+    }
+
+    // The attribute of a kind that holds a truth.
+    fn of_truth(kind: u16, truth: bool) -> Option<Self>
+        ensures value { IfSome result (λ v. vxlan_entry v ≡ attribute kind (truth_byte truth)) }
+        ensures names_row { IfSome result (λ v. vxlan_names_row v) }
+        ensures none { IfNone result
+            (kind ≢ 7 × kind ≢ 11 × kind ≢ 12 × kind ≢ 13 × kind ≢ 14 × kind ≢ 18
+            × kind ≢ 19 × kind ≢ 20 × kind ≢ 21 × kind ≢ 22 × kind ≢ 25 × kind ≢ 30
+            × kind ≢ 31 × kind ≢ 34) }
+    {
+        match kind {
+            IFLA_VXLAN_LEARNING => Some(Self::Learning(truth)),
+            IFLA_VXLAN_PROXY => Some(Self::Proxy(truth)),
+            IFLA_VXLAN_RSC => Some(Self::Rsc(truth)),
+            IFLA_VXLAN_L2MISS => Some(Self::L2Miss(truth)),
+            IFLA_VXLAN_L3MISS => Some(Self::L3Miss(truth)),
+            IFLA_VXLAN_UDP_CSUM => Some(Self::UDPCsum(truth)),
+            IFLA_VXLAN_UDP_ZERO_CSUM6_TX => Some(Self::UDPZeroCsumTX(truth)),
+            IFLA_VXLAN_UDP_ZERO_CSUM6_RX => Some(Self::UDPZeroCsumRX(truth)),
+            IFLA_VXLAN_REMCSUM_TX => Some(Self::RemCsumTX(truth)),
+            IFLA_VXLAN_REMCSUM_RX => Some(Self::RemCsumRX(truth)),
+            IFLA_VXLAN_COLLECT_METADATA => Some(Self::CollectMetadata(truth)),
+            IFLA_VXLAN_VNIFILTER => Some(Self::Vnifilter(truth)),
+            IFLA_VXLAN_LOCALBYPASS => Some(Self::Localbypass(truth)),
+            IFLA_VXLAN_MC_ROUTE => Some(Self::McRoute(truth)),
+            _ => None,
+        }
+    }
+
+    // The attribute of a kind that holds an address of IPv6.
+    fn of_ipv6(kind: u16, address: Ipv6Addr) -> Option<Self>
+        ensures value { IfSome result (λ v. vxlan_entry v ≡ attribute kind (ipv6_octets address)) }
+        ensures names_row { IfSome result (λ v. vxlan_names_row v) }
+        ensures none { IfNone result (kind ≢ 16 × kind ≢ 17) }
+    {
+        match kind {
+            IFLA_VXLAN_GROUP6 => Some(Self::Group6(address)),
+            IFLA_VXLAN_LOCAL6 => Some(Self::Local6(address)),
+            _ => None,
+        }
+    }
+}
+
+impl Family for InfoVxlan {
+    ghost rows = { vxlan };
+
+    ghost names_row = { vxlan_names_row };
+
+    fn read_row(_alloc: Global, kind: u16, payload: &[u8]) -> Result<Option<Self>, DecodeError> {
+        match kind {
+            IFLA_VXLAN_TTL_INHERIT if payload.is_empty() => Ok(Some(Self::TtlInheritFlag)),
+            IFLA_VXLAN_ID | IFLA_VXLAN_LINK => typed!(of_u32(kind), parse_u32(payload)),
+            IFLA_VXLAN_GROUP | IFLA_VXLAN_LOCAL => typed!(of_ipv4(kind), parse_ipv4_addr(payload)),
+            IFLA_VXLAN_TTL | IFLA_VXLAN_TOS | IFLA_VXLAN_TTL_INHERIT | IFLA_VXLAN_DF => typed!(
+                of_u8(kind),
+                parse_u8(payload)
+            ),
+            IFLA_VXLAN_AGEING | IFLA_VXLAN_LIMIT | IFLA_VXLAN_LABEL_POLICY => typed!(
+                of_u32(kind),
+                parse_u32(payload)
+            ),
+            IFLA_VXLAN_LEARNING
+            | IFLA_VXLAN_PROXY
+            | IFLA_VXLAN_RSC
+            | IFLA_VXLAN_L2MISS
+            | IFLA_VXLAN_L3MISS => typed!(of_truth(kind), parse_bool(payload)),
+            IFLA_VXLAN_UDP_CSUM
+            | IFLA_VXLAN_UDP_ZERO_CSUM6_TX
+            | IFLA_VXLAN_UDP_ZERO_CSUM6_RX
+            | IFLA_VXLAN_REMCSUM_TX
+            | IFLA_VXLAN_REMCSUM_RX => typed!(of_truth(kind), parse_bool(payload)),
+            IFLA_VXLAN_COLLECT_METADATA
+            | IFLA_VXLAN_VNIFILTER
+            | IFLA_VXLAN_LOCALBYPASS
+            | IFLA_VXLAN_MC_ROUTE => typed!(of_truth(kind), parse_bool(payload)),
+            IFLA_VXLAN_PORT_RANGE => typed!(PortRange, parse_range(payload)),
+            IFLA_VXLAN_PORT => typed!(Port, parse_u16_be(payload)),
+            IFLA_VXLAN_GROUP6 | IFLA_VXLAN_LOCAL6 => typed!(
+                of_ipv6(kind),
+                parse_ipv6_addr(payload)
+            ),
+            IFLA_VXLAN_GBP => Ok(Some(Self::Gbp)),
+            IFLA_VXLAN_REMCSUM_NOPARTIAL => Ok(Some(Self::RemCsumNoPartial)),
+            IFLA_VXLAN_LABEL => typed!(Label, parse_u32_be(payload)),
+            IFLA_VXLAN_GPE => Ok(Some(Self::Gpe)),
+            IFLA_VXLAN_RESERVED_BITS => typed!(ReservedBits, parse_u64_be(payload)),
+            _ => Ok(None),
+        }
+    }
+
+    fn other(nla: DefaultNla) -> Self {
+        Self::Other(nla)
+    }
+
+    ghost plain = { refl };
+}

@@ -1,2 +1,0 @@
-pub mod FamilyRules
-pub mod Requests

@@ -1,3 +1,0 @@
-pub mod InetSettings
-pub mod Inet6Settings
-pub mod AddressFamilies

@@ -1,0 +1,4 @@
+pub mod VfRules
+pub mod RawRules
+pub mod FamilyRules
+pub mod Requests

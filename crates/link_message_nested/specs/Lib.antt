@@ -1,0 +1,14 @@
+pub mod VfStatistics
+pub mod VfVlans
+pub mod VfInfos
+pub mod VfPorts
+pub mod Props
+pub mod Xdp
+pub mod DownReasons
+pub mod Devlink
+pub mod Dpll
+pub mod Mctp
+pub mod ProtocolInfos
+pub mod InetSettings
+pub mod Inet6Settings
+pub mod AddressFamilies

@@ -1,0 +1,169 @@
+//! Settings of IPv4 on a link (if_link.h, IFLA_INET_*). Numbers are little-endian.
+
+ghost use Rattle.std.specs.Prelude.{◌≡◌, ◌<◌, ◌≤◌, ◌+◌, ◌++◌, true, length, map, take};
+ghost use Rattle.std.specs.Int.{w32, cast_unsigned};
+ghost use Rattle.netlink_packet_core.specs.AttributeViews.{IsAttribute};
+ghost use Rattle.netlink_packet_core.specs.Families.{Gives, accepts, may_want_memory};
+ghost use Rattle.netlink_packet_core.specs.NlaBuffers.{storage};
+ghost use Rattle.attribute_tables_grammar.specs.LookUps.{table_row};
+ghost use Rattle.attribute_tables_grammar.specs.Peers.{bytes_peer};
+ghost use Rattle.link_message_grammar.specs.NestedTables.{inet};
+ghost use Rattle.link_message_nested.specs.InetSettings.{af_spec_inet_entry, af_spec_inet_names_row, requested_entry, requested_setting, requested_from, requested_so_far};
+
+use attribute_tables::Reader;
+use link_message_records::{InetDevConf, emit_record, read_settings};
+use netlink_packet_core::{
+    DecodeError, DefaultNla, Emitable, Field, FieldNla, NLA_F_NESTED, Nla, NlaBuffer, Parseable,
+    emit_all, len_all,
+};
+use std::alloc::Global;
+
+const IFLA_INET_CONF: u16 = 1;
+
+/// How many settings there are.
+const SETTINGS: usize = 33;
+
+/// An attribute of the settings of IPv4 on a link.
+#[derive(Debug, PartialEq, Eq, Drop)]
+pub enum AfSpecInet {
+    /// `IFLA_INET_CONF`: all settings, written as 132 bytes and read from any number of bytes.
+    DevConf(InetDevConf),
+    /// `IFLA_INET_CONF` as a request to change settings: a list of attributes with the nested bit,
+    /// one of 4 bytes for each setting that isn't 0, whose kind is the setting's place from 1 on. It
+    /// is written and never read: what is read is a `DevConf`.
+    DevConfRequest(InetDevConf),
+    /// Any other kind, kept as it is.
+    Other(DefaultNla),
+}
+
+/// A setting that is asked for.
+#[derive(Clone, Copy)]
+struct RequestedSetting {
+    kind: u16,
+    number: u32,
+}
+
+impl FieldNla for RequestedSetting {
+    ghost field_entry = { requested_entry };
+
+    fn field(&self) -> (u16, Field<'_>) {
+        (self.kind, Field::U32(self.number))
+    }
+}
+
+/// The settings that are asked for: the first so many.
+#[derive(Clone, Copy)]
+struct Request {
+    settings: [RequestedSetting; SETTINGS],
+    count: usize,
+}
+
+impl Request {
+    /// The settings of a record that aren't 0.
+    fn new(asked: &InetDevConf) -> Self
+        ensures room { result.count ≤ 33 }
+        ensures requested { requested_so_far result ≡ requested_from 1 asked.now.values }
+    {
+        let nothing = RequestedSetting { kind: 0, number: 0 };
+        let mut request = Self {
+            settings: [nothing; SETTINGS],
+            count: 0,
+        };
+        for place in 0..SETTINGS {
+            request.push(place as u16 + 1, asked.values[place].cast_unsigned());
+        }
+        request
+    }
+
+    /// Takes a setting in, unless it is 0.
+    fn push(&mut self, kind: u16, number: u32)
+        requires { self.old.count < 33 }
+        ensures room { self.new.count ≤ self.old.count + 1 }
+        ensures requested { requested_so_far self.new
+            ≡ requested_so_far self.old ++ requested_setting kind number }
+    {
+        if number != 0 {
+            self.settings[self.count] = RequestedSetting { kind, number };
+            self.count += 1;
+        }
+    }
+
+    /// The settings.
+    fn as_slice(&self) -> &[RequestedSetting]
+        requires { self.now.count ≤ 33 }
+        ensures { map requested_entry result.now ≡ requested_so_far self.now }
+    {
+        &self.settings[..self.count]
+    }
+}
+
+impl Nla for AfSpecInet {
+    ghost entry = { af_spec_inet_entry };
+
+    ghost inside_fits = { λ _. true };
+
+    #[tactic(auto, using(attribute_tables::proofs::Lists::lists))]
+    fn value_len(&self) -> usize {
+        match self {
+            Self::DevConf(record) => record.buffer_len(),
+            Self::DevConfRequest(record) => len_all(Request::new(record).as_slice()),
+            Self::Other(nla) => nla.value_len(),
+        }
+    }
+
+    fn kind(&self) -> u16 {
+        match self {
+            Self::DevConf(_) => IFLA_INET_CONF,
+            Self::DevConfRequest(_) => IFLA_INET_CONF | NLA_F_NESTED,
+            Self::Other(nla) => nla.kind(),
+        }
+    }
+
+    #[tactic(auto, using(attribute_tables::proofs::Lists::lists, crate::proofs::Requests::requests))]
+    fn emit_value(&self, buffer: &mut [u8]) {
+        match self {
+            Self::DevConf(record) => emit_record(record, buffer),
+            Self::DevConfRequest(record) => emit_all(Request::new(record).as_slice(), buffer),
+            Self::Other(nla) => nla.emit_value(buffer),
+        }
+    }
+
+    fn contents_fit(&self) -> bool {
+        true
+    }
+}
+
+/// Reads settings of IPv4.
+pub struct AfSpecInetReader;
+
+impl Reader for AfSpecInetReader {
+    type Value = AfSpecInet;
+
+    ghost row_of = { λ _. table_row bytes_peer inet };
+
+    ghost names_row = { λ _. af_spec_inet_names_row };
+
+    ghost may_want_memory = { λ _. may_want_memory inet };
+
+    fn read(&self, alloc: Global, buf: &NlaBuffer<&[u8]>) -> Result<AfSpecInet, DecodeError> {
+        match buf.kind() {
+            IFLA_INET_CONF => Ok(AfSpecInet::DevConf(read_settings(buf.value()))),
+            _ => Ok(AfSpecInet::Other(DefaultNla::parse(alloc, buf)?)),
+        }
+    }
+}
+
+impl<'a> Parseable<NlaBuffer<&'a [u8]>> for AfSpecInet {
+    ghost can_parse = { λ b. IsAttribute (storage b).now };
+
+    ghost accepts = { λ b. accepts inet (storage b).now };
+
+    ghost may_want_memory = { λ b. may_want_memory inet (storage b).now };
+
+    ghost gives = { λ b v. Gives inet (storage b).now (af_spec_inet_entry v)
+        × af_spec_inet_names_row v };
+
+    fn parse(alloc: Global, buf: &NlaBuffer<&'a [u8]>) -> Result<Self, DecodeError> {
+        AfSpecInetReader.read(alloc, buf)
+    }
+}

@@ -1,0 +1,92 @@
+//! Statistics of virtual functions (if_link.h, IFLA_VF_STATS_*). Numbers are little-endian.
+
+ghost use Rattle.std.specs.Prelude.{refl};
+ghost use Rattle.link_message_grammar.specs.NestedTables.{vf_stats};
+ghost use Rattle.link_message_nested.specs.VfStatistics.{vf_stats_entry, vf_stats_names_row};
+
+use attribute_tables::typed;
+use netlink_packet_core::{DecodeError, DefaultNla, Family, Field, FieldNla, Nla, parse_u64};
+use std::alloc::Global;
+
+const IFLA_VF_STATS_RX_PACKETS: u16 = 0;
+
+const IFLA_VF_STATS_TX_PACKETS: u16 = 1;
+
+const IFLA_VF_STATS_RX_BYTES: u16 = 2;
+
+const IFLA_VF_STATS_TX_BYTES: u16 = 3;
+
+const IFLA_VF_STATS_BROADCAST: u16 = 4;
+
+const IFLA_VF_STATS_MULTICAST: u16 = 5;
+
+const IFLA_VF_STATS_RX_DROPPED: u16 = 7;
+
+const IFLA_VF_STATS_TX_DROPPED: u16 = 8;
+
+/// A statistic of a virtual function.
+#[derive(Debug, PartialEq, Eq, Drop)]
+pub enum VfStats {
+    /// `IFLA_VF_STATS_RX_PACKETS`: packets received; 8 bytes.
+    RxPackets(u64),
+    /// `IFLA_VF_STATS_TX_PACKETS`: packets sent; 8 bytes.
+    TxPackets(u64),
+    /// `IFLA_VF_STATS_RX_BYTES`: bytes received; 8 bytes.
+    RxBytes(u64),
+    /// `IFLA_VF_STATS_TX_BYTES`: bytes sent; 8 bytes.
+    TxBytes(u64),
+    /// `IFLA_VF_STATS_BROADCAST`: broadcasts received; 8 bytes.
+    Broadcast(u64),
+    /// `IFLA_VF_STATS_MULTICAST`: multicasts received; 8 bytes.
+    Multicast(u64),
+    /// `IFLA_VF_STATS_RX_DROPPED`: received packets that were dropped; 8 bytes.
+    RxDropped(u64),
+    /// `IFLA_VF_STATS_TX_DROPPED`: packets to be sent that were dropped; 8 bytes.
+    TxDropped(u64),
+    /// Any other kind, kept as it is.
+    Other(DefaultNla),
+}
+
+impl FieldNla for VfStats {
+    ghost field_entry = { vf_stats_entry };
+
+    fn field(&self) -> (u16, Field<'_>) {
+        match self {
+            Self::RxPackets(number) => (IFLA_VF_STATS_RX_PACKETS, Field::U64(*number)),
+            Self::TxPackets(number) => (IFLA_VF_STATS_TX_PACKETS, Field::U64(*number)),
+            Self::RxBytes(number) => (IFLA_VF_STATS_RX_BYTES, Field::U64(*number)),
+            Self::TxBytes(number) => (IFLA_VF_STATS_TX_BYTES, Field::U64(*number)),
+            Self::Broadcast(number) => (IFLA_VF_STATS_BROADCAST, Field::U64(*number)),
+            Self::Multicast(number) => (IFLA_VF_STATS_MULTICAST, Field::U64(*number)),
+            Self::RxDropped(number) => (IFLA_VF_STATS_RX_DROPPED, Field::U64(*number)),
+            Self::TxDropped(number) => (IFLA_VF_STATS_TX_DROPPED, Field::U64(*number)),
+            Self::Other(nla) => (nla.kind(), Field::Bytes(nla.value())),
+        }
+    }
+}
+
+impl Family for VfStats {
+    ghost rows = { vf_stats };
+
+    ghost names_row = { vf_stats_names_row };
+
+    fn read_row(_alloc: Global, kind: u16, payload: &[u8]) -> Result<Option<Self>, DecodeError> {
+        match kind {
+            IFLA_VF_STATS_RX_PACKETS => typed!(RxPackets, parse_u64(payload)),
+            IFLA_VF_STATS_TX_PACKETS => typed!(TxPackets, parse_u64(payload)),
+            IFLA_VF_STATS_RX_BYTES => typed!(RxBytes, parse_u64(payload)),
+            IFLA_VF_STATS_TX_BYTES => typed!(TxBytes, parse_u64(payload)),
+            IFLA_VF_STATS_BROADCAST => typed!(Broadcast, parse_u64(payload)),
+            IFLA_VF_STATS_MULTICAST => typed!(Multicast, parse_u64(payload)),
+            IFLA_VF_STATS_RX_DROPPED => typed!(RxDropped, parse_u64(payload)),
+            IFLA_VF_STATS_TX_DROPPED => typed!(TxDropped, parse_u64(payload)),
+            _ => Ok(None),
+        }
+    }
+
+    fn other(nla: DefaultNla) -> Self {
+        Self::Other(nla)
+    }
+
+    ghost plain = { refl };
+}

@@ -1,0 +1,98 @@
+//! Programs of the express data path (if_link.h, IFLA_XDP_*). Numbers are little-endian.
+
+ghost use Rattle.std.specs.Prelude.{refl};
+ghost use Rattle.link_message_grammar.specs.NestedTables.{xdp};
+ghost use Rattle.link_message_nested.specs.Xdp.{link_xdp_entry, link_xdp_names_row};
+
+use attribute_tables::typed;
+use link_message_types::XdpAttached;
+use netlink_packet_core::{
+    DecodeError, DefaultNla, Family, Field, FieldNla, Nla, parse_i32, parse_u8, parse_u32,
+};
+use std::alloc::Global;
+
+const IFLA_XDP_FD: u16 = 1;
+
+const IFLA_XDP_ATTACHED: u16 = 2;
+
+const IFLA_XDP_FLAGS: u16 = 3;
+
+const IFLA_XDP_PROG_ID: u16 = 4;
+
+const IFLA_XDP_DRV_PROG_ID: u16 = 5;
+
+const IFLA_XDP_SKB_PROG_ID: u16 = 6;
+
+const IFLA_XDP_HW_PROG_ID: u16 = 7;
+
+const IFLA_XDP_EXPECTED_FD: u16 = 8;
+
+/// An attribute of the program of a link.
+#[derive(Debug, PartialEq, Eq, Drop)]
+pub enum LinkXdp {
+    /// `IFLA_XDP_FD`: the descriptor of the program; 4 bytes, signed.
+    Fd(i32),
+    /// `IFLA_XDP_ATTACHED`: where it is attached; 1 byte.
+    Attached(XdpAttached),
+    /// `IFLA_XDP_FLAGS`: how it is attached; 4 bytes.
+    Flags(u32),
+    /// `IFLA_XDP_PROG_ID`: the number of the program; 4 bytes.
+    ProgId(u32),
+    /// `IFLA_XDP_DRV_PROG_ID`: the number of the program in the driver; 4 bytes.
+    DrvProgId(u32),
+    /// `IFLA_XDP_SKB_PROG_ID`: the number of the program behind the driver; 4 bytes.
+    SkbProgId(u32),
+    /// `IFLA_XDP_HW_PROG_ID`: the number of the program in the device; 4 bytes.
+    HwProgId(u32),
+    /// `IFLA_XDP_EXPECTED_FD`: the descriptor of the program that is replaced; 4 bytes.
+    ExpectedFd(u32),
+    /// Any other kind, kept as it is.
+    Other(DefaultNla),
+}
+
+impl FieldNla for LinkXdp {
+    ghost field_entry = { link_xdp_entry };
+
+    fn field(&self) -> (u16, Field<'_>) {
+        match self {
+            Self::Fd(number) => (IFLA_XDP_FD, Field::U32(number.cast_unsigned())),
+            Self::Attached(attached) => (IFLA_XDP_ATTACHED, Field::U8(u8::from(*attached))),
+            Self::Flags(number) => (IFLA_XDP_FLAGS, Field::U32(*number)),
+            Self::ProgId(number) => (IFLA_XDP_PROG_ID, Field::U32(*number)),
+            Self::DrvProgId(number) => (IFLA_XDP_DRV_PROG_ID, Field::U32(*number)),
+            Self::SkbProgId(number) => (IFLA_XDP_SKB_PROG_ID, Field::U32(*number)),
+            Self::HwProgId(number) => (IFLA_XDP_HW_PROG_ID, Field::U32(*number)),
+            Self::ExpectedFd(number) => (IFLA_XDP_EXPECTED_FD, Field::U32(*number)),
+            Self::Other(nla) => (nla.kind(), Field::Bytes(nla.value())),
+        }
+    }
+}
+
+impl Family for LinkXdp {
+    ghost rows = { xdp };
+
+    ghost names_row = { link_xdp_names_row };
+
+    fn read_row(_alloc: Global, kind: u16, payload: &[u8]) -> Result<Option<Self>, DecodeError> {
+        match kind {
+            IFLA_XDP_FD => typed!(Fd, parse_i32(payload)),
+            IFLA_XDP_ATTACHED => match parse_u8(payload) {
+                Ok(number) => Ok(Some(Self::Attached(XdpAttached::try_from(number)?))),
+                Err(error) => Err(error),
+            },
+            IFLA_XDP_FLAGS => typed!(Flags, parse_u32(payload)),
+            IFLA_XDP_PROG_ID => typed!(ProgId, parse_u32(payload)),
+            IFLA_XDP_DRV_PROG_ID => typed!(DrvProgId, parse_u32(payload)),
+            IFLA_XDP_SKB_PROG_ID => typed!(SkbProgId, parse_u32(payload)),
+            IFLA_XDP_HW_PROG_ID => typed!(HwProgId, parse_u32(payload)),
+            IFLA_XDP_EXPECTED_FD => typed!(ExpectedFd, parse_u32(payload)),
+            _ => Ok(None),
+        }
+    }
+
+    fn other(nla: DefaultNla) -> Self {
+        Self::Other(nla)
+    }
+
+    ghost plain = { refl };
+}

@@ -1,4 +1,0 @@
-pub mod VfStatistics
-pub mod VfVlans
-pub mod VfInfos
-pub mod VfPorts

@@ -1,4 +1,0 @@
-pub mod Codes
-pub mod NetlinkBuffers
-pub mod DoneBuffers
-pub mod ErrorBuffers

@@ -1,7 +1,7 @@
 //! Checks of attributes under an address family, without memory and without a typed value; for the
 //! crates that read them.
 
-ghost use Rattle.std.specs.Prelude.{◌≡◌, false};
+ghost use Rattle.std.specs.Prelude.{◌≡◌, false, true};
 ghost use Rattle.netlink_packet_core_grammar.specs.Attributes.{proper_kind};
 ghost use Rattle.netlink_packet_core_numbers.specs.Errors.{is_memory};
 ghost use Rattle.link_message_grammar.specs.LinkMessage.{family_of};
@@ -40,8 +40,9 @@ pub fn accepts_attributes(family: u8, bytes: &[u8]) -> bool
 pub fn attribute_error(family: u8, kind: u16, payload: &[u8], error: DecodeError) -> DecodeError
     requires refused { is_memory error ≡ false
         → (attribute_row (family_of family) (proper_kind kind)).rule.accepted payload.now ≡ false }
-    ensures { (attribute_row (family_of family) (proper_kind kind)).rule.accepted payload.now
+    ensures told { (attribute_row (family_of family) (proper_kind kind)).rule.accepted payload.now
         ≡ is_memory result }
+    ensures memory { is_memory result ≡ true → is_memory error ≡ true }
 {
     if error.is_memory() && !accepts_attribute(family, kind, payload) {
         return DecodeError::from("no attribute of its kind");

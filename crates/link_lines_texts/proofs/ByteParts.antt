@@ -9,4 +9,3 @@ front_bytes (x ∷ a) b h = (h.0, front_bytes a b h.1)
 pub back_bytes : (a b : List ℕ) → AreBytes (a ++ b) → AreBytes b
 back_bytes [] b h = h
 back_bytes (x ∷ a) b h = back_bytes a b h.1
-

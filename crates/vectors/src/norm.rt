@@ -2,6 +2,7 @@
 // checked, and has to be answered alike.
 
 ghost use Rattle.std.specs.Prelude.{◌≡◌, ◌<◌, ◌≤◌, IfOk, string_bytes};
+ghost use Rattle.link_capture_grammar.specs.Captures.{texts};
 ghost use Rattle.vectors.specs.Norm.{answer, measure_text};
 
 use crate::cases::{Case, LEAST_LIMIT, PIECES, read_case};
@@ -33,18 +34,26 @@ fn measure_case(alloc: Global, case: &Case) -> Result<String, AllocError>
     }
 }
 
-/// The texts of a capture in hex, a space, and its numbers or its first fault.
-fn answer_case(alloc: Global, case: &Case) -> Result<String, AllocError>
+/// The texts of a capture, up to its first fault.
+fn texts_of(alloc: Global, case: &Case) -> Result<Vec<u8>, AllocError>
     requires { 16 ≤ case.now.limit }
-    ensures { IfOk result
-        (λ line. string_bytes line ≡ answer case.now.limit case.now.capture.items) }
+    ensures { IfOk result (λ text. text.items ≡ texts case.now.limit case.now.capture.items) }
 {
     let mut text = Vec::new(alloc);
     let outcome = normalize_bytes(case.capture.as_slice(), case.limit, &mut text);
     if outcome.is_err_and(|fault| fault.kind == FaultKind::Memory) {
         return Err(AllocError);
     }
-    let text = encode(alloc, text.as_slice())?;
+    Ok(text)
+}
+
+/// The texts of a capture in hex, a space, and its numbers or its first fault.
+fn answer_case(alloc: Global, case: &Case) -> Result<String, AllocError>
+    requires { 16 ≤ case.now.limit }
+    ensures { IfOk result
+        (λ line. string_bytes line ≡ answer case.now.limit case.now.capture.items) }
+{
+    let text = encode(alloc, texts_of(alloc, case)?.as_slice())?;
     let numbers = measure_case(alloc, case)?;
     format!(in alloc; "{text} {numbers}")
 }

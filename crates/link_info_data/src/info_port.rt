@@ -1,7 +1,8 @@
 //! The data of a kind of ports (if_link.h, IFLA_INFO_SLAVE_DATA).
 
 ghost use Rattle.std.specs.Prelude.{◌≡◌, ◌<◌, true, length, IfOk};
-ghost use Rattle.link_info_data.specs.PortData.{info_port_data_entry, info_port_data_fits, info_port_data_payload, info_port_data_names_row, port_data_rule_of};
+ghost use Rattle.link_info_data.specs.PortData.{info_port_data_entry, info_port_data_fits, info_port_data_payload};
+ghost use Rattle.link_info_data.specs.PortData.{info_port_data_names_row, port_data_rule_of};
 ghost use Rattle.attribute_tables.specs.Outcomes.{IfMemory, IsRefusedUnless, IsWrittenBy, SucceedsWhere};
 
 use super::laws::port_names_tell_rules;

@@ -13,8 +13,10 @@ ghost use Rattle.attribute_tables_grammar.specs.Peers.{bytes_peer};
 ghost use Rattle.attribute_tables_grammar.specs.Readings.{reading_as};
 ghost use Rattle.attribute_tables.specs.Beginnings.{begins_accepted, begins_readable};
 ghost use Rattle.link_info_grammar.specs.Families.{macvlan, macvlan_address};
-ghost use Rattle.link_info_devices.specs.MacVlan.{mac_vlan_entry, mac_vlan_fits, mac_vlan_names_row, mac_vlan_address_names_row, mac_vlan_may_want_memory, MacVlanGives};
-ghost use Rattle.attribute_tables.specs.Outcomes.{IfMemory, IfRead, IsRefusedUnless, ListIsReadAs, ListIsWrittenBy, SucceedsExactlyWhere, SucceedsWhere};
+ghost use Rattle.link_info_devices.specs.MacVlan.{mac_vlan_entry, mac_vlan_fits, mac_vlan_names_row, mac_vlan_address_names_row};
+ghost use Rattle.link_info_devices.specs.MacVlan.{mac_vlan_may_want_memory, MacVlanGives};
+ghost use Rattle.attribute_tables.specs.Outcomes.{IfMemory, IfRead, IsRefusedUnless, ListIsReadAs, ListIsWrittenBy};
+ghost use Rattle.attribute_tables.specs.Outcomes.{SucceedsExactlyWhere, SucceedsWhere};
 
 use attribute_tables::{Reader, parse_list, typed};
 use attribute_tables_grammar::laws::{rows_are_looked_up, rows_without_lists_fit};

@@ -1,7 +1,10 @@
 //! Numbers, texts and flags of GRE and ERSPAN.
 
 ghost use Rattle.std.specs.Prelude.{◌≡◌, Some, ⊤};
-ghost use Rattle.link_info_types.specs.GreTypes.{gre_io_flags_bits, gre_io_flags_table, gre_encap_flags_bits, gre_encap_flags_table, gre_encap_type_number, gre_encap_type_of, gre_encap_type_text, er_span_dir_number, er_span_dir_of, er_span_dir_text};
+ghost use Rattle.link_info_types.specs.GreTypes.{gre_io_flags_bits, gre_io_flags_table, gre_encap_flags_bits};
+ghost use Rattle.link_info_types.specs.GreTypes.{gre_encap_flags_table, gre_encap_type_number};
+ghost use Rattle.link_info_types.specs.GreTypes.{gre_encap_type_of, gre_encap_type_text, er_span_dir_number};
+ghost use Rattle.link_info_types.specs.GreTypes.{er_span_dir_of, er_span_dir_text};
 
 use bitflags::{Flag, Flags};
 use itoa::Buffer;

@@ -1,7 +1,9 @@
 //! Numbers, texts and flags of tunnels over IP.
 
 ghost use Rattle.std.specs.Prelude.{◌≡◌, Some, ⊤};
-ghost use Rattle.link_info_types.specs.IpTunnelTypes.{tunnel_encap_type_number, tunnel_encap_type_of, tunnel_encap_type_text, tunnel_encap_flags_bits, tunnel_encap_flags_table, ip6_tunnel_flags_bits, ip6_tunnel_flags_table};
+ghost use Rattle.link_info_types.specs.IpTunnelTypes.{tunnel_encap_type_number, tunnel_encap_type_of, tunnel_encap_type_text};
+ghost use Rattle.link_info_types.specs.IpTunnelTypes.{tunnel_encap_flags_bits};
+ghost use Rattle.link_info_types.specs.IpTunnelTypes.{tunnel_encap_flags_table, ip6_tunnel_flags_bits, ip6_tunnel_flags_table};
 
 use bitflags::{Flag, Flags};
 use itoa::Buffer;

@@ -7,7 +7,8 @@ ghost use Rattle.attribute_tables_grammar.specs.Readings.{reading_as};
 ghost use Rattle.link_message_grammar.specs.Body.{attribute_bytes, attribute_row, family, header_text, link_body};
 ghost use Rattle.link_message_types.specs.AddressFamilies.{address_family_of};
 ghost use Rattle.link_message_types.specs.Headers.{link_header_bytes};
-ghost use Rattle.link_message.specs.LinkMessages.{link_message_text, link_message_fits, link_message_written, link_message_names_row, link_message_empty_ports};
+ghost use Rattle.link_message.specs.LinkMessages.{link_message_text, link_message_fits, link_message_written};
+ghost use Rattle.link_message.specs.LinkMessages.{link_message_names_row, link_message_empty_ports};
 
 use link_message_attributes::LinkAttribute;
 use link_message_grammar::laws::{bodies_are_headers_and_attributes, empty_ports_are_told};

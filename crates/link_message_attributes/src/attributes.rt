@@ -12,7 +12,8 @@ ghost use Rattle.attribute_tables.specs.Views.{is_accepted_by, fits_by, rewritte
 ghost use Rattle.link_message_grammar.specs.LinkMessage.{has_no_link_row};
 ghost use Rattle.link_message_grammar.specs.Body.{attribute_row, attributes_rule};
 ghost use Rattle.link_message_types.specs.AddressFamilies.{table_family};
-ghost use Rattle.link_message_attributes.specs.LinkAttributes.{link_attribute_entry, link_attribute_fits, link_attribute_names_row, plain_row, row_may_want_memory, link_attribute_may_want_memory};
+ghost use Rattle.link_message_attributes.specs.LinkAttributes.{link_attribute_entry, link_attribute_fits, link_attribute_names_row};
+ghost use Rattle.link_message_attributes.specs.LinkAttributes.{plain_row, row_may_want_memory, link_attribute_may_want_memory};
 ghost use Rattle.link_message_attributes.specs.Payloads.{link_payload_bytes, link_payload_fits};
 ghost use Rattle.attribute_tables.specs.Outcomes.{IfMemory, IfRead, IsRefusedUnless, ListIsReadAs, ListIsWrittenBy, SucceedsWhere};
 

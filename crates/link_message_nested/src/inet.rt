@@ -8,7 +8,8 @@ ghost use Rattle.netlink_packet_core.specs.NlaBuffers.{storage};
 ghost use Rattle.attribute_tables_grammar.specs.LookUps.{table_row};
 ghost use Rattle.attribute_tables_grammar.specs.Peers.{bytes_peer};
 ghost use Rattle.link_message_grammar.specs.NestedTables.{inet};
-ghost use Rattle.link_message_nested.specs.InetSettings.{af_spec_inet_entry, af_spec_inet_names_row, requested_entry, requested_setting, requested_from, requested_so_far};
+ghost use Rattle.link_message_nested.specs.InetSettings.{af_spec_inet_entry, af_spec_inet_names_row, requested_entry};
+ghost use Rattle.link_message_nested.specs.InetSettings.{requested_setting, requested_from, requested_so_far};
 
 use attribute_tables::Reader;
 use link_message_records::{InetDevConf, emit_record, read_settings};

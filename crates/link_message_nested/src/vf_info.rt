@@ -11,7 +11,9 @@ ghost use Rattle.attribute_tables_grammar.specs.Peers.{bytes_peer};
 ghost use Rattle.attribute_tables.specs.Views.{fits_by};
 ghost use Rattle.attribute_tables.specs.Beginnings.{table_may_want_memory};
 ghost use Rattle.link_message_grammar.specs.NestedTables.{vf, vf_infos};
-ghost use Rattle.link_message_nested.specs.VfInfos.{vf_info_entry, vf_info_fits, vf_info_names_row, link_vf_info_entry, link_vf_info_fits, link_vf_info_names_row, vf_info_row, is_vf_info, IsVfInfoOf, vf_info_begins_readable, vf_infos_begin_readable};
+ghost use Rattle.link_message_nested.specs.VfInfos.{vf_info_entry, vf_info_fits, vf_info_names_row, link_vf_info_entry};
+ghost use Rattle.link_message_nested.specs.VfInfos.{link_vf_info_fits, link_vf_info_names_row};
+ghost use Rattle.link_message_nested.specs.VfInfos.{vf_info_row, is_vf_info, IsVfInfoOf, vf_info_begins_readable, vf_infos_begin_readable};
 ghost use Rattle.attribute_tables.specs.Outcomes.{IfMemory, ListIsWrittenBy, SucceedsWhere};
 
 use super::vf_stats::VfStats;

@@ -10,7 +10,8 @@ ghost use Rattle.attribute_tables_grammar.specs.Peers.{bytes_peer};
 ghost use Rattle.attribute_tables_grammar.specs.Tables.{Table.end};
 ghost use Rattle.attribute_tables.specs.Beginnings.{begins_accepted};
 ghost use Rattle.link_message_grammar.specs.NestedTables.{vf_ports};
-ghost use Rattle.link_message_nested.specs.VfPorts.{vf_port_entry, link_vf_port_entry, link_vf_port_fits, vf_port_row, is_vf_port, IsVfPortOf, vf_ports_begin_readable};
+ghost use Rattle.link_message_nested.specs.VfPorts.{vf_port_entry, link_vf_port_entry, link_vf_port_fits, vf_port_row};
+ghost use Rattle.link_message_nested.specs.VfPorts.{is_vf_port, IsVfPortOf, vf_ports_begin_readable};
 ghost use Rattle.attribute_tables.specs.Outcomes.{IfMemory, ListIsWrittenBy, SucceedsWhere};
 
 use attribute_tables::{EntryReader, parse_family, parse_ports};

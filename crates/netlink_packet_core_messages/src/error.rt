@@ -1,4 +1,5 @@
-ghost use Rattle.std.specs.Prelude.{◌≡◌, ◌↔◌, ◌≤◌, length, drop, false, IfOk, IfErr, IsOk, ◌≢◌, pos, ◌<◌, ◌++◌, nat_lt, true, ⊤, Some, is_some, nat_abs};
+ghost use Rattle.std.specs.Prelude.{◌≡◌, ◌↔◌, ◌≤◌, length, drop, false, IfOk, IfErr, IsOk, ◌≢◌};
+ghost use Rattle.std.specs.Prelude.{pos, ◌<◌, ◌++◌, nat_lt, true, ⊤, Some, is_some, nat_abs};
 ghost use Rattle.std.specs.Borrow.{Lends, Array, sem, u8};
 ghost use Rattle.netlink_packet_core_grammar.specs.Bytes.{put_at};
 ghost use Rattle.netlink_packet_core_numbers.specs.Errors.{is_memory};

@@ -3,7 +3,8 @@ ghost use Rattle.netlink_packet_core_grammar.specs.Frames.{IsFrame, frame_type, 
 ghost use Rattle.netlink_packet_core_grammar.specs.Numbers.{as_usize};
 ghost use Rattle.netlink_packet_core_messages.specs.NetlinkBuffers.{storage};
 ghost use Rattle.netlink_packet_core_messages.specs.Payloads.{payload_may_want_memory, OfInner};
-ghost use Rattle.netlink_packet_core_messages.specs.Messages.{message_text, message_size, message_value, read_message, finalized, IsFinalized};
+ghost use Rattle.netlink_packet_core_messages.specs.Messages.{message_text, message_size, message_value};
+ghost use Rattle.netlink_packet_core_messages.specs.Messages.{read_message, finalized, IsFinalized};
 ghost use Rattle.netlink_packet_core_messages.specs.Refusals.{wants_memory, Tells};
 
 use super::buffer::{NETLINK_HEADER_LEN, NetlinkBuffer};

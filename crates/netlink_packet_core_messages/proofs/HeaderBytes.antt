@@ -29,22 +29,6 @@ written_2 a b p q = le_bytes_2 (a ∷ b ∷ []) _ refl (two_bytes a b p q) refl
 pub written_4 : (a b c d : ℕ) → a < 256 → b < 256 → c < 256 → d < 256 → to_le_bytes w32 (from_le_bytes w32 (a ∷ b ∷ c ∷ d ∷ [])) ≡ a ∷ b ∷ c ∷ d ∷ []
 written_4 a b c d p q r s = le_bytes_4 (a ∷ b ∷ c ∷ d ∷ []) _ refl (four_bytes a b c d p q r s) refl
 
-pub record FourAnd (n : ℕ) (c : List ℕ) : Type 0 where
-  pub a : ℕ
-  pub b : ℕ
-  pub d : ℕ
-  pub e : ℕ
-  pub rest : List ℕ
-  pub is : c ≡ a ∷ b ∷ d ∷ e ∷ rest
-  pub more : n ≤ length rest
-
-pub four_and : (n : ℕ) (c : List ℕ) → 4 + n ≤ length c → FourAnd n c
-four_and n (a ∷ b ∷ d ∷ e ∷ rest) h = record { a = a; b = b; d = d; e = e; rest = rest; is = refl; more = omega arith }
-four_and n [] h = absurd (omega arith)
-four_and n (a ∷ []) h = absurd (omega arith)
-four_and n (a ∷ b ∷ []) h = absurd (omega arith)
-four_and n (a ∷ b ∷ d ∷ []) h = absurd (omega arith)
-
 -- the numbers at the places of a header
 written_2_at : (i : ℕ) (c : List ℕ) → AllBytes c → le2 (u16_at i c) ≡ get_or c i 0 ∷ get_or c (i + 1) 0 ∷ []
 unfolding u16_at le2
@@ -59,13 +43,8 @@ unfolding header_text header_of
 places c h = rw (written_4_at 0 c h, written_2_at 4 c h, written_2_at 6 c h, written_4_at 8 c h, written_4_at 12 c h) refl
 
 pub header_written : (c : List ℕ) → 16 ≤ length c → AllBytes c → header_text (header_of c) ≡ take 16 c
-header_written c l h =
-    let f = four_and 12 c l in
-    let g = four_and 8 f.rest f.more in
-    let j = four_and 4 g.rest g.more in
-    let k = four_and 0 j.rest j.more in
-    let e : c ≡ f.a ∷ f.b ∷ f.d ∷ f.e ∷ g.a ∷ g.b ∷ g.d ∷ g.e ∷ j.a ∷ j.b ∷ j.d ∷ j.e ∷ k.a ∷ k.b ∷ k.d ∷ k.e ∷ k.rest = f.is ∙ ap (λ r. f.a ∷ f.b ∷ f.d ∷ f.e ∷ r) (g.is ∙ ap (λ r. g.a ∷ g.b ∷ g.d ∷ g.e ∷ r) (j.is ∙ ap (λ r. j.a ∷ j.b ∷ j.d ∷ j.e ∷ r) k.is)) in
-    places c h ∙ rw e refl
+header_written (a ∷ b ∷ c ∷ d ∷ e ∷ f ∷ g ∷ h ∷ i ∷ j ∷ k ∷ l ∷ m ∷ n ∷ o ∷ p ∷ rest) s t = places (a ∷ b ∷ c ∷ d ∷ e ∷ f ∷ g ∷ h ∷ i ∷ j ∷ k ∷ l ∷ m ∷ n ∷ o ∷ p ∷ rest) t
+header_written c s t = absurd (omega arith)
 
 with_length : (h : NetlinkHeader) (n : ℕ) → header_text (record h { length = n }) ≡ le4 n ++ drop 4 (header_text h)
 unfolding header_text le4

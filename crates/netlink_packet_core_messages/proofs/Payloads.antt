@@ -40,7 +40,7 @@ raw_fits : (k : Option ℤ) → IsCode k → FitsSigned w32 (raw_code k)
 raw_fits None h = record { sfits = omega arith }
 raw_fits (Some z) h = h.0
 
-not_control : (t : ℕ) → IsInner t → (nat_eq t 1 ≡ false) × ((nat_eq t 2 ≡ false) × ((nat_eq t 3 ≡ false) × (nat_eq t 4 ≡ false)))
+pub not_control : (t : ℕ) → IsInner t → (nat_eq t 1 ≡ false) × ((nat_eq t 2 ≡ false) × ((nat_eq t 3 ≡ false) × (nat_eq t 4 ≡ false)))
 not_control t h = grind (arith, nat_tests)
 
 pub payload_reads : {A V : Type 0} (e : A → TypedBody) (fits : A → Type 0) (reads : ℕ → List ℕ → Option V) (value : A → V) → ((x : A) → fits x → reads (e x).0 (e x).1 ≡ Some (value x)) → ((x : A) → IsInner (e x).0) → (p : NetlinkPayload A) → HasCode p → OfInner fits p → read_payload reads (payload_entry e p).0 (payload_entry e p).1 ≡ Some (payload_value value p)

@@ -22,7 +22,8 @@ use Rattle.netlink_packet_core_messages.specs.Headers.{header_of, header_text}
 use Rattle.netlink_packet_core_messages.specs.TypedBodies.{TypedBody}
 use Rattle.netlink_packet_core_messages.specs.Payloads.{payload_entry, payload_value, read_payload, written_body}
 use Rattle.netlink_packet_core_messages.specs.Messages.{read_message, message_text, message_value, finalized, is_frame, unpadded_text}
-use Rattle.netlink_packet_core_messages.proofs.HeaderBytes.{AllBytes, four_and, written_4_at, header_kept}
+use Rattle.netlink_packet_core_messages.proofs.HeaderBytes.{AllBytes, written_4_at, header_kept}
+use Rattle.netlink_packet_core_messages.proofs.Payloads.{not_control}
 
 -- ---- codes
 
@@ -37,9 +38,8 @@ raw-nonzero : (z : ℤ) → raw_code (nonzero_code z) ≡ z
 raw-nonzero z = raw_by (int_eq z (pos 0)) z (zero_is z)
 
 four_bytes_kept : (b : List ℕ) → 4 ≤ length b → AllBytes b → le4 (u32_at 0 b) ++ drop 4 b ≡ b
-four_bytes_kept b l h =
-    let f = four_and 0 b l in
-    rw (written_4_at 0 b h) (rw f.is refl)
+four_bytes_kept (x ∷ y ∷ z ∷ w ∷ b) l h = ap (λ s. s ++ b) (written_4_at 0 (x ∷ y ∷ z ∷ w ∷ b) h)
+four_bytes_kept b l h = absurd (omega arith)
 
 code_fits : (b : List ℕ) → AllBytes b → u32_at 0 b < 2 ^ 32
 unfolding u32_at
@@ -68,96 +68,56 @@ of_read other own None = other
 of_read other own (Some p) = payload_entry (λ _. own) p
 
 error_of_read : (V : Type 0) (own : TypedBody) (b : List ℕ) → AllBytes b → of_read {V = V} (2, b) own (option_map Error (read_error b)) ≡ (2, b)
-error_of_read V own b h =
-    elim (leb_tells 4 (length b)) [
-      | inl t ↦ (let s : nat_lt (length b) 4 ≡ false = grind (arith, nat_tests) in rw s (ap (λ (x : List ℕ). (2, x)) (error_kept b t.1 h)))
-      | inr t ↦ (let s : nat_lt (length b) 4 ≡ true = grind (arith, nat_tests) in rw s refl)
-    ]
+error_of_read V own (x ∷ y ∷ z ∷ w ∷ b) h =
+    let s : nat_lt (length (x ∷ y ∷ z ∷ w ∷ b)) 4 ≡ false = grind (arith, nat_tests) in
+    rw s (ap (λ (x : List ℕ). (2, x)) (error_kept (x ∷ y ∷ z ∷ w ∷ b) (omega arith) h))
+error_of_read V own b h = refl
 
 done_of_read : (V : Type 0) (own : TypedBody) (b : List ℕ) → AllBytes b → of_read {V = V} (3, cond (nat_eq (length b) 0) (0 ∷ 0 ∷ 0 ∷ 0 ∷ []) b) own (option_map Done (read_done b)) ≡ (3, cond (nat_eq (length b) 0) (0 ∷ 0 ∷ 0 ∷ 0 ∷ []) b)
-done_of_read V own b h =
-    elim (eqb_tells (length b) 0) [
-      | inl e ↦ rw e.0 (ap (λ (x : List ℕ). (3, x)) empty_done_text)
-      | inr e ↦
-          elim (leb_tells 4 (length b)) [
-            | inl t ↦ (let s : nat_lt (length b) 4 ≡ false = grind (arith, nat_tests) in rw (e.0, s) (ap (λ (x : List ℕ). (3, x)) (done_kept b t.1 h)))
-            | inr t ↦ (let s : nat_lt (length b) 4 ≡ true = grind (arith, nat_tests) in rw (e.0, s) refl)
-          ]
-    ]
+done_of_read V own [] h = ap (λ (x : List ℕ). (3, x)) empty_done_text
+done_of_read V own (x ∷ y ∷ z ∷ w ∷ b) h =
+    let n : nat_eq (length (x ∷ y ∷ z ∷ w ∷ b)) 0 ≡ false = grind (arith, nat_tests) in
+    let s : nat_lt (length (x ∷ y ∷ z ∷ w ∷ b)) 4 ≡ false = grind (arith, nat_tests) in
+    rw (n, s) (ap (λ (x : List ℕ). (3, x)) (done_kept (x ∷ y ∷ z ∷ w ∷ b) (omega arith) h))
+done_of_read V own b h = refl
 
 inner_of_read : {V : Type 0} (own : TypedBody) (o : Option V) → of_read own own (option_map InnerMessage o) ≡ own
 inner_of_read own None = refl
 inner_of_read own (Some v) = refl
 
 read_written : {V : Type 0} (reads : ℕ → List ℕ → Option V) (own : List ℕ) (t : ℕ) (b : List ℕ) → AllBytes b → of_read (t, written_body own t b) (t, own) (read_payload reads t b) ≡ (t, written_body own t b)
+read_written reads own zero b h = inner_of_read (0, own) (reads 0 b)
+read_written reads own (suc zero) b h = refl
+read_written reads own (suc (suc zero)) b h = error_of_read _ (2, own) b h
+read_written reads own (suc (suc (suc zero))) b h = done_of_read _ (3, own) b h
+read_written reads own (suc (suc (suc (suc zero)))) b h = refl
 read_written reads own t b h =
-    elim (eqb_tells t 1) [
-      | inl e ↦ subst (λ n. of_read (n, written_body own n b) (n, own) (read_payload reads n b) ≡ (n, written_body own n b)) (sym e.1) refl
-      | inr e ↦
-          elim (eqb_tells t 2) [
-            | inl f ↦ subst (λ n. of_read (n, written_body own n b) (n, own) (read_payload reads n b) ≡ (n, written_body own n b)) (sym f.1) (error_of_read _ (2, own) b h)
-            | inr f ↦
-                elim (eqb_tells t 3) [
-                  | inl g ↦ subst (λ n. of_read (n, written_body own n b) (n, own) (read_payload reads n b) ≡ (n, written_body own n b)) (sym g.1) (done_of_read _ (3, own) b h)
-                  | inr g ↦
-                      elim (eqb_tells t 4) [
-                        | inl k ↦ subst (λ n. of_read (n, written_body own n b) (n, own) (read_payload reads n b) ≡ (n, written_body own n b)) (sym k.1) refl
-                        | inr k ↦ rw (e.0, f.0, g.0, k.0) (inner_of_read (t, own) (reads t b))
-                      ]
-                ]
-          ]
-    ]
-
--- the inner message that was read, if there is one
-abbrev inner_of : {V : Type 0} → Option (NetlinkPayload V) → Option V
-inner_of None = None
-inner_of (Some (Done m)) = None
-inner_of (Some (Error m)) = None
-inner_of (Some Noop) = None
-inner_of (Some (Overrun b)) = None
-inner_of (Some (InnerMessage v)) = Some v
-
-inner_of-error : {V : Type 0} (o : Option ErrorMessage) → inner_of {V = V} (option_map Error o) ≡ None
-inner_of-error None = refl
-inner_of-error (Some m) = refl
-
-inner_of-done : {V : Type 0} (o : Option DoneMessage) → inner_of {V = V} (option_map Done o) ≡ None
-inner_of-done None = refl
-inner_of-done (Some m) = refl
-
-inner_of-inner : {V : Type 0} (o : Option V) → inner_of (option_map InnerMessage o) ≡ o
-inner_of-inner None = refl
-inner_of-inner (Some v) = refl
+    let n = not_control t (λ positive. omega arith) in
+    rw (n.0, n.1.0, n.1.1.0, n.1.1.1) (inner_of_read (t, own) (reads t b))
 
 -- what a control message is read as is no inner message
-inner_none : {V : Type 0} (reads : ℕ → List ℕ → Option V) (t : ℕ) (b : List ℕ) → (inner_of (read_payload reads t b) ≡ None) ⊎ (inner_of (read_payload reads t b) ≡ reads t b)
-inner_none reads t b =
-    elim (eqb_tells t 1) [
-      | inl e ↦ inl (rw e.0 refl)
-      | inr e ↦
-          elim (eqb_tells t 2) [
-            | inl f ↦ inl (rw (e.0, f.0) (inner_of-error (read_error b)))
-            | inr f ↦
-                elim (eqb_tells t 3) [
-                  | inl g ↦ inl (rw (e.0, f.0, g.0) (inner_of-done (read_done b)))
-                  | inr g ↦
-                      elim (eqb_tells t 4) [
-                        | inl k ↦ inl (rw (e.0, f.0, g.0, k.0) refl)
-                        | inr k ↦ inr (rw (e.0, f.0, g.0, k.0) (inner_of-inner (reads t b)))
-                      ]
-                ]
-          ]
-    ]
 
-none_some : {V : Type 0} (v : V) → None ≡ Some v → ⊥
-none_some v h = absurd cc
+no_error : {V : Type 0} (o : Option ErrorMessage) (v : V) → option_map Error o ≡ Some (InnerMessage v) → ⊥
+no_error None v h = absurd cc
+no_error (Some m) v h = absurd cc
+
+no_done : {V : Type 0} (o : Option DoneMessage) (v : V) → option_map Done o ≡ Some (InnerMessage v) → ⊥
+no_done None v h = absurd cc
+no_done (Some m) v h = absurd cc
+
+inner_is : {V : Type 0} (o : Option V) (v : V) → option_map InnerMessage o ≡ Some (InnerMessage v) → o ≡ Some v
+inner_is None v h = absurd cc
+inner_is (Some w) v h = cc
 
 inner_read : {V : Type 0} (reads : ℕ → List ℕ → Option V) (t : ℕ) (b : List ℕ) (v : V) → read_payload reads t b ≡ Some (InnerMessage v) → reads t b ≡ Some v
+inner_read reads zero b v e = inner_is (reads 0 b) v e
+inner_read reads (suc zero) b v e = absurd cc
+inner_read reads (suc (suc zero)) b v e = absurd (no_error (read_error b) v e)
+inner_read reads (suc (suc (suc zero))) b v e = absurd (no_done (read_done b) v e)
+inner_read reads (suc (suc (suc (suc zero)))) b v e = absurd cc
 inner_read reads t b v e =
-    elim (inner_none reads t b) [
-      | inl n ↦ absurd (none_some v (sym n ∙ ap inner_of e))
-      | inr s ↦ sym s ∙ ap inner_of e
-    ]
+    let n = not_control t (λ positive. omega arith) in
+    inner_is (reads t b) v (rw (n.0, n.1.0, n.1.1.0, n.1.1.1) at e)
 
 entry_by : {A V : Type 0} (value : A → V) (entry : A → TypedBody) (own : TypedBody) (p : NetlinkPayload A) → ((x : A) → payload_value value p ≡ InnerMessage (value x) → entry x ≡ own) → payload_entry entry p ≡ payload_entry (λ _. own) (payload_value value p)
 entry_by value entry own (Done m) h = refl
@@ -195,8 +155,8 @@ read_as : {V : Type 0} (whole : Bool) (h : NetlinkHeader) (o : Option (NetlinkPa
 read_as {V = V} true h (Some p) m e =
     let f : record { header = h; payload = p } ≡ m = cc in
     record { is_whole = refl; header_is = ap (λ (x : NetlinkMessage V). x.header) (sym f); payload_is = ap (λ (x : NetlinkMessage V). Some x.payload) f }
-read_as true h None m e = absurd (none_some m e)
-read_as false h o m e = absurd (none_some m e)
+read_as true h None m e = absurd cc
+read_as false h o m e = absurd cc
 
 text_by : (h : NetlinkHeader) (c : List ℕ) (t : ℕ) (w : List ℕ) (x : TypedBody) → x ≡ (t, w) → h ≡ header_of c → t ≡ frame_type c → 16 ≤ length c → AllBytes c → header_text (record h { length = 16 + length x.1; message_type = x.0 }) ++ x.1 ≡ unpadded_text c w
 text_by h c t w x e f g l b =

@@ -8,33 +8,23 @@ use Rattle.netlink_packet_core_messages.specs.Headers.{header_of}
 use Rattle.netlink_packet_core_messages.specs.Messages.{read_message, is_frame}
 use Rattle.netlink_packet_core_messages.proofs.Frames.{is_frame-true, is_frame-false}
 
--- two byte strings have the same header
+-- two a strings have the same header
 abbrev AgreeOn16 : List ℕ → List ℕ → Type 0
 AgreeOn16 c d = (i : ℕ) → i < 16 → get_or c i 0 ≡ get_or d i 0
 
+header_agrees : (c d : List ℕ) → AgreeOn16 c d → header_of c ≡ header_of d
+unfolding header_of u16_at u32_at
+header_agrees c d a =
+    rw (a 0 (omega arith), a 1 (omega arith), a 2 (omega arith), a 3 (omega arith), a 4 (omega arith), a 5 (omega arith), a 6 (omega arith), a 7 (omega arith))
+    (rw (a 8 (omega arith), a 9 (omega arith), a 10 (omega arith), a 11 (omega arith), a 12 (omega arith), a 13 (omega arith), a 14 (omega arith), a 15 (omega arith)) refl)
+
 length_agrees : (c d : List ℕ) → AgreeOn16 c d → u32_at 0 c ≡ u32_at 0 d
-unfolding u32_at
-length_agrees c d a = rw (a 0 (omega arith), a 1 (omega arith), a 2 (omega arith), a 3 (omega arith)) refl
+unfolding header_of
+length_agrees c d a = ap (λ h. h.length) (header_agrees c d a)
 
 type_agrees : (c d : List ℕ) → AgreeOn16 c d → u16_at 4 c ≡ u16_at 4 d
-unfolding u16_at
-type_agrees c d a = rw (a 4 (omega arith), a 5 (omega arith)) refl
-
-flags_agree : (c d : List ℕ) → AgreeOn16 c d → u16_at 6 c ≡ u16_at 6 d
-unfolding u16_at
-flags_agree c d a = rw (a 6 (omega arith), a 7 (omega arith)) refl
-
-sequence_agrees : (c d : List ℕ) → AgreeOn16 c d → u32_at 8 c ≡ u32_at 8 d
-unfolding u32_at
-sequence_agrees c d a = rw (a 8 (omega arith), a 9 (omega arith), a 10 (omega arith), a 11 (omega arith)) refl
-
-port_agrees : (c d : List ℕ) → AgreeOn16 c d → u32_at 12 c ≡ u32_at 12 d
-unfolding u32_at
-port_agrees c d a = rw (a 12 (omega arith), a 13 (omega arith), a 14 (omega arith), a 15 (omega arith)) refl
-
-header_agrees : (c d : List ℕ) → AgreeOn16 c d → header_of c ≡ header_of d
 unfolding header_of
-header_agrees c d a = rw (length_agrees c d a, type_agrees c d a, flags_agree c d a, sequence_agrees c d a, port_agrees c d a) refl
+type_agrees c d a = ap (λ h. h.message_type) (header_agrees c d a)
 
 same_reading : {V : Type 0} (reads : ℕ → List ℕ → Option V) (c d : List ℕ) → is_frame c ≡ is_frame d → frame_type c ≡ frame_type d → frame_body c ≡ frame_body d → header_of c ≡ header_of d → read_message reads c ≡ read_message reads d
 same_reading reads c d e1 e2 e3 e4 = rw (e1, e2, e3, e4) refl

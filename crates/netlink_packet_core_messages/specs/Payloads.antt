@@ -1,5 +1,5 @@
 -- The bodies of frames, by the frame's type.
-use Rattle.std.specs.Prelude.{ℕ, List, [], ◌∷◌, length, Option, Some, option_map, Bool, true, false, cond, nat_eq, nat_lt}
+use Rattle.std.specs.Prelude.{ℕ, List, [], ◌∷◌, length, Option, Some, option_map, Bool, false, cond, nat_eq, nat_lt}
 use Rattle.std.specs.Int.{w32}
 use Rattle.std.specs.Int.RustNames.{FitsSigned}
 use Rattle.netlink_packet_core_messages.specs.Codes.{IsCode}

@@ -1,18 +1,12 @@
 -- The laws of walks and of written attributes.
-use Rattle.std.proofs.Common.{◌≡◌, ℕ, zero, suc, ◌+◌, ◌*◌, ◌<◌, ◌≤◌, List, [], ◌∷◌, ◌++◌, length, map, Option, Some, None, refl, sym, ap, subst, ◌∙◌, arith, inl, inr, append_assoc}
-use Rattle.std.proofs.lemmas.Bool.{cases_lt}
+use Rattle.std.proofs.Common.{◌≡◌, ℕ, zero, suc, ◌+◌, ◌*◌, ◌<◌, ◌≤◌, List, [], ◌∷◌, ◌++◌, length, map, Option, Some, None, refl, sym, ap, subst, ◌∙◌, arith, append_assoc}
 use Rattle.netlink_packet_core_grammar.specs.Attributes.{Attribute, attribute_text, list_text, first_attribute, attributes_of, IsAttributeList}
 use Rattle.netlink_packet_core_grammar.specs.AttributeViews.{viewed_length, viewed_attribute, IsAttribute, after_first}
 use Rattle.netlink_packet_core_grammar.specs.Laws.{AttributesAreCut, FirstIsViewed, FirstIsWithin, WrittenIsFirst}
+use Rattle.netlink_packet_core_grammar.proofs.Attributes.{got, got_is}
 use Rattle.netlink_packet_core_attributes.specs.Walks.{IsWalk, attribute_walk}
 use Rattle.netlink_packet_core_attributes.specs.Laws.{WalkIsTheRelation, ListsAreWalked, OthersEndInAFault, TextsAreWalked, TextsAreReadBack, WalksAreShort}
 use Rattle.netlink_packet_core_attributes.proofs.Walks.{shorter, walk-empty, walk-step, walk-stop}
-
-abbrev got : {A : Type 0} → A → Option A
-got x = Some x
-
-got_is : {A : Type 0} (x y : A) → got x ≡ got y → x ≡ y
-got_is x y e = cc
 
 -- ---- the function and the relation
 
@@ -90,18 +84,15 @@ module _ (within : FirstIsWithin) where
 is_none : FirstIsViewed → (bytes : List ℕ) (x : Attribute × List ℕ) → first_attribute bytes ≡ Some x → (IsAttribute bytes → ⊥) → ⊥
 is_none law bytes x h n = let e : got x ≡ None = sym h ∙ law.none bytes n in cc
 
+not_less : (m n : ℕ) → (m < n → ⊥) → n ≤ m
+not_less m n h = omega (arith, h)
+
 whole : FirstIsViewed → (bytes : List ℕ) (x : Attribute × List ℕ) → first_attribute bytes ≡ Some x → IsAttribute bytes
-whole law bytes x h =
-    elim (cases_lt (length bytes) 4) as (λ _. IsAttribute bytes) [
-      | inl a ↦ absurd (is_none law bytes x h (λ i. let k = i.has_header in omega arith))
-      | inr a ↦ elim (cases_lt (viewed_length bytes) 4) as (λ _. IsAttribute bytes) [
-        | inl b ↦ absurd (is_none law bytes x h (λ i. let k = i.covers_header in omega arith))
-        | inr b ↦ elim (cases_lt (length bytes) (viewed_length bytes)) as (λ _. IsAttribute bytes) [
-          | inl c ↦ absurd (is_none law bytes x h (λ i. let k = i.within in omega arith))
-          | inr c ↦ record { has_header = a; covers_header = b; within = c }
-        ]
-      ]
-    ]
+whole law bytes x h = record {
+  has_header = not_less _ _ (λ s. is_none law bytes x h (λ i. let k = i.has_header in omega arith));
+  covers_header = not_less _ _ (λ s. is_none law bytes x h (λ i. let k = i.covers_header in omega arith));
+  within = not_less _ _ (λ s. is_none law bytes x h (λ i. let k = i.within in omega arith));
+}
 
 pub texts_are_read_back : FirstIsViewed → WrittenIsFirst → TextsAreReadBack
 texts_are_read_back law front e bytes =

@@ -65,24 +65,8 @@ abbrev turned_gets : List ℕ → List ℕ
 turned_gets bs = get_or bs 15 0 ∷ get_or bs 14 0 ∷ get_or bs 13 0 ∷ get_or bs 12 0 ∷ get_or bs 11 0 ∷ get_or bs 10 0 ∷ get_or bs 9 0 ∷ get_or bs 8 0 ∷ get_or bs 7 0 ∷ get_or bs 6 0 ∷ get_or bs 5 0 ∷ get_or bs 4 0 ∷ get_or bs 3 0 ∷ get_or bs 2 0 ∷ get_or bs 1 0 ∷ get_or bs 0 0 ∷ []
 
 gets-all : (bs : List ℕ) → length bs ≡ 16 → gets bs ≡ bs
-gets-all [] l = absurd (omega arith)
-gets-all (a ∷ []) l = absurd (omega arith)
-gets-all (a ∷ b ∷ []) l = absurd (omega arith)
-gets-all (a ∷ b ∷ c ∷ []) l = absurd (omega arith)
-gets-all (a ∷ b ∷ c ∷ d ∷ []) l = absurd (omega arith)
-gets-all (a ∷ b ∷ c ∷ d ∷ e ∷ []) l = absurd (omega arith)
-gets-all (a ∷ b ∷ c ∷ d ∷ e ∷ f ∷ []) l = absurd (omega arith)
-gets-all (a ∷ b ∷ c ∷ d ∷ e ∷ f ∷ g ∷ []) l = absurd (omega arith)
-gets-all (a ∷ b ∷ c ∷ d ∷ e ∷ f ∷ g ∷ h ∷ []) l = absurd (omega arith)
-gets-all (a ∷ b ∷ c ∷ d ∷ e ∷ f ∷ g ∷ h ∷ i ∷ []) l = absurd (omega arith)
-gets-all (a ∷ b ∷ c ∷ d ∷ e ∷ f ∷ g ∷ h ∷ i ∷ j ∷ []) l = absurd (omega arith)
-gets-all (a ∷ b ∷ c ∷ d ∷ e ∷ f ∷ g ∷ h ∷ i ∷ j ∷ k ∷ []) l = absurd (omega arith)
-gets-all (a ∷ b ∷ c ∷ d ∷ e ∷ f ∷ g ∷ h ∷ i ∷ j ∷ k ∷ m ∷ []) l = absurd (omega arith)
-gets-all (a ∷ b ∷ c ∷ d ∷ e ∷ f ∷ g ∷ h ∷ i ∷ j ∷ k ∷ m ∷ n ∷ []) l = absurd (omega arith)
-gets-all (a ∷ b ∷ c ∷ d ∷ e ∷ f ∷ g ∷ h ∷ i ∷ j ∷ k ∷ m ∷ n ∷ o ∷ []) l = absurd (omega arith)
-gets-all (a ∷ b ∷ c ∷ d ∷ e ∷ f ∷ g ∷ h ∷ i ∷ j ∷ k ∷ m ∷ n ∷ o ∷ p ∷ []) l = absurd (omega arith)
 gets-all (a ∷ b ∷ c ∷ d ∷ e ∷ f ∷ g ∷ h ∷ i ∷ j ∷ k ∷ m ∷ n ∷ o ∷ p ∷ q ∷ []) l = refl
-gets-all (a ∷ b ∷ c ∷ d ∷ e ∷ f ∷ g ∷ h ∷ i ∷ j ∷ k ∷ m ∷ n ∷ o ∷ p ∷ q ∷ r ∷ bs) l = absurd (omega arith)
+gets-all bs l = absurd (omega arith)
 
 turned-worth : (bs : List ℕ) → from_be_bytes w128 bs ≡ from_le_bytes w128 (turned_gets bs)
 turned-worth bs = turned (get_or bs 0 0 * 1329227995784915872903807060280344576) (get_or bs 1 0 * 5192296858534827628530496329220096) (get_or bs 2 0 * 20282409603651670423947251286016) (get_or bs 3 0 * 79228162514264337593543950336) (get_or bs 4 0 * 309485009821345068724781056) (get_or bs 5 0 * 1208925819614629174706176) (get_or bs 6 0 * 4722366482869645213696) (get_or bs 7 0 * 18446744073709551616) (get_or bs 8 0 * 72057594037927936) (get_or bs 9 0 * 281474976710656) (get_or bs 10 0 * 1099511627776) (get_or bs 11 0 * 4294967296) (get_or bs 12 0 * 16777216) (get_or bs 13 0 * 65536) (get_or bs 14 0 * 256) (get_or bs 15 0)

@@ -36,11 +36,10 @@ sum-first f zero = omega arith
 sum-first f (suc k) = omega (arith, sum-first f k)
 
 sum-worth : (k : ℕ) (bs : List ℕ) → length bs ≡ suc k → sum_through (λ i. byte_worth i (slice_index bs i)) k ≡ worth bs
-sum-worth k [] l = absurd (omega arith)
 sum-worth zero (b ∷ []) l = omega arith
-sum-worth zero (b ∷ c ∷ bs) l = absurd (omega arith)
 sum-worth (suc k) (b ∷ bs) l =
     sum-first (λ i. byte_worth i (slice_index (b ∷ bs) i)) k ∙ ap (λ n. n + b) (sum-scaled (λ i. slice_index bs i) k ∙ ap (λ n. n * 256) (sum-worth k bs (omega arith)))
+sum-worth k x l = absurd (omega arith)
 
 are_bytes : (bs : List ℕ) → ((i : ℕ) → get_or bs i 0 < 256) → AreBytes bs
 are_bytes [] small = tt

@@ -32,16 +32,13 @@ module _ (law : FirstIsWithin) where
 
   walk-enough : (m n : ℕ) (bytes : List ℕ) → length bytes ≤ m → length bytes ≤ n → walk_within m bytes ≡ walk_within n bytes
   unfolding walk_within
-  walk-enough zero zero bytes k l = refl
-  walk-enough zero (suc n) [] k l = refl
   walk-enough zero (suc n) (b ∷ bytes) k l = absurd (omega arith)
-  walk-enough (suc m) zero [] k l = refl
   walk-enough (suc m) zero (b ∷ bytes) k l = absurd (omega arith)
-  walk-enough (suc m) (suc n) [] k l = refl
   walk-enough (suc m) (suc n) (b ∷ bytes) k l =
       walk_on-same (first_attribute (b ∷ bytes)) (walk_within m) (walk_within n) (λ e rest h.
       let s = shorter (b ∷ bytes) e rest h in
       walk-enough m n rest (omega arith) (omega arith))
+  walk-enough x y bytes k l = refl
 
   pub walk-step : (bytes : List ℕ) (e : Attribute) (rest : List ℕ) → first_attribute bytes ≡ Some (e, rest) → attribute_walk bytes ≡ Some e ∷ attribute_walk rest
   unfolding attribute_walk

@@ -53,8 +53,7 @@ payload_reads e fits reads value back inner (Error m) c f =
     let l = length-le4-append (cast_unsigned w32 (raw_code m.code)) m.header in
     let s : nat_lt (length (error_message_text m)) 4 ≡ false = grind (arith, nat_tests) in
     rw (s, code_at (raw_code m.code) m.header (raw_fits m.code c), drop-le4 (cast_unsigned w32 (raw_code m.code)) m.header, nonzero-raw m.code c) refl
-payload_reads e fits reads value back inner Noop c f = refl
-payload_reads e fits reads value back inner (Overrun b) c f = refl
 payload_reads e fits reads value back inner (InnerMessage x) c f =
     let n = not_control (e x).0 (inner x) in
     rw (n.0, n.1.0, n.1.1.0, n.1.1.1, back x f) refl
+payload_reads e fits reads value back inner x c f = refl

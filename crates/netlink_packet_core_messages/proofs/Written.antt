@@ -120,11 +120,8 @@ inner_read reads t b v e =
     inner_is (reads t b) v (rw (n.0, n.1.0, n.1.1.0, n.1.1.1) at e)
 
 entry_by : {A V : Type 0} (value : A → V) (entry : A → TypedBody) (own : TypedBody) (p : NetlinkPayload A) → ((x : A) → payload_value value p ≡ InnerMessage (value x) → entry x ≡ own) → payload_entry entry p ≡ payload_entry (λ _. own) (payload_value value p)
-entry_by value entry own (Done m) h = refl
-entry_by value entry own (Error m) h = refl
-entry_by value entry own Noop h = refl
-entry_by value entry own (Overrun b) h = refl
 entry_by value entry own (InnerMessage x) h = h x refl
+entry_by value entry own x h = refl
 
 pub payload_written : {A V : Type 0} (reads : ℕ → List ℕ → Option V) (value : A → V) (entry : A → TypedBody) (own : List ℕ) (t : ℕ) (b : List ℕ) (p : NetlinkPayload A) → AllBytes b → read_payload reads t b ≡ Some (payload_value value p) → ((x : A) → reads t b ≡ Some (value x) → entry x ≡ (t, own)) → payload_entry entry p ≡ (t, written_body own t b)
 payload_written reads value entry own t b p h e k =
@@ -135,16 +132,14 @@ payload_written reads value entry own t b p h e k =
 -- ---- messages
 
 AllBytes-drop : (n : ℕ) (c : List ℕ) → AllBytes c → AllBytes (drop n c)
-AllBytes-drop zero c h = h
-AllBytes-drop (suc n) [] h = h
 AllBytes-drop (suc n) (x ∷ c) h = AllBytes-drop n c (λ i. h (suc i))
+AllBytes-drop x c h = h
 
 AllBytes-take : (n : ℕ) (c : List ℕ) → AllBytes c → AllBytes (take n c)
-AllBytes-take zero c h zero = omega arith
-AllBytes-take zero c h (suc i) = omega arith
 AllBytes-take (suc n) [] h i = h i
 AllBytes-take (suc n) (x ∷ c) h zero = h zero
 AllBytes-take (suc n) (x ∷ c) h (suc i) = AllBytes-take n c (λ j. h (suc j)) i
+AllBytes-take zero c h i = omega arith
 
 record ReadAs {V : Type 0} (whole : Bool) (h : NetlinkHeader) (o : Option (NetlinkPayload V)) (m : NetlinkMessage V) : Type 0 where
   pub is_whole : whole ≡ true

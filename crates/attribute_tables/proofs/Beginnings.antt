@@ -56,9 +56,6 @@ module _ (within : FirstIsWithin) where
   -- as many steps as there are bytes are enough
   enough : (m n : ℕ) (b : List ℕ) → length b ≤ m → length b ≤ n → first_entry_within m b ≡ first_entry_within n b
   unfolding first_entry_within first_attribute
-  enough zero zero b k l = refl
-  enough zero (suc n) [] k l = refl
-  enough (suc m) zero [] k l = refl
   enough zero (suc n) (a ∷ b) k l = absurd (omega arith)
   enough (suc m) zero (a ∷ b) k l = absurd (omega arith)
   enough (suc m) (suc n) b k l =
@@ -66,6 +63,7 @@ module _ (within : FirstIsWithin) where
       let w = within.within b x.0 x.1 e in
       let r = within.rest_length b x.0 x.1 e in
       enough m n x.1 (omega (arith, w, r, k)) (omega (arith, w, r, l)))
+  enough x y b k l = refl
 
   module _ (first : FirstIsViewed) where
     entry_step : (b : List ℕ) → IsAttribute b → first_entry b ≡ cond (is_of_kind_one (viewed_attribute b)) (Some (viewed_attribute b)) (first_entry (after_first b))

@@ -25,11 +25,8 @@ pub ruleset headers = (length-link_header_bytes, length-link_header_bytes-append
 
 -- the header's text, by places
 pub header_is : (b : List ℕ) → 16 ≤ length b → header_text b ≡ slice_index b 0 ∷ 0 ∷ layer_type_text (slice_index b 2) (slice_index b 3) ++ take 12 (drop 4 b)
-header_is [] h = absurd (omega arith)
-header_is (f ∷ []) h = absurd (omega arith)
-header_is (f ∷ x ∷ []) h = absurd (omega arith)
-header_is (f ∷ x ∷ a ∷ []) h = absurd (omega arith)
 header_is (f ∷ x ∷ a ∷ b ∷ rest) h = refl
+header_is x h = absurd (omega arith)
 
 -- the number of two bytes
 pub number_of : (n : ℕ) (p : List ℕ) → n < 2 ^ 16 → le2 n ≡ p → n ≡ u16_at 0 p
@@ -42,11 +39,8 @@ layer_by n k l false p e q = ap (λ s. le2 (cond s n 65535)) p ∙ sym (ap (λ s
 
 -- the bytes of a layer type are those of the grammar
 pub layer_bytes : (n : ℕ) (b : List ℕ) → n < 2 ^ 16 → 4 ≤ length b → le2 n ≡ take 2 (drop 2 b) → le2 (link_layer_type_number (link_layer_type_of n)) ≡ layer_type_text (slice_index b 2) (slice_index b 3)
-layer_bytes n [] h s e = absurd (omega arith)
-layer_bytes n (f ∷ []) h s e = absurd (omega arith)
-layer_bytes n (f ∷ x ∷ []) h s e = absurd (omega arith)
-layer_bytes n (f ∷ x ∷ k ∷ []) h s e = absurd (omega arith)
 layer_bytes n (f ∷ x ∷ k ∷ l ∷ rest) h s e = ap le2 (layer_type_numbered n) ∙ layer_by n k l (is_listed n) refl (number_of n (k ∷ l ∷ []) h e ∙ u16_at-bytes k l []) e
+layer_bytes n x h s e = absurd (omega arith)
 
 -- a header of these numbers has the text of the bytes
 pub header_text_of : (h : LinkHeader) (b : List ℕ) → 16 ≤ length b → address_family_number h.interface_family ≡ slice_index b 0 → le2 (link_layer_type_number h.link_layer_type) ≡ layer_type_text (slice_index b 2) (slice_index b 3) → le4 h.index ≡ take 4 (drop 4 b) → le4 (link_flags_bits h.flags) ≡ take 4 (drop 8 b) → le4 (link_flags_bits h.change_mask) ≡ take 4 (drop 12 b) → link_header_bytes h ≡ header_text b

@@ -74,7 +74,6 @@ not_whole : (c : List ℕ) (n : ℕ) → IsFrame c → n < frame_length c → Is
 not_whole c n f h g =
     let k : length (take n c) ≡ n = (let w = f.within in length-take-le n c (omega arith)) in
     let l = cut_length c n (let b = g.has_header in omega arith) (let w = f.within in omega arith) in
-    let w = g.within in
     omega arith
 
 none_read : {V : Type 0} (reads : ℕ → List ℕ → Option V) (c : List ℕ) → is_frame c ≡ false → read_message reads c ≡ None
@@ -85,5 +84,4 @@ cut_refused reads c n f h = none_read reads (take n c) (is_frame-false _ (not_wh
 
 pub short_refused : NumbersStandAlone → {V : Type 0} (reads : ℕ → List ℕ → Option V) (c rest : List ℕ) → 16 ≤ length c → frame_length c < 16 → read_message reads (c ++ rest) ≡ None
 short_refused alone reads c rest h l =
-    let n : u32_at 0 (c ++ rest) ≡ u32_at 0 c = alone.four_bytes c rest (omega arith) in
-    none_read reads (c ++ rest) (is_frame-false _ (λ f. let k = f.covers_header in omega (arith, k, n)))
+    none_read reads (c ++ rest) (is_frame-false _ (λ f. let k = f.covers_header in omega (arith, k)))

@@ -44,7 +44,6 @@ four_bytes_kept b l h = absurd (omega arith)
 code_fits : (b : List ℕ) → AllBytes b → u32_at 0 b < 2 ^ 32
 unfolding u32_at
 code_fits b h =
-    let h0 = h 0 in let h1 = h 1 in let h2 = h 2 in let h3 = h 3 in
     omega arith
 
 code_kept : (b : List ℕ) → 4 ≤ length b → AllBytes b → code_text (code_of b) ++ drop 4 b ≡ b

@@ -17,7 +17,6 @@ loop-item-preserved g c =
     let l : i < length xs = c.loop-item-test.true in
     let t = text_by-more e xs i v l c.item-item.is in
     let s = size_by-more e xs i v l c.item-item.is in
-    let f : attribute_length (e v) ≤ 65535 = leb-true (attribute_length (e v)) 65535 (and_parts _ _ (fits-at e g.N.Nla.inside_fits xs i v l c.item-item.is c.requires.fits)).0 in
     let n : c.nla_align-at.result ≡ nla_align (attribute_length (e v)) = c.nla_align-at.ensures ∙ ap nla_align (c.read_u16.ensures ∙ ap (u16_at 0) c.emit.ensures ∙ told_by_header (e v) _) in
     let z : length (attribute_text (e v)) ≡ nla_align (attribute_length (e v)) = length-attribute_text (e v) in
     let w : c.emit.new.buffer ≡ attribute_text (e v) ++ drop c.nla_align-at.result (drop c.loop-item.at c.loop-item.buffer) =
@@ -37,7 +36,6 @@ emit-requires-clause-room g c =
     let v = c.item-item.result in
     let r = room-at g.N.Nla.entry c.args.items.now c.loop-item.item-index v c.loop-item-test.true c.item-item.is in
     let p = c.loop-item.invariant.place in
-    let b = c.loop-item.auto.buffer in
     rw (between_to_end c.loop-item.buffer c.loop-item.at (length c.loop-item.buffer) (omega arith)) (omega (arith, length-drop c.loop-item.at c.loop-item.buffer))
 
 pub read_u16-requires : goal.read_u16-requires

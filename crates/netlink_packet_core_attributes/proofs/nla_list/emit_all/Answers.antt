@@ -35,7 +35,6 @@ pub emit-requires-clause-room : goal.emit-requires-clause-room
 emit-requires-clause-room g c =
     let v = c.item-item.result in
     let r = room-at g.N.Nla.entry c.args.items.now c.loop-item.item-index v c.loop-item-test.true c.item-item.is in
-    let p = c.loop-item.invariant.place in
     rw (between_to_end c.loop-item.buffer c.loop-item.at (length c.loop-item.buffer) (omega arith)) (omega (arith, length-drop c.loop-item.at c.loop-item.buffer))
 
 pub read_u16-requires : goal.read_u16-requires

@@ -70,11 +70,10 @@ module _ (within : FirstIsWithin) where
     unfolding first_entry_within
     entry_step b h =
         let f = first.whole b h in
-        let w = within.within b (viewed_attribute b) (after_first b) f in
         let r = within.rest_length b (viewed_attribute b) (after_first b) f in
         enough (length b) (suc (length b)) b (omega arith) (omega arith)
         ∙ ap (λ o. if_some o (λ x. cond (is_of_kind_one x.0) (Some x.0) (first_entry_within (length b) x.1))) f
-        ∙ ap (λ r. cond (is_of_kind_one (viewed_attribute b)) (Some (viewed_attribute b)) r) (enough (length b) (length (after_first b)) (after_first b) (omega (arith, w, r)) (omega arith))
+        ∙ ap (λ r. cond (is_of_kind_one (viewed_attribute b)) (Some (viewed_attribute b)) r) (enough (length b) (length (after_first b)) (after_first b) (omega (arith, r)) (omega arith))
 
     -- an entry stands in front
     pub entries-here : (r : Row) (may : List ℕ → Bool) (b : List ℕ) → IsAttribute b → is_of_kind_one (viewed_attribute b) ≡ true → (r.rule.accepted (viewed_payload b) || may (viewed_payload b)) ≡ true → entries_begin_readable r may b ≡ true

@@ -26,7 +26,6 @@ pub returns-in_err-buf-clause-judged : goal.returns-in_err-buf-clause-judged
 returns-in_err-buf-clause-judged g c =
     let b = c.loop-rest.rest.now in
     let n : 0 < length b = grind (arith, nat_tests) in
-    let k = entries_stopped c.readings_go_by_steps.ensures _ _ _ _ c.readings_tell_rules.ensures _ b (λ h. let e : false ≡ true = c.in_err-buf.ensures.whole.1 h in absurd cc) n c.loop-rest.invariant.so_far in
     search rules
 
 pub returns-in_err-read-clause-judged : goal.returns-in_err-read-clause-judged

@@ -10,7 +10,6 @@ use Rattle.attribute_tables.proofs.reader.parse_first_by.Goals as goal
 
 pub returns-in_err-buf-clause-judged : goal.returns-in_err-buf-clause-judged
 returns-in_err-buf-clause-judged g c =
-    let k = first_none c.first_attributes_are_read_alone.ensures c.readings_tell_rules.ensures (g.R.Reader.row_of c.args.reader.now) c.args.bytes.now (λ h. let e : false ≡ true = c.in_err-buf.ensures.whole.1 h in absurd cc) in
     search rules
 
 pub returns-in_err-value-clause-judged : goal.returns-in_err-value-clause-judged

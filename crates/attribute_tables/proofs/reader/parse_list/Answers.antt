@@ -20,7 +20,6 @@ returns-in_err-buf-clause-judged g c =
     let b = c.loop-rest.rest.now in
     let n : 0 < length b = grind (arith, nat_tests) in
     let f : IsAttribute b → ⊥ = λ h. let e : false ≡ true = c.in_err-buf.ensures.whole.1 h in absurd cc in
-    let k = c.readings_tell_rules.ensures.denies_rows any (g.R.Reader.row_of c.args.reader.now) c.args.bytes.now (c.readings_tell_rules.ensures.of_any _ _ ∙ c.readings_go_by_steps.ensures.stopped any _ _ _ _ b f n c.loop-rest.invariant.so_far) in
     search rules
 
 pub returns-in_err-read-clause-judged : goal.returns-in_err-read-clause-judged

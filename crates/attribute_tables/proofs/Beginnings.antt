@@ -60,9 +60,8 @@ module _ (within : FirstIsWithin) where
   enough (suc m) zero (a ∷ b) k l = absurd (omega arith)
   enough (suc m) (suc n) b k l =
       after_cut m n (first_attribute b) (λ x e.
-      let w = within.within b x.0 x.1 e in
       let r = within.rest_length b x.0 x.1 e in
-      enough m n x.1 (omega (arith, w, r, k)) (omega (arith, w, r, l)))
+      enough m n x.1 (omega (arith, r, k)) (omega (arith, r, l)))
   enough x y b k l = refl
 
   module _ (first : FirstIsViewed) where

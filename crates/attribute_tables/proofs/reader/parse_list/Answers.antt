@@ -19,7 +19,6 @@ pub returns-in_err-buf-clause-judged : goal.returns-in_err-buf-clause-judged
 returns-in_err-buf-clause-judged g c =
     let b = c.loop-rest.rest.now in
     let n : 0 < length b = grind (arith, nat_tests) in
-    let f : IsAttribute b → ⊥ = λ h. let e : false ≡ true = c.in_err-buf.ensures.whole.1 h in absurd cc in
     search rules
 
 pub returns-in_err-read-clause-judged : goal.returns-in_err-read-clause-judged

@@ -64,7 +64,6 @@ pub name_written : (v : LinkFlags) (flags : List (Flag LinkFlags)) (i : ℕ) (d 
 name_written v flags i d done separator h e =
     let x = get_or flags i d in
     let more = texts_left v (drop (i + 1) flags) in
-    let bars = flat_map (λ y. codes " | " ++ y) more in
     append_assoc done (separator ++ x.name.now) _
     ∙ ap (λ t. done ++ t) (append_assoc separator x.name.now _
     ∙ ap (λ t. separator ++ (x.name.now ++ t)) (sym (after-bar more))

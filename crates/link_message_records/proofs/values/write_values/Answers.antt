@@ -6,5 +6,4 @@ pub write_front-at-requires : goal.write_front-at-requires
 write_front-at-requires g c =
     let v = c.value-item.result in
     let room = room_at g.T.Fields.bytes g.T.Fields.size c.args.values.now c.loop-value.value-index v c.loop-value-test.true c.value-item.is (g.met.T.Number.has_size v) in
-    let back = ap length c.split_at_mut-rest.ensures.back in
-    omega (arith, room, back, c.loop-value.invariant.place, length-drop c.loop-value.at c.loop-value.buffer)
+    omega (arith, room, c.loop-value.invariant.place, length-drop c.loop-value.at c.loop-value.buffer)

@@ -74,6 +74,5 @@ pub length_flat : {X : Type 0} (f : X → List ℕ) (s : ℕ) (xs : List X) → 
 length_flat f s [] h = grind arith
 length_flat f s (x ∷ xs) h =
     let more = length_flat f s xs h in
-    let one = h x in
     let both = length-append (f x) (flat_map f xs) in
     grind arith

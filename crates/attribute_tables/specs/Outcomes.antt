@@ -44,3 +44,7 @@ IsRewrittenBy result entry inside_fits row attribute = IfOk result (λ v. (entry
 -- what holds of the value where one was read, and not none
 abbrev pub IfRead : {T E : Type 0} → Result (Option T) E → (T → Type 0) → Type 0
 IfRead result P = IfOk result (λ o. IfSome o P)
+
+-- the same of what a row was read as, where there is a row
+abbrev pub RowIsRewrittenBy : {V : Type 0} → Result (Option V) DecodeError → (V → Attribute) → (V → Bool) → Row → Attribute → Type 0
+RowIsRewrittenBy result entry inside_fits row attribute = IfRead result (λ v. (entry v ≡ rewrite row attribute) × (inside_fits v ≡ row.rule.fits attribute.payload))

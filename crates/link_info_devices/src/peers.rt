@@ -3,7 +3,7 @@
 ghost use Rattle.std.specs.Prelude.{◌≡◌, ◌<◌, false, true, length, refl, Some, IfOk, IfErr};
 ghost use Rattle.std.specs.List.{All};
 ghost use Rattle.netlink_packet_core.specs.Attributes.{attribute_text};
-ghost use Rattle.netlink_packet_core.specs.AttributeViews.{IsAttribute};
+ghost use Rattle.netlink_packet_core.specs.AttributeViews.{IsAttribute, viewed_attribute};
 ghost use Rattle.netlink_packet_core.specs.Families.{attribute};
 ghost use Rattle.netlink_packet_core.specs.Fits.{attribute_fits};
 ghost use Rattle.netlink_packet_core.specs.NlaBuffers.{storage};
@@ -12,11 +12,12 @@ ghost use Rattle.attribute_tables_grammar.specs.LookUps.{line_at, list_of, table
 ghost use Rattle.attribute_tables_grammar.specs.Readings.{reading_as};
 ghost use Rattle.attribute_tables_grammar.specs.Tables.{Payload, holds_no_peers_but};
 ghost use Rattle.attribute_tables.specs.Beginnings.{begins_accepted};
-ghost use Rattle.attribute_tables.specs.Views.{fits_by, is_accepted_by, rewritten_by};
+ghost use Rattle.attribute_tables.specs.Views.{is_accepted_by, viewed_row};
 ghost use Rattle.link_info_grammar.specs.Families.{netkit, pair};
 ghost use Rattle.link_info_devices.specs.Netkit.{netkit_entry, netkit_names_row};
 ghost use Rattle.link_info_devices.specs.Veth.{pair_entry, pair_names_row};
-ghost use Rattle.attribute_tables.specs.Outcomes.{IfMemory, IsRefusedUnless, IsWrittenBy, ListIsReadAs, ListIsWrittenBy, SucceedsWhere};
+ghost use Rattle.attribute_tables.specs.Outcomes.{IfMemory, IsRefusedUnless, IsRewrittenBy, IsWrittenBy};
+ghost use Rattle.attribute_tables.specs.Outcomes.{ListIsReadAs, ListIsWrittenBy, SucceedsWhere};
 
 use super::netkit::InfoNetkit;
 use super::veth::PairData;
@@ -75,10 +76,9 @@ fn read_with<F: PeerFamily, R: PeerRule>(
     requires { IsAttribute (storage buf.now).now }
     ensures judged { IsRefusedUnless result
         (is_accepted_by (table_row R.peer F.rows) (storage buf.now).now) }
-    ensures value { IfOk result
-        (λ v. F.field_entry v ≡ rewritten_by (table_row R.peer F.rows) (storage buf.now).now) }
-    ensures inside { IfOk result
-        (λ _. true ≡ fits_by (table_row R.peer F.rows) (storage buf.now).now) }
+    ensures written { IsRewrittenBy result F.field_entry (λ _. true)
+        (viewed_row (table_row R.peer F.rows) (storage buf.now).now)
+        (viewed_attribute (storage buf.now).now) }
     ensures names_row { IfOk result (λ v. F.names_row v) }
 {
     rows_without_lists_fit();

@@ -1,21 +1,23 @@
 //! The attributes of a link (if_link.h, IFLA_*), under the address family of the message's header.
 //! Numbers are little-endian.
 
-ghost use Rattle.std.specs.Prelude.{◌≡◌, ◌==◌, ◌<◌, false, true, length, map, Some, IfOk, IfErr, IfNone};
+ghost use Rattle.std.specs.Prelude.{◌≡◌, ◌==◌, ◌<◌, false, true, length, map, Some, IfOk, IfErr, IfNone, IsSome};
 ghost use Rattle.std.specs.List.{All};
 ghost use Rattle.netlink_packet_core.specs.AttributeViews.{IsAttribute};
 ghost use Rattle.netlink_packet_core.specs.Families.{attribute};
 ghost use Rattle.netlink_packet_core.specs.NlaBuffers.{storage};
-ghost use Rattle.attribute_tables_grammar.specs.Lists.{any, rewrite, without_context};
+ghost use Rattle.attribute_tables_grammar.specs.Lists.{any, without_context};
 ghost use Rattle.attribute_tables_grammar.specs.Readings.{reading_as};
-ghost use Rattle.attribute_tables.specs.Views.{is_accepted_by, fits_by, rewritten_by};
+ghost use Rattle.attribute_tables.specs.Views.{is_accepted_by, viewed_row};
+ghost use Rattle.netlink_packet_core.specs.AttributeViews.{viewed_attribute};
 ghost use Rattle.link_message_grammar.specs.LinkMessage.{has_no_link_row};
 ghost use Rattle.link_message_grammar.specs.Body.{attribute_row, attributes_rule};
 ghost use Rattle.link_message_types.specs.AddressFamilies.{table_family};
 ghost use Rattle.link_message_attributes.specs.LinkAttributes.{link_attribute_entry, link_attribute_fits, link_attribute_names_row};
 ghost use Rattle.link_message_attributes.specs.LinkAttributes.{plain_row, row_may_want_memory, link_attribute_may_want_memory};
 ghost use Rattle.link_message_attributes.specs.Payloads.{link_payload_bytes, link_payload_fits};
-ghost use Rattle.attribute_tables.specs.Outcomes.{IfMemory, IfRead, IsRefusedUnless, ListIsReadAs, ListIsWrittenBy, SucceedsWhere};
+ghost use Rattle.attribute_tables.specs.Outcomes.{IfMemory, IfRead, IsRefusedUnless, IsRewrittenBy, ListIsReadAs};
+ghost use Rattle.attribute_tables.specs.Outcomes.{ListIsWrittenBy, RowIsRewrittenBy, SucceedsWhere};
 
 use super::families::number_of_table;
 use super::kinds::IFLA_ADDRESS;
@@ -268,6 +270,13 @@ pub enum LinkAttribute {
     Other(DefaultNla),
 }
 
+/// A payload without attributes.
+macro_rules! field {
+    ($variant:ident, $value:expr) => {
+        LinkPayload::Field(Field::$variant($value))
+    };
+}
+
 impl LinkAttribute {
     // The kind and the payload.
     fn payload(&self) -> (u16, LinkPayload<'_>)
@@ -279,151 +288,73 @@ impl LinkAttribute {
             Self::VfInfoList(list) => (IFLA_VFINFO_LIST, LinkPayload::VfInfos(list)),
             Self::VfPorts(list) => (IFLA_VF_PORTS, LinkPayload::VfPorts(list)),
             Self::PortSelf(port) => (IFLA_PORT_SELF, LinkPayload::Port(&port.0)),
-            Self::PhysPortId(id) => (
-                IFLA_PHYS_PORT_ID,
-                LinkPayload::Field(Field::Bytes(id.bytes.as_slice())),
-            ),
-            Self::PhysSwitchId(id) => (
-                IFLA_PHYS_SWITCH_ID,
-                LinkPayload::Field(Field::Bytes(id.bytes.as_slice())),
-            ),
+            Self::PhysPortId(id) => (IFLA_PHYS_PORT_ID, field!(Bytes, id.bytes.as_slice())),
+            Self::PhysSwitchId(id) => (IFLA_PHYS_SWITCH_ID, field!(Bytes, id.bytes.as_slice())),
             Self::Xdp(list) => (IFLA_XDP, LinkPayload::Xdp(list)),
-            Self::Event(event) => (
-                IFLA_EVENT,
-                LinkPayload::Field(Field::U32(u32::from(*event))),
-            ),
-            Self::NewNetnsId(number) => (IFLA_NEW_NETNSID, LinkPayload::Field(Field::U32(*number))),
-            Self::IfNetnsId(number) => (IFLA_IF_NETNSID, LinkPayload::Field(Field::U32(*number))),
-            Self::CarrierUpCount(number) => (
-                IFLA_CARRIER_UP_COUNT,
-                LinkPayload::Field(Field::U32(*number)),
-            ),
-            Self::CarrierDownCount(number) => (
-                IFLA_CARRIER_DOWN_COUNT,
-                LinkPayload::Field(Field::U32(*number)),
-            ),
-            Self::NewIfIndex(number) => (IFLA_NEW_IFINDEX, LinkPayload::Field(Field::U32(*number))),
+            Self::Event(event) => (IFLA_EVENT, field!(U32, u32::from(*event))),
+            Self::NewNetnsId(number) => (IFLA_NEW_NETNSID, field!(U32, *number)),
+            Self::IfNetnsId(number) => (IFLA_IF_NETNSID, field!(U32, *number)),
+            Self::CarrierUpCount(number) => (IFLA_CARRIER_UP_COUNT, field!(U32, *number)),
+            Self::CarrierDownCount(number) => (IFLA_CARRIER_DOWN_COUNT, field!(U32, *number)),
+            Self::NewIfIndex(number) => (IFLA_NEW_IFINDEX, field!(U32, *number)),
             Self::LinkInfo(list) => (IFLA_LINKINFO, LinkPayload::LinkInfo(list)),
             Self::ProtoInfoBridge(list) => (IFLA_PROTINFO, LinkPayload::Raw(list)),
             Self::ProtoInfoInet6(list) => (IFLA_PROTINFO, LinkPayload::ProtocolInfos(list)),
-            Self::ProtoInfoUnknown(nla) => (
-                nla.kind(),
-                LinkPayload::Field(Field::Bytes(nla.value())),
-            ),
+            Self::ProtoInfoUnknown(nla) => (nla.kind(), field!(Bytes, nla.value())),
             Self::PropList(list) => (IFLA_PROP_LIST | NLA_F_NESTED, LinkPayload::Props(list)),
             Self::ProtoDownReason(list) => (
                 IFLA_PROTO_DOWN_REASON | NLA_F_NESTED,
                 LinkPayload::DownReasons(list),
             ),
-            Self::Address(bytes) => (IFLA_ADDRESS, LinkPayload::Field(Field::Bytes(bytes))),
-            Self::Broadcast(bytes) => (IFLA_BROADCAST, LinkPayload::Field(Field::Bytes(bytes))),
-            Self::PermAddress(bytes) => (
-                IFLA_PERM_ADDRESS,
-                LinkPayload::Field(Field::Bytes(bytes)),
-            ),
-            Self::IfName(text) => (IFLA_IFNAME, LinkPayload::Field(Field::Text(text))),
-            Self::Qdisc(text) => (IFLA_QDISC, LinkPayload::Field(Field::Text(text))),
-            Self::IfAlias(text) => (IFLA_IFALIAS, LinkPayload::Field(Field::Text(text))),
-            Self::PhysPortName(text) => (
-                IFLA_PHYS_PORT_NAME,
-                LinkPayload::Field(Field::Text(text)),
-            ),
-            Self::Mode(mode) => (
-                IFLA_LINKMODE,
-                LinkPayload::Field(Field::U8(u8::from(*mode))),
-            ),
-            Self::Carrier(number) => (IFLA_CARRIER, LinkPayload::Field(Field::U8(*number))),
-            Self::ProtoDown(number) => (IFLA_PROTO_DOWN, LinkPayload::Field(Field::U8(*number))),
-            Self::Mtu(number) => (IFLA_MTU, LinkPayload::Field(Field::U32(*number))),
-            Self::Link(number) => (IFLA_LINK, LinkPayload::Field(Field::U32(*number))),
-            Self::Controller(number) => (IFLA_MASTER, LinkPayload::Field(Field::U32(*number))),
-            Self::TxQueueLen(number) => (IFLA_TXQLEN, LinkPayload::Field(Field::U32(*number))),
-            Self::NetNsPid(number) => (IFLA_NET_NS_PID, LinkPayload::Field(Field::U32(*number))),
-            Self::NumVf(number) => (IFLA_NUM_VF, LinkPayload::Field(Field::U32(*number))),
-            Self::Group(number) => (IFLA_GROUP, LinkPayload::Field(Field::U32(*number))),
-            Self::NetNsFd(number) => (
-                IFLA_NET_NS_FD,
-                LinkPayload::Field(Field::U32(number.cast_unsigned())),
-            ),
-            Self::ExtMask(list) => (
-                IFLA_EXT_MASK,
-                LinkPayload::Field(Field::U32(LinkExtentMask::join(list))),
-            ),
-            Self::Promiscuity(number) => (
-                IFLA_PROMISCUITY,
-                LinkPayload::Field(Field::U32(*number)),
-            ),
-            Self::NumTxQueues(number) => (
-                IFLA_NUM_TX_QUEUES,
-                LinkPayload::Field(Field::U32(*number)),
-            ),
-            Self::NumRxQueues(number) => (
-                IFLA_NUM_RX_QUEUES,
-                LinkPayload::Field(Field::U32(*number)),
-            ),
-            Self::CarrierChanges(number) => (
-                IFLA_CARRIER_CHANGES,
-                LinkPayload::Field(Field::U32(*number)),
-            ),
-            Self::GsoMaxSegs(number) => (
-                IFLA_GSO_MAX_SEGS,
-                LinkPayload::Field(Field::U32(*number)),
-            ),
-            Self::GsoMaxSize(number) => (
-                IFLA_GSO_MAX_SIZE,
-                LinkPayload::Field(Field::U32(*number)),
-            ),
-            Self::MinMtu(number) => (IFLA_MIN_MTU, LinkPayload::Field(Field::U32(*number))),
-            Self::MaxMtu(number) => (IFLA_MAX_MTU, LinkPayload::Field(Field::U32(*number))),
-            Self::LinkNetnsId(number) => (
-                IFLA_LINK_NETNSID,
-                LinkPayload::Field(Field::U32(*number)),
-            ),
-            Self::OperState(state) => (
-                IFLA_OPERSTATE,
-                LinkPayload::Field(Field::U8(u8::from(*state))),
-            ),
+            Self::Address(bytes) => (IFLA_ADDRESS, field!(Bytes, bytes)),
+            Self::Broadcast(bytes) => (IFLA_BROADCAST, field!(Bytes, bytes)),
+            Self::PermAddress(bytes) => (IFLA_PERM_ADDRESS, field!(Bytes, bytes)),
+            Self::IfName(text) => (IFLA_IFNAME, field!(Text, text)),
+            Self::Qdisc(text) => (IFLA_QDISC, field!(Text, text)),
+            Self::IfAlias(text) => (IFLA_IFALIAS, field!(Text, text)),
+            Self::PhysPortName(text) => (IFLA_PHYS_PORT_NAME, field!(Text, text)),
+            Self::Mode(mode) => (IFLA_LINKMODE, field!(U8, u8::from(*mode))),
+            Self::Carrier(number) => (IFLA_CARRIER, field!(U8, *number)),
+            Self::ProtoDown(number) => (IFLA_PROTO_DOWN, field!(U8, *number)),
+            Self::Mtu(number) => (IFLA_MTU, field!(U32, *number)),
+            Self::Link(number) => (IFLA_LINK, field!(U32, *number)),
+            Self::Controller(number) => (IFLA_MASTER, field!(U32, *number)),
+            Self::TxQueueLen(number) => (IFLA_TXQLEN, field!(U32, *number)),
+            Self::NetNsPid(number) => (IFLA_NET_NS_PID, field!(U32, *number)),
+            Self::NumVf(number) => (IFLA_NUM_VF, field!(U32, *number)),
+            Self::Group(number) => (IFLA_GROUP, field!(U32, *number)),
+            Self::NetNsFd(number) => (IFLA_NET_NS_FD, field!(U32, number.cast_unsigned())),
+            Self::ExtMask(list) => (IFLA_EXT_MASK, field!(U32, LinkExtentMask::join(list))),
+            Self::Promiscuity(number) => (IFLA_PROMISCUITY, field!(U32, *number)),
+            Self::NumTxQueues(number) => (IFLA_NUM_TX_QUEUES, field!(U32, *number)),
+            Self::NumRxQueues(number) => (IFLA_NUM_RX_QUEUES, field!(U32, *number)),
+            Self::CarrierChanges(number) => (IFLA_CARRIER_CHANGES, field!(U32, *number)),
+            Self::GsoMaxSegs(number) => (IFLA_GSO_MAX_SEGS, field!(U32, *number)),
+            Self::GsoMaxSize(number) => (IFLA_GSO_MAX_SIZE, field!(U32, *number)),
+            Self::MinMtu(number) => (IFLA_MIN_MTU, field!(U32, *number)),
+            Self::MaxMtu(number) => (IFLA_MAX_MTU, field!(U32, *number)),
+            Self::LinkNetnsId(number) => (IFLA_LINK_NETNSID, field!(U32, *number)),
+            Self::OperState(state) => (IFLA_OPERSTATE, field!(U8, u8::from(*state))),
             Self::Stats(numbers) => (IFLA_STATS, LinkPayload::Stats(numbers)),
             Self::Stats64(numbers) => (IFLA_STATS64, LinkPayload::Stats64(numbers)),
             Self::Map(map) => (IFLA_MAP, LinkPayload::Map(map)),
             Self::AfSpecUnspec(list) => (IFLA_AF_SPEC, LinkPayload::Families(list)),
             Self::AfSpecBridge(list) => (IFLA_AF_SPEC, LinkPayload::Raw(list)),
-            Self::AfSpecUnknown(bytes) => (IFLA_AF_SPEC, LinkPayload::Field(Field::Bytes(bytes))),
-            Self::ParentDevName(text) => (
-                IFLA_PARENT_DEV_NAME,
-                LinkPayload::Field(Field::Text(text)),
-            ),
-            Self::ParentDevBusName(text) => (
-                IFLA_PARENT_DEV_BUS_NAME,
-                LinkPayload::Field(Field::Text(text)),
-            ),
-            Self::GroMaxSize(number) => (
-                IFLA_GRO_MAX_SIZE,
-                LinkPayload::Field(Field::U32(*number)),
-            ),
-            Self::TsoMaxSize(number) => (
-                IFLA_TSO_MAX_SIZE,
-                LinkPayload::Field(Field::U32(*number)),
-            ),
-            Self::TsoMaxSegs(number) => (
-                IFLA_TSO_MAX_SEGS,
-                LinkPayload::Field(Field::U32(*number)),
-            ),
-            Self::AllMulti(number) => (IFLA_ALLMULTI, LinkPayload::Field(Field::U32(*number))),
+            Self::AfSpecUnknown(bytes) => (IFLA_AF_SPEC, field!(Bytes, bytes)),
+            Self::ParentDevName(text) => (IFLA_PARENT_DEV_NAME, field!(Text, text)),
+            Self::ParentDevBusName(text) => (IFLA_PARENT_DEV_BUS_NAME, field!(Text, text)),
+            Self::GroMaxSize(number) => (IFLA_GRO_MAX_SIZE, field!(U32, *number)),
+            Self::TsoMaxSize(number) => (IFLA_TSO_MAX_SIZE, field!(U32, *number)),
+            Self::TsoMaxSegs(number) => (IFLA_TSO_MAX_SEGS, field!(U32, *number)),
+            Self::AllMulti(number) => (IFLA_ALLMULTI, field!(U32, *number)),
             Self::DevlinkPort(list) => (
                 IFLA_DEVLINK_PORT | NLA_F_NESTED,
                 LinkPayload::DevlinkPort(list),
             ),
-            Self::GsoIpv4MaxSize(number) => (
-                IFLA_GSO_IPV4_MAX_SIZE,
-                LinkPayload::Field(Field::U32(*number)),
-            ),
-            Self::GroIpv4MaxSize(number) => (
-                IFLA_GRO_IPV4_MAX_SIZE,
-                LinkPayload::Field(Field::U32(*number)),
-            ),
+            Self::GsoIpv4MaxSize(number) => (IFLA_GSO_IPV4_MAX_SIZE, field!(U32, *number)),
+            Self::GroIpv4MaxSize(number) => (IFLA_GRO_IPV4_MAX_SIZE, field!(U32, *number)),
             Self::DpllPin(list) => (IFLA_DPLL_PIN | NLA_F_NESTED, LinkPayload::DpllPin(list)),
-            Self::Other(nla) => (nla.kind(), LinkPayload::Field(Field::Bytes(nla.value()))),
+            Self::Other(nla) => (nla.kind(), field!(Bytes, nla.value())),
         }
     }
 }
@@ -451,35 +382,64 @@ impl Nla for LinkAttribute {
 }
 
 impl LinkAttribute {
+    // Reads IFLA_PROTINFO, whose payload goes by the address family; `None` where it has no row.
+    fn parse_protocol_info(
+        alloc: Global,
+        family: AddressFamily,
+        payload: &[u8],
+    ) -> Result<Option<Self>, DecodeError>
+        ensures judged { SucceedsWhere result
+            ((plain_row (table_family family) 12).rule.accepted payload.now) }
+        ensures none { IfOk result
+            (λ o. IfNone o (has_no_link_row (table_family family) 12)) }
+        ensures typed { IfRead result
+            (λ _. (plain_row (table_family family) 12).is_typed ≡ true) }
+        ensures written { RowIsRewrittenBy result link_attribute_entry link_attribute_fits
+            (plain_row (table_family family) 12) (attribute 12 payload.now) }
+        ensures names_row { IfRead result (λ v. link_attribute_names_row (table_family family) v) }
+        ensures memory { IfMemory result
+            (row_may_want_memory (table_family family) 12 payload.now ≡ true) }
+    {
+        match family {
+            AddressFamily::Bridge => typed!(ProtoInfoBridge, parse_raw(alloc, payload)),
+            AddressFamily::Inet6 => typed!(ProtoInfoInet6, parse_family(alloc, payload)),
+            AddressFamily::Unspec
+            | AddressFamily::Unix
+            | AddressFamily::Inet
+            | AddressFamily::Netlink
+            | AddressFamily::Packet
+            | AddressFamily::Mctp
+            | AddressFamily::Other(_) => Ok(None),
+        }
+    }
+
     // Reads IFLA_AF_SPEC, whose payload goes by the address family.
     fn parse_af_spec(
         alloc: Global,
         family: AddressFamily,
         payload: &[u8],
-    ) -> Result<Self, DecodeError>
+    ) -> Result<Option<Self>, DecodeError>
         ensures judged { SucceedsWhere result
             ((plain_row (table_family family) 26).rule.accepted payload.now) }
-        ensures value { IfOk result
-            (λ v. link_attribute_entry v
-            ≡ rewrite (plain_row (table_family family) 26) (attribute 26 payload.now)) }
-        ensures inside { IfOk result
-            (λ v. link_attribute_fits v
-            ≡ (plain_row (table_family family) 26).rule.fits payload.now) }
-        ensures names_row { IfOk result
-            (λ v. link_attribute_names_row (table_family family) v) }
+        ensures some { IfOk result (λ o. IsSome o) }
+        ensures typed { IfRead result
+            (λ _. (plain_row (table_family family) 26).is_typed ≡ true) }
+        ensures written { RowIsRewrittenBy result link_attribute_entry link_attribute_fits
+            (plain_row (table_family family) 26) (attribute 26 payload.now) }
+        ensures names_row { IfRead result (λ v. link_attribute_names_row (table_family family) v) }
         ensures memory { IfMemory result
             (row_may_want_memory (table_family family) 26 payload.now ≡ true) }
     {
         match family {
-            AddressFamily::Unspec => Ok(Self::AfSpecUnspec(parse_families(alloc, payload)?)),
-            AddressFamily::Bridge => Ok(Self::AfSpecBridge(parse_raw(alloc, payload)?)),
+            AddressFamily::Unspec => typed!(AfSpecUnspec, parse_families(alloc, payload)),
+            AddressFamily::Bridge => typed!(AfSpecBridge, parse_raw(alloc, payload)),
             AddressFamily::Unix
             | AddressFamily::Inet
             | AddressFamily::Inet6
             | AddressFamily::Netlink
             | AddressFamily::Packet
             | AddressFamily::Mctp
-            | AddressFamily::Other(_) => Ok(Self::AfSpecUnknown(parse_bytes(alloc, payload)?)),
+            | AddressFamily::Other(_) => typed!(AfSpecUnknown, parse_bytes(alloc, payload)),
         }
     }
 
@@ -497,12 +457,8 @@ impl LinkAttribute {
             (λ o. IfNone o (has_no_link_row (table_family family) kind)) }
         ensures typed { IfRead result
             (λ _. (plain_row (table_family family) kind).is_typed ≡ true) }
-        ensures value { IfRead result
-            (λ v. link_attribute_entry v
-            ≡ rewrite (plain_row (table_family family) kind) (attribute kind payload.now)) }
-        ensures inside { IfRead result
-            (λ v. link_attribute_fits v
-            ≡ (plain_row (table_family family) kind).rule.fits payload.now) }
+        ensures written { RowIsRewrittenBy result link_attribute_entry link_attribute_fits
+            (plain_row (table_family family) kind) (attribute kind payload.now) }
         ensures names_row { IfRead result (λ v. link_attribute_names_row (table_family family) v) }
         ensures memory { IfMemory result
             (row_may_want_memory (table_family family) kind payload.now ≡ true) }
@@ -513,17 +469,7 @@ impl LinkAttribute {
             IFLA_IFNAME => typed!(IfName, parse_string(alloc, payload)),
             IFLA_QDISC => typed!(Qdisc, parse_string(alloc, payload)),
             IFLA_STATS => Ok(Some(Self::Stats(read_settings(payload)))),
-            IFLA_PROTINFO => match family {
-                AddressFamily::Bridge => typed!(ProtoInfoBridge, parse_raw(alloc, payload)),
-                AddressFamily::Inet6 => typed!(ProtoInfoInet6, parse_family(alloc, payload)),
-                AddressFamily::Unspec
-                | AddressFamily::Unix
-                | AddressFamily::Inet
-                | AddressFamily::Netlink
-                | AddressFamily::Packet
-                | AddressFamily::Mctp
-                | AddressFamily::Other(_) => Ok(None),
-            },
+            IFLA_PROTINFO => Self::parse_protocol_info(alloc, family, payload),
             IFLA_MAP => typed!(Map, Map::parse(payload)),
             IFLA_IFALIAS => typed!(IfAlias, parse_string(alloc, payload)),
             IFLA_VFINFO_LIST => typed!(VfInfoList, parse_vf_infos(alloc, payload)),
@@ -533,10 +479,7 @@ impl LinkAttribute {
                 Ok(list) => Ok(Some(Self::PortSelf(LinkVfPort(list)))),
                 Err(error) => Err(error),
             },
-            IFLA_AF_SPEC => match Self::parse_af_spec(alloc, family, payload) {
-                Ok(value) => Ok(Some(value)),
-                Err(error) => Err(error),
-            },
+            IFLA_AF_SPEC => Self::parse_af_spec(alloc, family, payload),
             IFLA_EXT_MASK => typed!(ExtMask, parse_extent_masks(alloc, payload)),
             IFLA_PHYS_PORT_ID => typed!(PhysPortId, LinkPhysId::parse(alloc, payload)),
             IFLA_PHYS_SWITCH_ID => typed!(PhysSwitchId, LinkPhysId::parse(alloc, payload)),
@@ -566,12 +509,8 @@ impl LinkAttribute {
             (λ o. IfNone o (has_no_link_row (table_family family) kind)) }
         ensures typed { IfRead result
             (λ _. (attribute_row (table_family family) kind).is_typed ≡ true) }
-        ensures value { IfRead result
-            (λ v. link_attribute_entry v
-            ≡ rewrite (attribute_row (table_family family) kind) (attribute kind payload.now)) }
-        ensures inside { IfRead result
-            (λ v. link_attribute_fits v
-            ≡ (attribute_row (table_family family) kind).rule.fits payload.now) }
+        ensures written { RowIsRewrittenBy result link_attribute_entry link_attribute_fits
+            (attribute_row (table_family family) kind) (attribute kind payload.now) }
         ensures names_row { IfRead result (λ v. link_attribute_names_row (table_family family) v) }
         ensures memory { IfMemory result
             (row_may_want_memory (table_family family) kind payload.now ≡ true) }
@@ -593,12 +532,9 @@ impl LinkAttribute {
         requires { IsAttribute (storage buf.now).now }
         ensures judged { SucceedsWhere result
             (is_accepted_by (attribute_row (table_family family)) (storage buf.now).now) }
-        ensures value { IfOk result
-            (λ v. link_attribute_entry v
-            ≡ rewritten_by (attribute_row (table_family family)) (storage buf.now).now) }
-        ensures inside { IfOk result
-            (λ v. link_attribute_fits v
-            ≡ fits_by (attribute_row (table_family family)) (storage buf.now).now) }
+        ensures written { IsRewrittenBy result link_attribute_entry link_attribute_fits
+            (viewed_row (attribute_row (table_family family)) (storage buf.now).now)
+            (viewed_attribute (storage buf.now).now) }
         ensures names_row { IfOk result
             (λ v. link_attribute_names_row (table_family family) v) }
         ensures memory { IfMemory result
@@ -625,12 +561,9 @@ impl LinkAttribute {
         requires { IsAttribute (storage buf.now).now }
         ensures judged { IsRefusedUnless result
             (is_accepted_by (attribute_row (table_family family)) (storage buf.now).now) }
-        ensures value { IfOk result
-            (λ v. link_attribute_entry v
-            ≡ rewritten_by (attribute_row (table_family family)) (storage buf.now).now) }
-        ensures inside { IfOk result
-            (λ v. link_attribute_fits v
-            ≡ fits_by (attribute_row (table_family family)) (storage buf.now).now) }
+        ensures written { IsRewrittenBy result link_attribute_entry link_attribute_fits
+            (viewed_row (attribute_row (table_family family)) (storage buf.now).now)
+            (viewed_attribute (storage buf.now).now) }
         ensures names_row { IfOk result
             (λ v. link_attribute_names_row (table_family family) v) }
         ensures memory { IfMemory result

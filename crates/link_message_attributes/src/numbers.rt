@@ -3,13 +3,12 @@
 ghost use Rattle.std.specs.Prelude.{◌≡◌, ◌≢◌, ◌∷◌, [], true, IfOk, IfSome, IfNone};
 ghost use Rattle.netlink_packet_core.specs.Families.{attribute};
 ghost use Rattle.netlink_packet_core.specs.Numbers.{le4};
-ghost use Rattle.attribute_tables_grammar.specs.Lists.{rewrite};
 ghost use Rattle.link_message_grammar.specs.LinkMessage.{Family, has_no_link_row};
 ghost use Rattle.link_message_types.specs.AddressFamilies.{table_family};
 ghost use Rattle.link_message_attributes.specs.LinkAttributes.{IsReadAsNumber, plain_row, row_may_want_memory};
 ghost use Rattle.link_message_attributes.specs.LinkAttributes.{link_attribute_entry, link_attribute_fits};
 ghost use Rattle.link_message_attributes.specs.LinkAttributes.{link_attribute_names_row};
-ghost use Rattle.attribute_tables.specs.Outcomes.{IfMemory, IfRead, SucceedsWhere};
+ghost use Rattle.attribute_tables.specs.Outcomes.{IfMemory, IfRead, RowIsRewrittenBy, SucceedsWhere};
 
 use super::attributes::LinkAttribute;
 use super::kinds::{
@@ -106,12 +105,8 @@ impl LinkAttribute {
             (λ o. IfNone o (has_no_link_row (table_family family) kind)) }
         ensures typed { IfRead result
             (λ _. (plain_row (table_family family) kind).is_typed ≡ true) }
-        ensures value { IfRead result
-            (λ v. link_attribute_entry v
-            ≡ rewrite (plain_row (table_family family) kind) (attribute kind payload.now)) }
-        ensures inside { IfRead result
-            (λ v. link_attribute_fits v
-            ≡ (plain_row (table_family family) kind).rule.fits payload.now) }
+        ensures written { RowIsRewrittenBy result link_attribute_entry link_attribute_fits
+            (plain_row (table_family family) kind) (attribute kind payload.now) }
         ensures names_row { IfRead result (λ v. link_attribute_names_row (table_family family) v) }
         ensures memory { IfMemory result
             (row_may_want_memory (table_family family) kind payload.now ≡ true) }

@@ -2,7 +2,7 @@
 use Rattle.std.proofs.Common.{◌≡◌, ◌≢◌, ℕ, zero, suc, ◌+◌, ◌-◌, ◌%◌, ◌<◌, ◌≤◌, ltb, cond, true, false, Bool, Result, Option, min, List, [], ◌∷◌, ◌++◌, length, take, drop, Some, None, Ok, Err, refl, sym, ap, subst, ◌∙◌, ◌⊎◌, inl, inr, arith, length-append, length-drop, append_assoc, zero-add}
 use Rattle.std.proofs.lemmas.List.{take-append-le, drop-append-le, drop_all, length-take, append-nil, drop_at, take-append-drop}
 use Rattle.std.proofs.lemmas.Bool.Decides.{nat_tests}
-use Rattle.std.proofs.lemmas.Bool.{le-ltb, lt-ltb, ltb-false, ltb-true, cases_lt}
+use Rattle.std.proofs.lemmas.Bool.{cond_both, le-ltb, lt-ltb, ltb-false, ltb-true, cases_lt}
 use Rattle.netlink_packet_core_grammar.specs.Attributes.{nla_align}
 use Rattle.netlink_packet_core_grammar.specs.Numbers.{u16_at, u32_at}
 use Rattle.netlink_packet_core_grammar.specs.Frames.{frame_length, frame_type, frame_body, frame_text}
@@ -27,6 +27,15 @@ tested_short limit size claimed j h = rw (lt-ltb size 16 h)
 
 tested_more : (limit size more claimed : ℕ) (j k : Judged) → size ≤ more → (claimed ≤ size → k ≡ j) → tested limit size claimed j ≢ Err Cut → tested limit more claimed k ≡ tested limit size claimed j
 tested_more limit size more claimed j k h e n = grind (arith, nat_tests)
+
+-- what holds of the outcome of each test holds of the judgement
+pub tested_by : (limit size claimed : ℕ) (j : Judged) (P : Judged → Type 0) → (size < 16 → P (Err Cut)) → (claimed < 16 → P (Err ShortLength)) → (limit < claimed → P (Err OverLimit)) →
+    (16 ≤ size → 16 ≤ claimed → claimed ≤ limit → size < claimed → P (Err Cut)) → (16 ≤ size → 16 ≤ claimed → claimed ≤ limit → claimed ≤ size → P j) → P (tested limit size claimed j)
+tested_by limit size claimed j P short low over cut whole =
+    cond_both (ltb size 16) _ _ P (λ a. short (ltb-true _ _ a)) (λ a.
+    cond_both (ltb claimed 16) _ _ P (λ b. low (ltb-true _ _ b)) (λ b.
+    cond_both (ltb limit claimed) _ _ P (λ d. over (ltb-true _ _ d)) (λ d.
+    cond_both (ltb size claimed) _ _ P (λ e. cut (ltb-false _ _ a) (ltb-false _ _ b) (ltb-false _ _ d) (ltb-true _ _ e)) (λ e. whole (ltb-false _ _ a) (ltb-false _ _ b) (ltb-false _ _ d) (ltb-false _ _ e)))))
 
 -- an accepted body's frame has the length that its header tells
 judged : (limit : ℕ) (c : List ℕ) (r : Result (List ℕ) Refusal) (frame : ℕ × List ℕ) → judged_text limit c r ≡ Ok frame → frame_length c ≡ frame.0
@@ -88,46 +97,26 @@ judged_not_cut limit c (Err empty_ports) h = cc
 judged_not_cut limit c (Err unfit) h = cc
 judged_not_cut limit c (Ok body) h = grind (arith, nat_tests)
 
--- a body's faults are a frame's
-judged_kinds : (limit : ℕ) (c : List ℕ) (r : Result (List ℕ) Refusal) (kind : FaultKind) → judged_text limit c r ≡ Err kind → IsOfFrames kind
-judged_kinds limit c (Err refused) kind h = let e : Refused ≡ kind = cc in subst IsOfFrames e tt
-judged_kinds limit c (Err empty_ports) kind h = let e : EmptyPorts ≡ kind = cc in subst IsOfFrames e tt
-judged_kinds limit c (Err unfit) kind h = let e : Unfit ≡ kind = cc in subst IsOfFrames e tt
-judged_kinds limit c (Ok body) kind h =
-    elim (guard (ltb limit (16 + length body)) _ _ _ h) [
-      | inl a ↦ (let e : TextOverLimit ≡ kind = (let f = a.1 in cc) in subst IsOfFrames e tt)
-      | inr a ↦ (let f = a.1 in absurd (cc))
-    ]
+-- a fault, if there is one, is of a kind that a frame can have
+abbrev HasFrameKind : Judged → Type 0
+HasFrameKind (Ok frame) = Unit {0}
+HasFrameKind (Err kind) = IsOfFrames kind
+
+judged_kinds : (limit : ℕ) (c : List ℕ) (r : Result (List ℕ) Refusal) → HasFrameKind (judged_text limit c r)
+judged_kinds limit c (Err refused) = tt
+judged_kinds limit c (Err empty_ports) = tt
+judged_kinds limit c (Err unfit) = tt
+judged_kinds limit c (Ok body) = cond_both (ltb limit (16 + length body)) _ _ HasFrameKind (λ a. tt) (λ a. tt)
 
 module _ (r : Rule) where
   -- what an accepted frame is
   pub accepted : (limit : ℕ) (c : List ℕ) (frame : ℕ × List ℕ) → first_frame_under r limit c ≡ Ok frame → Accepted limit c frame
   unfolding first_frame_under
   accepted limit c frame h =
-      elim (guard (ltb (length c) 16) _ _ _ h) [
-        | inl a ↦ cc
-        | inr a ↦
-            elim (guard (ltb (frame_length c) 16) _ _ _ a.1) [
-              | inl b ↦ cc
-              | inr b ↦
-                  elim (guard (ltb limit (frame_length c)) _ _ _ b.1) [
-                    | inl d ↦ cc
-                    | inr d ↦
-                        elim (guard (ltb (length c) (frame_length c)) _ _ _ d.1) [
-                          | inl e ↦ cc
-                          | inr e ↦
-                              let g = judged limit c (body_text_under r (frame_type c) (frame_body c)) frame e.1 in
-                              record {
-                                header = ltb-false _ _ a.0;
-                                low = subst (λ n. 16 ≤ n) g (ltb-false _ _ b.0);
-                                high = subst (λ n. n ≤ limit) g (ltb-false _ _ d.0);
-                                whole = subst (λ n. n ≤ length c) g (ltb-false _ _ e.0);
-                                is = g;
-                              }
-                        ]
-                  ]
-            ]
-      ]
+      tested_by limit (length c) (frame_length c) _ (λ o. o ≡ Ok frame → Accepted limit c frame) (λ a e. cc) (λ a e. cc) (λ a e. cc) (λ a b d e f. cc)
+      (λ header low high whole e.
+      let g = judged limit c (body_text_under r (frame_type c) (frame_body c)) frame e in
+      record { header = header; low = omega (arith, g, low); high = omega (arith, g, high); whole = omega (arith, g, whole); is = g }) h
 
   judged-more : (limit : ℕ) (c d : List ℕ) → 16 ≤ length c → frame_length c ≤ length c → judged_text limit (c ++ d) (body_text_under r (frame_type (c ++ d)) (frame_body (c ++ d))) ≡ judged_text limit c (body_text_under r (frame_type c) (frame_body c))
   judged-more limit c d h k =
@@ -244,6 +233,23 @@ module _ (r : Rule) where
   pub texts_stop : (limit : ℕ) (c : List ℕ) (kind : FaultKind) → first_frame_under r limit c ≡ Err kind → texts_under r limit c ≡ []
   texts_stop limit [] kind h = texts_nil limit 0
   texts_stop limit (b ∷ c) kind h = stop_texts limit b c kind h
+
+  -- What holds of a capture that begins with an accepted frame, where it holds of what is behind that, and of each other, holds of all.
+  pub by_frames : (limit : ℕ) (P : List ℕ → Type 0) → ((c : List ℕ) (frame : ℕ × List ℕ) → first_frame_under r limit c ≡ Ok frame → P (drop (nla_align frame.0) c) → P c) →
+      ((c : List ℕ) (kind : FaultKind) → first_frame_under r limit c ≡ Err kind → P c) → (c : List ℕ) → P c
+  by_frames limit P more stop c = go (length c) c (omega arith)
+    where
+      go : (n : ℕ) (c : List ℕ) → length c ≤ n → P c
+      go zero c l =
+          elim (seen (first_frame_under r limit c)) [
+            | inl w ↦ absurd (omega (arith, (accepted limit c w.0 w.1).header, l))
+            | inr w ↦ stop c w.0 w.1
+          ]
+      go (suc n) c l =
+          elim (seen (first_frame_under r limit c)) [
+            | inl w ↦ let a = accepted limit c w.0 w.1 in more c w.0 w.1 (go n (drop (nla_align w.0.0) c) (omega (arith, a.header, a.low, l, length-drop (nla_align w.0.0) c)))
+            | inr w ↦ stop c w.0 w.1
+          ]
 
   -- How far the whole frames reach, with the padding that the last one is owed: where the first fault stands, or would stand if more came.
   unfoldable pub place_after : ℕ → ℕ → List ℕ → ℕ
@@ -487,23 +493,8 @@ module _ (r : Rule) where
   -- What is cut is too short for its header, or for the length that this tells.
   pub cut_cases : (limit : ℕ) (c : List ℕ) → first_frame_under r limit c ≡ Err Cut → (length c < 16) ⊎ CutInBody limit c
   cut_cases limit c h =
-      let t : tested limit (length c) (frame_length c) (judgement limit c) ≡ Err Cut = sym (first_frame_is limit c) ∙ h in
-      elim (guard (ltb (length c) 16) _ _ _ t) [
-        | inl a ↦ inl (ltb-true _ _ a.0)
-        | inr a ↦
-            elim (guard (ltb (frame_length c) 16) _ _ _ a.1) [
-              | inl b ↦ (let e = b.1 in cc)
-              | inr b ↦
-                  elim (guard (ltb limit (frame_length c)) _ _ _ b.1) [
-                    | inl d ↦ (let e = d.1 in cc)
-                    | inr d ↦
-                        elim (guard (ltb (length c) (frame_length c)) _ _ _ d.1) [
-                          | inl e ↦ inr (record { header = ltb-false _ _ a.0; low = ltb-false _ _ b.0; high = ltb-false _ _ d.0; short = ltb-true _ _ e.0 })
-                          | inr e ↦ absurd (judgement_not_cut limit c e.1)
-                        ]
-                  ]
-            ]
-      ]
+      tested_by limit (length c) (frame_length c) (judgement limit c) (λ o. o ≡ Err Cut → (length c < 16) ⊎ CutInBody limit c) (λ a e. inl a) (λ a e. cc) (λ a e. cc)
+      (λ header low high short e. inr (record { header = header; low = low; high = high; short = short })) (λ a b d e f. absurd (judgement_not_cut limit c f)) (sym (first_frame_is limit c) ∙ h)
 
   -- the first fault stands where the whole frames end
   pub fault_place : (limit : ℕ) (c : List ℕ) (fault : CaptureFault) → first_fault_under r limit c ≡ Some fault → place limit c ≡ fault.offset
@@ -525,23 +516,8 @@ module _ (r : Rule) where
   first_frame_kinds : (limit : ℕ) (c : List ℕ) (kind : FaultKind) → first_frame_under r limit c ≡ Err kind → IsOfFrames kind
   unfolding judgement
   first_frame_kinds limit c kind h =
-      let t : tested limit (length c) (frame_length c) (judgement limit c) ≡ Err kind = sym (first_frame_is limit c) ∙ h in
-      elim (guard (ltb (length c) 16) _ _ _ t) [
-        | inl a ↦ (let e : Cut ≡ kind = (let f = a.1 in cc) in subst IsOfFrames e tt)
-        | inr a ↦
-            elim (guard (ltb (frame_length c) 16) _ _ _ a.1) [
-              | inl b ↦ (let e : ShortLength ≡ kind = (let f = b.1 in cc) in subst IsOfFrames e tt)
-              | inr b ↦
-                  elim (guard (ltb limit (frame_length c)) _ _ _ b.1) [
-                    | inl d ↦ (let e : OverLimit ≡ kind = (let f = d.1 in cc) in subst IsOfFrames e tt)
-                    | inr d ↦
-                        elim (guard (ltb (length c) (frame_length c)) _ _ _ d.1) [
-                          | inl e ↦ (let g : Cut ≡ kind = (let f = e.1 in cc) in subst IsOfFrames g tt)
-                          | inr e ↦ judged_kinds limit c (body_text_under r (frame_type c) (frame_body c)) kind e.1
-                        ]
-                  ]
-            ]
-      ]
+      subst HasFrameKind (sym (first_frame_is limit c) ∙ h) (tested_by limit (length c) (frame_length c) (judgement limit c) HasFrameKind (λ a. tt) (λ a. tt) (λ a. tt) (λ a b d e. tt)
+      (λ a b d e. judged_kinds limit c (body_text_under r (frame_type c) (frame_body c))))
 
   pub fault_kinds : (limit : ℕ) (c : List ℕ) (fault : CaptureFault) → first_fault_under r limit c ≡ Some fault → IsOfFrames fault.kind
   fault_kinds limit c fault h =

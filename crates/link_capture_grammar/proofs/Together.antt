@@ -7,17 +7,14 @@ use Rattle.link_capture_grammar.specs.Captures.{raised, first_frame_under, first
 use Rattle.link_capture_grammar.specs.Laws.{TextsAreLegal, TextsAreNormal, TextsAreRenewed, JoinedLegal, PrefixTexts, TextsAreSmall, FaultsStand, BodiesAreNormal, FramesStandAlone, CapturesGoByFrames}
 use Rattle.link_capture_grammar.proofs.Frames.{accepted, cut_cases, first_frame-more, one_fault, one_text, fault_stop, texts_stop, stops, place_start, base_fault, base_texts, place_legal, reach_place, joined_fault, fault-append, texts-append, fault_inside, fault_kinds}
 use Rattle.link_capture_grammar.proofs.Normal.{body_again, texts_again}
+use Rattle.link_capture_grammar.proofs.Same.{not_raised}
 use Rattle.link_capture_grammar.proofs.Small.{texts_small}
-
-none_raised : (n : ℕ) (o : Option CaptureFault) → raised n o ≡ None → o ≡ None
-none_raised n None h = refl
-none_raised n (Some f) h = absurd cc
 
 module _ (r : Rule) where
   pub joined_legal : JoinedLegal r
   joined_legal limit a b h m =
       let j = joined_fault r limit a b h m in (
-        λ l. none_raised (length a) (first_fault_under r limit b) (sym j ∙ l),
+        λ l. not_raised (length a) (first_fault_under r limit b) (sym j ∙ l),
         λ l. j ∙ ap (raised (length a)) l,
       )
 
@@ -69,4 +66,4 @@ module _ (r : Rule) (lawful : Lawful r) where
   bodies_are_normal t b text h = body_again r r (renews_itself r lawful) t b text text h h
 
   pub texts_are_small : TextsAreSmall r
-  texts_are_small limit c = texts_small r lawful limit 0 c
+  texts_are_small = texts_small r lawful

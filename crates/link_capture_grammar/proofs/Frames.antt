@@ -18,10 +18,6 @@ use Rattle.link_capture_grammar.specs.Captures.{Judged, Accepted, CutInBody, fir
 pub guard : {A : Type 0} (b : Bool) (x y z : A) → cond b x y ≡ z → ((b ≡ true) × (x ≡ z)) ⊎ ((b ≡ false) × (y ≡ z))
 guard b x y z = elim b as (λ v. cond v x y ≡ z → ((v ≡ true) × (x ≡ z)) ⊎ ((v ≡ false) × (y ≡ z))) [ true ↦ (λ h. inl (refl, h)) | false ↦ (λ h. inr (refl, h)) ]
 
--- the frame is all there: what is judged of it doesn't depend on how much more is there
-pub tested_whole : (limit size claimed : ℕ) (j : Judged) → 16 ≤ size → claimed ≤ size → tested limit size claimed j ≡ cond (ltb claimed 16) (Err ShortLength) (cond (ltb limit claimed) (Err OverLimit) j)
-tested_whole limit size claimed j h k = rw (le-ltb size 16 h, le-ltb size claimed k)
-
 tested_short : (limit size claimed : ℕ) (j : Judged) → size < 16 → tested limit size claimed j ≡ Err Cut
 tested_short limit size claimed j h = rw (lt-ltb size 16 h)
 
@@ -145,14 +141,20 @@ module _ (r : Rule) where
             ∙ sym (first_frame_is limit c)
       ]
 
+  judgement_not_cut : (limit : ℕ) (c : List ℕ) → judgement limit c ≢ Err Cut
+  unfolding judgement
+  judgement_not_cut limit c h = judged_not_cut limit c (body_text_under r (frame_type c) (frame_body c)) h
+
+  -- What is cut is too short for its header, or for the length that this tells.
+  pub cut_cases : (limit : ℕ) (c : List ℕ) → first_frame_under r limit c ≡ Err Cut → (length c < 16) ⊎ CutInBody limit c
+  cut_cases limit c h =
+      tested_by limit (length c) (frame_length c) (judgement limit c) (λ o. o ≡ Err Cut → (length c < 16) ⊎ CutInBody limit c) (λ a e. inl a) (λ a e. cc) (λ a e. cc)
+      (λ header low high short e. inr (record { header = header; low = low; high = high; short = short })) (λ a b d e f. absurd (judgement_not_cut limit c f)) (sym (first_frame_is limit c) ∙ h)
+
+  -- What is judged of a whole frame is judged of it whatever follows.
   pub first_frame_whole : (limit : ℕ) (c d : List ℕ) → 16 ≤ length c → frame_length c ≤ length c → first_frame_under r limit (c ++ d) ≡ first_frame_under r limit c
   first_frame_whole limit c d h k =
-      first_frame_is limit (c ++ d)
-      ∙ ap (λ n. tested limit (length (c ++ d)) n (judgement limit (c ++ d))) (u32_at-append c d (omega arith))
-      ∙ ap (λ j. tested limit (length (c ++ d)) (frame_length c) j) (judgement-more limit c d h k)
-      ∙ tested_whole limit (length (c ++ d)) (frame_length c) (judgement limit c) (omega (arith, length-append c d)) (omega (arith, length-append c d))
-      ∙ sym (tested_whole limit (length c) (frame_length c) (judgement limit c) h k)
-      ∙ sym (first_frame_is limit c)
+      first_frame-more limit c d (λ e. elim (cut_cases limit c e) [ inl a ↦ absurd (omega arith) | inr a ↦ absurd (omega (arith, a.short)) ])
 
   -- An accepted frame is the same where at least its bytes are there.
   pub first_frame-take : (limit : ℕ) (c : List ℕ) (n : ℕ) (frame : ℕ × List ℕ) → first_frame_under r limit c ≡ Ok frame → frame.0 ≤ n → first_frame_under r limit (take n c) ≡ Ok frame
@@ -413,16 +415,6 @@ module _ (r : Rule) where
       ∙ ap (λ x. frame.1 ++ texts_under r limit x) (drop_all n (take n c) (omega (arith, length-take n c)))
       ∙ ap (λ t. frame.1 ++ t) (texts_nil limit 0)
       ∙ append-nil frame.1
-
-  judgement_not_cut : (limit : ℕ) (c : List ℕ) → judgement limit c ≢ Err Cut
-  unfolding judgement
-  judgement_not_cut limit c h = judged_not_cut limit c (body_text_under r (frame_type c) (frame_body c)) h
-
-  -- What is cut is too short for its header, or for the length that this tells.
-  pub cut_cases : (limit : ℕ) (c : List ℕ) → first_frame_under r limit c ≡ Err Cut → (length c < 16) ⊎ CutInBody limit c
-  cut_cases limit c h =
-      tested_by limit (length c) (frame_length c) (judgement limit c) (λ o. o ≡ Err Cut → (length c < 16) ⊎ CutInBody limit c) (λ a e. inl a) (λ a e. cc) (λ a e. cc)
-      (λ header low high short e. inr (record { header = header; low = low; high = high; short = short })) (λ a b d e f. absurd (judgement_not_cut limit c f)) (sym (first_frame_is limit c) ∙ h)
 
   -- the first fault stands where the whole frames end
   pub fault_place : (limit : ℕ) (c : List ℕ) (fault : CaptureFault) → first_fault_under r limit c ≡ Some fault → place limit c ≡ fault.offset

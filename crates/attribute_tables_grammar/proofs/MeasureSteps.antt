@@ -11,8 +11,7 @@ use Rattle.attribute_tables_grammar.specs.Rules.{Rule, Lawful}
 use Rattle.attribute_tables_grammar.specs.Lists.{Context, nothing, Grammar, ListForm, any, non_empty, of_kind_one, ports, first_alone, is_kept, kept, is_empty_ports, row_of, list_rule, if_read, all_accepted, rewritten, attributes_inside, all_fit, some_empty_ports}
 use Rattle.attribute_tables_grammar.specs.Walks.{Measure, measure, plus, none_yet, dropped, with_header, both, measures, walk, or_empty, walk_as, MeasuredSoFar, closed, IsWalked, WantsAttribute, IsSmall, IsMeasure}
 use Rattle.attribute_tables_grammar.specs.Laws.{MeasuresGoBySteps, MeasuresTellRules}
-use Rattle.attribute_tables_grammar.proofs.Kept.{kept_more, kept_past}
-use Rattle.attribute_tables_grammar.proofs.Readings.{bytes_not_empty}
+use Rattle.attribute_tables_grammar.proofs.Kept.{kept_more, kept_past, bytes_not_empty, read_walked, read_none}
 use Rattle.attribute_tables_grammar.proofs.Walks.{both_assoc, walk_list, walk_end, walk_stop, walk_step}
 
 both_start : (o : Option Measure) → both (Some none_yet) o ≡ o
@@ -74,13 +73,15 @@ ports_whole g (Some es) = by (measures ports g nothing es) refl where
   by None h = refl
   by (Some m) h = ap (λ b. Some (or_empty b m)) (sym (empty_by g es nothing m h))
 
+whole_of_attributes : (form : ListForm) (g : Grammar) (o : Option (List Attribute)) → option_map (closed form) (if_some o (measures form g nothing)) ≡ if_some o (λ es. option_map (or_empty (is_empty_ports form (kept form es))) (measures form g nothing es))
+whole_of_attributes ports g o = ports_whole g o
+whole_of_attributes form g o = plain_whole o (measures form g nothing)
+
 pub whole_by : (form : ListForm) (g : Grammar) (bytes : List ℕ) → IsWalked form bytes → option_map (closed form) (walk form g nothing bytes) ≡ walk_as form g bytes
 unfolding walk walk_as
-whole_by any g bytes w = plain_whole (attributes_of bytes) (measures any g nothing)
-whole_by of_kind_one g bytes w = plain_whole (attributes_of bytes) (measures of_kind_one g nothing)
-whole_by non_empty g bytes w = plain_whole (attributes_of bytes) (measures non_empty g nothing) ∙ ap (λ o. if_some o (λ es. option_map (or_empty false) (measures non_empty g nothing es))) (sym (bytes_not_empty bytes w))
-whole_by ports g bytes w = ports_whole g (attributes_of bytes) ∙ ap (λ o. if_some o (λ es. option_map (or_empty (is_empty_ports ports (kept ports es))) (measures ports g nothing es))) (sym (bytes_not_empty bytes w))
-whole_by first_alone g bytes w = absurd w
+whole_by form g bytes w =
+    whole_of_attributes form g (attributes_of bytes)
+    ∙ ap (λ o. if_some o (λ es. option_map (or_empty (is_empty_ports form (kept form es))) (measures form g nothing es))) (sym (read_walked form bytes w))
 
 -- what the whole is, once the walk ends
 ended : (form : ListForm) (g : Grammar) (bytes : List ℕ) (o : Option Measure) → IsWalked form bytes → walk form g nothing bytes ≡ o → option_map (closed form) o ≡ measure (list_rule form g) bytes
@@ -128,13 +129,9 @@ unfolding alone
 first_none g bytes f = alone_is g bytes None f
 
 none_there : (form : ListForm) (g : Grammar) (bytes : List ℕ) → length bytes ≡ 0 → WantsAttribute form → None ≡ measure (list_rule form g) bytes
-unfolding attributes_within
-none_there non_empty g [] l w = refl
-none_there ports g [] l w = refl
-none_there any g bytes l w = absurd w
-none_there of_kind_one g bytes l w = absurd w
-none_there first_alone g bytes l w = absurd w
-none_there form g (b ∷ bytes) l w = absurd (omega arith)
+unfolding walk_as
+none_there form g bytes l w =
+    sym (ap (λ o. if_some o (λ es. option_map (or_empty (is_empty_ports form (kept form es))) (measures form g nothing es))) (read_none form bytes l w)) ∙ walk_list form g bytes
 
 -- a list of some bytes is measured alike, whether or not its form wants an attribute
 whole_of : Grammar → Option (List Attribute) → Option Measure

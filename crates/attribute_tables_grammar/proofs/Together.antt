@@ -10,7 +10,7 @@ use Rattle.attribute_tables_grammar.proofs.Named.{after_more, next_rewritten}
 use Rattle.attribute_tables_grammar.proofs.OwnTexts.{own_texts_go_by_steps}
 use Rattle.attribute_tables_grammar.proofs.Peerless.{rules_without_peers_are_one}
 use Rattle.attribute_tables_grammar.proofs.ReadAgain.{canonical_is_cut, lists_are_read_again}
-use Rattle.attribute_tables_grammar.proofs.ReadingLaws.{readings_go_by_steps, readings_tell_rules, first_attributes_are_read_alone, ports_are_entries}
+use Rattle.attribute_tables_grammar.proofs.Readings.{readings_go_by_steps, readings_tell_rules, first_attributes_are_read_alone, ports_are_entries}
 use Rattle.attribute_tables_grammar.proofs.Renewed.{renewed}
 use Rattle.attribute_tables_grammar.proofs.SameSteps.{kept_by_steps, sameness_goes_by_steps, attributes_are_compared}
 use Rattle.attribute_tables_grammar.proofs.ShortTexts.{short_fits}

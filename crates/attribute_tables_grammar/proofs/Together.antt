@@ -3,10 +3,9 @@ use Rattle.std.proofs.Common.{◌≡◌, subst, sym, true}
 use Rattle.attribute_tables_grammar.specs.Rules.{Rule, Lawful}
 use Rattle.attribute_tables_grammar.specs.Tables.{rule}
 use Rattle.attribute_tables_grammar.specs.Laws.{OneTextEach, TextsTellMeanings, KeepsMeaning, TextsKeepMeanings, TableRowsAreLawful}
-use Rattle.attribute_tables_grammar.proofs.Attributes.{one_context}
+use Rattle.attribute_tables_grammar.proofs.Attributes.{after_more, next_again, one_context}
 use Rattle.attribute_tables_grammar.proofs.LookUps.{row-table, rule-rows, list-rows, list-one, fits-without_lists, named-payload}
 use Rattle.attribute_tables_grammar.proofs.MeasureSteps.{measures_go_by_steps, measures_tell_rules}
-use Rattle.attribute_tables_grammar.proofs.Named.{after_more, next_rewritten}
 use Rattle.attribute_tables_grammar.proofs.OwnTexts.{own_texts_go_by_steps}
 use Rattle.attribute_tables_grammar.proofs.Peerless.{rules_without_peers_are_one}
 use Rattle.attribute_tables_grammar.proofs.ReadAgain.{canonical_is_cut, lists_are_read_again}
@@ -37,7 +36,7 @@ pub ruleset rules_and_tables = (lawful, table_lawful, table_rows_lawful, bytes_p
 
 pub ruleset look_ups = (rule-rows, list-rows, list-one, fits-without_lists, named-payload)
 
-pub ruleset lists = (canonical_is_cut, lists_are_read_again, one_context, after_more, next_rewritten, readings_tell_rules, measures_tell_rules, first_attributes_are_read_alone, ports_are_entries)
+pub ruleset lists = (canonical_is_cut, lists_are_read_again, one_context, after_more, next_again, readings_tell_rules, measures_tell_rules, first_attributes_are_read_alone, ports_are_entries)
 
 pub ruleset steps = (readings_go_by_steps, measures_go_by_steps, own_texts_go_by_steps, texts_are_written_by_steps, kept_by_steps, sameness_goes_by_steps, attributes_are_compared)
 

@@ -1,5 +1,5 @@
 -- Attributes in order, each in its context, and their canonical forms.
-use Rattle.std.proofs.Common.{◌≡◌, ℕ, ◌+◌, ◌<◌, Bool, true, false, cond, List, [], ◌∷◌, length, refl, sym, ap, ◌∙◌, arith}
+use Rattle.std.proofs.Common.{◌≡◌, ℕ, ◌+◌, ◌<◌, Bool, true, false, cond, List, [], ◌∷◌, ◌++◌, length, refl, sym, ap, ◌∙◌, arith}
 use Rattle.std.specs.Prelude.{◌&&◌, nat_le, ◌==◌}
 use Rattle.std.proofs.lemmas.Bool.{and_parts, and_from, or_parts, or_from, eqb-true, eq-eqb}
 use Rattle.netlink_packet_core_grammar.specs.Attributes.{Attribute, proper_kind, list_text, attributes_of}
@@ -61,12 +61,20 @@ renews_itself r l = record {
 pub row_renews_itself : (r : Row) → Lawful r.rule → RenewsRow r r
 row_renews_itself r l = record { kinds = λ k. refl; payloads = renews_itself r.rule l }
 
--- ---- attributes under other rows than those that wrote them
+-- ---- the context that attributes leave, one after another
 
+pub after_more : (g : Grammar) (c : Context) (es : List Attribute) (e : Attribute) → context_after g c (es ++ e ∷ []) ≡ g.next (context_after g c es) e
+unfolding context_after
+after_more g c [] e = refl
+after_more g c (d ∷ es) e = after_more g (g.next c d) es e
+
+-- an attribute leaves in force what its canonical form does
 pub next_again : (g : Grammar) → LawfulGrammar g → (c : Context) (e : Attribute) → (row_of g c e).rule.accepted e.payload ≡ true → g.next c (rewrite (row_of g c e) e) ≡ g.next c e
 next_again g lawful c e a =
     let r = row_of g c e in
     sym (lawful.steps c e (rewrite r e) (sym (proper_kind-written r e.kind)) (sym ((lawful.rows c (proper_kind e.kind)).itself e.payload a)))
+
+-- ---- attributes under other rows than those that wrote them
 
 module _ (g : Grammar) (lawful : LawfulGrammar g) (rows : Context → ℕ → Row) (renews : (c : Context) (k : ℕ) → RenewsRow (g.row c k) (rows c k)) where
   -- g with the other rows

@@ -11,8 +11,6 @@ pub mod Together
 pub mod ReadAgain
 pub mod Kept
 pub mod Readings
-pub mod ReadingLaws
-pub mod Named
 pub mod Walks
 pub mod MeasureSteps
 pub mod OwnTexts

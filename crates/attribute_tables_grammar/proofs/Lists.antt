@@ -32,45 +32,40 @@ first_alone_attribute bytes es h =
     let s = option_map-got (λ (x : Attribute × List ℕ). x.0 ∷ []) (first_attribute bytes) es h in
     (s.0.0, s.0.1, s.1, sym s.2)
 
-pub read_weight : (form : ListForm) (bytes : List ℕ) (es : List Attribute) → read_as form bytes ≡ Some es → weight es ≤ length bytes
-read_weight any bytes es h = weight_within bytes es (attributes_cut bytes es h)
-read_weight non_empty bytes es h = weight_within bytes es (attributes_cut bytes es (non_empty_attributes bytes es h))
-read_weight of_kind_one bytes es h = weight_within bytes es (attributes_cut bytes es h)
-read_weight ports bytes es h = weight_within bytes es (attributes_cut bytes es (non_empty_attributes bytes es h))
-read_weight first_alone bytes es h =
-    let l = first_alone_attribute bytes es h in
-    rw l.3 (omega (arith, (sized bytes l.0 l.1 l.2).within))
+-- attributes that some bytes show: they are no longer, and hold bytes where these are bytes
+record Shown (bytes : List ℕ) (es : List Attribute) : Type 0 where
+  size : weight es ≤ length bytes
+  are_attributes : AreBytes bytes → AreAttributes es
 
-pub read_bytes : (form : ListForm) (bytes : List ℕ) (es : List Attribute) → read_as form bytes ≡ Some es → AreBytes bytes → AreAttributes es
-read_bytes any bytes es h b = AreAttributes-cut bytes es (attributes_cut bytes es h) b
-read_bytes non_empty bytes es h b = AreAttributes-cut bytes es (attributes_cut bytes es (non_empty_attributes bytes es h)) b
-read_bytes of_kind_one bytes es h b = AreAttributes-cut bytes es (attributes_cut bytes es h) b
-read_bytes ports bytes es h b = AreAttributes-cut bytes es (attributes_cut bytes es (non_empty_attributes bytes es h)) b
-read_bytes first_alone bytes es h b =
+all_shown : (bytes : List ℕ) (es : List Attribute) → attributes_of bytes ≡ Some es → Shown bytes es
+all_shown bytes es h = let k = attributes_cut bytes es h in record { size = weight_within bytes es k; are_attributes = AreAttributes-cut bytes es k }
+
+shown : (form : ListForm) (bytes : List ℕ) (es : List Attribute) → read_as form bytes ≡ Some es → Shown bytes es
+shown any bytes es h = all_shown bytes es h
+shown of_kind_one bytes es h = all_shown bytes es h
+shown non_empty bytes es h = all_shown bytes es (non_empty_attributes bytes es h)
+shown ports bytes es h = all_shown bytes es (non_empty_attributes bytes es h)
+shown first_alone bytes es h =
     let l = first_alone_attribute bytes es h in
-    let f = AreBytes-first_attribute bytes l.0 l.1 l.2 b in
-    rw l.3 (f.0, f.1, tt)
+    record {
+      size = rw l.3 (omega (arith, (sized bytes l.0 l.1 l.2).within));
+      are_attributes = λ b. let f = AreBytes-first_attribute bytes l.0 l.1 l.2 b in rw l.3 (f.0, f.1, tt);
+    }
 
 kept_bytes : (form : ListForm) (es : List Attribute) → AreAttributes es → AreAttributes (kept form es)
-kept_bytes any es h = h
-kept_bytes non_empty es h = h
 kept_bytes of_kind_one es h = AreAttributes-filter is_of_kind_one es h
 kept_bytes ports es h = AreAttributes-filter is_of_kind_one es h
-kept_bytes first_alone es h = h
+kept_bytes form es h = h
 
 kept_weight : (form : ListForm) (es : List Attribute) → weight (kept form es) ≤ weight es
-kept_weight any es = omega arith
-kept_weight non_empty es = omega arith
 kept_weight of_kind_one es = weight-filter_le is_of_kind_one es
 kept_weight ports es = weight-filter_le is_of_kind_one es
-kept_weight first_alone es = omega arith
+kept_weight form es = omega arith
 
 kept_count : (form : ListForm) (es : List Attribute) → weight (kept form es) + 4 * length es ≤ weight es + 4 * length (kept form es)
-kept_count any es = omega arith
-kept_count non_empty es = omega arith
 kept_count of_kind_one es = weight-filter is_of_kind_one es
 kept_count ports es = weight-filter is_of_kind_one es
-kept_count first_alone es = omega arith
+kept_count form es = omega arith
 
 -- ---- the text of what is kept
 
@@ -121,22 +116,15 @@ module _ (g : Grammar) where
 
   pub keeps_again : (form : ListForm) (c : Context) (es : List Attribute) → is_empty_ports form (rewritten g c es) ≡ is_empty_ports form es
   unfolding rewritten
-  keeps_again any c es = refl
-  keeps_again non_empty c es = refl
-  keeps_again of_kind_one c es = refl
   keeps_again ports c [] = refl
   keeps_again ports c (e ∷ es) = refl
-  keeps_again first_alone c es = refl
+  keeps_again form c es = refl
 
   -- a list that keeps nothing and may not be empty
   pub none_again : {A : Type 0} (d : A) (f : List Attribute → A) (form : ListForm) (c : Context) (es : List Attribute) → is_empty_ports form es ≡ true → (list_text (rewritten g c es) ≡ []) × (if_read d f (read_as form []) ≡ d)
   unfolding list_text rewritten attributes_within
-  none_again d f any c es h = absurd cc
-  none_again d f non_empty c es h = absurd cc
-  none_again d f of_kind_one c es h = absurd cc
   none_again d f ports c [] h = (refl, refl)
-  none_again d f ports c (e ∷ es) h = absurd cc
-  none_again d f first_alone c es h = absurd cc
+  none_again d f form c es h = absurd cc
 
 -- what is known of accepted bytes
 pub record AcceptedList (form : ListForm) (g : Grammar) (bytes : List ℕ) : Type 0 where
@@ -220,7 +208,7 @@ module _ (form : ListForm) (g : Grammar) (lawful : LawfulGrammar g) where
       let k = accepted_list form g p a in
       let ks = kept form k.es in
       let l : length ((list_rule form g).canonical p) ≡ list_size (rewritten g nothing ks) = ap length k.canonical ∙ length-list_text (rewritten g nothing ks) in
-      rw l (omega (arith, rewritten_small g lawful nothing ks k.accepted, kept_weight form k.es, read_weight form p k.es k.reads))
+      rw l (omega (arith, rewritten_small g lawful nothing ks k.accepted, kept_weight form k.es, (shown form p k.es k.reads).size))
 
   pub list_lawful : Lawful (list_rule form g)
   list_lawful = record {
@@ -243,9 +231,9 @@ module _ (form : ListForm) (g : Grammar) (lawful : LawfulGrammar g) where
     counted = λ p a.
         let k = accepted_list form g p a in
         let n : (list_rule form g).attributes p ≡ length k.es + attributes_inside g nothing (kept form k.es) = ap (if_read 0 (λ es. length es + attributes_inside g nothing (kept form es))) k.reads in
-        rw n (omega (arith, counts g lawful nothing (kept form k.es) k.accepted, kept_count form k.es, read_weight form p k.es k.reads));
+        rw n (omega (arith, counts g lawful nothing (kept form k.es) k.accepted, kept_count form k.es, (shown form p k.es k.reads).size));
     bytes = λ p a f h.
         let k = accepted_list form g p a in
         let fit : all_fit g nothing (kept form k.es) ≡ true = sym (ap (if_read true (λ es. all_fit g nothing (kept form es))) k.reads) ∙ f in
-        rw k.canonical (text_bytes g lawful nothing (kept form k.es) k.accepted fit (kept_bytes form k.es (read_bytes form p k.es k.reads h)));
+        rw k.canonical (text_bytes g lawful nothing (kept form k.es) k.accepted fit (kept_bytes form k.es ((shown form p k.es k.reads).are_attributes h)));
   }

@@ -4,15 +4,15 @@ use Rattle.std.specs.Prelude.{◌==◌, option_map}
 use Rattle.std.proofs.Math.Bool.{and-true, or-false}
 use Rattle.std.proofs.Math.Nat.{add-zero, zero-add}
 use Rattle.std.proofs.lemmas.Bool.{ne_eqb}
+use Rattle.std.proofs.lemmas.Option.{cond_some}
 use Rattle.netlink_packet_core_grammar.specs.Attributes.{nla_align, list_text, Attribute, first_attribute, if_some, attributes_within, attributes_of}
 use Rattle.netlink_packet_core_grammar.proofs.Attributes.{sized}
 use Rattle.attribute_tables_grammar.specs.Rules.{Rule, Lawful}
 use Rattle.attribute_tables_grammar.specs.Lists.{Context, nothing, Grammar, ListForm, any, non_empty, of_kind_one, ports, first_alone, is_kept, kept, is_empty_ports, row_of, list_rule, if_read, all_accepted, rewritten, attributes_inside, all_fit, some_empty_ports}
 use Rattle.attribute_tables_grammar.specs.Walks.{Measure, measure, plus, none_yet, dropped, with_header, both, measures, walk, or_empty, walk_as, MeasuredSoFar, closed, IsWalked, WantsAttribute, IsSmall, IsMeasure}
 use Rattle.attribute_tables_grammar.specs.Laws.{MeasuresGoBySteps, MeasuresTellRules}
-use Rattle.attribute_tables_grammar.proofs.Kept.{kept_more, kept_past}
-use Rattle.attribute_tables_grammar.proofs.Readings.{bytes_not_empty}
-use Rattle.attribute_tables_grammar.proofs.Walks.{walk_list, walk_end, walk_stop, walk_more, walk_past, walk_refused, measured_small}
+use Rattle.attribute_tables_grammar.proofs.Kept.{kept_more, kept_past, bytes_not_empty, read_walked, read_none}
+use Rattle.attribute_tables_grammar.proofs.Walks.{both_assoc, walk_list, walk_end, walk_stop, walk_step}
 
 both_start : (o : Option Measure) → both (Some none_yet) o ≡ o
 both_start None = refl
@@ -73,47 +73,39 @@ ports_whole g (Some es) = by (measures ports g nothing es) refl where
   by None h = refl
   by (Some m) h = ap (λ b. Some (or_empty b m)) (sym (empty_by g es nothing m h))
 
+whole_of_attributes : (form : ListForm) (g : Grammar) (o : Option (List Attribute)) → option_map (closed form) (if_some o (measures form g nothing)) ≡ if_some o (λ es. option_map (or_empty (is_empty_ports form (kept form es))) (measures form g nothing es))
+whole_of_attributes ports g o = ports_whole g o
+whole_of_attributes form g o = plain_whole o (measures form g nothing)
+
 pub whole_by : (form : ListForm) (g : Grammar) (bytes : List ℕ) → IsWalked form bytes → option_map (closed form) (walk form g nothing bytes) ≡ walk_as form g bytes
 unfolding walk walk_as
-whole_by any g bytes w = plain_whole (attributes_of bytes) (measures any g nothing)
-whole_by of_kind_one g bytes w = plain_whole (attributes_of bytes) (measures of_kind_one g nothing)
-whole_by non_empty g bytes w = plain_whole (attributes_of bytes) (measures non_empty g nothing) ∙ ap (λ o. if_some o (λ es. option_map (or_empty false) (measures non_empty g nothing es))) (sym (bytes_not_empty bytes w))
-whole_by ports g bytes w = ports_whole g (attributes_of bytes) ∙ ap (λ o. if_some o (λ es. option_map (or_empty (is_empty_ports ports (kept ports es))) (measures ports g nothing es))) (sym (bytes_not_empty bytes w))
-whole_by first_alone g bytes w = absurd w
+whole_by form g bytes w =
+    whole_of_attributes form g (attributes_of bytes)
+    ∙ ap (λ o. if_some o (λ es. option_map (or_empty (is_empty_ports form (kept form es))) (measures form g nothing es))) (sym (read_walked form bytes w))
 
-module _ (form : ListForm) (g : Grammar) where
-  start : (bytes : List ℕ) → MeasuredSoFar form g bytes none_yet nothing bytes
-  start bytes = record { whole = sym (both_start (walk form g nothing bytes)) }
+-- what the whole is, once the walk ends
+ended : (form : ListForm) (g : Grammar) (bytes : List ℕ) (o : Option Measure) → IsWalked form bytes → walk form g nothing bytes ≡ o → option_map (closed form) o ≡ measure (list_rule form g) bytes
+ended form g bytes o w h = ap (option_map (closed form)) (sym h) ∙ whole_by form g bytes w ∙ walk_list form g bytes
 
-  more : (bytes rest : List ℕ) (c : Context) (e : Attribute) (after : List ℕ) (so_far m : Measure) → first_attribute rest ≡ Some (e, after) → is_kept form e ≡ true → Some m ≡ measure (row_of g c e).rule e.payload → MeasuredSoFar form g bytes so_far c rest → MeasuredSoFar form g bytes (plus so_far (with_header m)) (g.next c e) after
-  more bytes rest c e after so_far m f k is h = record { whole = walk_more form g c rest e after so_far m (walk form g nothing bytes) f k (sym is) h.whole }
+-- ---- what a measure tells of the rule
 
-  past : (bytes rest : List ℕ) (c : Context) (e : Attribute) (after : List ℕ) (so_far : Measure) → first_attribute rest ≡ Some (e, after) → is_kept form e ≡ false → MeasuredSoFar form g bytes so_far c rest → MeasuredSoFar form g bytes (plus so_far dropped) c after
-  past bytes rest c e after so_far f k h = record { whole = walk_past form g c rest e after so_far (walk form g nothing bytes) f k h.whole }
-
-  -- what the whole is, once the walk ends
-  none_whole : (bytes : List ℕ) → IsWalked form bytes → walk form g nothing bytes ≡ None → None ≡ measure (list_rule form g) bytes
-  none_whole bytes w h = sym (ap (option_map (closed form)) h) ∙ whole_by form g bytes w ∙ walk_list form g bytes
-
-  refused : (bytes rest : List ℕ) (c : Context) (e : Attribute) (after : List ℕ) (so_far : Measure) → IsWalked form bytes → first_attribute rest ≡ Some (e, after) → is_kept form e ≡ true → None ≡ measure (row_of g c e).rule e.payload → MeasuredSoFar form g bytes so_far c rest → None ≡ measure (list_rule form g) bytes
-  refused bytes rest c e after so_far w f k is h = none_whole bytes w (walk_refused form g c rest e after so_far (walk form g nothing bytes) f k (sym is) h.whole)
-
-  stopped : (bytes rest : List ℕ) (c : Context) (so_far : Measure) → IsWalked form bytes → first_attribute rest ≡ None → 0 < length rest → MeasuredSoFar form g bytes so_far c rest → None ≡ measure (list_rule form g) bytes
-  stopped bytes rest c so_far w f l h = none_whole bytes w (h.whole ∙ ap (both (Some so_far)) (walk_stop form g c rest f l))
-
-  done : (bytes rest : List ℕ) (c : Context) (so_far : Measure) → IsWalked form bytes → length rest ≡ 0 → MeasuredSoFar form g bytes so_far c rest → Some (closed form so_far) ≡ measure (list_rule form g) bytes
-  done bytes rest c so_far w l h =
-      ap (option_map (closed form)) (sym (h.whole ∙ ap (both (Some so_far)) (walk_end form g c rest l) ∙ ap Some (plus_end so_far))) ∙ whole_by form g bytes w ∙ walk_list form g bytes
-
-small : (r : Rule) → Lawful r → (rest : List ℕ) (e : Attribute) (after : List ℕ) (m : Measure) → first_attribute rest ≡ Some (e, after) → Some m ≡ measure r e.payload → IsSmall rest after m
-small r lawful rest e after m f is =
-    let s = sized rest e after f in
-    let b = measured_small r lawful e.payload m (sym is) in
+pub tells : (r : Rule) (p : List ℕ) (m : Measure) → Some m ≡ measure r p → IsMeasure r p m
+tells r p m h =
+    let k = cond_some (r.accepted p) (record { size = length (r.canonical p); attributes = r.attributes p; fits = r.fits p; empty_ports = r.empty_ports p }) m (sym h) in
     record {
-      within = omega (arith, s.within, s.rest_length, b.0);
-      few = omega (arith, s.within, s.rest_length, b.1);
-      shorter = omega (arith, s.within, s.rest_length);
+      accepted = k.0;
+      size = ap (λ (x : Measure). x.size) (sym k.1);
+      attributes = ap (λ (x : Measure). x.attributes) (sym k.1);
+      fits = ap (λ (x : Measure). x.fits) (sym k.1);
+      empty_ports = ap (λ (x : Measure). x.empty_ports) (sym k.1);
     }
+
+denies_by : (b : Bool) (m : Measure) → None ≡ cond b (Some m) None → b ≡ false
+denies_by true m h = absurd cc
+denies_by false m h = refl
+
+pub denies : (r : Rule) (p : List ℕ) → None ≡ measure r p → r.accepted p ≡ false
+denies r p h = denies_by (r.accepted p) (record { size = length (r.canonical p); attributes = r.attributes p; fits = r.fits p; empty_ports = r.empty_ports p }) h
 
 -- ---- the first attribute alone, and lists that want one
 
@@ -137,13 +129,9 @@ unfolding alone
 first_none g bytes f = alone_is g bytes None f
 
 none_there : (form : ListForm) (g : Grammar) (bytes : List ℕ) → length bytes ≡ 0 → WantsAttribute form → None ≡ measure (list_rule form g) bytes
-unfolding attributes_within
-none_there non_empty g [] l w = refl
-none_there ports g [] l w = refl
-none_there any g bytes l w = absurd w
-none_there of_kind_one g bytes l w = absurd w
-none_there first_alone g bytes l w = absurd w
-none_there form g (b ∷ bytes) l w = absurd (omega arith)
+unfolding walk_as
+none_there form g bytes l w =
+    sym (ap (λ o. if_some o (λ es. option_map (or_empty (is_empty_ports form (kept form es))) (measures form g nothing es))) (read_none form bytes l w)) ∙ walk_list form g bytes
 
 -- a list of some bytes is measured alike, whether or not its form wants an attribute
 whole_of : Grammar → Option (List Attribute) → Option Measure
@@ -160,46 +148,31 @@ non_empty_any : (g : Grammar) (bytes : List ℕ) → 0 < length bytes → measur
 unfolding whole_of
 non_empty_any g bytes l = ap (whole_of g) (bytes_not_empty bytes l)
 
--- ---- what a measure tells of the rule
-
-measure_or : Measure → Option Measure → Measure
-measure_or d None = d
-measure_or d (Some m) = m
-
-tells_by : (r : Rule) (p : List ℕ) (m n : Measure) (b : Bool) → r.accepted p ≡ b → n ≡ record { size = length (r.canonical p); attributes = r.attributes p; fits = r.fits p; empty_ports = r.empty_ports p } → Some m ≡ cond b (Some n) None → IsMeasure r p m
-unfolding measure_or
-tells_by r p m n true a e h =
-    let is : m ≡ n = ap (measure_or m) h in
-    record {
-      accepted = a;
-      size = ap (λ (x : Measure). x.size) (is ∙ e);
-      attributes = ap (λ (x : Measure). x.attributes) (is ∙ e);
-      fits = ap (λ (x : Measure). x.fits) (is ∙ e);
-      empty_ports = ap (λ (x : Measure). x.empty_ports) (is ∙ e);
-    }
-tells_by r p m n false a e h = absurd cc
-
-pub tells : (r : Rule) (p : List ℕ) (m : Measure) → Some m ≡ measure r p → IsMeasure r p m
-tells r p m h = tells_by r p m (record { size = length (r.canonical p); attributes = r.attributes p; fits = r.fits p; empty_ports = r.empty_ports p }) (r.accepted p) refl refl h
-
-denies_by : (b : Bool) (m : Measure) → None ≡ cond b (Some m) None → b ≡ false
-denies_by true m h = absurd cc
-denies_by false m h = refl
-
-pub denies : (r : Rule) (p : List ℕ) → None ≡ measure r p → r.accepted p ≡ false
-denies r p h = denies_by (r.accepted p) (record { size = length (r.canonical p); attributes = r.attributes p; fits = r.fits p; empty_ports = r.empty_ports p }) h
-
 -- ---- the laws
 
 pub measures_go_by_steps : MeasuresGoBySteps
 measures_go_by_steps = record {
-  start = start;
-  more = more;
-  past = past;
-  refused = refused;
-  stopped = stopped;
-  done = done;
-  small = small;
+  start = λ form g bytes. record { whole = sym (both_start (walk form g nothing bytes)) };
+  more = λ form g bytes rest c e after so_far m f k is h. record {
+    whole = h.whole
+        ∙ ap (both (Some so_far)) (walk_step form g c rest e after true f k ∙ ap (λ o. both (option_map with_header o) (walk form g (g.next c e) after)) (sym is))
+        ∙ sym (both_assoc (Some so_far) (Some (with_header m)) (walk form g (g.next c e) after));
+  };
+  past = λ form g bytes rest c e after so_far f k h. record {
+    whole = h.whole ∙ ap (both (Some so_far)) (walk_step form g c rest e after false f k) ∙ sym (both_assoc (Some so_far) (Some dropped) (walk form g c after));
+  };
+  refused = λ form g bytes rest c e after so_far w f k is h.
+      ended form g bytes None w (h.whole ∙ ap (both (Some so_far)) (walk_step form g c rest e after true f k ∙ ap (λ o. both (option_map with_header o) (walk form g (g.next c e) after)) (sym is)));
+  stopped = λ form g bytes rest c so_far w f l h. ended form g bytes None w (h.whole ∙ ap (both (Some so_far)) (walk_stop form g c rest f l));
+  done = λ form g bytes rest c so_far w l h. ended form g bytes (Some so_far) w (h.whole ∙ ap (both (Some so_far)) (walk_end form g c rest l) ∙ ap Some (plus_end so_far));
+  small = λ r lawful rest e after m f is.
+      let s = sized rest e after f in
+      let t = tells r e.payload m is in
+      record {
+        within = omega (arith, s.within, s.rest_length, t.size, lawful.bounded e.payload t.accepted);
+        few = omega (arith, s.within, s.rest_length, t.attributes, lawful.counted e.payload t.accepted);
+        shorter = omega (arith, s.within, s.rest_length);
+      };
 }
 
 pub measures_tell_rules : MeasuresTellRules

@@ -9,8 +9,7 @@ use Rattle.attribute_tables_grammar.specs.Lists.{Context, nothing, Grammar, row_
 use Rattle.attribute_tables_grammar.specs.Walks.{IsWalked}
 use Rattle.attribute_tables_grammar.specs.OwnTexts.{text_from, OwnSoFar}
 use Rattle.attribute_tables_grammar.specs.Laws.{OwnTextsGoBySteps}
-use Rattle.attribute_tables_grammar.proofs.Kept.{kept_more, kept_none}
-use Rattle.attribute_tables_grammar.proofs.Readings.{bytes_not_empty}
+use Rattle.attribute_tables_grammar.proofs.Kept.{kept_more, kept_none, read_walked}
 
 -- bytes after a header are the payload, the padding and the rest
 parts : (tail : List ℕ) (m p n : ℕ) → m + p ≡ n → take p (drop m tail) ≡ zeros p → tail ≡ take m tail ++ (zeros p ++ drop n tail)
@@ -65,15 +64,9 @@ unfolding text_from attributes_within rewritten list_text
 at_end form g c [] l = ap (λ ks. Some (list_text (rewritten g c ks))) (kept_none form)
 at_end form g c (b ∷ rest) l = absurd (omega arith)
 
-start : (form : ListForm) (g : Grammar) (bytes : List ℕ) → OwnSoFar form g bytes nothing bytes
-start form g bytes = record { whole = λ h. h }
-
-more : (form : ListForm) (g : Grammar) (bytes rest : List ℕ) (c : Context) (e : Attribute) (after : List ℕ) → first_attribute rest ≡ Some (e, after) → is_kept form e ≡ true → written_kind (row_of g c e) e.kind ≡ e.kind → (row_of g c e).rule.canonical e.payload ≡ e.payload → rest ≡ attribute_text e ++ after → OwnSoFar form g bytes c rest → OwnSoFar form g bytes (g.next c e) after
-more form g bytes rest c e after f k n p t s =
-    let is : rewrite (row_of g c e) e ≡ e = λ i. record { kind = n i; payload = p i } in
-    record {
-      whole = λ h. s.whole (step form g c rest e after f k ∙ ap (option_map (λ x. attribute_text (rewrite (row_of g c e) e) ++ x)) h ∙ ap (λ x. Some (attribute_text x ++ after)) is ∙ ap Some (sym t));
-    }
+-- an attribute whose kind and payload are written as they stand
+own : (g : Grammar) (c : Context) (e : Attribute) → written_kind (row_of g c e) e.kind ≡ e.kind → (row_of g c e).rule.canonical e.payload ≡ e.payload → rewrite (row_of g c e) e ≡ e
+own g c e n p = λ i. record { kind = n i; payload = p i }
 
 unfoldable pub text_or : Option (List ℕ) → List ℕ
 text_or None = []
@@ -87,34 +80,24 @@ canonical_of form g (Some es) = refl
 
 pub canonical_text : (form : ListForm) (g : Grammar) (bytes : List ℕ) → IsWalked form bytes → text_or (text_from form g nothing bytes) ≡ (list_rule form g).canonical bytes
 unfolding text_from
-canonical_text any g bytes w = canonical_of any g (attributes_of bytes)
-canonical_text of_kind_one g bytes w = canonical_of of_kind_one g (attributes_of bytes)
-canonical_text non_empty g bytes w = canonical_of non_empty g (attributes_of bytes) ∙ ap (if_read [] (λ es. list_text (rewritten g nothing (kept non_empty es)))) (sym (bytes_not_empty bytes w))
-canonical_text ports g bytes w = canonical_of ports g (attributes_of bytes) ∙ ap (if_read [] (λ es. list_text (rewritten g nothing (kept ports es)))) (sym (bytes_not_empty bytes w))
-canonical_text first_alone g bytes w = absurd w
-
-done : (form : ListForm) (g : Grammar) (bytes rest : List ℕ) (c : Context) → IsWalked form bytes → length rest ≡ 0 → OwnSoFar form g bytes c rest → (list_rule form g).canonical bytes ≡ bytes
-unfolding text_or
-done form g bytes rest c w l s = sym (canonical_text form g bytes w) ∙ ap text_or (s.whole (at_end form g c rest l))
-
--- ---- the first attribute alone
+canonical_text form g bytes w =
+    canonical_of form g (attributes_of bytes) ∙ ap (if_read [] (λ es. list_text (rewritten g nothing (kept form es)))) (sym (read_walked form bytes w))
 
 text_end : (e : Attribute) (after : List ℕ) → length after ≡ 0 → attribute_text e ++ [] ≡ attribute_text e ++ after
 text_end e [] l = refl
 text_end e (b ∷ after) l = absurd (omega arith)
 
-alone : (g : Grammar) (bytes : List ℕ) (e : Attribute) (after : List ℕ) → first_attribute bytes ≡ Some (e, after) → length after ≡ 0 → written_kind (row_of g nothing e) e.kind ≡ e.kind → (row_of g nothing e).rule.canonical e.payload ≡ e.payload → bytes ≡ attribute_text e ++ after → (list_rule first_alone g).canonical bytes ≡ bytes
-unfolding rewritten list_text
-alone g bytes e after f l n p t =
-    let is : rewrite (row_of g nothing e) e ≡ e = λ i. record { kind = n i; payload = p i } in
-    ap (λ o. if_read [] (λ es. list_text (rewritten g nothing es)) (option_map (λ (x : Attribute × List ℕ). x.0 ∷ []) o)) f
-    ∙ ap (λ x. attribute_text x ++ []) is ∙ text_end e after l ∙ sym t
-
 pub own_texts_go_by_steps : OwnTextsGoBySteps
+unfolding text_or rewritten list_text
 own_texts_go_by_steps = record {
   padded = own_attribute;
-  start = start;
-  more = more;
-  done = done;
-  alone = alone;
+  start = λ form g bytes. record { whole = λ h. h };
+  more = λ form g bytes rest c e after f k n p t s. record {
+    whole = λ h. s.whole (step form g c rest e after f k ∙ ap (option_map (λ x. attribute_text (rewrite (row_of g c e) e) ++ x)) h ∙ ap (λ x. Some (attribute_text x ++ after)) (own g c e n p) ∙ ap Some (sym t));
+  };
+  done = λ form g bytes rest c w l s. sym (canonical_text form g bytes w) ∙ ap text_or (s.whole (at_end form g c rest l));
+  -- of the first attribute alone
+  alone = λ g bytes e after f l n p t.
+      ap (λ o. if_read [] (λ es. list_text (rewritten g nothing es)) (option_map (λ (x : Attribute × List ℕ). x.0 ∷ []) o)) f
+      ∙ ap (λ x. attribute_text x ++ []) (own g nothing e n p) ∙ text_end e after l ∙ sym t;
 }

@@ -2,13 +2,17 @@
 use Rattle.std.proofs.Common.{◌≡◌, ◌+◌, ℕ, true, false, cond, List, [], ◌∷◌, length, refl, sym, ap, ◌∙◌}
 use Rattle.std.specs.Prelude.{◌&&◌, nat_le, Option, Some, None, option_map}
 use Rattle.std.proofs.lemmas.Bool.{and_parts, or_parts}
-use Rattle.netlink_packet_core_grammar.specs.Attributes.{Attribute, proper_kind, attributes_of, if_some}
+use Rattle.netlink_packet_core_grammar.specs.Attributes.{Attribute, proper_kind, list_text, attributes_of, if_some}
+use Rattle.netlink_packet_core_grammar.proofs.Attributes.{attributes_of_text}
 use Rattle.attribute_tables_grammar.specs.Rules.{Lawful}
-use Rattle.attribute_tables_grammar.specs.Laws.{ListsAreReadAgain}
-use Rattle.attribute_tables_grammar.specs.Lists.{Context, nothing, Grammar, LawfulGrammar, any, if_read, list_rule, row_of, rewrite, rewritten, all_accepted, all_fit, some_empty_ports}
+use Rattle.attribute_tables_grammar.specs.Laws.{CanonicalIsCut, ListsAreReadAgain}
+use Rattle.attribute_tables_grammar.specs.Lists.{Context, nothing, Grammar, LawfulGrammar, any, kept, if_read, list_rule, row_of, rewrite, rewritten, all_accepted, all_fit, some_empty_ports}
 use Rattle.attribute_tables_grammar.specs.Readings.{written_by, written_list, reading_as}
 use Rattle.attribute_tables_grammar.proofs.Attributes.{proper_kind-written, row_renews_itself, next_again, rewrite_again}
-use Rattle.attribute_tables_grammar.proofs.Together.{canonical_is_cut}
+
+pub canonical_is_cut : CanonicalIsCut
+canonical_is_cut form g bytes es h =
+    ap attributes_of (ap (if_read [] (λ fs. list_text (rewritten g nothing (kept form fs)))) h) ∙ attributes_of_text (rewritten g nothing (kept form es))
 
 -- ---- attributes, one after another
 

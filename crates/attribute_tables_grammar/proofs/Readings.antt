@@ -1,15 +1,18 @@
--- A reading tells what the rule of a list tells, and goes on by steps.
+-- A reading tells what the rule of a list tells, and goes on by steps; as laws, over the first attribute as a view of the bytes sees it.
 use Rattle.std.proofs.Common.{◌≡◌, ℕ, ◌+◌, ◌<◌, Bool, true, false, cond, List, [], ◌∷◌, ◌++◌, length, map, Option, Some, None, refl, sym, ap, ◌∙◌, arith, append_assoc, append-nil}
 use Rattle.std.specs.Prelude.{◌==◌, ◌&&◌, ◌||◌, option_map}
 use Rattle.std.proofs.lemmas.Bool.{ne_eqb}
 use Rattle.netlink_packet_core_grammar.specs.Attributes.{Attribute, list_text, first_attribute, if_some, attributes_within, attributes_of}
 use Rattle.netlink_packet_core_grammar.specs.Fits.{attribute_fits}
-use Rattle.netlink_packet_core_grammar.proofs.FirstAttribute.{attributes_step, attributes_stop}
+use Rattle.netlink_packet_core_grammar.specs.AttributeViews.{viewed_attribute, after_first}
+use Rattle.netlink_packet_core_grammar.proofs.FirstAttribute.{first_attribute_is, first_attribute_none, attributes_step, attributes_stop}
 use Rattle.netlink_packet_core_grammar.proofs.Sizes.{length-list_text}
 use Rattle.attribute_tables_grammar.specs.Lists.{Context, nothing, Row, Grammar, without_context, row_of, rewritten, all_accepted, some_empty_ports, all_fit, attributes_inside, ListForm, any, non_empty, of_kind_one, ports, first_alone, not_empty, read_as, is_kept, kept, is_empty_ports, if_read, list_rule}
 use Rattle.attribute_tables_grammar.specs.LookUps.{rows_rule}
+use Rattle.attribute_tables_grammar.specs.Laws.{ReadingsGoBySteps, ReadingsTellRules, FirstAloneIsRead, PortsAreEntries}
+use Rattle.attribute_tables_grammar.specs.Walks.{WantsAttribute}
 use Rattle.attribute_tables_grammar.specs.Readings.{Written, written_by, written_list, reading, reading_as, all_written_fit, followed_by, SoFar, Tells}
-use Rattle.attribute_tables_grammar.proofs.Kept.{kept_more, kept_past, kept_none}
+use Rattle.attribute_tables_grammar.proofs.Kept.{kept_more, kept_past, kept_none, bytes_not_empty, read_none}
 
 -- ---- the steps
 
@@ -63,52 +66,23 @@ followed_twice : (us vs : List Written) (o : Option (List Written)) → followed
 followed_twice us vs None = refl
 followed_twice us vs (Some ws) = ap Some (sym (append_assoc us vs ws))
 
-module _ (form : ListForm) (g : Grammar) (bytes : List ℕ) where
-  pub start : SoFar form g bytes [] nothing bytes
-  start = record { whole = sym (followed_nil (reading form g nothing bytes)) }
-
-  pub more : (ws : List Written) (c : Context) (rest : List ℕ) (e : Attribute) (after : List ℕ) (w : Written) → first_attribute rest ≡ Some (e, after) → is_kept form e ≡ true → (row_of g c e).rule.accepted e.payload ≡ true → w ≡ written_by (row_of g c e) e →
-      SoFar form g bytes ws c rest → SoFar form g bytes (ws ++ w ∷ []) (g.next c e) after
-  more ws c rest e after w f k a is s = record {
-    whole = s.whole ∙ ap (followed_by ws) (reading_step form g c rest e after f k a ∙ ap (λ x. followed_by (x ∷ []) (reading form g (g.next c e) after)) (sym is)) ∙ followed_twice ws (w ∷ []) (reading form g (g.next c e) after);
-  }
-
-  -- an attribute that its list drops
-  pub past : (ws : List Written) (c : Context) (rest : List ℕ) (e : Attribute) (after : List ℕ) → first_attribute rest ≡ Some (e, after) → is_kept form e ≡ false → SoFar form g bytes ws c rest → SoFar form g bytes ws c after
-  past ws c rest e after f k s = record { whole = s.whole ∙ ap (followed_by ws) (reading_past form g c rest e after f k) }
-
-  pub refused : (ws : List Written) (c : Context) (rest : List ℕ) (e : Attribute) (after : List ℕ) → first_attribute rest ≡ Some (e, after) → is_kept form e ≡ true → (row_of g c e).rule.accepted e.payload ≡ false → SoFar form g bytes ws c rest → reading form g nothing bytes ≡ None
-  refused ws c rest e after f k a s = s.whole ∙ ap (followed_by ws) (reading_refused form g c rest e after f k a)
-
-  pub stopped : (ws : List Written) (c : Context) (rest : List ℕ) → first_attribute rest ≡ None → 0 < length rest → SoFar form g bytes ws c rest → reading form g nothing bytes ≡ None
-  stopped ws c rest f l s = s.whole ∙ ap (followed_by ws) (reading_stop form g c rest f l)
-
-  pub done : (ws : List Written) (c : Context) (rest : List ℕ) → length rest ≡ 0 → SoFar form g bytes ws c rest → reading form g nothing bytes ≡ Some ws
-  done ws c rest l s = s.whole ∙ ap (followed_by ws) (reading_end form g c rest l) ∙ ap Some (append-nil ws)
+pub readings_go_by_steps : ReadingsGoBySteps
+readings_go_by_steps = record {
+  start = λ form g bytes. record { whole = sym (followed_nil (reading form g nothing bytes)) };
+  more = λ form g bytes ws c rest w h k a is s.
+      let e = viewed_attribute rest in
+      record {
+        whole = s.whole
+            ∙ ap (followed_by ws) (reading_step form g c rest e (after_first rest) (first_attribute_is rest h) k a ∙ ap (λ x. followed_by (x ∷ []) (reading form g (g.next c e) (after_first rest))) (sym is))
+            ∙ followed_twice ws (w ∷ []) (reading form g (g.next c e) (after_first rest));
+      };
+  past = λ form g bytes ws c rest h k s. record { whole = s.whole ∙ ap (followed_by ws) (reading_past form g c rest (viewed_attribute rest) (after_first rest) (first_attribute_is rest h) k) };
+  refused = λ form g bytes ws c rest h k a s. s.whole ∙ ap (followed_by ws) (reading_refused form g c rest (viewed_attribute rest) (after_first rest) (first_attribute_is rest h) k a);
+  stopped = λ form g bytes ws c rest h l s. s.whole ∙ ap (followed_by ws) (reading_stop form g c rest (first_attribute_none rest h) l);
+  done = λ form g bytes ws c rest l s. s.whole ∙ ap (followed_by ws) (reading_end form g c rest l) ∙ ap Some (append-nil ws);
+}
 
 -- ---- the reading of whole bytes
-
-pub as_any : (g : Grammar) (bytes : List ℕ) → reading_as any g bytes ≡ reading any g nothing bytes
-unfolding reading_as reading
-as_any g bytes = refl
-
-pub as_of_kind_one : (g : Grammar) (bytes : List ℕ) → reading_as of_kind_one g bytes ≡ reading of_kind_one g nothing bytes
-unfolding reading_as reading
-as_of_kind_one g bytes = refl
-
-inside_not_empty : (o : Option (List Attribute)) (e : Attribute) → if_some (option_map (λ es. e ∷ es) o) not_empty ≡ option_map (λ es. e ∷ es) o
-inside_not_empty None e = refl
-inside_not_empty (Some es) e = refl
-
-first_not_empty : (o : Option (Attribute × List ℕ)) (f : List ℕ → Option (List Attribute)) → if_some (if_some o (λ x. option_map (λ es. x.0 ∷ es) (f x.1))) not_empty ≡ if_some o (λ x. option_map (λ es. x.0 ∷ es) (f x.1))
-first_not_empty None f = refl
-first_not_empty (Some x) f = inside_not_empty (f x.1) x.0
-
--- some bytes are no list without an attribute
-pub bytes_not_empty : (bytes : List ℕ) → 0 < length bytes → if_some (attributes_of bytes) not_empty ≡ attributes_of bytes
-unfolding attributes_within
-bytes_not_empty [] l = absurd (omega arith)
-bytes_not_empty (b ∷ bytes) l = first_not_empty (first_attribute (b ∷ bytes)) (attributes_within (length bytes))
 
 -- a form that takes no bytes as well reads all others alike
 pub record AlikeOn (r s : ListForm) (g : Grammar) (bytes : List ℕ) : Type 0 where
@@ -134,19 +108,15 @@ alike_by r s g bytes h k = record {
 pub non_empty_alike : (g : Grammar) (bytes : List ℕ) → 0 < length bytes → AlikeOn non_empty any g bytes
 non_empty_alike g bytes l = alike_by non_empty any g bytes (bytes_not_empty bytes l) (λ es. refl)
 
-pub ports_alike : (g : Grammar) (bytes : List ℕ) → 0 < length bytes → AlikeOn ports of_kind_one g bytes
+ports_alike : (g : Grammar) (bytes : List ℕ) → 0 < length bytes → AlikeOn ports of_kind_one g bytes
 ports_alike g bytes l = alike_by ports of_kind_one g bytes (bytes_not_empty bytes l) (λ es. refl)
 
--- these forms refuse no bytes
-pub non_empty_refuses : (g : Grammar) (bytes : List ℕ) → length bytes ≡ 0 → (list_rule non_empty g).accepted bytes ≡ false
-unfolding attributes_within
-non_empty_refuses g [] l = refl
-non_empty_refuses g (b ∷ bytes) l = absurd (omega arith)
+-- a form that wants an attribute refuses no bytes
+refuses : (form : ListForm) (g : Grammar) (bytes : List ℕ) → WantsAttribute form → length bytes ≡ 0 → (list_rule form g).accepted bytes ≡ false
+refuses form g bytes w l = ap (if_read false (λ es. all_accepted g nothing (kept form es))) (read_none form bytes l w)
 
-pub ports_refuses : (g : Grammar) (bytes : List ℕ) → length bytes ≡ 0 → (list_rule ports g).accepted bytes ≡ false
-unfolding attributes_within
-ports_refuses g [] l = refl
-ports_refuses g (b ∷ bytes) l = absurd (omega arith)
+pub non_empty_refuses : (g : Grammar) (bytes : List ℕ) → length bytes ≡ 0 → (list_rule non_empty g).accepted bytes ≡ false
+non_empty_refuses g bytes = refuses non_empty g bytes tt
 
 -- nothing is kept exactly where no text is left
 no_text : (g : Grammar) (c : Context) (ks : List Attribute) → is_empty_ports ports ks ≡ (length (list_text (rewritten g c ks)) == 0)
@@ -155,7 +125,7 @@ no_text g c [] = refl
 no_text g c (e ∷ es) = sym (ne_eqb (length (list_text (rewritten g c (e ∷ es)))) 0 (λ z. absurd (omega (arith, z, length-list_text (rewritten g c (e ∷ es))))))
 
 -- legal ports are empty exactly where they leave no text, or where ports inside are
-pub ports_told : (g : Grammar) (o : Option (List Attribute)) → if_read false (λ es. all_accepted g nothing (kept ports es)) (if_some o not_empty) ≡ true →
+ports_told : (g : Grammar) (o : Option (List Attribute)) → if_read false (λ es. all_accepted g nothing (kept ports es)) (if_some o not_empty) ≡ true →
     if_read false (λ es. is_empty_ports ports (kept ports es) || some_empty_ports g nothing (kept ports es)) (if_some o not_empty)
     ≡ ((length (if_read [] (λ es. list_text (rewritten g nothing (kept of_kind_one es))) o) == 0) || if_read false (λ es. is_empty_ports of_kind_one (kept of_kind_one es) || some_empty_ports g nothing (kept of_kind_one es)) o)
 ports_told g None h = absurd cc
@@ -164,22 +134,19 @@ ports_told g (Some (e ∷ es)) h = let ks = kept ports (e ∷ es) in ap (λ b. b
 
 -- ---- one attribute, and any bytes
 
-pub first_read : (g : Grammar) (bytes : List ℕ) (e : Attribute) (rest : List ℕ) (w : Written) → first_attribute bytes ≡ Some (e, rest) → (row_of g nothing e).rule.accepted e.payload ≡ true → w ≡ written_by (row_of g nothing e) e → reading_as first_alone g bytes ≡ Some (w ∷ [])
+pub first_attributes_are_read_alone : FirstAloneIsRead
 unfolding reading_as written_list
-first_read g bytes e rest w f a is =
-    ap (λ o. if_some (option_map (λ (x : Attribute × List ℕ). x.0 ∷ []) o) (λ es. written_list g nothing es)) f
-    ∙ ap (λ b. cond b (Some (written_by (row_of g nothing e) e ∷ [])) None) a
-    ∙ ap (λ x. Some (x ∷ [])) (sym is)
-
-pub first_refused : (g : Grammar) (bytes : List ℕ) (e : Attribute) (rest : List ℕ) → first_attribute bytes ≡ Some (e, rest) → (row_of g nothing e).rule.accepted e.payload ≡ false → reading_as first_alone g bytes ≡ None
-unfolding reading_as written_list
-first_refused g bytes e rest f a =
-    ap (λ o. if_some (option_map (λ (x : Attribute × List ℕ). x.0 ∷ []) o) (λ es. written_list g nothing es)) f
-    ∙ ap (λ b. cond b (Some (written_by (row_of g nothing e) e ∷ [])) None) a
-
-pub first_missing : (g : Grammar) (bytes : List ℕ) → first_attribute bytes ≡ None → reading_as first_alone g bytes ≡ None
-unfolding reading_as
-first_missing g bytes f = ap (λ o. if_some (option_map (λ (x : Attribute × List ℕ). x.0 ∷ []) o) (λ es. written_list g nothing es)) f
+first_attributes_are_read_alone = record {
+  read = λ g bytes w h a is.
+      let e = viewed_attribute bytes in
+      alone g (first_attribute_is bytes h) ∙ ap (λ b. cond b (Some (written_by (row_of g nothing e) e ∷ [])) None) a ∙ ap (λ x. Some (x ∷ [])) (sym is);
+  refused = λ g bytes h a. let e = viewed_attribute bytes in alone g (first_attribute_is bytes h) ∙ ap (λ b. cond b (Some (written_by (row_of g nothing e) e ∷ [])) None) a;
+  missing = λ g bytes h. alone g (first_attribute_none bytes h);
+}
+  where
+    alone : (g : Grammar) {o p : Option (Attribute × List ℕ)} → o ≡ p →
+        if_some (option_map (λ (x : Attribute × List ℕ). x.0 ∷ []) o) (λ es. written_list g nothing es) ≡ if_some (option_map (λ (x : Attribute × List ℕ). x.0 ∷ []) p) (λ es. written_list g nothing es)
+    alone g = ap (λ o. if_some (option_map (λ (x : Attribute × List ℕ). x.0 ∷ []) o) (λ es. written_list g nothing es))
 
 -- ---- what a reading tells of the rule
 
@@ -231,7 +198,7 @@ tells_in form g (Some es) ws h =
     let t = tells_by g ks ws (all_accepted g nothing ks) refl (sym (found g nothing ks) ∙ h) in
     (t.0, ap list_text (sym (entries_of g nothing ks) ∙ ap (map (λ (w : Written). w.entry)) t.1), sym (fits_of g nothing ks) ∙ ap all_written_fit t.1)
 
-pub tells : (form : ListForm) (g : Grammar) (bytes : List ℕ) (ws : List Written) → reading_as form g bytes ≡ Some ws → Tells (list_rule form g) bytes ws
+tells : (form : ListForm) (g : Grammar) (bytes : List ℕ) (ws : List Written) → reading_as form g bytes ≡ Some ws → Tells (list_rule form g) bytes ws
 unfolding reading_as some_list
 tells form g bytes ws h =
     let t = tells_in form g (read_as form bytes) ws h in
@@ -247,15 +214,31 @@ unfolding some_list
 denies_in form g None h = refl
 denies_in form g (Some es) h = let ks = kept form es in denies_by (all_accepted g nothing ks) (written_all g nothing ks) (sym (found g nothing ks) ∙ h)
 
-pub denies : (form : ListForm) (g : Grammar) (bytes : List ℕ) → reading_as form g bytes ≡ None → (list_rule form g).accepted bytes ≡ false
+denies : (form : ListForm) (g : Grammar) (bytes : List ℕ) → reading_as form g bytes ≡ None → (list_rule form g).accepted bytes ≡ false
 unfolding reading_as
 denies form g bytes h = denies_in form g (read_as form bytes) h
 
--- the same of rows that are the same wherever an attribute stands
-pub tells_rows : (form : ListForm) (f : ℕ → Row) (bytes : List ℕ) (ws : List Written) → reading_as form (without_context f) bytes ≡ Some ws → Tells (rows_rule form f) bytes ws
-unfolding rows_rule
-tells_rows form f bytes ws h = let t = tells form (without_context f) bytes ws h in record { accepted = t.accepted; canonical = t.canonical; fits = t.fits }
+-- ---- the laws
 
-pub denies_rows : (form : ListForm) (f : ℕ → Row) (bytes : List ℕ) → reading_as form (without_context f) bytes ≡ None → (rows_rule form f).accepted bytes ≡ false
+pub readings_tell_rules : ReadingsTellRules
+unfolding reading_as reading rows_rule
+readings_tell_rules = record {
+  of_any = λ g bytes. refl;
+  of_entries = λ g bytes. refl;
+  tells = tells;
+  denies = denies;
+  tells_rows = λ form f bytes ws h. let t = tells form (without_context f) bytes ws h in record { accepted = t.accepted; canonical = t.canonical; fits = t.fits };
+  denies_rows = λ form f. denies form (without_context f);
+}
+
+pub ports_are_entries : PortsAreEntries
 unfolding rows_rule
-denies_rows form f bytes h = denies form (without_context f) bytes h
+ports_are_entries = record {
+  accepted = λ f bytes l. (ports_alike (without_context f) bytes l).accepted;
+  canonical = λ f bytes l. (ports_alike (without_context f) bytes l).canonical;
+  fits = λ f bytes l. (ports_alike (without_context f) bytes l).fits;
+  attributes = λ f bytes l. (ports_alike (without_context f) bytes l).attributes;
+  read = λ f bytes l. (ports_alike (without_context f) bytes l).read;
+  empty = λ f bytes. refuses ports (without_context f) bytes tt;
+  empty_ports = λ f bytes. ports_told (without_context f) (attributes_of bytes);
+}

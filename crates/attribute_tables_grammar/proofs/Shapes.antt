@@ -69,49 +69,36 @@ resized_length : (n : ℕ) (p : List ℕ) → length (take n (p ++ zeros n)) ≡
 resized_length n p = length-take-le n (p ++ zeros n) (omega (arith, length-append p (zeros n), length-replicate {A = ℕ} n 0))
 
 pub back : (s : Shape) (p : List ℕ) → accepts s p ≡ true → meaning s (spelt s p) ≡ meaning s p
-back (exact n) p a = refl
-back (either m n) p a = refl
-back (at_most n) p a = refl
 back nonzero_byte p a = truths_again p
 back one_byte p a = of_kind_one_again p
 back truth_of_four p a = number_truth_again p
-back presence p a = refl
 back text p a = without_nul-end (without_nul p)
-back raw p a = refl
-back never p a = refl
 back (fixed_record m n) p a = take_at (take m p) (zeros (n - m)) m (length-take-le m p (leb-true m (length p) a))
 back id_and_truth p a = id_and_truth_back p a
 back (resized n) p a = take_at (take n (p ++ zeros n)) (zeros n) n (resized_length n p)
+back s p a = refl
 
 good : (s : Shape) (p : List ℕ) → accepts s p ≡ true → accepts s (spelt s p) ≡ true
-good (exact n) p a = a
-good (either m n) p a = a
-good (at_most n) p a = a
 good nonzero_byte p a = ap (λ x. eqb x 1) (length-map p truth_of) ∙ a
 good one_byte p a = ap (λ x. eqb x 1) (length-map p one_of) ∙ a
 good truth_of_four p a = refl
 good presence p a = refl
 good text p a = ap is_utf8 (without_nul-end (without_nul p)) ∙ a
 good raw p a = refl
-good never p a = a
 good (fixed_record m n) p a = le-leb m (length (spelt (fixed_record m n) p)) (omega (arith, length-append (take m p) (zeros (n - m)), length-take-le m p (leb-true m (length p) a)))
 good id_and_truth p a = le-leb 8 (length (meaning id_and_truth p)) (omega (arith, length-append (take 4 p) (number_truth (take 4 (drop 4 p))), id_and_truth_front p a))
 good (resized n) p a = refl
+good s p a = a
 
 up_next : (a b : ℕ) → a ≤ b + 4 → nla_align (4 + a) ≤ 77 * (4 + b)
 up_next a b h = omega arith
 
 bound : (s : Shape) (p : List ℕ) → shape_bounded s ≡ true → accepts s p ≡ true → nla_align (4 + length (spelt s p)) ≤ 77 * (4 + length p)
-bound (exact n) p m a = up_next (length p) (length p) (omega arith)
-bound (either k n) p m a = up_next (length p) (length p) (omega arith)
-bound (at_most n) p m a = up_next (length p) (length p) (omega arith)
 bound nonzero_byte p m a = up_next _ (length p) (omega (arith, length-map p truth_of))
 bound one_byte p m a = up_next _ (length p) (omega (arith, length-map p one_of))
 bound truth_of_four p m a = up_next 4 (length p) (omega arith)
 bound presence p m a = up_next 0 (length p) (omega arith)
 bound text p m a = up_next _ (length p) (omega (arith, length-append (without_nul p) (0 ∷ []), without_nul-length p))
-bound raw p m a = up_next (length p) (length p) (omega arith)
-bound never p m a = up_next (length p) (length p) (omega arith)
 bound (fixed_record k n) p m a =
     let b = and_parts (nat_le k n) (nat_le (nla_align (4 + n)) (77 * (4 + k))) m in
     let kn = leb-true k n b.0 in
@@ -123,21 +110,18 @@ bound id_and_truth p m a = up_next _ (length p) (omega (arith, length-append (ta
 bound (resized n) p m a =
     let small = leb-true (nla_align (4 + n)) 308 m in
     rw (resized_length n p) (omega arith)
+bound s p m a = up_next (length p) (length p) (omega arith)
 
 bytes : (s : Shape) (p : List ℕ) → AreBytes p → AreBytes (spelt s p)
-bytes (exact n) p h = h
-bytes (either k n) p h = h
-bytes (at_most n) p h = h
 bytes nonzero_byte p h = AreBytes-map truth_of truth_small p
 bytes one_byte p h = AreBytes-map one_of one_small p
 bytes truth_of_four p h = number_truth_small p
 bytes presence p h = tt
 bytes text p h = AreBytes-append (without_nul p) (0 ∷ []) (without_nul-bytes p h) (omega arith, tt)
-bytes raw p h = h
-bytes never p h = h
 bytes (fixed_record k n) p h = AreBytes-append (take k p) (zeros (n - k)) (AreBytes-take k p h) (AreBytes-zeros (n - k))
 bytes id_and_truth p h = AreBytes-append (take 4 p) (number_truth (take 4 (drop 4 p))) (AreBytes-take 4 p h) (number_truth_small (take 4 (drop 4 p)))
 bytes (resized n) p h = AreBytes-take n (p ++ zeros n) (AreBytes-append p (zeros n) h (AreBytes-zeros n))
+bytes s p h = h
 
 pub shape_lawful : (s : Shape) → shape_bounded s ≡ true → Lawful (shape_rule s)
 shape_lawful s m = record {

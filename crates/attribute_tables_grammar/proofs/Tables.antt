@@ -68,13 +68,10 @@ same_words : (p q : List ℕ) → without_nul p ++ 0 ∷ [] ≡ without_nul q ++
 same_words p q h = sym (without_nul-end (without_nul p)) ∙ ap without_nul h ∙ without_nul-end (without_nul q)
 
 info_steps : (data' ports : List ℕ → Rule) (c : Context) (k : ℕ) (p q : List ℕ) → (info_row data' ports c k).rule.canonical p ≡ (info_row data' ports c k).rule.canonical q → info_next c k p ≡ info_next c k q
-info_steps data' ports c zero p q h = refl
 info_steps data' ports c (suc zero) p q h = ap (λ (n : List ℕ). record { kind = Some n; port_kind = c.port_kind }) (same_words p q h)
-info_steps data' ports c (suc (suc zero)) p q h = refl
-info_steps data' ports c (suc (suc (suc zero))) p q h = refl
 info_steps data' ports c (suc (suc (suc (suc zero)))) p q h = ap (λ (n : List ℕ). record { kind = c.kind; port_kind = Some n }) (same_words p q h)
-info_steps data' ports c (suc (suc (suc (suc (suc zero))))) p q h = refl
 info_steps data' ports c (suc (suc (suc (suc (suc (suc k)))))) p q h = refl
+info_steps data' ports c k p q h = refl
 
 -- ---- tables
 

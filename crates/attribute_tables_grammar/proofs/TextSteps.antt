@@ -12,7 +12,7 @@ use Rattle.attribute_tables_grammar.specs.OwnTexts.{text_from}
 use Rattle.attribute_tables_grammar.specs.Writing.{IsWritable, WrittenSoFar}
 use Rattle.attribute_tables_grammar.specs.Laws.{TextsAreWrittenBySteps}
 use Rattle.attribute_tables_grammar.proofs.Kept.{kept_past}
-use Rattle.attribute_tables_grammar.proofs.Walks.{walk_list, walk_kept, walk_dropped, walk_stop}
+use Rattle.attribute_tables_grammar.proofs.Walks.{walk_list, walk_step, walk_stop}
 use Rattle.attribute_tables_grammar.proofs.MeasureSteps.{whole_by, tells, denies, first_some, first_none}
 use Rattle.attribute_tables_grammar.proofs.OwnTexts.{step, at_end, canonical_text, text_or}
 
@@ -22,14 +22,16 @@ fits_or : Option Measure → Bool
 fits_or None = true
 fits_or (Some m) = m.fits
 
-record InFront (o q : Option Measure) : Type 0 where
-  inside : Measure
-  measured : o ≡ Some inside
-  short : nat_le (4 + inside.size) 65535 ≡ true
-  fits : inside.fits ≡ true
+-- what was measured, and fits
+record Fitting (q : Option Measure) : Type 0 where
   ahead : Measure
   walked : q ≡ Some ahead
-  ahead_fits : ahead.fits ≡ true
+  fits : ahead.fits ≡ true
+
+record InFront (o q : Option Measure) : Type 0 where
+  inside : Fitting o
+  short : nat_le (4 + inside.ahead.size) 65535 ≡ true
+  behind : Fitting q
 
 in_front : (o q : Option Measure) (m : Measure) → both (option_map with_header o) q ≡ Some m → m.fits ≡ true → InFront o q
 unfolding fits_or
@@ -38,17 +40,12 @@ in_front (Some x) None m h f = absurd cc
 in_front (Some x) (Some y) m h f =
     let a = and_parts (nat_le (4 + x.size) 65535 && x.fits) y.fits (ap fits_or h ∙ f) in
     let b = and_parts (nat_le (4 + x.size) 65535) x.fits a.0 in
-    record { inside = x; measured = refl; short = b.0; fits = b.1; ahead = y; walked = refl; ahead_fits = a.1 }
+    record { inside = record { ahead = x; walked = refl; fits = b.1 }; short = b.0; behind = record { ahead = y; walked = refl; fits = a.1 } }
 
-record Behind (q : Option Measure) : Type 0 where
-  ahead : Measure
-  walked : q ≡ Some ahead
-  ahead_fits : ahead.fits ≡ true
-
-behind : (q : Option Measure) (m : Measure) → both (Some dropped) q ≡ Some m → m.fits ≡ true → Behind q
+behind : (q : Option Measure) (m : Measure) → both (Some dropped) q ≡ Some m → m.fits ≡ true → Fitting q
 unfolding fits_or
 behind None m h f = absurd cc
-behind (Some y) m h f = record { ahead = y; walked = refl; ahead_fits = ap fits_or h ∙ f }
+behind (Some y) m h f = record { ahead = y; walked = refl; fits = ap fits_or h ∙ f }
 
 -- ---- what stands behind an attribute
 
@@ -72,32 +69,20 @@ text_past form g c rest e after f k = ap (option_map (λ es. list_text (rewritte
 
 -- ---- where a walk begins
 
-record Begins (form : ListForm) (g : Grammar) (bytes : List ℕ) : Type 0 where
-  ahead : Measure
-  walked : walk form g nothing bytes ≡ Some ahead
-  fits : ahead.fits ≡ true
-
 closed_fits : (form : ListForm) (m : Measure) → (closed form m).fits ≡ m.fits
-closed_fits ListForm.any m = refl
-closed_fits ListForm.non_empty m = refl
-closed_fits ListForm.of_kind_one m = refl
 closed_fits ListForm.ports m = refl
-closed_fits ListForm.first_alone m = refl
+closed_fits form m = refl
 
-begins_by : (form : ListForm) (g : Grammar) (bytes : List ℕ) (o : Option Measure) → walk form g nothing bytes ≡ o → option_map (closed form) o ≡ measure (list_rule form g) bytes → (list_rule form g).accepted bytes ≡ true → (list_rule form g).fits bytes ≡ true → Begins form g bytes
+begins_by : (form : ListForm) (g : Grammar) (bytes : List ℕ) (o : Option Measure) → walk form g nothing bytes ≡ o → option_map (closed form) o ≡ measure (list_rule form g) bytes → (list_rule form g).accepted bytes ≡ true → (list_rule form g).fits bytes ≡ true → Fitting (walk form g nothing bytes)
 begins_by form g bytes None w h a f = let n = denies (list_rule form g) bytes h in absurd (let x : true ≡ false = sym a ∙ n in cc)
 begins_by form g bytes (Some m) w h a f =
     let t = tells (list_rule form g) bytes (closed form m) h in
     record { ahead = m; walked = w; fits = sym (closed_fits form m) ∙ t.fits ∙ f }
 
-begins : (form : ListForm) (g : Grammar) (bytes : List ℕ) → IsWalked form bytes → (list_rule form g).accepted bytes ≡ true → (list_rule form g).fits bytes ≡ true → Begins form g bytes
+begins : (form : ListForm) (g : Grammar) (bytes : List ℕ) → IsWalked form bytes → (list_rule form g).accepted bytes ≡ true → (list_rule form g).fits bytes ≡ true → Fitting (walk form g nothing bytes)
 begins form g bytes w = begins_by form g bytes (walk form g nothing bytes) refl (whole_by form g bytes w ∙ walk_list form g bytes)
 
 -- a list that is walked has a text
-record Text (form : ListForm) (g : Grammar) (c : Context) (rest : List ℕ) : Type 0 where
-  text : List ℕ
-  still : text_from form g c rest ≡ Some text
-
 has_text_by : (form : ListForm) (g : Grammar) (c : Context) (o : Option (List Attribute)) (m : Measure) → if_some o (measures form g c) ≡ Some m → (t : List ℕ) × (option_map (λ es. list_text (rewritten g c (kept form es))) o ≡ Some t)
 has_text_by form g c None m h = absurd cc
 has_text_by form g c (Some es) m h = (list_text (rewritten g c (kept form es)), refl)
@@ -105,20 +90,6 @@ has_text_by form g c (Some es) m h = (list_text (rewritten g c (kept form es)), 
 has_text : (form : ListForm) (g : Grammar) (c : Context) (rest : List ℕ) (m : Measure) → walk form g c rest ≡ Some m → (t : List ℕ) × (text_from form g c rest ≡ Some t)
 unfolding walk text_from
 has_text form g c rest m h = has_text_by form g c (attributes_of rest) m h
-
-start : (form : ListForm) (g : Grammar) (bytes old : List ℕ) → IsWalked form bytes → (list_rule form g).accepted bytes ≡ true → (list_rule form g).fits bytes ≡ true → WrittenSoFar form g bytes old old nothing bytes
-unfolding text_or
-start form g bytes old w a f =
-    let b = begins form g bytes w a f in
-    let t = has_text form g nothing bytes b.ahead b.walked in
-    record {
-      ahead = b.ahead;
-      walked = b.walked;
-      fits = b.fits;
-      text = t.0;
-      still = t.1;
-      whole = ap (λ x. old ++ x) (sym (ap text_or t.1) ∙ canonical_text form g bytes w);
-    }
 
 -- ---- one attribute further
 
@@ -128,7 +99,7 @@ record Next (form : ListForm) (g : Grammar) (c : Context) (e : Attribute) (after
 
 next : (form : ListForm) (g : Grammar) (bytes old out rest : List ℕ) (c : Context) (e : Attribute) (after : List ℕ) → first_attribute rest ≡ Some (e, after) → is_kept form e ≡ true → (w : WrittenSoFar form g bytes old out c rest) → Next form g c e after w.text
 next form g bytes old out rest c e after f k w = record {
-  front = in_front (measure (row_of g c e).rule e.payload) (walk form g (g.next c e) after) w.ahead (sym (walk_kept form g c rest e after f k) ∙ w.walked) w.fits;
+  front = in_front (measure (row_of g c e).rule e.payload) (walk form g (g.next c e) after) w.ahead (sym (walk_step form g c rest e after true f k) ∙ w.walked) w.fits;
   split = split (attribute_text (rewrite (row_of g c e) e)) (text_from form g (g.next c e) after) w.text (sym (step form g c rest e after f k) ∙ w.still);
 }
 
@@ -137,49 +108,9 @@ is_writable r p room m h s f l =
     let t = tells r p m (sym h) in
     record { accepted = t.accepted; fits = sym t.fits ∙ f; short = omega (arith, t.size, leb-true (4 + m.size) 65535 s); within = l }
 
-writable : (form : ListForm) (g : Grammar) (bytes old out rest : List ℕ) (c : Context) (e : Attribute) (after : List ℕ) → first_attribute rest ≡ Some (e, after) → is_kept form e ≡ true → WrittenSoFar form g bytes old out c rest → IsWritable (row_of g c e).rule e.payload (length old + length ((list_rule form g).canonical bytes) - length out)
-writable form g bytes old out rest c e after f k w =
-    let n = next form g bytes old out rest c e after f k w in
-    let x = n.front in
-    let a = attribute_text (rewrite (row_of g c e) e) in
-    let l = length-attribute_text (rewrite (row_of g c e) e) in
-    let whole = ap length w.whole in
-    let left = length-append out w.text in
-    let right = length-append old ((list_rule form g).canonical bytes) in
-    let t = ap length n.split.whole in
-    let u = length-append a n.split.text in
-    is_writable (row_of g c e).rule e.payload (length old + length ((list_rule form g).canonical bytes) - length out) x.inside x.measured x.short x.fits (omega (arith, l, whole, left, right, t, u))
-
-more : (form : ListForm) (g : Grammar) (bytes old out new rest : List ℕ) (c : Context) (e : Attribute) (after : List ℕ) → first_attribute rest ≡ Some (e, after) → is_kept form e ≡ true → new ≡ out ++ attribute_text (rewrite (row_of g c e) e) → WrittenSoFar form g bytes old out c rest → WrittenSoFar form g bytes old new (g.next c e) after
-more form g bytes old out new rest c e after f k is w =
-    let n = next form g bytes old out rest c e after f k w in
-    let a = attribute_text (rewrite (row_of g c e) e) in
-    record {
-      ahead = n.front.ahead;
-      walked = n.front.walked;
-      fits = n.front.ahead_fits;
-      text = n.split.text;
-      still = n.split.still;
-      whole = ap (λ x. x ++ n.split.text) is ∙ append_assoc out a n.split.text ∙ ap (λ x. out ++ x) (sym n.split.whole) ∙ w.whole;
-    }
-
-past : (form : ListForm) (g : Grammar) (bytes old out rest : List ℕ) (c : Context) (e : Attribute) (after : List ℕ) → first_attribute rest ≡ Some (e, after) → is_kept form e ≡ false → WrittenSoFar form g bytes old out c rest → WrittenSoFar form g bytes old out c after
-past form g bytes old out rest c e after f k w =
-    let b = behind (walk form g c after) w.ahead (sym (walk_dropped form g c rest e after f k) ∙ w.walked) w.fits in
-    record { ahead = b.ahead; walked = b.walked; fits = b.ahead_fits; text = w.text; still = sym (text_past form g c rest e after f k) ∙ w.still; whole = w.whole }
-
-stopped : (form : ListForm) (g : Grammar) (bytes old out rest : List ℕ) (c : Context) → first_attribute rest ≡ None → 0 < length rest → WrittenSoFar form g bytes old out c rest → ⊥
-stopped form g bytes old out rest c f l w = let n = sym (walk_stop form g c rest f l) ∙ w.walked in absurd cc
-
 nothing_left : (rest : List ℕ) → length rest ≡ 0 → rest ≡ []
 nothing_left [] l = refl
 nothing_left (b ∷ rest) l = absurd (omega arith)
-
-done : (form : ListForm) (g : Grammar) (bytes old out rest : List ℕ) (c : Context) → length rest ≡ 0 → WrittenSoFar form g bytes old out c rest → out ≡ old ++ (list_rule form g).canonical bytes
-unfolding text_or
-done form g bytes old out rest c l w =
-    let e : w.text ≡ [] = ap text_or (sym w.still ∙ at_end form g c rest l) ∙ nothing_left rest l in
-    sym (append-nil out) ∙ ap (λ x. out ++ x) (sym e) ∙ w.whole
 
 -- ---- the first attribute alone
 
@@ -196,26 +127,47 @@ header_fits (Some m) r p h a f =
     let b = and_parts (nat_le (4 + m.size) 65535) m.fits (t.fits ∙ f) in
     (m, refl, b.0, b.1)
 
-alone : (g : Grammar) (bytes : List ℕ) (e : Attribute) (after : List ℕ) → first_attribute bytes ≡ Some (e, after) → (list_rule first_alone g).accepted bytes ≡ true → (list_rule first_alone g).fits bytes ≡ true → IsWritable (row_of g nothing e).rule e.payload (length ((list_rule first_alone g).canonical bytes)) × ((list_rule first_alone g).canonical bytes ≡ attribute_text (rewrite (row_of g nothing e) e))
-alone g bytes e after f a fit =
-    let r = (row_of g nothing e).rule in
-    let t = alone_text g bytes e after f in
-    let h = header_fits (measure r e.payload) (list_rule first_alone g) bytes (first_some g bytes e after (measure r e.payload) f refl) a fit in
-    let l = length-attribute_text (rewrite (row_of g nothing e) e) in
-    let s = ap length t in
-    (is_writable r e.payload (length ((list_rule first_alone g).canonical bytes)) h.0 h.1 h.2 h.3 (omega (arith, l, s)), t)
-
-none_alone : (g : Grammar) (bytes : List ℕ) → first_attribute bytes ≡ None → (list_rule first_alone g).accepted bytes ≡ true → ⊥
-none_alone g bytes f a = let n = denies (list_rule first_alone g) bytes (first_none g bytes f) in absurd (let x : true ≡ false = sym a ∙ n in cc)
-
 pub texts_are_written_by_steps : TextsAreWrittenBySteps
+unfolding text_or
 texts_are_written_by_steps = record {
-  start = start;
-  writable = writable;
-  more = more;
-  past = past;
-  stopped = stopped;
-  done = done;
-  alone = alone;
-  none_alone = none_alone;
+  start = λ form g bytes old w a f.
+      let b = begins form g bytes w a f in
+      let t = has_text form g nothing bytes b.ahead b.walked in
+      record { ahead = b.ahead; walked = b.walked; fits = b.fits; text = t.0; still = t.1; whole = ap (λ x. old ++ x) (sym (ap text_or t.1) ∙ canonical_text form g bytes w) };
+  writable = λ form g bytes old out rest c e after f k w.
+      let n = next form g bytes old out rest c e after f k w in
+      let x = n.front in
+      let l = length-attribute_text (rewrite (row_of g c e) e) in
+      let whole = ap length w.whole in
+      let left = length-append out w.text in
+      let right = length-append old ((list_rule form g).canonical bytes) in
+      let t = ap length n.split.whole in
+      let u = length-append (attribute_text (rewrite (row_of g c e) e)) n.split.text in
+      is_writable (row_of g c e).rule e.payload (length old + length ((list_rule form g).canonical bytes) - length out) x.inside.ahead x.inside.walked x.short x.inside.fits (omega (arith, l, whole, left, right, t, u));
+  more = λ form g bytes old out new rest c e after f k is w.
+      let n = next form g bytes old out rest c e after f k w in
+      let a = attribute_text (rewrite (row_of g c e) e) in
+      record {
+        ahead = n.front.behind.ahead;
+        walked = n.front.behind.walked;
+        fits = n.front.behind.fits;
+        text = n.split.text;
+        still = n.split.still;
+        whole = ap (λ x. x ++ n.split.text) is ∙ append_assoc out a n.split.text ∙ ap (λ x. out ++ x) (sym n.split.whole) ∙ w.whole;
+      };
+  past = λ form g bytes old out rest c e after f k w.
+      let b = behind (walk form g c after) w.ahead (sym (walk_step form g c rest e after false f k) ∙ w.walked) w.fits in
+      record { ahead = b.ahead; walked = b.walked; fits = b.fits; text = w.text; still = sym (text_past form g c rest e after f k) ∙ w.still; whole = w.whole };
+  stopped = λ form g bytes old out rest c f l w. let n = sym (walk_stop form g c rest f l) ∙ w.walked in absurd cc;
+  done = λ form g bytes old out rest c l w.
+      let e : w.text ≡ [] = ap text_or (sym w.still ∙ at_end form g c rest l) ∙ nothing_left rest l in
+      sym (append-nil out) ∙ ap (λ x. out ++ x) (sym e) ∙ w.whole;
+  alone = λ g bytes e after f a fit.
+      let r = (row_of g nothing e).rule in
+      let t = alone_text g bytes e after f in
+      let h = header_fits (measure r e.payload) (list_rule first_alone g) bytes (first_some g bytes e after (measure r e.payload) f refl) a fit in
+      let l = length-attribute_text (rewrite (row_of g nothing e) e) in
+      let s = ap length t in
+      (is_writable r e.payload (length ((list_rule first_alone g).canonical bytes)) h.0 h.1 h.2 h.3 (omega (arith, l, s)), t);
+  none_alone = λ g bytes f a. let x : true ≡ false = sym a ∙ denies (list_rule first_alone g) bytes (first_none g bytes f) in absurd cc;
 }

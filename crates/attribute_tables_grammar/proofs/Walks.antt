@@ -21,7 +21,7 @@ plus_assoc l m n = λ i. record {
   empty_ports = or_assoc l.empty_ports m.empty_ports n.empty_ports i;
 }
 
-both_assoc : (l m n : Option Measure) → both (both l m) n ≡ both l (both m n)
+pub both_assoc : (l m n : Option Measure) → both (both l m) n ≡ both l (both m n)
 both_assoc None m n = refl
 both_assoc (Some l) None n = refl
 both_assoc (Some l) (Some m) None = refl
@@ -47,20 +47,13 @@ unfolding measures in_front
 if_some_map form None g c e = in_front_none form g c e (is_kept form e) refl
 if_some_map form (Some es) g c e = refl
 
-walk_step : (form : ListForm) (g : Grammar) (c : Context) (bytes : List ℕ) (e : Attribute) (rest : List ℕ) → first_attribute bytes ≡ Some (e, rest) → walk form g c bytes ≡ in_front form g c e (walk form g (g.next c e) rest) (walk form g c rest)
-unfolding walk
-walk_step form g c bytes e rest f = ap (λ o. if_some o (measures form g c)) (attributes_step bytes e rest f) ∙ if_some_map form (attributes_of rest) g c e
-
-pub walk_kept : (form : ListForm) (g : Grammar) (c : Context) (bytes : List ℕ) (e : Attribute) (rest : List ℕ) → first_attribute bytes ≡ Some (e, rest) → is_kept form e ≡ true → walk form g c bytes ≡ both (option_map with_header (measure (row_of g c e).rule e.payload)) (walk form g (g.next c e) rest)
-unfolding in_front
-walk_kept form g c bytes e rest f k =
-    walk_step form g c bytes e rest f
-    ∙ ap (λ b. cond b (both (option_map with_header (measure (row_of g c e).rule e.payload)) (walk form g (g.next c e) rest)) (both (Some dropped) (walk form g c rest))) k
-
-pub walk_dropped : (form : ListForm) (g : Grammar) (c : Context) (bytes : List ℕ) (e : Attribute) (rest : List ℕ) → first_attribute bytes ≡ Some (e, rest) → is_kept form e ≡ false → walk form g c bytes ≡ both (Some dropped) (walk form g c rest)
-unfolding in_front
-walk_dropped form g c bytes e rest f k =
-    walk_step form g c bytes e rest f
+-- by whether the attribute in front is kept
+pub walk_step : (form : ListForm) (g : Grammar) (c : Context) (bytes : List ℕ) (e : Attribute) (rest : List ℕ) (b : Bool) → first_attribute bytes ≡ Some (e, rest) → is_kept form e ≡ b →
+    walk form g c bytes ≡ cond b (both (option_map with_header (measure (row_of g c e).rule e.payload)) (walk form g (g.next c e) rest)) (both (Some dropped) (walk form g c rest))
+unfolding walk in_front
+walk_step form g c bytes e rest b f k =
+    ap (λ o. if_some o (measures form g c)) (attributes_step bytes e rest f)
+    ∙ if_some_map form (attributes_of rest) g c e
     ∙ ap (λ b. cond b (both (option_map with_header (measure (row_of g c e).rule e.payload)) (walk form g (g.next c e) rest)) (both (Some dropped) (walk form g c rest))) k
 
 pub walk_end : (form : ListForm) (g : Grammar) (c : Context) (bytes : List ℕ) → length bytes ≡ 0 → walk form g c bytes ≡ Some none_yet
@@ -71,24 +64,6 @@ walk_end form g c (b ∷ bytes) h = absurd (omega arith)
 pub walk_stop : (form : ListForm) (g : Grammar) (c : Context) (bytes : List ℕ) → first_attribute bytes ≡ None → 0 < length bytes → walk form g c bytes ≡ None
 unfolding walk
 walk_stop form g c bytes f l = ap (λ o. if_some o (measures form g c)) (attributes_stop bytes f l)
-
--- so far and still to come, with one more attribute
-pub walk_more : (form : ListForm) (g : Grammar) (c : Context) (bytes : List ℕ) (e : Attribute) (rest : List ℕ) (so_far : Measure) (m : Measure) (total : Option Measure) →
-    first_attribute bytes ≡ Some (e, rest) → is_kept form e ≡ true → measure (row_of g c e).rule e.payload ≡ Some m → total ≡ both (Some so_far) (walk form g c bytes) → total ≡ both (Some (plus so_far (with_header m))) (walk form g (g.next c e) rest)
-walk_more form g c bytes e rest so_far m total f k is t =
-    t ∙ ap (both (Some so_far)) (walk_kept form g c bytes e rest f k ∙ ap (λ o. both (option_map with_header o) (walk form g (g.next c e) rest)) is)
-    ∙ sym (both_assoc (Some so_far) (Some (with_header m)) (walk form g (g.next c e) rest))
-
--- with one that is dropped
-pub walk_past : (form : ListForm) (g : Grammar) (c : Context) (bytes : List ℕ) (e : Attribute) (rest : List ℕ) (so_far : Measure) (total : Option Measure) →
-    first_attribute bytes ≡ Some (e, rest) → is_kept form e ≡ false → total ≡ both (Some so_far) (walk form g c bytes) → total ≡ both (Some (plus so_far dropped)) (walk form g c rest)
-walk_past form g c bytes e rest so_far total f k t =
-    t ∙ ap (both (Some so_far)) (walk_dropped form g c bytes e rest f k) ∙ sym (both_assoc (Some so_far) (Some dropped) (walk form g c rest))
-
-pub walk_refused : (form : ListForm) (g : Grammar) (c : Context) (bytes : List ℕ) (e : Attribute) (rest : List ℕ) (so_far : Measure) (total : Option Measure) →
-    first_attribute bytes ≡ Some (e, rest) → is_kept form e ≡ true → measure (row_of g c e).rule e.payload ≡ None → total ≡ both (Some so_far) (walk form g c bytes) → total ≡ None
-walk_refused form g c bytes e rest so_far total f k is t =
-    t ∙ ap (both (Some so_far)) (walk_kept form g c bytes e rest f k ∙ ap (λ o. both (option_map with_header o) (walk form g (g.next c e) rest)) is)
 
 -- ---- a walk of a whole list
 
@@ -153,26 +128,3 @@ module _ (form : ListForm) (g : Grammar) where
   pub walk_list : (bytes : List ℕ) → walk_as form g bytes ≡ measure (list_rule form g) bytes
   unfolding walk_as
   walk_list bytes = whole (read_as form bytes)
-
--- ---- bounds
-
-abbrev some_measure : Measure → Option Measure
-some_measure m = Some m
-
-size_or : Option Measure → ℕ
-size_or None = 0
-size_or (Some m) = m.size
-
-attributes_or : Option Measure → ℕ
-attributes_or None = 0
-attributes_or (Some m) = m.attributes
-
-measured_by : (r : Rule) (p : List ℕ) (m : Measure) (a : Bool) → r.accepted p ≡ a → cond a (Some (record { size = length (r.canonical p); attributes = r.attributes p; fits = r.fits p; empty_ports = r.empty_ports p })) None ≡ some_measure m → (r.accepted p ≡ true) × (m.size ≡ length (r.canonical p)) × (m.attributes ≡ r.attributes p)
-unfolding size_or attributes_or
-measured_by r p m true a h = (a, ap size_or (sym h), ap attributes_or (sym h))
-measured_by r p m false a h = absurd cc
-
-pub measured_small : (r : Rule) → Lawful r → (p : List ℕ) (m : Measure) → measure r p ≡ Some m → (nla_align (4 + m.size) ≤ 77 * (4 + length p)) × (4 * m.attributes ≤ length p)
-measured_small r l p m h =
-    let k = measured_by r p m (r.accepted p) refl h in
-    (rw k.1 (l.bounded p k.0), rw k.2 (l.counted p k.0))

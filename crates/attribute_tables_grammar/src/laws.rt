@@ -1,4 +1,5 @@
 //! Facts of the definitions. No function here makes a call.
+#![tactic(auto, using(crate::proofs::Together::laws))]
 
 ghost use Rattle.attribute_tables_grammar.specs.Laws.{CanonicalIsCut, TablesAreLawful, BytesAreLawful, TextsTellMeanings};
 ghost use Rattle.attribute_tables_grammar.specs.Laws.{TextsKeepMeanings, ShortTextsFit, OldTextsAreRenewed, OneContext};

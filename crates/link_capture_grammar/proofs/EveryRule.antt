@@ -17,6 +17,8 @@ use Rattle.link_capture_grammar.proofs.Judging.{frames_are_judged}
 use Rattle.link_capture_grammar.proofs.Numbers.{captures_are_counted}
 use Rattle.link_capture_grammar.proofs.Padding.{padding_is_passed}
 use Rattle.link_capture_grammar.proofs.SameFrames.{sameness_goes_by_frames}
+use Rattle.link_capture_grammar.proofs.SmallFrames.{small_frames_fit}
+use Rattle.link_capture_grammar.proofs.Unlisted.{unlisted_attributes_are_kept}
 
 pub every_rule : CapturesStandUnderEveryRule
 every_rule r lawful = record {
@@ -63,3 +65,6 @@ old_captures_are_renewed = record {
   in_force = texts_are_renewed (body_rule bytes_peer) link_body (old_bodies_are_renewed link_peer);
   under_every_rule = texts_are_renewed;
 }
+
+-- what the laws go by
+pub ruleset laws = (in_force, sameness_in_force, old_captures_are_renewed, small_frames_fit, unlisted_attributes_are_kept)

@@ -2,7 +2,7 @@
 use Rattle.std.proofs.Common.{◌≡◌, ◌≢◌, ℕ, zero, suc, ◌+◌, ◌-◌, ◌%◌, ◌<◌, ◌≤◌, ltb, cond, true, false, Bool, Result, Option, min, List, [], ◌∷◌, ◌++◌, length, take, drop, Some, None, Ok, Err, refl, sym, ap, subst, ◌∙◌, ◌⊎◌, inl, inr, arith, length-append, length-drop, append_assoc, zero-add}
 use Rattle.std.proofs.lemmas.List.{take-append-le, drop-append-le, drop_all, length-take, append-nil, drop_at, take-append-drop}
 use Rattle.std.proofs.lemmas.Bool.Decides.{nat_tests}
-use Rattle.std.proofs.lemmas.Bool.{le-ltb, lt-ltb, ltb-false, ltb-true, cases_lt}
+use Rattle.std.proofs.lemmas.Bool.{cond_both, le-ltb, lt-ltb, ltb-false, ltb-true, cases_lt}
 use Rattle.netlink_packet_core_grammar.specs.Attributes.{nla_align}
 use Rattle.netlink_packet_core_grammar.specs.Numbers.{u16_at, u32_at}
 use Rattle.netlink_packet_core_grammar.specs.Frames.{frame_length, frame_type, frame_body, frame_text}
@@ -18,15 +18,20 @@ use Rattle.link_capture_grammar.specs.Captures.{Judged, Accepted, CutInBody, fir
 pub guard : {A : Type 0} (b : Bool) (x y z : A) → cond b x y ≡ z → ((b ≡ true) × (x ≡ z)) ⊎ ((b ≡ false) × (y ≡ z))
 guard b x y z = elim b as (λ v. cond v x y ≡ z → ((v ≡ true) × (x ≡ z)) ⊎ ((v ≡ false) × (y ≡ z))) [ true ↦ (λ h. inl (refl, h)) | false ↦ (λ h. inr (refl, h)) ]
 
--- the frame is all there: what is judged of it doesn't depend on how much more is there
-pub tested_whole : (limit size claimed : ℕ) (j : Judged) → 16 ≤ size → claimed ≤ size → tested limit size claimed j ≡ cond (ltb claimed 16) (Err ShortLength) (cond (ltb limit claimed) (Err OverLimit) j)
-tested_whole limit size claimed j h k = rw (le-ltb size 16 h, le-ltb size claimed k)
-
 tested_short : (limit size claimed : ℕ) (j : Judged) → size < 16 → tested limit size claimed j ≡ Err Cut
 tested_short limit size claimed j h = rw (lt-ltb size 16 h)
 
 tested_more : (limit size more claimed : ℕ) (j k : Judged) → size ≤ more → (claimed ≤ size → k ≡ j) → tested limit size claimed j ≢ Err Cut → tested limit more claimed k ≡ tested limit size claimed j
 tested_more limit size more claimed j k h e n = grind (arith, nat_tests)
+
+-- what holds of the outcome of each test holds of the judgement
+pub tested_by : (limit size claimed : ℕ) (j : Judged) (P : Judged → Type 0) → (size < 16 → P (Err Cut)) → (claimed < 16 → P (Err ShortLength)) → (limit < claimed → P (Err OverLimit)) →
+    (16 ≤ size → 16 ≤ claimed → claimed ≤ limit → size < claimed → P (Err Cut)) → (16 ≤ size → 16 ≤ claimed → claimed ≤ limit → claimed ≤ size → P j) → P (tested limit size claimed j)
+tested_by limit size claimed j P short low over cut whole =
+    cond_both (ltb size 16) _ _ P (λ a. short (ltb-true _ _ a)) (λ a.
+    cond_both (ltb claimed 16) _ _ P (λ b. low (ltb-true _ _ b)) (λ b.
+    cond_both (ltb limit claimed) _ _ P (λ d. over (ltb-true _ _ d)) (λ d.
+    cond_both (ltb size claimed) _ _ P (λ e. cut (ltb-false _ _ a) (ltb-false _ _ b) (ltb-false _ _ d) (ltb-true _ _ e)) (λ e. whole (ltb-false _ _ a) (ltb-false _ _ b) (ltb-false _ _ d) (ltb-false _ _ e)))))
 
 -- an accepted body's frame has the length that its header tells
 judged : (limit : ℕ) (c : List ℕ) (r : Result (List ℕ) Refusal) (frame : ℕ × List ℕ) → judged_text limit c r ≡ Ok frame → frame_length c ≡ frame.0
@@ -88,52 +93,26 @@ judged_not_cut limit c (Err empty_ports) h = cc
 judged_not_cut limit c (Err unfit) h = cc
 judged_not_cut limit c (Ok body) h = grind (arith, nat_tests)
 
--- a body's faults are a frame's
-judged_kinds : (limit : ℕ) (c : List ℕ) (r : Result (List ℕ) Refusal) (kind : FaultKind) → judged_text limit c r ≡ Err kind → IsOfFrames kind
-judged_kinds limit c (Err refused) kind h = let e : Refused ≡ kind = cc in subst IsOfFrames e tt
-judged_kinds limit c (Err empty_ports) kind h = let e : EmptyPorts ≡ kind = cc in subst IsOfFrames e tt
-judged_kinds limit c (Err unfit) kind h = let e : Unfit ≡ kind = cc in subst IsOfFrames e tt
-judged_kinds limit c (Ok body) kind h =
-    elim (guard (ltb limit (16 + length body)) _ _ _ h) [
-      | inl a ↦ (let e : TextOverLimit ≡ kind = (let f = a.1 in cc) in subst IsOfFrames e tt)
-      | inr a ↦ (let f = a.1 in absurd (cc))
-    ]
+-- a fault, if there is one, is of a kind that a frame can have
+abbrev HasFrameKind : Judged → Type 0
+HasFrameKind (Ok frame) = Unit {0}
+HasFrameKind (Err kind) = IsOfFrames kind
+
+judged_kinds : (limit : ℕ) (c : List ℕ) (r : Result (List ℕ) Refusal) → HasFrameKind (judged_text limit c r)
+judged_kinds limit c (Err refused) = tt
+judged_kinds limit c (Err empty_ports) = tt
+judged_kinds limit c (Err unfit) = tt
+judged_kinds limit c (Ok body) = cond_both (ltb limit (16 + length body)) _ _ HasFrameKind (λ a. tt) (λ a. tt)
 
 module _ (r : Rule) where
   -- what an accepted frame is
   pub accepted : (limit : ℕ) (c : List ℕ) (frame : ℕ × List ℕ) → first_frame_under r limit c ≡ Ok frame → Accepted limit c frame
   unfolding first_frame_under
   accepted limit c frame h =
-      elim (guard (ltb (length c) 16) _ _ _ h) [
-        | inl a ↦ cc
-        | inr a ↦
-            elim (guard (ltb (frame_length c) 16) _ _ _ a.1) [
-              | inl b ↦ cc
-              | inr b ↦
-                  elim (guard (ltb limit (frame_length c)) _ _ _ b.1) [
-                    | inl d ↦ cc
-                    | inr d ↦
-                        elim (guard (ltb (length c) (frame_length c)) _ _ _ d.1) [
-                          | inl e ↦ cc
-                          | inr e ↦
-                              let g = judged limit c (body_text_under r (frame_type c) (frame_body c)) frame e.1 in
-                              record {
-                                header = ltb-false _ _ a.0;
-                                low = subst (λ n. 16 ≤ n) g (ltb-false _ _ b.0);
-                                high = subst (λ n. n ≤ limit) g (ltb-false _ _ d.0);
-                                whole = subst (λ n. n ≤ length c) g (ltb-false _ _ e.0);
-                                is = g;
-                              }
-                        ]
-                  ]
-            ]
-      ]
-
-  judged-more : (limit : ℕ) (c d : List ℕ) → 16 ≤ length c → frame_length c ≤ length c → judged_text limit (c ++ d) (body_text_under r (frame_type (c ++ d)) (frame_body (c ++ d))) ≡ judged_text limit c (body_text_under r (frame_type c) (frame_body c))
-  judged-more limit c d h k =
-      ap (λ t. judged_text limit (c ++ d) (body_text_under r t (frame_body (c ++ d)))) (frame_type-more c d h)
-      ∙ ap (λ b. judged_text limit (c ++ d) (body_text_under r (frame_type c) b)) (frame_body-more c d h k)
-      ∙ judged_text-more limit c d (body_text_under r (frame_type c) (frame_body c)) h
+      tested_by limit (length c) (frame_length c) _ (λ o. o ≡ Ok frame → Accepted limit c frame) (λ a e. cc) (λ a e. cc) (λ a e. cc) (λ a b d e f. cc)
+      (λ header low high whole e.
+      let g = judged limit c (body_text_under r (frame_type c) (frame_body c)) frame e in
+      record { header = header; low = omega (arith, g, low); high = omega (arith, g, high); whole = omega (arith, g, whole); is = g }) h
 
   -- what is judged of the frame, once it is there
   unfoldable pub judgement : ℕ → List ℕ → Judged
@@ -145,7 +124,10 @@ module _ (r : Rule) where
 
   judgement-more : (limit : ℕ) (c d : List ℕ) → 16 ≤ length c → frame_length c ≤ length c → judgement limit (c ++ d) ≡ judgement limit c
   unfolding judgement
-  judgement-more limit c d h k = judged-more limit c d h k
+  judgement-more limit c d h k =
+      ap (λ t. judged_text limit (c ++ d) (body_text_under r t (frame_body (c ++ d)))) (frame_type-more c d h)
+      ∙ ap (λ b. judged_text limit (c ++ d) (body_text_under r (frame_type c) b)) (frame_body-more c d h k)
+      ∙ judged_text-more limit c d (body_text_under r (frame_type c) (frame_body c)) h
 
   -- What is judged of a string, unless it is cut, is judged of it whatever follows.
   pub first_frame-more : (limit : ℕ) (c d : List ℕ) → first_frame_under r limit c ≢ Err Cut → first_frame_under r limit (c ++ d) ≡ first_frame_under r limit c
@@ -159,14 +141,20 @@ module _ (r : Rule) where
             ∙ sym (first_frame_is limit c)
       ]
 
+  judgement_not_cut : (limit : ℕ) (c : List ℕ) → judgement limit c ≢ Err Cut
+  unfolding judgement
+  judgement_not_cut limit c h = judged_not_cut limit c (body_text_under r (frame_type c) (frame_body c)) h
+
+  -- What is cut is too short for its header, or for the length that this tells.
+  pub cut_cases : (limit : ℕ) (c : List ℕ) → first_frame_under r limit c ≡ Err Cut → (length c < 16) ⊎ CutInBody limit c
+  cut_cases limit c h =
+      tested_by limit (length c) (frame_length c) (judgement limit c) (λ o. o ≡ Err Cut → (length c < 16) ⊎ CutInBody limit c) (λ a e. inl a) (λ a e. cc) (λ a e. cc)
+      (λ header low high short e. inr (record { header = header; low = low; high = high; short = short })) (λ a b d e f. absurd (judgement_not_cut limit c f)) (sym (first_frame_is limit c) ∙ h)
+
+  -- What is judged of a whole frame is judged of it whatever follows.
   pub first_frame_whole : (limit : ℕ) (c d : List ℕ) → 16 ≤ length c → frame_length c ≤ length c → first_frame_under r limit (c ++ d) ≡ first_frame_under r limit c
   first_frame_whole limit c d h k =
-      first_frame_is limit (c ++ d)
-      ∙ ap (λ n. tested limit (length (c ++ d)) n (judgement limit (c ++ d))) (u32_at-append c d (omega arith))
-      ∙ ap (λ j. tested limit (length (c ++ d)) (frame_length c) j) (judgement-more limit c d h k)
-      ∙ tested_whole limit (length (c ++ d)) (frame_length c) (judgement limit c) (omega (arith, length-append c d)) (omega (arith, length-append c d))
-      ∙ sym (tested_whole limit (length c) (frame_length c) (judgement limit c) h k)
-      ∙ sym (first_frame_is limit c)
+      first_frame-more limit c d (λ e. elim (cut_cases limit c e) [ inl a ↦ absurd (omega arith) | inr a ↦ absurd (omega (arith, a.short)) ])
 
   -- An accepted frame is the same where at least its bytes are there.
   pub first_frame-take : (limit : ℕ) (c : List ℕ) (n : ℕ) (frame : ℕ × List ℕ) → first_frame_under r limit c ≡ Ok frame → frame.0 ≤ n → first_frame_under r limit (take n c) ≡ Ok frame
@@ -245,6 +233,23 @@ module _ (r : Rule) where
   texts_stop limit [] kind h = texts_nil limit 0
   texts_stop limit (b ∷ c) kind h = stop_texts limit b c kind h
 
+  -- What holds of a capture that begins with an accepted frame, where it holds of what is behind that, and of each other, holds of all.
+  pub by_frames : (limit : ℕ) (P : List ℕ → Type 0) → ((c : List ℕ) (frame : ℕ × List ℕ) → first_frame_under r limit c ≡ Ok frame → P (drop (nla_align frame.0) c) → P c) →
+      ((c : List ℕ) (kind : FaultKind) → first_frame_under r limit c ≡ Err kind → P c) → (c : List ℕ) → P c
+  by_frames limit P more stop c = go (length c) c (omega arith)
+    where
+      go : (n : ℕ) (c : List ℕ) → length c ≤ n → P c
+      go zero c l =
+          elim (seen (first_frame_under r limit c)) [
+            | inl w ↦ absurd (omega (arith, (accepted limit c w.0 w.1).header, l))
+            | inr w ↦ stop c w.0 w.1
+          ]
+      go (suc n) c l =
+          elim (seen (first_frame_under r limit c)) [
+            | inl w ↦ let a = accepted limit c w.0 w.1 in more c w.0 w.1 (go n (drop (nla_align w.0.0) c) (omega (arith, a.header, a.low, l, length-drop (nla_align w.0.0) c)))
+            | inr w ↦ stop c w.0 w.1
+          ]
+
   -- How far the whole frames reach, with the padding that the last one is owed: where the first fault stands, or would stand if more came.
   unfoldable pub place_after : ℕ → ℕ → List ℕ → ℕ
   place_after limit skip [] = skip
@@ -262,186 +267,117 @@ module _ (r : Rule) where
   unfolding place_after
   stop_place limit b c kind h = ap (λ j. next_place j (λ skip. place_after limit skip c)) h
 
+  -- What holds of bytes behind so many that are passed over, and of their place, goes byte by byte over what is passed over, and else frame by frame.
+  by_place : (limit : ℕ) (P : ℕ → List ℕ → ℕ → Type 0) → ((skip : ℕ) → P skip [] skip) → ((skip b : ℕ) (s : List ℕ) (p : ℕ) → P skip s p → P (suc skip) (b ∷ s) (suc p)) →
+      ((b : ℕ) (s : List ℕ) (frame : ℕ × List ℕ) (p : ℕ) → first_frame_under r limit (b ∷ s) ≡ Ok frame → P (nla_align frame.0 - 1) s p → P 0 (b ∷ s) (suc p)) →
+      ((b : ℕ) (s : List ℕ) (kind : FaultKind) → first_frame_under r limit (b ∷ s) ≡ Err kind → P 0 (b ∷ s) 0) → (skip : ℕ) (s : List ℕ) → P skip s (place_after limit skip s)
+  unfolding place_after
+  by_place limit P nil pass step stop skip [] = nil skip
+  by_place limit P nil pass step stop (suc skip) (b ∷ s) = pass skip b s _ (by_place limit P nil pass step stop skip s)
+  by_place limit P nil pass step stop zero (b ∷ s) =
+      elim (seen (first_frame_under r limit (b ∷ s))) [
+        | inl w ↦ subst (P 0 (b ∷ s)) (sym (step_place limit b s w.0 w.1)) (step b s w.0 _ w.1 (by_place limit P nil pass step stop (nla_align w.0.0 - 1) s))
+        | inr w ↦ subst (P 0 (b ∷ s)) (sym (stop_place limit b s w.0 w.1)) (stop b s w.0 w.1)
+      ]
+
   -- a frame in front stays one, whatever follows
   frame-more : (limit b : ℕ) (s p : List ℕ) (frame : ℕ × List ℕ) → first_frame_under r limit (b ∷ s) ≡ Ok frame → first_frame_under r limit (b ∷ (s ++ p)) ≡ Ok frame
   frame-more limit b s p frame h = first_frame-more limit (b ∷ s) p (not_cut (first_frame_under r limit (b ∷ s)) frame h) ∙ h
 
   -- The texts of a longer string: those of its front, and those of what the front's whole frames leave.
   pub texts-append : (limit skip : ℕ) (s p : List ℕ) → texts_after_under r limit skip (s ++ p) ≡ texts_after_under r limit skip s ++ texts_under r limit (drop (place_after limit skip s) (s ++ p))
-  unfolding place_after texts_after_under
-  texts-append limit skip [] p = texts_skip limit skip p
-  texts-append limit (suc skip) (b ∷ s) p = texts-append limit skip s p
-  texts-append limit zero (b ∷ s) p =
-      elim (seen (first_frame_under r limit (b ∷ s))) [
-        | inl w ↦
-            let frame = w.0 in
-            step_texts limit b (s ++ p) frame (frame-more limit b s p frame w.1)
-            ∙ ap (λ t. frame.1 ++ t) (texts-append limit (nla_align frame.0 - 1) s p)
-            ∙ sym (append_assoc frame.1 _ _)
-            ∙ ap (λ t. t ++ texts_under r limit (drop (place_after limit (nla_align frame.0 - 1) s) (s ++ p))) (sym (step_texts limit b s frame w.1))
-            ∙ ap (λ n. texts_under r limit (b ∷ s) ++ texts_under r limit (drop n (b ∷ (s ++ p)))) (sym (step_place limit b s frame w.1))
-        | inr w ↦
-            ap (λ n. texts_under r limit (drop n (b ∷ (s ++ p)))) (sym (stop_place limit b s w.0 w.1))
-            ∙ ap (λ t. t ++ texts_under r limit (drop (place limit (b ∷ s)) (b ∷ (s ++ p)))) (sym (stop_texts limit b s w.0 w.1))
-      ]
+  unfolding texts_after_under
+  texts-append limit skip s q =
+      by_place limit (λ skip s p. texts_after_under r limit skip (s ++ q) ≡ texts_after_under r limit skip s ++ texts_under r limit (drop p (s ++ q)))
+      (λ skip. texts_skip limit skip q)
+      (λ skip b s p more. more)
+      (λ b s frame p h more.
+      step_texts limit b (s ++ q) frame (frame-more limit b s q frame h) ∙ ap (λ t. frame.1 ++ t) more ∙ sym (append_assoc frame.1 _ _)
+      ∙ ap (λ t. t ++ texts_under r limit (drop p (s ++ q))) (sym (step_texts limit b s frame h)))
+      (λ b s kind h. ap (λ t. t ++ texts_under r limit (b ∷ (s ++ q))) (sym (stop_texts limit b s kind h))) skip s
 
   -- its first fault is that of what the front's whole frames leave
   pub fault-append : (limit skip : ℕ) (s p : List ℕ) → fault_after_under r limit skip (s ++ p) ≡ raised (place_after limit skip s) (first_fault_under r limit (drop (place_after limit skip s) (s ++ p)))
-  unfolding place_after fault_after_under
-  fault-append limit skip [] p = fault_skip limit skip p
-  fault-append limit (suc skip) (b ∷ s) p =
-      ap (raised 1) (fault-append limit skip s p) ∙ raised_add 1 (place_after limit skip s) (suc (place_after limit skip s)) _ (omega arith)
-  fault-append limit zero (b ∷ s) p =
-      elim (seen (first_frame_under r limit (b ∷ s))) [
-        | inl w ↦
-            let frame = w.0 in
-            step_fault limit b (s ++ p) frame (frame-more limit b s p frame w.1)
-            ∙ ap (raised 1) (fault-append limit (nla_align frame.0 - 1) s p)
-            ∙ raised_add 1 (place_after limit (nla_align frame.0 - 1) s) (suc (place_after limit (nla_align frame.0 - 1) s)) _ (omega arith)
-            ∙ ap (λ n. raised n (first_fault_under r limit (drop n (b ∷ (s ++ p))))) (sym (step_place limit b s frame w.1))
-        | inr w ↦
-            sym (raised_zero (first_fault_under r limit (b ∷ (s ++ p))))
-            ∙ ap (λ n. raised n (first_fault_under r limit (drop n (b ∷ (s ++ p))))) (sym (stop_place limit b s w.0 w.1))
-      ]
+  unfolding fault_after_under
+  fault-append limit skip s q =
+      by_place limit (λ skip s p. fault_after_under r limit skip (s ++ q) ≡ raised p (first_fault_under r limit (drop p (s ++ q))))
+      (λ skip. fault_skip limit skip q)
+      (λ skip b s p more. ap (raised 1) more ∙ raised_add 1 p (suc p) _ (omega arith))
+      (λ b s frame p h more. step_fault limit b (s ++ q) frame (frame-more limit b s q frame h) ∙ ap (raised 1) more ∙ raised_add 1 p (suc p) _ (omega arith))
+      (λ b s kind h. sym (raised_zero (first_fault_under r limit (b ∷ (s ++ q))))) skip s
 
-  -- whole frames reach at least over what is passed over
-  place_low : (limit skip : ℕ) (s : List ℕ) → skip ≤ place_after limit skip s
-  unfolding place_after
-  place_low limit skip [] = omega arith
-  place_low limit (suc skip) (b ∷ s) = let h = place_low limit skip s in omega (arith, h)
-  place_low limit zero (b ∷ s) = omega arith
+  -- What stands before the place is legal, and has the texts; and whole frames reach at least over what is passed over.
+  pub record Base (limit : ℕ) (q : List ℕ) (skip : ℕ) (s : List ℕ) (p : ℕ) : Type 0 where
+    pub low : skip ≤ p
+    pub legal : fault_after_under r limit skip (take p (s ++ q)) ≡ None
+    pub texts : texts_after_under r limit skip (take p (s ++ q)) ≡ texts_after_under r limit skip s
 
-  -- What stands before the place is legal, and has the texts.
-  pub base_fault : (limit skip : ℕ) (s p : List ℕ) → fault_after_under r limit skip (take (place_after limit skip s) (s ++ p)) ≡ None
-  unfolding place_after fault_after_under
-  base_fault limit skip [] p =
-      fault_skip limit skip (take skip p)
-      ∙ ap (λ c. raised skip (first_fault_under r limit c)) (drop_all skip (take skip p) (omega (arith, length-take skip p)))
-  base_fault limit (suc skip) (b ∷ s) p = ap (raised 1) (base_fault limit skip s p)
-  base_fault limit zero (b ∷ s) p =
-      elim (seen (first_frame_under r limit (b ∷ s))) [
-        | inl w ↦
-            let frame = w.0 in
-            let far : ℕ = place_after limit (nla_align frame.0 - 1) s in
-            let low = place_low limit (nla_align frame.0 - 1) s in
-            let h = first_frame-take limit (b ∷ (s ++ p)) (suc far) frame (frame-more limit b s p frame w.1) (omega (arith, low)) in
-            ap (λ n. first_fault_under r limit (take n (b ∷ (s ++ p)))) (step_place limit b s frame w.1)
-            ∙ step_fault limit b (take far (s ++ p)) frame h
-            ∙ ap (raised 1) (base_fault limit (nla_align frame.0 - 1) s p)
-        | inr w ↦ ap (λ n. first_fault_under r limit (take n (b ∷ (s ++ p)))) (stop_place limit b s w.0 w.1)
-      ]
+  pub base : (limit skip : ℕ) (s q : List ℕ) → Base limit q skip s (place_after limit skip s)
+  unfolding fault_after_under texts_after_under
+  base limit skip s q =
+      by_place limit (Base limit q)
+      (λ skip.
+      let none : drop skip (take skip q) ≡ [] = drop_all skip (take skip q) (omega (arith, length-take skip q)) in record {
+        low = omega arith;
+        legal = fault_skip limit skip (take skip q) ∙ ap (λ c. raised skip (first_fault_under r limit c)) none;
+        texts = texts_skip limit skip (take skip q) ∙ ap (texts_under r limit) none;
+      })
+      (λ skip b s p more. record { low = omega (arith, more.low); legal = ap (raised 1) more.legal; texts = more.texts })
+      (λ b s frame p h more.
+      let k = first_frame-take limit (b ∷ (s ++ q)) (suc p) frame (frame-more limit b s q frame h) (omega (arith, more.low)) in record {
+        low = omega arith;
+        legal = step_fault limit b (take p (s ++ q)) frame k ∙ ap (raised 1) more.legal;
+        texts = step_texts limit b (take p (s ++ q)) frame k ∙ ap (λ t. frame.1 ++ t) more.texts ∙ sym (step_texts limit b s frame h);
+      })
+      (λ b s kind h. record { low = omega arith; legal = refl; texts = sym (stop_texts limit b s kind h) }) skip s
 
-  pub base_texts : (limit skip : ℕ) (s p : List ℕ) → texts_after_under r limit skip (take (place_after limit skip s) (s ++ p)) ≡ texts_after_under r limit skip s
-  unfolding place_after texts_after_under
-  base_texts limit skip [] p =
-      texts_skip limit skip (take skip p)
-      ∙ ap (λ c. texts_under r limit c) (drop_all skip (take skip p) (omega (arith, length-take skip p)))
-  base_texts limit (suc skip) (b ∷ s) p = base_texts limit skip s p
-  base_texts limit zero (b ∷ s) p =
-      elim (seen (first_frame_under r limit (b ∷ s))) [
-        | inl w ↦
-            let frame = w.0 in
-            let far : ℕ = place_after limit (nla_align frame.0 - 1) s in
-            let low = place_low limit (nla_align frame.0 - 1) s in
-            let h = first_frame-take limit (b ∷ (s ++ p)) (suc far) frame (frame-more limit b s p frame w.1) (omega (arith, low)) in
-            ap (λ n. texts_under r limit (take n (b ∷ (s ++ p)))) (step_place limit b s frame w.1)
-            ∙ step_texts limit b (take far (s ++ p)) frame h
-            ∙ ap (λ t. frame.1 ++ t) (base_texts limit (nla_align frame.0 - 1) s p)
-            ∙ sym (step_texts limit b s frame w.1)
-        | inr w ↦ ap (λ n. texts_under r limit (take n (b ∷ (s ++ p)))) (stop_place limit b s w.0 w.1) ∙ sym (stop_texts limit b s w.0 w.1)
-      ]
-
-  -- the place is a multiple of 4, where c starts at a place a
-  pub place_start : (limit a skip : ℕ) (s : List ℕ) → (a + skip) % 4 ≡ 0 → (a + place_after limit skip s) % 4 ≡ 0
-  unfolding place_after
-  place_start limit a skip [] h = h
-  place_start limit a (suc skip) (b ∷ s) h = let k = place_start limit (a + 1) skip s (omega arith) in omega (arith, k)
-  place_start limit a zero (b ∷ s) h =
-      elim (seen (first_frame_under r limit (b ∷ s))) [
-        | inl w ↦
-            let frame = w.0 in
-            let f = accepted limit (b ∷ s) frame w.1 in
-            let k = place_start limit (a + 1) (nla_align frame.0 - 1) s (omega (arith, f.low)) in
-            rw (step_place limit b s frame w.1) (omega (arith, k))
-        | inr w ↦ rw (stop_place limit b s w.0 w.1) h
-      ]
-
-  -- and at most 3 past the end
-  pub place_near : (limit skip : ℕ) (s : List ℕ) → skip ≤ length s + 3 → place_after limit skip s ≤ length s + 3
-  unfolding place_after
-  place_near limit skip [] h = h
-  place_near limit (suc skip) (b ∷ s) h = let k = place_near limit skip s (omega arith) in omega (arith, k)
-  place_near limit zero (b ∷ s) h =
-      elim (seen (first_frame_under r limit (b ∷ s))) [
-        | inl w ↦
-            let frame = w.0 in
-            let f = accepted limit (b ∷ s) frame w.1 in
-            let k = place_near limit (nla_align frame.0 - 1) s (omega (arith, f.whole)) in
-            rw (step_place limit b s frame w.1) (omega (arith, k))
-        | inr w ↦ rw (stop_place limit b s w.0 w.1) (omega arith)
-      ]
+  -- the place is a multiple of 4, and at most 3 past the end
+  pub place_fits : (limit : ℕ) (c : List ℕ) → (place limit c % 4 ≡ 0) × (place limit c ≤ length c + 3)
+  place_fits limit c =
+      let f =
+      by_place limit (λ skip s p. (a : ℕ) → (a + skip) % 4 ≡ 0 → skip ≤ length s + 3 → ((a + p) % 4 ≡ 0) × (p ≤ length s + 3))
+      (λ skip a h l. (h, l))
+      (λ skip b s p more a h l. let k = more (a + 1) (omega arith) (omega arith) in (omega (arith, k.0), omega (arith, k.1)))
+      (λ b s frame p h more a z l.
+      let f = accepted limit (b ∷ s) frame h in
+      let k = more (a + 1) (omega (arith, f.low)) (omega (arith, f.whole)) in (omega (arith, k.0), omega (arith, k.1)))
+      (λ b s kind h a z l. (z, omega arith)) 0 c 0 refl (omega arith) in (omega (arith, f.0), f.1)
 
   -- What stands at the place: nothing more, or a fault.
-  pub record Stuck (limit skip : ℕ) (s : List ℕ) (kind : FaultKind) : Type 0 where
-    pub inside : place_after limit skip s < length s
-    pub first_frame_is : first_frame_under r limit (drop (place_after limit skip s) s) ≡ Err kind
-    pub fault_is : fault_after_under r limit skip s ≡ Some (record { kind = kind; offset = place_after limit skip s })
+  pub record Stuck (limit skip : ℕ) (s : List ℕ) (p : ℕ) (kind : FaultKind) : Type 0 where
+    pub inside : p < length s
+    pub first_frame_is : first_frame_under r limit (drop p s) ≡ Err kind
+    pub fault_is : fault_after_under r limit skip s ≡ Some (record { kind = kind; offset = p })
 
-  pub record Over (limit skip : ℕ) (s : List ℕ) : Type 0 where
-    pub outside : length s ≤ place_after limit skip s
+  pub record Over (limit skip : ℕ) (s : List ℕ) (p : ℕ) : Type 0 where
+    pub outside : length s ≤ p
     pub fault_is : fault_after_under r limit skip s ≡ None
 
-  pub stops : (limit skip : ℕ) (s : List ℕ) → Over limit skip s ⊎ ((kind : FaultKind) × Stuck limit skip s kind)
-  unfolding place_after fault_after_under
-  stops limit skip [] = inl (record { outside = omega arith; fault_is = refl })
-  stops limit (suc skip) (b ∷ s) =
-      elim (stops limit skip s) [
-        | inl w ↦ inl (record { outside = omega (arith, w.outside); fault_is = ap (raised 1) w.fault_is })
-        | inr w ↦ inr (
-          w.0,
-          record {
-            inside = omega (arith, w.1.inside);
-            first_frame_is = w.1.first_frame_is;
-            fault_is = ap (raised 1) w.1.fault_is ∙ raised_one w.0 (place_after limit skip s);
-          },
-        )
-      ]
-  stops limit zero (b ∷ s) =
-      elim (seen (first_frame_under r limit (b ∷ s))) [
-        | inl w ↦
-            let frame = w.0 in
-            let far : ℕ = place_after limit (nla_align frame.0 - 1) s in
-            let at = step_place limit b s frame w.1 in
-            elim (stops limit (nla_align frame.0 - 1) s) [
-              | inl v ↦ inl (record { outside = omega (arith, v.outside, at); fault_is = step_fault limit b s frame w.1 ∙ ap (raised 1) v.fault_is })
-              | inr v ↦ inr (
-                v.0,
-                record {
-                  inside = omega (arith, v.1.inside, at);
-                  first_frame_is = ap (λ n. first_frame_under r limit (drop n (b ∷ s))) at ∙ v.1.first_frame_is;
-                  fault_is = step_fault limit b s frame w.1 ∙ ap (raised 1) v.1.fault_is ∙ raised_one v.0 far ∙ ap (λ n. Some (record { kind = v.0; offset = n })) (sym at);
-                },
-              )
-            ]
-        | inr w ↦
-            let at = stop_place limit b s w.0 w.1 in
-            inr (
-              w.0,
-              record {
-                inside = omega (arith, at);
-                first_frame_is = ap (λ n. first_frame_under r limit (drop n (b ∷ s))) at ∙ w.1;
-                fault_is = stop_fault limit b s w.0 w.1 ∙ ap (λ n. Some (record { kind = w.0; offset = n })) (sym at);
-              },
-            )
-      ]
+  abbrev pub Stops : ℕ → ℕ → List ℕ → ℕ → Type 0
+  Stops limit skip s p = Over limit skip s p ⊎ ((kind : FaultKind) × Stuck limit skip s p kind)
+
+  stops_further : (limit skip skip' b : ℕ) (s : List ℕ) (p : ℕ) → fault_after_under r limit skip' (b ∷ s) ≡ raised 1 (fault_after_under r limit skip s) → Stops limit skip s p → Stops limit skip' (b ∷ s) (suc p)
+  stops_further limit skip skip' b s p e (inl w) = inl (record { outside = omega (arith, w.outside); fault_is = e ∙ ap (raised 1) w.fault_is })
+  stops_further limit skip skip' b s p e (inr w) = inr (
+    w.0,
+    record { inside = omega (arith, w.1.inside); first_frame_is = w.1.first_frame_is; fault_is = e ∙ ap (raised 1) w.1.fault_is ∙ raised_one w.0 p },
+  )
+
+  pub stops : (limit skip : ℕ) (s : List ℕ) → Stops limit skip s (place_after limit skip s)
+  unfolding fault_after_under
+  stops limit =
+      by_place limit (Stops limit)
+      (λ skip. inl (record { outside = omega arith; fault_is = refl }))
+      (λ skip b s p more. stops_further limit skip (suc skip) b s p refl more)
+      (λ b s frame p h more. stops_further limit (nla_align frame.0 - 1) 0 b s p (step_fault limit b s frame h) more)
+      (λ b s kind h. inr (kind, record { inside = omega arith; first_frame_is = h; fault_is = stop_fault limit b s kind h }))
 
   -- A legal string reaches up to the next multiple of 4.
   pub place_legal : (limit : ℕ) (c : List ℕ) → IsLegalUnder r limit c → place limit c ≡ nla_align (length c)
   place_legal limit c h =
-      let near = place_near limit 0 c (omega arith) in
-      let start = place_start limit 0 0 c refl in
+      let fits = place_fits limit c in
       elim (stops limit 0 c) [
-        | inl w ↦ omega (arith, w.outside, near, start)
+        | inl w ↦ omega (arith, w.outside, fits.0, fits.1)
         | inr w ↦ (let f = w.1.fault_is in cc)
       ]
 
@@ -480,31 +416,6 @@ module _ (r : Rule) where
       ∙ ap (λ t. frame.1 ++ t) (texts_nil limit 0)
       ∙ append-nil frame.1
 
-  judgement_not_cut : (limit : ℕ) (c : List ℕ) → judgement limit c ≢ Err Cut
-  unfolding judgement
-  judgement_not_cut limit c h = judged_not_cut limit c (body_text_under r (frame_type c) (frame_body c)) h
-
-  -- What is cut is too short for its header, or for the length that this tells.
-  pub cut_cases : (limit : ℕ) (c : List ℕ) → first_frame_under r limit c ≡ Err Cut → (length c < 16) ⊎ CutInBody limit c
-  cut_cases limit c h =
-      let t : tested limit (length c) (frame_length c) (judgement limit c) ≡ Err Cut = sym (first_frame_is limit c) ∙ h in
-      elim (guard (ltb (length c) 16) _ _ _ t) [
-        | inl a ↦ inl (ltb-true _ _ a.0)
-        | inr a ↦
-            elim (guard (ltb (frame_length c) 16) _ _ _ a.1) [
-              | inl b ↦ (let e = b.1 in cc)
-              | inr b ↦
-                  elim (guard (ltb limit (frame_length c)) _ _ _ b.1) [
-                    | inl d ↦ (let e = d.1 in cc)
-                    | inr d ↦
-                        elim (guard (ltb (length c) (frame_length c)) _ _ _ d.1) [
-                          | inl e ↦ inr (record { header = ltb-false _ _ a.0; low = ltb-false _ _ b.0; high = ltb-false _ _ d.0; short = ltb-true _ _ e.0 })
-                          | inr e ↦ absurd (judgement_not_cut limit c e.1)
-                        ]
-                  ]
-            ]
-      ]
-
   -- the first fault stands where the whole frames end
   pub fault_place : (limit : ℕ) (c : List ℕ) (fault : CaptureFault) → first_fault_under r limit c ≡ Some fault → place limit c ≡ fault.offset
   fault_place limit c fault h =
@@ -516,32 +427,16 @@ module _ (r : Rule) where
   pub fault_inside : (limit : ℕ) (c : List ℕ) (fault : CaptureFault) → first_fault_under r limit c ≡ Some fault → (fault.offset < length c) × (fault.offset % 4 ≡ 0)
   fault_inside limit c fault h =
       let at = fault_place limit c fault h in
-      let start = place_start limit 0 0 c refl in
       elim (stops limit 0 c) [
         | inl w ↦ (let f = w.fault_is in cc)
-        | inr w ↦ (omega (arith, w.1.inside, at), omega (arith, start, at))
+        | inr w ↦ (omega (arith, w.1.inside, at), omega (arith, (place_fits limit c).0, at))
       ]
 
   first_frame_kinds : (limit : ℕ) (c : List ℕ) (kind : FaultKind) → first_frame_under r limit c ≡ Err kind → IsOfFrames kind
   unfolding judgement
   first_frame_kinds limit c kind h =
-      let t : tested limit (length c) (frame_length c) (judgement limit c) ≡ Err kind = sym (first_frame_is limit c) ∙ h in
-      elim (guard (ltb (length c) 16) _ _ _ t) [
-        | inl a ↦ (let e : Cut ≡ kind = (let f = a.1 in cc) in subst IsOfFrames e tt)
-        | inr a ↦
-            elim (guard (ltb (frame_length c) 16) _ _ _ a.1) [
-              | inl b ↦ (let e : ShortLength ≡ kind = (let f = b.1 in cc) in subst IsOfFrames e tt)
-              | inr b ↦
-                  elim (guard (ltb limit (frame_length c)) _ _ _ b.1) [
-                    | inl d ↦ (let e : OverLimit ≡ kind = (let f = d.1 in cc) in subst IsOfFrames e tt)
-                    | inr d ↦
-                        elim (guard (ltb (length c) (frame_length c)) _ _ _ d.1) [
-                          | inl e ↦ (let g : Cut ≡ kind = (let f = e.1 in cc) in subst IsOfFrames g tt)
-                          | inr e ↦ judged_kinds limit c (body_text_under r (frame_type c) (frame_body c)) kind e.1
-                        ]
-                  ]
-            ]
-      ]
+      subst HasFrameKind (sym (first_frame_is limit c) ∙ h) (tested_by limit (length c) (frame_length c) (judgement limit c) HasFrameKind (λ a. tt) (λ a. tt) (λ a. tt) (λ a b d e. tt)
+      (λ a b d e. judged_kinds limit c (body_text_under r (frame_type c) (frame_body c))))
 
   pub fault_kinds : (limit : ℕ) (c : List ℕ) (fault : CaptureFault) → first_fault_under r limit c ≡ Some fault → IsOfFrames fault.kind
   fault_kinds limit c fault h =

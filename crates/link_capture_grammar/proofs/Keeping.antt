@@ -8,10 +8,9 @@ use Rattle.link_capture_grammar.specs.Bodies.{is_link_type, body_text_under}
 use Rattle.link_capture_grammar.specs.Captures.{first_frame_under}
 use Rattle.link_capture_grammar.specs.Laws.{IsLimit, IsBodyKept, TextsKeepFrames}
 use Rattle.link_capture_grammar.proofs.Frames.{accepted}
-use Rattle.link_capture_grammar.proofs.Meanings.{yes, no}
 use Rattle.link_capture_grammar.proofs.Normal.{ruled, text_body, text_header, text_length, texted}
 use Rattle.link_capture_grammar.proofs.Same.{error_is}
-use Rattle.link_capture_grammar.proofs.SameFrames.{link_ruled}
+use Rattle.link_capture_grammar.proofs.SameFrames.{yes, no, link_ruled}
 
 -- the text of a frame with nothing behind it
 unfollowed : (c body : List ℕ) → frame_text c body ++ [] ≡ frame_text c body

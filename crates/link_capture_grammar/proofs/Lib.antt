@@ -1,4 +1,5 @@
 pub mod Frames
+pub mod Bodies
 pub mod Normal
 pub mod Small
 pub mod Together

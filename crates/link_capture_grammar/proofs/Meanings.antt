@@ -13,16 +13,10 @@ use Rattle.link_capture_grammar.specs.Bodies.{done_text, ruled_text, is_link_typ
 use Rattle.link_capture_grammar.specs.Captures.{first_frame_under, texts_under, IsLegalUnder}
 use Rattle.link_capture_grammar.specs.Laws.{BodiesTellMeanings, TextsTellMeanings}
 use Rattle.link_capture_grammar.specs.Same.{done_body, same_body_under, SameFrameUnder, SameFramesUnder, SameCaptureUnder}
+use Rattle.link_capture_grammar.proofs.Bodies.{by_type}
 use Rattle.link_capture_grammar.proofs.Frames.{accepted, guard, texts_step}
 use Rattle.link_capture_grammar.proofs.Normal.{header_size, ruled, texted}
-use Rattle.link_capture_grammar.proofs.Same.{equal_bytes, error_is, error_type, texts_mean_the_same}
-
--- a test that was decided
-pub yes : {A : Type 0} (b : Bool) (x y z : A) → b ≡ true → cond b x y ≡ z → x ≡ z
-yes b x y z k h = subst (λ c. cond c x y ≡ z) k h
-
-pub no : {A : Type 0} (b : Bool) (x y z : A) → b ≡ false → cond b x y ≡ z → y ≡ z
-no b x y z k h = subst (λ c. cond c x y ≡ z) k h
+use Rattle.link_capture_grammar.proofs.Same.{equal_bytes, error_is, texts_mean_the_same}
 
 -- ---- bodies and frames in front
 
@@ -77,75 +71,21 @@ module _ (r : Rule) (lawful : Lawful r) where
       let m = ruled r b y g in
       lawful.one_meaning a b k.accepted m.accepted (k.is ∙ e ∙ sym m.is)
 
-  -- the tests that lead to a link or another body
-  last_told : (t : ℕ) (a b x y : List ℕ) → cond (is_link_type t) (ruled_text r a) (Ok a) ≡ Ok x → cond (is_link_type t) (ruled_text r b) (Ok b) ≡ Ok y → cond (is_link_type t) (r.same a b) (bytes_eq a b) ≡ true → x ≡ y
-  last_told t a b x y h g s =
-      elim (cases_Bool (is_link_type t)) [
-        | inl k ↦ ruled_told a b x y (yes (is_link_type t) _ _ _ k h) (yes (is_link_type t) _ _ _ k g) (yes (is_link_type t) _ _ _ k s)
-        | inr k ↦
-            let p : a ≡ x = (let f = no (is_link_type t) _ _ _ k h in cc) in
-            let q : b ≡ y = (let f = no (is_link_type t) _ _ _ k g in cc) in
-            sym p ∙ bytes_from a b (no (is_link_type t) _ _ _ k s) ∙ q
-      ]
-
-  last_tells : (t : ℕ) (a b x y : List ℕ) → cond (is_link_type t) (ruled_text r a) (Ok a) ≡ Ok x → cond (is_link_type t) (ruled_text r b) (Ok b) ≡ Ok y → x ≡ y → cond (is_link_type t) (r.same a b) (bytes_eq a b) ≡ true
-  last_tells t a b x y h g e =
-      elim (cases_Bool (is_link_type t)) [
-        | inl k ↦ rw k (ruled_tells a b x y (yes (is_link_type t) _ _ _ k h) (yes (is_link_type t) _ _ _ k g) e)
-        | inr k ↦
-            let p : a ≡ x = (let f = no (is_link_type t) _ _ _ k h in cc) in
-            let q : b ≡ y = (let f = no (is_link_type t) _ _ _ k g in cc) in
-            rw k (equal_bytes a b (p ∙ e ∙ sym q))
-      ]
-
   body_told : (t : ℕ) (a b x y : List ℕ) → body_text_under r t a ≡ Ok x → body_text_under r t b ≡ Ok y → same_body_under r t a b ≡ true → x ≡ y
-  unfolding body_text_under same_body_under
-  body_told t a b x y h g s =
-      elim (cases_Bool (eqb t 1)) [
-        | inl k ↦
-            let p : [] ≡ x = (let f = yes (eqb t 1) _ _ _ k h in cc) in
-            let q : [] ≡ y = (let f = yes (eqb t 1) _ _ _ k g in cc) in
-            sym p ∙ q
-        | inr k ↦
-            let h1 = no (eqb t 1) _ _ _ k h in
-            let g1 = no (eqb t 1) _ _ _ k g in
-            let s1 = no (eqb t 1) _ _ _ k s in
-            elim (cases_Bool (eqb t 2)) [
-              | inl m ↦
-                  let e = error_type t m in
-                  let s3 = no (is_link_type t) _ _ _ e.1 (no (eqb t 3) _ _ _ e.0 s1) in
-                  sym (error_is a x (yes (eqb t 2) _ _ _ m h1)) ∙ bytes_from a b s3 ∙ error_is b y (yes (eqb t 2) _ _ _ m g1)
-              | inr m ↦
-                  let h2 = no (eqb t 2) _ _ _ m h1 in
-                  let g2 = no (eqb t 2) _ _ _ m g1 in
-                  elim (cases_Bool (eqb t 3)) [
-                    | inl n ↦ sym (done_text_is a x (yes (eqb t 3) _ _ _ n h2)) ∙ bytes_from (done_body a) (done_body b) (yes (eqb t 3) _ _ _ n s1) ∙ done_text_is b y (yes (eqb t 3) _ _ _ n g2)
-                    | inr n ↦ last_told t a b x y (no (eqb t 3) _ _ _ n h2) (no (eqb t 3) _ _ _ n g2) (no (eqb t 3) _ _ _ n s1)
-                  ]
-            ]
-      ]
+  body_told = by_type r (λ text same attributes. (a b x y : List ℕ) → text a ≡ Ok x → text b ≡ Ok y → same a b ≡ true → x ≡ y)
+      (λ a b x y h g s. cc)
+      (λ a b x y h g s. sym (error_is a x h) ∙ bytes_from a b s ∙ error_is b y g)
+      (λ a b x y h g s. sym (done_text_is a x h) ∙ bytes_from (done_body a) (done_body b) s ∙ done_text_is b y g)
+      ruled_told
+      (λ a b x y h g s. cc (bytes_from a b s))
 
   pub body_tells : (t : ℕ) (a b x y : List ℕ) → body_text_under r t a ≡ Ok x → body_text_under r t b ≡ Ok y → x ≡ y → same_body_under r t a b ≡ true
-  unfolding body_text_under same_body_under
-  body_tells t a b x y h g z =
-      elim (cases_Bool (eqb t 1)) [
-        | inl k ↦ rw k refl
-        | inr k ↦
-            let h1 = no (eqb t 1) _ _ _ k h in
-            let g1 = no (eqb t 1) _ _ _ k g in
-            rw k (elim (cases_Bool (eqb t 2)) [
-              | inl m ↦
-                  let e = error_type t m in
-                  rw (e.0, e.1) (equal_bytes a b (error_is a x (yes (eqb t 2) _ _ _ m h1) ∙ z ∙ sym (error_is b y (yes (eqb t 2) _ _ _ m g1))))
-              | inr m ↦
-                  let h2 = no (eqb t 2) _ _ _ m h1 in
-                  let g2 = no (eqb t 2) _ _ _ m g1 in
-                  elim (cases_Bool (eqb t 3)) [
-                    | inl n ↦ rw n (equal_bytes (done_body a) (done_body b) (done_text_is a x (yes (eqb t 3) _ _ _ n h2) ∙ z ∙ sym (done_text_is b y (yes (eqb t 3) _ _ _ n g2))))
-                    | inr n ↦ rw n (last_tells t a b x y (no (eqb t 3) _ _ _ n h2) (no (eqb t 3) _ _ _ n g2) z)
-                  ]
-            ])
-      ]
+  body_tells = by_type r (λ text same attributes. (a b x y : List ℕ) → text a ≡ Ok x → text b ≡ Ok y → x ≡ y → same a b ≡ true)
+      (λ a b x y h g e. refl)
+      (λ a b x y h g e. equal_bytes a b (error_is a x h ∙ e ∙ sym (error_is b y g)))
+      (λ a b x y h g e. equal_bytes (done_body a) (done_body b) (done_text_is a x h ∙ e ∙ sym (done_text_is b y g)))
+      ruled_tells
+      (λ a b x y h g e. equal_bytes a b cc)
 
   -- ---- frames in front
 

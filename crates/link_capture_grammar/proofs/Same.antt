@@ -1,7 +1,6 @@
 -- A legal capture and its normal text mean the same; captures that mean the same are legal.
-use Rattle.std.proofs.Common.{◌≡◌, ℕ, zero, suc, ◌-◌, ◌^◌, ◌<◌, ◌≤◌, eqb, ltb, true, false, cond, List, [], ◌∷◌, ◌++◌, length, drop, Option, None, Some, Ok, refl, sym, ap, subst, ◌∙◌, inl, inr, arith}
+use Rattle.std.proofs.Common.{◌≡◌, ℕ, zero, suc, ◌-◌, ◌^◌, ◌<◌, ◌≤◌, eqb, ltb, true, false, cond, List, [], ◌∷◌, ◌++◌, length, drop, Option, None, Some, Ok, Err, refl, sym, ap, subst, ◌∙◌, inl, inr, arith}
 use Rattle.std.specs.Prelude.{bytes_eq}
-use Rattle.std.proofs.lemmas.Bool.{eqb-true}
 use Rattle.std.proofs.lemmas.Slice.Eq.{bytes_eq-Decides}
 use Rattle.netlink_packet_core_grammar.specs.Attributes.{nla_align}
 use Rattle.netlink_packet_core_grammar.specs.Frames.{frame_type, frame_body, frame_text}
@@ -9,11 +8,13 @@ use Rattle.attribute_tables_grammar.specs.Rules.{Rule, Lawful}
 use Rattle.attribute_tables_grammar.proofs.Attributes.{renews_itself}
 use Rattle.attribute_tables_grammar.proofs.Together.{keeps_meaning}
 use Rattle.link_capture_grammar.specs.declared.fault.CaptureFault.{CaptureFault}
+use Rattle.link_capture_grammar.specs.declared.fault.FaultKind.{FaultKind}
 use Rattle.link_capture_grammar.specs.Bodies.{error_text, done_text, ruled_text, is_link_type, body_text_under}
-use Rattle.link_capture_grammar.specs.Captures.{first_frame_under, raised, fault_after_under, texts_after_under, first_fault_under, IsLegalUnder}
+use Rattle.link_capture_grammar.specs.Captures.{first_frame_under, raised, first_fault_under, texts_under, IsLegalUnder}
 use Rattle.link_capture_grammar.specs.Same.{done_body, same_body_under, SameFrameUnder, SameFramesUnder, SameCaptureUnder}
 use Rattle.link_capture_grammar.specs.Laws.{TextsMeanTheSame, SameAreLegal}
-use Rattle.link_capture_grammar.proofs.Frames.{accepted, guard, seen, fault_skip, fault_step, fault_stop, step_texts, fault_nil}
+use Rattle.link_capture_grammar.proofs.Bodies.{by_type}
+use Rattle.link_capture_grammar.proofs.Frames.{accepted, by_frames, guard, fault_step, fault_stop, texts_step, texts_stop, fault_nil}
 use Rattle.link_capture_grammar.proofs.Normal.{ruled, texted, text_header, text_body, first_frame_again}
 
 -- ---- a body and its text
@@ -35,23 +36,11 @@ done_is b text h =
       | inr k ↦ ap done_body (error_is b text k.1)
     ]
 
--- ERROR is none of the types of links
-pub error_type : (t : ℕ) → eqb t 2 ≡ true → (eqb t 3 ≡ false) × (is_link_type t ≡ false)
-error_type t h = let e : t ≡ 2 = eqb-true t 2 h in rw e (refl, refl)
-
 -- ---- steps
 
 pub not_raised : (k : ℕ) (f : Option CaptureFault) → raised k f ≡ None → f ≡ None
 not_raised k None h = refl
 not_raised k (Some fault) h = absurd cc
-
-drop_nil : (n : ℕ) → drop {A = ℕ} n [] ≡ []
-drop_nil zero = refl
-drop_nil (suc n) = refl
-
-drop_one_less : (n b : ℕ) (c : List ℕ) → 1 ≤ n → drop n (b ∷ c) ≡ drop (n - 1) c
-drop_one_less zero b c h = absurd (omega arith)
-drop_one_less (suc n) b c h = let e : n ≡ suc n - 1 = omega arith in ap (λ m. drop m c) e
 
 -- ---- captures that mean the same are legal
 
@@ -73,27 +62,13 @@ module _ (r : Rule) (lawful : Lawful r) where
       let k = ruled r b text h in
       subst (λ x. r.same b x ≡ true) k.is (keeps_meaning r lawful b k.accepted k.empty_ports)
 
-  -- the tests that lead to a link or another body
-  last_same : (t : ℕ) (b text : List ℕ) → cond (is_link_type t) (ruled_text r b) (Ok b) ≡ Ok text → cond (is_link_type t) (r.same b text) (bytes_eq b text) ≡ true
-  last_same t b text h =
-      elim (guard (is_link_type t) _ _ _ h) [
-        | inl k ↦ rw k.0 (ruled_same b text k.1)
-        | inr k ↦ rw k.0 (equal_bytes b text (let f = k.1 in cc))
-      ]
-
-  pub text_same : (t : ℕ) (b text : List ℕ) → body_text_under r t b ≡ Ok text → same_body_under r t b text ≡ true
-  unfolding body_text_under same_body_under
-  text_same t b text h =
-      elim (guard (eqb t 1) _ _ _ h) [
-        | inl k ↦ rw k.0 refl
-        | inr k ↦ rw k.0 (elim (guard (eqb t 2) _ _ _ k.1) [
-          | inl m ↦ (let e = error_type t m.0 in rw (e.0, e.1) (equal_bytes b text (error_is b text m.1)))
-          | inr m ↦ elim (guard (eqb t 3) _ _ _ m.1) [
-            | inl n ↦ rw n.0 (equal_bytes (done_body b) (done_body text) (done_is b text n.1))
-            | inr n ↦ rw n.0 (last_same t b text n.1)
-          ]
-        ])
-      ]
+  text_same : (t : ℕ) (b text : List ℕ) → body_text_under r t b ≡ Ok text → same_body_under r t b text ≡ true
+  text_same = by_type r (λ text same attributes. (b x : List ℕ) → text b ≡ Ok x → same b x ≡ true)
+      (λ b x h. refl)
+      (λ b x h. equal_bytes b x (error_is b x h))
+      (λ b x h. equal_bytes (done_body b) (done_body x) (done_is b x h))
+      ruled_same
+      (λ b x h. equal_bytes b x cc)
 
   -- ---- a frame and its text
 
@@ -109,29 +84,18 @@ module _ (r : Rule) (lawful : Lawful r) where
 
   -- ---- a capture and its normal text
 
-  same_after : (limit skip : ℕ) (c : List ℕ) → limit < 2 ^ 32 → fault_after_under r limit skip c ≡ None → SameCaptureUnder r limit (drop skip c) (texts_after_under r limit skip c)
-  unfolding fault_after_under texts_after_under
-  same_after limit skip [] l h = (0, (drop_nil skip, refl))
-  same_after limit (suc skip) (b ∷ c) l h = same_after limit skip c l (not_raised 1 _ h)
-  same_after limit zero (b ∷ c) l h =
-      elim (seen (first_frame_under r limit (b ∷ c))) [
-        | inl w ↦
-            let frame = w.0 in
-            let a = accepted r limit (b ∷ c) frame w.1 in
-            let rest : List ℕ = texts_after_under r limit (nla_align frame.0 - 1) c in
-            let f = first_frame_again r r (renews_itself r lawful) limit (b ∷ c) frame frame rest l w.1 w.1 in
-            let k : nla_align frame.0 ≡ suc (nla_align frame.0 - 1) = omega (arith, a.low) in
-            let none : first_fault_under r limit (drop (nla_align frame.0) (b ∷ c)) ≡ None = not_raised (nla_align frame.0) _ (sym (fault_step r limit (b ∷ c) frame w.1) ∙ h) in
-            let none' : fault_after_under r limit (nla_align frame.0 - 1) c ≡ None =
-            fault_skip r limit (nla_align frame.0 - 1) c ∙ ap (raised (nla_align frame.0 - 1)) (ap (first_fault_under r limit) (sym (drop_one_less (nla_align frame.0) b c (omega (arith, k)))) ∙ none) in
-            let i = same_after limit (nla_align frame.0 - 1) c l none' in
-            let here : SameFramesUnder r limit i.0 (drop (nla_align frame.0) (b ∷ c)) (drop (nla_align f.0) (frame.1 ++ rest)) =
-            subst (λ (y : List ℕ). SameFramesUnder r limit i.0 y (drop (nla_align f.0) (frame.1 ++ rest))) (sym (drop_one_less (nla_align frame.0) b c (omega (arith, k))))
-            (subst (λ (y : List ℕ). SameFramesUnder r limit i.0 (drop (nla_align frame.0 - 1) c) y) (sym f.2) i.1) in
-            subst (λ (y : List ℕ). SameCaptureUnder r limit (b ∷ c) y) (sym (step_texts r limit b c frame w.1))
-            (suc i.0, (frame, (f.0, frame.1), w.1, f.1, frame_same limit (b ∷ c) frame rest l w.1, here))
-        | inr w ↦ (let e = sym (fault_stop r limit (b ∷ c) w.0 (omega arith) w.1) ∙ h in absurd cc)
-      ]
-
   pub texts_mean_the_same : TextsMeanTheSame r
-  texts_mean_the_same limit c l h = same_after limit 0 c l h
+  texts_mean_the_same limit c l =
+      by_frames r limit (λ c. IsLegalUnder r limit c → SameCaptureUnder r limit c (texts_under r limit c))
+      (λ c frame h behind legal.
+      let rest = texts_under r limit (drop (nla_align frame.0) c) in
+      let f = first_frame_again r r (renews_itself r lawful) limit c frame frame rest l h h in
+      let i = behind (not_raised (nla_align frame.0) _ (sym (fault_step r limit c frame h) ∙ legal)) in
+      let there : SameFramesUnder r limit i.0 (drop (nla_align frame.0) c) (drop (nla_align f.0) (frame.1 ++ rest)) =
+      subst (λ (y : List ℕ). SameFramesUnder r limit i.0 (drop (nla_align frame.0) c) y) (sym f.2) i.1 in
+      subst (λ (y : List ℕ). SameCaptureUnder r limit c y) (sym (texts_step r limit c frame h)) (suc i.0, (frame, (f.0, frame.1), h, f.1, frame_same limit c frame rest l h, there)))
+      (λ c kind h legal. (0, (no_bytes c kind h legal, texts_stop r limit c kind h))) c
+    where
+      no_bytes : (c : List ℕ) (kind : FaultKind) → first_frame_under r limit c ≡ Err kind → IsLegalUnder r limit c → c ≡ []
+      no_bytes [] kind h legal = refl
+      no_bytes (b ∷ c) kind h legal = absurd (let e = sym (fault_stop r limit (b ∷ c) kind (omega arith) h) ∙ legal in cc)

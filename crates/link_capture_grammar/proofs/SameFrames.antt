@@ -1,5 +1,5 @@
 -- Legal captures mean the same frame by frame.
-use Rattle.std.proofs.Common.{◌≡◌, ℕ, zero, suc, ◌<◌, ◌≤◌, eqb, true, List, [], ◌∷◌, ◌++◌, length, take, drop, Ok, inl, inr, refl, sym, ap, subst, ◌∙◌, arith}
+use Rattle.std.proofs.Common.{◌≡◌, ℕ, zero, suc, ◌<◌, ◌≤◌, eqb, Bool, true, false, cond, List, [], ◌∷◌, ◌++◌, length, take, drop, Ok, inl, inr, refl, sym, ap, subst, ◌∙◌, arith}
 use Rattle.std.specs.Prelude.{nat_le}
 use Rattle.std.proofs.lemmas.Bool.{ne_eqb, leb-true, and_parts}
 use Rattle.std.proofs.lemmas.List.{take-append-drop}
@@ -11,9 +11,16 @@ use Rattle.link_capture_grammar.specs.Captures.{first_frame_under, IsLegalUnder}
 use Rattle.link_capture_grammar.specs.Laws.{LegalFrameUnder, WantsHeaders, SamenessGoesByFrames}
 use Rattle.link_capture_grammar.specs.Same.{same_body_under, SameFrameUnder, SameFramesUnder, SameCaptureUnder}
 use Rattle.link_capture_grammar.proofs.Frames.{accepted, fault_step, fault_stop, first_frame-more, first_frame-take, frame_body-more, frame_header-more, seen}
-use Rattle.link_capture_grammar.proofs.Meanings.{yes, no, body_tells}
+use Rattle.link_capture_grammar.proofs.Meanings.{body_tells}
 use Rattle.link_capture_grammar.proofs.Normal.{ruled, texted}
 use Rattle.link_capture_grammar.proofs.Same.{not_raised}
+
+-- a test that was decided
+pub yes : {A : Type 0} (b : Bool) (x y z : A) → b ≡ true → cond b x y ≡ z → x ≡ z
+yes b x y z k h = subst (λ c. cond c x y ≡ z) k h
+
+pub no : {A : Type 0} (b : Bool) (x y z : A) → b ≡ false → cond b x y ≡ z → y ≡ z
+no b x y z k h = subst (λ c. cond c x y ≡ z) k h
 
 module _ (r : Rule) where
   -- a link's body has the text of its rule

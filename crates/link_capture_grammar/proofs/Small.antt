@@ -5,8 +5,9 @@ use Rattle.netlink_packet_core_grammar.specs.Attributes.{nla_align}
 use Rattle.netlink_packet_core_grammar.specs.Frames.{frame_length, frame_type, frame_body}
 use Rattle.attribute_tables_grammar.specs.Rules.{Rule, Lawful}
 use Rattle.link_capture_grammar.specs.Bodies.{error_text, done_text, is_link_type, ruled_text, body_text_under}
-use Rattle.link_capture_grammar.specs.Captures.{first_frame_under, texts_after_under}
-use Rattle.link_capture_grammar.proofs.Frames.{guard, accepted, seen, step_texts, stop_texts}
+use Rattle.link_capture_grammar.specs.Captures.{first_frame_under, texts_under}
+use Rattle.link_capture_grammar.proofs.Bodies.{by_type}
+use Rattle.link_capture_grammar.proofs.Frames.{guard, accepted, by_frames, texts_step, texts_stop}
 use Rattle.link_capture_grammar.proofs.Normal.{ruled, texted, frame_text_size}
 
 -- a body's text, with a header of 4 bytes and padding, is at most 77 times as long as the body with one
@@ -34,21 +35,9 @@ module _ (r : Rule) (lawful : Lawful r) where
       subst (λ (x : List ℕ). nla_align (4 + length x) ≤ 77 * (4 + length b)) k.is (lawful.bounded b k.accepted)
 
   body_small : (t : ℕ) (b text : List ℕ) → body_text_under r t b ≡ Ok text → nla_align (4 + length text) ≤ 77 * (4 + length b)
-  unfolding body_text_under
-  body_small t b text h =
-      elim (guard (eqb t 1) _ _ _ h) [
-        | inl k ↦ (let e : [] ≡ text = (let f = k.1 in cc) in let l = ap length e in omega (arith, l))
-        | inr k ↦ elim (guard (eqb t 2) _ _ _ k.1) [
-          | inl m ↦ error_small b text m.1
-          | inr m ↦ elim (guard (eqb t 3) _ _ _ m.1) [
-            | inl n ↦ done_small b text n.1
-            | inr n ↦ elim (guard (is_link_type t) _ _ _ n.1) [
-              | inl o ↦ ruled_small b text o.1
-              | inr o ↦ same_size b text (let f = o.1 in cc)
-            ]
-          ]
-        ]
-      ]
+  body_small = by_type r (λ text same attributes. (b x : List ℕ) → text b ≡ Ok x → nla_align (4 + length x) ≤ 77 * (4 + length b))
+      (λ b x h. let e : [] ≡ x = cc in omega (arith, ap length e))
+      error_small done_small ruled_small (λ b x h. same_size b x cc)
 
   frame_small : (limit : ℕ) (c : List ℕ) (frame : ℕ × List ℕ) → first_frame_under r limit c ≡ Ok frame → length frame.1 ≤ 77 * frame.0
   frame_small limit c frame h =
@@ -61,21 +50,11 @@ module _ (r : Rule) (lawful : Lawful r) where
       let body = length-take-le (frame_length c - 16) (drop 16 c) (omega (arith, rest, a.is, a.whole)) in
       omega (arith, l, size, small, body, a.is, a.low)
 
-  pub texts_small : (limit skip : ℕ) (c : List ℕ) → length (texts_after_under r limit skip c) ≤ 77 * length (drop skip c)
-  unfolding texts_after_under
-  texts_small limit skip [] = omega arith
-  texts_small limit (suc skip) (b ∷ c) = texts_small limit skip c
-  texts_small limit zero (b ∷ c) =
-      elim (seen (first_frame_under r limit (b ∷ c))) [
-        | inl w ↦
-            let frame = w.0 in
-            let a = accepted r limit (b ∷ c) frame w.1 in
-            let f = frame_small limit (b ∷ c) frame w.1 in
-            let rest : List ℕ = texts_after_under r limit (nla_align frame.0 - 1) c in
-            let l = ap length (step_texts r limit b c frame w.1) in
-            let s = length-append frame.1 rest in
-            let behind = texts_small limit (nla_align frame.0 - 1) c in
-            let d = length-drop (nla_align frame.0 - 1) c in
-            omega (arith, a.low, a.whole, f, l, s, behind, d)
-        | inr w ↦ let l = ap length (stop_texts r limit b c w.0 w.1) in omega (arith, l)
-      ]
+  pub texts_small : (limit : ℕ) (c : List ℕ) → length (texts_under r limit c) ≤ 77 * length c
+  texts_small limit =
+      by_frames r limit (λ c. length (texts_under r limit c) ≤ 77 * length c)
+      (λ c frame h behind.
+      let a = accepted r limit c frame h in
+      let rest = drop (nla_align frame.0) c in
+      omega (arith, a.low, a.whole, frame_small limit c frame h, ap length (texts_step r limit c frame h), length-append frame.1 (texts_under r limit rest), behind, length-drop (nla_align frame.0) c))
+      (λ c kind h. omega (arith, ap length (texts_stop r limit c kind h)))

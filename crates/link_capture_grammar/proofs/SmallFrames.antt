@@ -1,6 +1,6 @@
 -- A small frame has a text that fits and is within the limit.
 use Rattle.std.proofs.Common.{◌≡◌, ℕ, ◌+◌, ◌-◌, ◌≤◌, Bool, true, false, cond, eqb, ltb, Result, Ok, Err, List, [], ◌∷◌, length, drop, refl, subst, arith, length-drop}
-use Rattle.std.proofs.lemmas.Bool.{le-ltb}
+use Rattle.std.proofs.lemmas.Bool.{cond_both, le-ltb}
 use Rattle.std.proofs.lemmas.List.{length-take}
 use Rattle.netlink_packet_core_grammar.specs.Frames.{frame_length, frame_type, frame_body, frame_text}
 use Rattle.attribute_tables_grammar.specs.Rules.{Rule}
@@ -11,11 +11,8 @@ use Rattle.link_capture_grammar.specs.declared.fault.FaultKind.TheVariants.{Cut,
 use Rattle.link_capture_grammar.specs.Bodies.{Refusal, refused, empty_ports, unfit, error_text, done_text, is_link_type, ruled_text, body_text_under}
 use Rattle.link_capture_grammar.specs.Captures.{Judged, judged_text, tested, first_frame_under}
 use Rattle.link_capture_grammar.specs.Laws.{SmallFramesFit}
-
--- what holds of each of two, where it is picked, holds of the one that is picked
-pick : {A : Type 0} (P : A → Type 0) (b : Bool) (x y : A) → (b ≡ true → P x) → (b ≡ false → P y) → P (cond b x y)
-pick P true x y p q = p refl
-pick P false x y p q = q refl
+use Rattle.link_capture_grammar.proofs.Bodies.{by_type}
+use Rattle.link_capture_grammar.proofs.Frames.{tested_by}
 
 -- ---- bodies of at most 867 bytes, which stand in frames of at most 883
 
@@ -28,11 +25,11 @@ IsShort (Err unfit) = ⊥
 
 error_short : (b : List ℕ) → length b ≤ 867 → IsShort (error_text b)
 unfolding IsShort
-error_short b l = pick IsShort (ltb (length b) 4) (Err refused) (Ok b) (λ _. tt) (λ _. omega (arith, l))
+error_short b l = cond_both (ltb (length b) 4) (Err refused) (Ok b) IsShort (λ _. tt) (λ _. omega (arith, l))
 
 done_short : (b : List ℕ) → length b ≤ 867 → IsShort (done_text b)
 unfolding IsShort
-done_short b l = pick IsShort (eqb (length b) 0) (Ok (0 ∷ 0 ∷ 0 ∷ 0 ∷ [])) (error_text b) (λ _. omega arith) (λ _. error_short b l)
+done_short b l = cond_both (eqb (length b) 0) (Ok (0 ∷ 0 ∷ 0 ∷ 0 ∷ [])) (error_text b) IsShort (λ _. omega arith) (λ _. error_short b l)
 
 -- a rule under which such bodies fit and are short
 record IsShortRule (r : Rule) : Type 0 where
@@ -43,17 +40,13 @@ module _ (r : Rule) (short : IsShortRule r) where
   ruled_short : (b : List ℕ) → length b ≤ 867 → IsShort (ruled_text r b)
   unfolding IsShort
   ruled_short b l =
-      pick IsShort (r.accepted b) _ _
-      (λ a. pick IsShort (r.empty_ports b) _ _ (λ _. tt) (λ _. pick IsShort (r.fits b) (Ok (r.canonical b)) (Err unfit) (λ _. short.size b l a) (λ f. let t = short.fits b l a in cc)))
+      cond_both (r.accepted b) _ _ IsShort
+      (λ a. cond_both (r.empty_ports b) _ _ IsShort (λ _. tt) (λ _. cond_both (r.fits b) (Ok (r.canonical b)) (Err unfit) IsShort (λ _. short.size b l a) (λ f. let t = short.fits b l a in cc)))
       (λ _. tt)
 
   body_short : (t : ℕ) (b : List ℕ) → length b ≤ 867 → IsShort (body_text_under r t b)
-  unfolding body_text_under IsShort
-  body_short t b l =
-      pick IsShort (eqb t 1) (Ok []) _ (λ _. omega arith) (λ _.
-      pick IsShort (eqb t 2) (error_text b) _ (λ _. error_short b l) (λ _.
-      pick IsShort (eqb t 3) (done_text b) _ (λ _. done_short b l) (λ _.
-      pick IsShort (is_link_type t) (ruled_text r b) (Ok b) (λ _. ruled_short b l) (λ _. omega (arith, l)))))
+  unfolding IsShort
+  body_short = by_type r (λ text same attributes. (b : List ℕ) → length b ≤ 867 → IsShort (text b)) (λ b l. omega arith) error_short done_short ruled_short (λ b l. omega (arith, l))
 
 -- ---- frames
 
@@ -67,27 +60,18 @@ IsNotTooLong (Err kind) = Unit {0}
 judged_short : (limit : ℕ) (c : List ℕ) → 65559 ≤ limit → (o : Result (List ℕ) Refusal) → IsShort o → IsNotTooLong (judged_text limit c o)
 unfolding IsShort IsNotTooLong
 judged_short limit c m (Ok text) s =
-    pick IsNotTooLong (ltb limit (16 + length text)) (Err TextOverLimit) (Ok (frame_length c, frame_text c text))
+    cond_both (ltb limit (16 + length text)) (Err TextOverLimit) (Ok (frame_length c, frame_text c text)) IsNotTooLong
     (λ over. let within = le-ltb limit (16 + length text) (omega (arith, m, s)) in cc)
     (λ _. tt)
 judged_short limit c m (Err refused) s = tt
 judged_short limit c m (Err empty_ports) s = tt
 judged_short limit c m (Err unfit) s = s
 
-tested_short : (limit size claimed : ℕ) (j : Judged) → IsNotTooLong j → IsNotTooLong (tested limit size claimed j)
-unfolding IsNotTooLong
-tested_short limit size claimed j h =
-    pick IsNotTooLong (ltb size 16) (Err Cut) _ (λ _. tt) (λ _.
-    pick IsNotTooLong (ltb claimed 16) (Err ShortLength) _ (λ _. tt) (λ _.
-    pick IsNotTooLong (ltb limit claimed) (Err OverLimit) _ (λ _. tt) (λ _.
-    pick IsNotTooLong (ltb size claimed) (Err Cut) j (λ _. tt) (λ _. h))))
-
 frame_short : (r : Rule) → IsShortRule r → (limit : ℕ) (c : List ℕ) → 65559 ≤ limit → frame_length c ≤ 883 → IsNotTooLong (first_frame_under r limit c)
-unfolding first_frame_under
+unfolding first_frame_under IsNotTooLong
 frame_short r short limit c m l =
     let size = length-take (frame_length c - 16) (drop 16 c) in
-    tested_short limit (length c) (frame_length c) (judged_text limit c (body_text_under r (frame_type c) (frame_body c)))
-    (judged_short limit c m (body_text_under r (frame_type c) (frame_body c)) (body_short r short (frame_type c) (frame_body c) (omega (arith, size, l))))
+    tested_by limit (length c) (frame_length c) _ IsNotTooLong (λ a. tt) (λ a. tt) (λ a. tt) (λ a b d e. tt) (λ a b d e. judged_short limit c m (body_text_under r (frame_type c) (frame_body c)) (body_short r short (frame_type c) (frame_body c) (omega (arith, size, l))))
 
 -- ---- link bodies
 

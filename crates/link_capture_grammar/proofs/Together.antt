@@ -5,19 +5,16 @@ use Rattle.attribute_tables_grammar.proofs.Attributes.{renews_itself}
 use Rattle.link_capture_grammar.specs.declared.fault.CaptureFault.{CaptureFault}
 use Rattle.link_capture_grammar.specs.Captures.{raised, first_frame_under, first_fault_under, texts_under, IsLegalUnder}
 use Rattle.link_capture_grammar.specs.Laws.{TextsAreLegal, TextsAreNormal, TextsAreRenewed, JoinedLegal, PrefixTexts, TextsAreSmall, FaultsStand, BodiesAreNormal, FramesStandAlone, CapturesGoByFrames}
-use Rattle.link_capture_grammar.proofs.Frames.{accepted, cut_cases, first_frame-more, one_fault, one_text, fault_stop, texts_stop, stops, place_start, base_fault, base_texts, place_legal, reach_place, joined_fault, fault-append, texts-append, fault_inside, fault_kinds}
+use Rattle.link_capture_grammar.proofs.Frames.{accepted, cut_cases, first_frame-more, one_fault, one_text, fault_stop, texts_stop, stops, place_fits, base, place_legal, reach_place, joined_fault, fault-append, texts-append, fault_inside, fault_kinds}
 use Rattle.link_capture_grammar.proofs.Normal.{body_again, texts_again}
+use Rattle.link_capture_grammar.proofs.Same.{not_raised}
 use Rattle.link_capture_grammar.proofs.Small.{texts_small}
-
-none_raised : (n : ℕ) (o : Option CaptureFault) → raised n o ≡ None → o ≡ None
-none_raised n None h = refl
-none_raised n (Some f) h = absurd cc
 
 module _ (r : Rule) where
   pub joined_legal : JoinedLegal r
   joined_legal limit a b h m =
       let j = joined_fault r limit a b h m in (
-        λ l. none_raised (length a) (first_fault_under r limit b) (sym j ∙ l),
+        λ l. not_raised (length a) (first_fault_under r limit b) (sym j ∙ l),
         λ l. j ∙ ap (raised (length a)) l,
       )
 
@@ -47,9 +44,9 @@ module _ (r : Rule) where
     front_fault = fault_stop r;
     front_texts = texts_stop r;
     fault_there = there;
-    reach_start = λ limit c. subst (λ n. n % 4 ≡ 0) (reach_place r limit c) (let h = place_start r limit 0 0 c refl in omega (arith, h));
-    reach_legal = λ limit c more. subst (λ n. IsLegalUnder r limit (take n (c ++ more))) (reach_place r limit c) (base_fault r limit 0 c more);
-    reach_texts = λ limit c more. subst (λ n. texts_under r limit (take n (c ++ more)) ≡ texts_under r limit c) (reach_place r limit c) (base_texts r limit 0 c more);
+    reach_start = λ limit c. subst (λ n. n % 4 ≡ 0) (reach_place r limit c) (place_fits r limit c).0;
+    reach_legal = λ limit c more. subst (λ n. IsLegalUnder r limit (take n (c ++ more))) (reach_place r limit c) (base r limit 0 c more).legal;
+    reach_texts = λ limit c more. subst (λ n. texts_under r limit (take n (c ++ more)) ≡ texts_under r limit c) (reach_place r limit c) (base r limit 0 c more).texts;
     rest_fault = λ limit c more. subst (λ n. first_fault_under r limit (c ++ more) ≡ raised n (first_fault_under r limit (drop n (c ++ more)))) (reach_place r limit c) (fault-append r limit 0 c more);
     rest_texts = λ limit c more. subst (λ n. texts_under r limit (c ++ more) ≡ texts_under r limit c ++ texts_under r limit (drop n (c ++ more))) (reach_place r limit c) (texts-append r limit 0 c more);
   }
@@ -69,4 +66,4 @@ module _ (r : Rule) (lawful : Lawful r) where
   bodies_are_normal t b text h = body_again r r (renews_itself r lawful) t b text text h h
 
   pub texts_are_small : TextsAreSmall r
-  texts_are_small limit c = texts_small r lawful limit 0 c
+  texts_are_small = texts_small r lawful

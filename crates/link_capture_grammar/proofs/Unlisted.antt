@@ -8,9 +8,8 @@ use Rattle.attribute_tables_grammar.specs.Lists.{Context, nothing, Row, raw_row,
 use Rattle.attribute_tables_grammar.specs.Peers.{Peer, LawfulPeer, peer_rule}
 use Rattle.attribute_tables_grammar.specs.Rules.{Rule}
 use Rattle.attribute_tables_grammar.specs.Tables.{grammar}
-use Rattle.attribute_tables_grammar.proofs.Attributes.{proper_kind-written}
+use Rattle.attribute_tables_grammar.proofs.Attributes.{next_again, proper_kind-written}
 use Rattle.attribute_tables_grammar.proofs.Lists.{read_again}
-use Rattle.attribute_tables_grammar.proofs.Named.{next_rewritten}
 use Rattle.attribute_tables_grammar.proofs.Tables.{table_lawful}
 use Rattle.link_message_grammar.specs.Body.{attribute_bytes, attribute_row, attribute_row_under, body_rule, family, header_text, link_peer, link_peer_under, list_rule_of}
 use Rattle.link_message_grammar.specs.LinkMessage.{Family, link_table}
@@ -39,16 +38,13 @@ module _ (g : Grammar) (lawful : LawfulGrammar g) where
       record {
         accepted = r.accepted;
         is = ap (λ es. rewrite (row_of g c e) e ∷ es) r.is;
-        context = ap (λ d. context_after g d (rewritten g (g.next c e) before)) (next_rewritten g lawful c e s.0) ∙ r.context;
+        context = ap (λ d. context_after g d (rewritten g (g.next c e) before)) (next_again g lawful c e s.0) ∙ r.context;
       }
 
 not_empty_ports : (form : ListForm) (before after : List Attribute) (x : Attribute) → is_empty_ports form (before ++ x ∷ after) ≡ false
-not_empty_ports any before after x = refl
-not_empty_ports non_empty before after x = refl
-not_empty_ports of_kind_one before after x = refl
-not_empty_ports first_alone before after x = refl
 not_empty_ports ports [] after x = refl
 not_empty_ports ports (e ∷ before) after x = refl
+not_empty_ports form before after x = refl
 
 -- what is kept of a list stands in its text, rewritten, under the row that it has
 record Again (form : ListForm) (g : Grammar) (bytes : List ℕ) (x : Attribute) (k : Keeps form bytes x) : Type 0 where

@@ -1,4 +1,5 @@
 //! Facts of the definitions, under the rule of link bodies in force. No function here makes a call.
+#![tactic(auto, using(crate::proofs::EveryRule::laws))]
 
 ghost use Rattle.link_message_grammar.specs.Body.{link_body};
 ghost use Rattle.link_capture_grammar.specs.Laws.{CapturesStandUnderEveryRule};

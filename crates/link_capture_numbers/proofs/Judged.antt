@@ -9,6 +9,8 @@ use Rattle.link_capture_grammar.specs.declared.fault.FaultKind.TheVariants.{Over
 use Rattle.link_capture_grammar.specs.Bodies.{Refusal, refused, body_text, body_text_under}
 use Rattle.link_capture_grammar.specs.Captures.{Judged, fault_of, faulty, tested, first_frame}
 use Rattle.link_capture_grammar.specs.Laws.{FramesAreJudged}
+use Rattle.link_capture_grammar.proofs.EveryRule.{in_force}
+use Rattle.link_capture_grammar.proofs.Same
 use Rattle.link_capture_numbers.specs.Cleared.{zeros_at, repeats_request, front_cleared}
 use Rattle.link_capture_numbers.proofs.Zeros.{length-zeros, repeated}
 use Rattle.link_capture_numbers.proofs.Fronts.{Shape, fields}
@@ -25,13 +27,9 @@ error_kept : (b : List ℕ) → 4 ≤ length b → body_text 2 b ≡ Ok b
 unfolding body_text_under
 error_kept b h = ap (λ z. cond z (Err refused) (Ok b)) (le-ltb (length b) 4 h)
 
-error_is_by : (b text : List ℕ) (z : Bool) → cond z (Err refused) (Ok b) ≡ Ok text → b ≡ text
-error_is_by b text false e = cc
-error_is_by b text true e = absurd cc
-
 pub error_is : (b text : List ℕ) → body_text 2 b ≡ Ok text → b ≡ text
 unfolding body_text_under
-error_is b text e = error_is_by b text (nat_lt (length b) 4) e
+error_is b text e = Same.error_is b text e
 
 -- a body's text or its refusal, with the numbers of the header that it repeats cleared
 abbrev pub told_cleared : Bool → Result (List ℕ) Refusal → Result (List ℕ) Refusal
@@ -63,7 +61,11 @@ body_told c d l m s = ap (λ t. body_text t (frame_body d)) s.kind ∙ ap (body_
 over_limit : (limit size n : ℕ) → 16 ≤ size → 16 ≤ n → nat_lt limit n ≡ true → (judged : Judged) → tested limit size n judged ≡ Err OverLimit
 over_limit limit size n h l e judged = rw (le-ltb size 16 h, le-ltb n 16 l, e) refl
 
-module _ (j : FramesAreJudged link_body) (limit : ℕ) (small : limit < 2 ^ 32) (c d : List ℕ) (l : 16 ≤ frame_length c) (m : frame_length c ≤ length c) (s : Shape c d) where
+-- by parts
+j : FramesAreJudged link_body
+j = in_force.frames_are_judged
+
+module _ (limit : ℕ) (small : limit < 2 ^ 32) (c d : List ℕ) (l : 16 ≤ frame_length c) (m : frame_length c ≤ length c) (s : Shape c d) where
   is_c : IsFrame c
   is_c = record { has_header = omega (arith, l, m); covers_header = l; within = m }
 

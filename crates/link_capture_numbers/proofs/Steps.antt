@@ -5,7 +5,6 @@ use Rattle.std.proofs.lemmas.Bool.{and_parts, leb-true}
 use Rattle.netlink_packet_core_grammar.specs.Attributes.{nla_align}
 use Rattle.netlink_packet_core_grammar.specs.Frames.{frame_length}
 use Rattle.link_capture_numbers.specs.Cleared.{is_frame, front_cleared, cleared_after, numbers_cleared}
-use Rattle.link_capture_numbers.specs.Laws.{NumbersAreClearedByFrames}
 
 pub passed : (k : ℕ) (c : List ℕ) → cleared_after k c ≡ numbers_cleared (drop k c)
 unfolding cleared_after numbers_cleared
@@ -37,6 +36,3 @@ stopped [] h = refl
 stopped (b ∷ c) h =
     let n = frame_length (b ∷ c) in
     ap (λ t. cond t (take (nla_align n) (front_cleared (b ∷ c)) ++ cleared_after (nla_align n - 1) c) (b ∷ c)) h
-
-pub by_frames : NumbersAreClearedByFrames
-by_frames = record { frame = whole; none = stopped }

@@ -7,13 +7,10 @@ use Rattle.std.proofs.lemmas.List.{length-append, length-take-le, length-drop, t
 use Rattle.netlink_packet_core_grammar.specs.Attributes.{nla_align, zeros}
 use Rattle.netlink_packet_core_grammar.specs.Frames.{frame_length, frame_type, frame_text}
 use Rattle.netlink_packet_core_grammar.specs.Numbers.{u16_at, u32_at, le4}
+use Rattle.netlink_packet_core_grammar.proofs.Sizes.{length-le4}
 use Rattle.link_capture_numbers.specs.Cleared.{zeros_at, repeats_request, front_cleared}
 use Rattle.link_capture_numbers.proofs.Zeros.{length-zeros, zeros_behind, zeros_before}
 use Rattle.link_capture_grammar.proofs.Normal.{text_length, text_type}
-
-four : (n : ℕ) → length (le4 n) ≡ 4
-unfolding le4
-four n = refl
 
 -- the padding of a text
 abbrev padding : List ℕ → List ℕ
@@ -34,7 +31,7 @@ unfolding frame_text
 header_cleared c d text h e =
     let size : length (take 12 (drop 4 c)) ≡ 12 = length-take-le 12 (drop 4 c) (omega (arith, h, length-drop 4 c)) in
     let l : List ℕ = le4 (16 + length text) in
-    zeros_behind 4 4 l (take 12 (drop 4 c) ++ (text ++ padding text)) (four (16 + length text))
+    zeros_behind 4 4 l (take 12 (drop 4 c) ++ (text ++ padding text)) (length-le4 (16 + length text))
     ∙ ap (λ z. l ++ z) (zeros_before 4 (take 12 (drop 4 c)) (text ++ padding text) (omega (arith, size)))
     ∙ ap (λ z. l ++ (z ++ (text ++ padding text))) (fields_cleared c h ∙ sym e)
 
@@ -46,7 +43,7 @@ request_cleared d text e h =
     let m : List ℕ = take 12 (drop 4 d) in
     let l : List ℕ = le4 (16 + length text) in
     let same : length (zeros_at 12 text) ≡ length text = length-zeros 12 text (omega (arith, h)) in
-    zeros_behind 24 4 l (m ++ (text ++ padding text)) (four (16 + length text))
+    zeros_behind 24 4 l (m ++ (text ++ padding text)) (length-le4 (16 + length text))
     ∙ ap (λ z. l ++ z) (zeros_behind 12 12 m (text ++ padding text) e)
     ∙ ap (λ z. l ++ (m ++ z)) (zeros_before 12 text (padding text) (omega (arith, h)))
     ∙ ap (λ n. le4 (16 + n) ++ (m ++ (zeros_at 12 text ++ zeros (nla_align (16 + n) - (16 + n))))) (sym same)
@@ -60,10 +57,6 @@ type_byte x y i l e =
 type_kept : (x y : List ℕ) → take 12 (drop 4 x) ≡ take 12 (drop 4 y) → frame_type x ≡ frame_type y
 unfolding u16_at
 type_kept x y e = rw (type_byte x y 0 (omega arith) e, type_byte x y 1 (omega arith) e) refl
-
-length_kept : (n : ℕ) (more : List ℕ) → n < 2 ^ 32 → frame_length (le4 n ++ more) ≡ n
-unfolding u32_at le4
-length_kept n more h = from_le_bytes-to_le_bytes_4 n h
 
 repeats_by : (c : List ℕ) (t : ℕ) (b : Bool) → nat_eq (frame_type c) 2 ≡ b → (frame_type c ≡ 2 → t ≡ frame_length c) → (b && nat_le 36 t) ≡ (b && nat_le 36 (frame_length c))
 repeats_by c t false e h = refl

@@ -1,10 +1,7 @@
-//! Facts of the definitions. No function here makes a call but of other laws.
+//! Facts of the definitions. No function here makes a call.
+#![tactic(auto, using(crate::proofs::Steps::whole, crate::proofs::Steps::stopped, crate::proofs::ClearedCaptures::cleared))]
 
 ghost use Rattle.link_capture_numbers.specs.Laws.{NumbersAreClearedByFrames, ClearedCapturesHaveClearedTexts};
-
-use link_capture_grammar::laws::{
-    captures_are_counted, captures_go_by_frames, frames_are_judged, frames_stand_alone,
-};
 
 /// The numbers of the frame in front are cleared, and then those of what follows it and its padding; bytes that don't
 /// begin with a whole frame stay.
@@ -16,9 +13,4 @@ pub fn numbers_are_cleared_by_frames()
 /// are those of the capture, with their numbers cleared.
 pub fn cleared_captures_have_cleared_texts()
     ensures { ClearedCapturesHaveClearedTexts }
-{
-    frames_stand_alone();
-    frames_are_judged();
-    captures_are_counted();
-    captures_go_by_frames();
-}
+{}

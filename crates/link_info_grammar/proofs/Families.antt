@@ -5,8 +5,10 @@ use Rattle.attribute_tables_grammar.specs.LookUps.{link_info_of}
 use Rattle.attribute_tables_grammar.specs.Tables.{Payload.link_info}
 use Rattle.attribute_tables_grammar.proofs.Tables.{lawful, info_lawful}
 use Rattle.link_info_grammar.specs.Families.{kinds, port_kinds}
+use Rattle.link_info_grammar.specs.KindNames.{kind_names, port_kind_names}
 use Rattle.link_info_grammar.specs.LinkInfo.{info_grammar_under, info_rule_under}
-use Rattle.link_info_grammar.specs.Laws.{TablesPass, InfoIsLawful, InfoGrammarIsLawful, TablesAreListed, InfoIsAPayload}
+use Rattle.link_info_grammar.specs.Laws.{TablesPass, InfoIsLawful, InfoGrammarIsLawful, TablesAreListed, InfoIsAPayload, UnlistedNamesHoldBytes}
+use Rattle.link_info_grammar.proofs.Names.{named-lacks, lacks_name-unlisted}
 
 pub tables_pass : TablesPass
 tables_pass form = (refl, refl)
@@ -25,3 +27,12 @@ tables_are_listed = (refl, refl)
 pub info_is_a_payload : InfoIsAPayload
 unfolding link_info_of info_rule_under info_grammar_under
 info_is_a_payload p = refl
+
+pub unlisted_names_hold_bytes : UnlistedNamesHoldBytes
+unlisted_names_hold_bytes = record {
+  kinds = λ p n h. named-lacks p kinds n (lacks_name-unlisted kinds kind_names n tables_are_listed.0 h);
+  port_kinds = λ p n h. named-lacks p port_kinds n (lacks_name-unlisted port_kinds port_kind_names n tables_are_listed.1 h);
+}
+
+-- what the laws go by
+pub ruleset laws = (tables_pass, info_is_lawful, info_grammar_is_lawful, tables_are_listed, info_is_a_payload, unlisted_names_hold_bytes)

@@ -1,4 +1,5 @@
 //! Facts of the tables of link info. No function here makes a call.
+#![tactic(auto, using(crate::proofs::Families::laws))]
 
 ghost use Rattle.link_info_grammar.specs.Laws.{TablesPass, InfoIsLawful, InfoGrammarIsLawful, TablesAreListed};
 ghost use Rattle.link_info_grammar.specs.Laws.{InfoIsAPayload, UnlistedNamesHoldBytes};

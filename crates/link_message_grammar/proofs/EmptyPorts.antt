@@ -2,7 +2,7 @@
 use Rattle.std.proofs.Common.{◌≡◌, ℕ, zero, suc, ◌+◌, Bool, true, false, cond, List, [], ◌∷◌, length, Option, Some, None, refl, sym, ap, ap₂, subst, ◌∙◌, arith, inl, inr}
 use Rattle.std.specs.Prelude.{◌==◌, ◌&&◌, ◌||◌, ◌⊎◌, bytes_eq}
 use Rattle.std.specs.List.{list_any}
-use Rattle.std.proofs.lemmas.Bool.{and_left, and_parts, or_from, eqb-true, eqb-false, ne_eqb}
+use Rattle.std.proofs.lemmas.Bool.{cond_both, and_left, and_parts, or_from, eqb-true, eqb-false, ne_eqb}
 use Rattle.std.proofs.lemmas.Option.{none-some}
 use Rattle.netlink_packet_core_grammar.specs.Attributes.{Attribute, proper_kind, attribute_text, list_text, if_some, attributes_of}
 use Rattle.netlink_packet_core_grammar.proofs.Attributes.{option_map-got}
@@ -12,6 +12,7 @@ use Rattle.attribute_tables_grammar.specs.LookUps.{Line, list_of, link_info_of, 
 use Rattle.attribute_tables_grammar.specs.Peers.{Peer}
 use Rattle.attribute_tables_grammar.specs.Readings.{Written, written_list, reading_as}
 use Rattle.attribute_tables_grammar.specs.Tables.{Payload, Payload.plain, Payload.peer, Payload.list, Payload.link_info, Table, Table.end, Table.row, Names, Names.others, Names.name, row_in_force, info_row, names_grammar, rule, row_in, named, grammar}
+use Rattle.attribute_tables_grammar.proofs.Tables.{pick_row, pick_rule, info_rows}
 use Rattle.link_message_grammar.specs.Body.{attribute_row_under, is_emptied}
 use Rattle.link_message_grammar.specs.Laws.{EmptyPortsAreTold}
 use Rattle.link_message_grammar.specs.LinkMessage.{Family, unspec, bridge, inet_6, other, protocol_line, below_protocol, above_protocol, link_line}
@@ -19,11 +20,8 @@ use Rattle.link_message_grammar.specs.NestedTables.{settings, vf_ports}
 use Rattle.link_message_grammar.proofs.Parts.{attributes_are_looked_up}
 
 abbrev is_other : ListForm → Bool
-is_other any = true
-is_other non_empty = true
-is_other of_kind_one = true
 is_other ports = false
-is_other first_alone = true
+is_other _ = true
 
 -- ---- the test: no list of ports stands in a payload
 
@@ -53,11 +51,8 @@ abbrev NeverEmpty : Rule → Type 0
 NeverEmpty r = (b : List ℕ) → r.empty_ports b ≡ false
 
 form_full : (form : ListForm) → is_other form ≡ true → (es : List Attribute) → is_empty_ports form es ≡ false
-form_full any h es = refl
-form_full non_empty h es = refl
-form_full of_kind_one h es = refl
 form_full ports h es = absurd cc
-form_full first_alone h es = refl
+form_full form h es = refl
 
 some_full : (g : Grammar) → ((c : Context) (k : ℕ) → NeverEmpty (g.row c k).rule) → (c : Context) (es : List Attribute) → some_empty_ports g c es ≡ false
 unfolding some_empty_ports
@@ -70,21 +65,6 @@ at_read f h (Some es) = h es
 
 list_full : (form : ListForm) (g : Grammar) → is_other form ≡ true → ((c : Context) (k : ℕ) → NeverEmpty (g.row c k).rule) → NeverEmpty (list_rule form g)
 list_full form g h rows b = at_read _ (λ es. or_from _ _ (form_full form h (kept form es)) (some_full g rows nothing (kept form es))) (read_as form b)
-
--- ---- link info
-
-in_force_full : (o : Option (List ℕ)) (f : List ℕ → Rule) → ((n : List ℕ) → NeverEmpty (f n)) → NeverEmpty (row_in_force o f).rule
-in_force_full None f h b = refl
-in_force_full (Some n) f h b = h n b
-
-info_full : (data' port_data : List ℕ → Rule) → ((n : List ℕ) → NeverEmpty (data' n)) → ((n : List ℕ) → NeverEmpty (port_data n)) → (c : Context) (k : ℕ) → NeverEmpty (info_row data' port_data c k).rule
-info_full data' port_data d p c zero b = refl
-info_full data' port_data d p c (suc zero) b = refl
-info_full data' port_data d p c (suc (suc zero)) b = in_force_full c.kind data' d b
-info_full data' port_data d p c (suc (suc (suc zero))) b = in_force_full c.kind _ (λ n x. refl) b
-info_full data' port_data d p c (suc (suc (suc (suc zero)))) b = refl
-info_full data' port_data d p c (suc (suc (suc (suc (suc zero))))) b = in_force_full c.port_kind port_data p b
-info_full data' port_data d p c (suc (suc (suc (suc (suc (suc k)))))) b = refl
 
 -- ---- the lines of links but that of IFLA_VF_PORTS
 
@@ -125,19 +105,6 @@ at_twelve : (f : Family) (o : Option Line) (b : Bool) → line_without_ports o �
 at_twelve f o true h = protocol_full f
 at_twelve f o false h = h
 
--- ---- choices
-
-pick_row : (b : Bool) (r s : Row) → NeverEmpty r.rule → NeverEmpty s.rule → NeverEmpty (elim b as (λ x. Row) [ true ↦ r | false ↦ s ]).rule
-pick_row true r s p q = p
-pick_row false r s p q = q
-
-pick_rule : (b : Bool) (r s : Rule) → NeverEmpty r → NeverEmpty s → NeverEmpty (elim b as (λ x. Rule) [ true ↦ r | false ↦ s ])
-pick_rule true r s p q = p
-pick_rule false r s p q = q
-
-guard : {A : Type 0} (b : Bool) (x y z : A) → cond b x y ≡ z → ((b ≡ true) × (x ≡ z)) ⊎ ((b ≡ false) × (y ≡ z))
-guard b x y z = elim b as (λ v. cond v x y ≡ z → ((v ≡ true) × (x ≡ z)) ⊎ ((v ≡ false) × (y ≡ z))) [ true ↦ (λ h. inl (refl, h)) | false ↦ (λ h. inr (refl, h)) ]
-
 -- ---- attributes as they are written
 
 not_none : (e : Attribute) (es : List Attribute) → (length (list_text (e ∷ es)) == 0) ≡ false
@@ -162,19 +129,19 @@ module _ (p : Peer) where
     full (link_info form data' port_data) m b =
         let h = and_parts (is_other form) (names_without_ports data' && names_without_ports port_data) m in
         let i = and_parts (names_without_ports data') (names_without_ports port_data) h.1 in
-        list_full form (names_grammar (named p data') (named p port_data)) h.0 (info_full (named p data') (named p port_data) (names_full data' i.0) (names_full port_data i.1)) b
+        list_full form (names_grammar (named p data') (named p port_data)) h.0 (info_rows NeverEmpty (λ s m x. refl) (named p data') (named p port_data) (names_full data' i.0) (names_full port_data i.1)) b
 
     rows_full : (t : Table) → rows_without_ports t ≡ true → (k : ℕ) → NeverEmpty (row_in p t k).rule
     rows_full end m k = λ b. refl
     rows_full (row l n s t) m k =
         let h = and_parts (without_ports s) (rows_without_ports t) m in
-        pick_row (k == l) (record { is_typed = true; is_nested = n; rule = rule p s }) (row_in p t k) (full s h.0) (rows_full t h.1 k)
+        pick_row NeverEmpty (k == l) (record { is_typed = true; is_nested = n; rule = rule p s }) (row_in p t k) (full s h.0) (rows_full t h.1 k)
 
     names_full : (ns : Names) → names_without_ports ns ≡ true → (n : List ℕ) → NeverEmpty (named p ns n)
     names_full others m n = λ b. refl
     names_full (name l s ns) m n =
         let h = and_parts (without_ports s) (names_without_ports ns) m in
-        pick_rule (bytes_eq n l) (rule p s) (named p ns n) (full s h.0) (names_full ns h.1 n)
+        pick_rule NeverEmpty (bytes_eq n l) (rule p s) (named p ns n) (full s h.0) (names_full ns h.1 n)
 
   -- ---- the rows of links but IFLA_VF_PORTS
 
@@ -241,13 +208,12 @@ module _ (p : Peer) where
   unfolding written_list some_empty_ports
   list_told f c [] ws h = let e : [] ≡ ws = cc in ap (list_any (λ w. is_emptied w.entry)) e
   list_told f c (e ∷ es) ws h =
-      elim (guard ((row_of (rows f) c e).rule.accepted e.payload) _ _ _ h) [
-        | inl a ↦
-            let k = option_map-got _ (written_list (rows f) c es) ws a.1 in
-            ap₂ (λ x y. x || y) (by_row f (proper_kind e.kind) e refl (proper_kind e.kind == 24) refl a.0) (list_told f c es k.0 k.1)
-            ∙ ap (list_any (λ w. is_emptied w.entry)) k.2
-        | inr a ↦ absurd (none-some ws a.1)
-      ]
+      cond_both ((row_of (rows f) c e).rule.accepted e.payload) _ None (λ o. o ≡ Some ws → some_empty_ports (rows f) c (e ∷ es) ≡ list_any (λ w. is_emptied w.entry) ws)
+      (λ a m.
+      let k = option_map-got _ (written_list (rows f) c es) ws m in
+      ap₂ (λ x y. x || y) (by_row f (proper_kind e.kind) e refl (proper_kind e.kind == 24) refl a) (list_told f c es k.0 k.1)
+      ∙ ap (list_any (λ w. is_emptied w.entry)) k.2)
+      (λ a m. absurd (none-some ws m)) h
 
   -- ---- the attributes of a body
 

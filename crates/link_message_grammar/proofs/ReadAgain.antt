@@ -2,12 +2,13 @@
 use Rattle.std.proofs.Common.{◌≡◌, ℕ, true, false, List, ◌++◌, length, sym, ap, subst, ◌∙◌}
 use Rattle.std.specs.Prelude.{nat_le}
 use Rattle.std.proofs.lemmas.Bool.{and_parts}
-use Rattle.attribute_tables_grammar.specs.Laws.{ListsAreReadAgain, TableGrammarsAreLawful}
 use Rattle.attribute_tables_grammar.specs.Rules.{Rule}
 use Rattle.attribute_tables_grammar.specs.Lists.{LawfulGrammar, any, without_context}
 use Rattle.attribute_tables_grammar.specs.LookUps.{rows_rule}
 use Rattle.attribute_tables_grammar.specs.Peers.{Peer, LawfulPeer}
 use Rattle.attribute_tables_grammar.specs.Readings.{reading_as}
+use Rattle.attribute_tables_grammar.proofs.ReadAgain.{lists_are_read_again}
+use Rattle.attribute_tables_grammar.proofs.Tables.{table_lawful}
 use Rattle.link_message_grammar.specs.Body.{attribute_bytes, attribute_row_under, body_rule, family, header_text, list_rule_of}
 use Rattle.link_message_grammar.specs.Laws.{CanonicalTextsAreReadAgain}
 use Rattle.link_message_grammar.specs.LinkMessage.{Family, link_table}
@@ -16,15 +17,15 @@ use Rattle.link_message_grammar.proofs.Lines.{attributes-grammar}
 use Rattle.link_message_grammar.proofs.Parts.{attributes_are_looked_up, bodies_are_headers_and_attributes}
 use Rattle.link_message_grammar.proofs.Tables.{table_bounded}
 
-module _ (lists : ListsAreReadAgain) (tables : TableGrammarsAreLawful) (p : Peer) (lawful_peer : LawfulPeer p) where
+module _ (p : Peer) (lawful_peer : LawfulPeer p) where
   rows_lawful : (f : Family) → LawfulGrammar (without_context (attribute_row_under p f))
-  rows_lawful f = subst LawfulGrammar (attributes-grammar p f) (tables p lawful_peer (link_table f) (table_bounded f))
+  rows_lawful f = subst LawfulGrammar (attributes-grammar p f) (table_lawful p lawful_peer (link_table f) (table_bounded f))
 
   attributes_again : (f : Family) (r : Rule) → r ≡ rows_rule any (attribute_row_under p f) → (b : List ℕ) → r.accepted b ≡ true → r.empty_ports b ≡ false → r.fits b ≡ true → reading_as any (without_context (attribute_row_under p f)) (r.canonical b) ≡ reading_as any (without_context (attribute_row_under p f)) b
   unfolding rows_rule
   attributes_again f r h b a m s =
       ap (λ (q : Rule). reading_as any (without_context (attribute_row_under p f)) (q.canonical b)) h
-      ∙ lists (without_context (attribute_row_under p f)) (rows_lawful f) b
+      ∙ lists_are_read_again (without_context (attribute_row_under p f)) (rows_lawful f) b
       (sym (ap (λ (q : Rule). q.accepted b) h) ∙ a) (sym (ap (λ (q : Rule). q.empty_ports b) h) ∙ m) (sym (ap (λ (q : Rule). q.fits b) h) ∙ s)
 
   pub canonical_texts_are_read_again : CanonicalTextsAreReadAgain p

@@ -1,4 +1,5 @@
-//! Facts of the definitions. A function here calls nothing but laws of the crates below.
+//! Facts of the definitions. No function here makes a call.
+#![tactic(auto, using(crate::proofs::Together::laws))]
 
 ghost use Rattle.link_message_grammar.specs.Laws.{AttributesAreLawful, KindsRise, BodiesAreLawful, BodiesAreSmall};
 ghost use Rattle.link_message_grammar.specs.Laws.{LinkPeersAreLawful, BodiesTellMeanings, BodiesKeepMeanings, OldBodiesAreRenewed};
@@ -8,8 +9,6 @@ ghost use Rattle.link_message_grammar.specs.Laws.{EmptyPortsAreTold, CanonicalTe
 ghost use Rattle.link_message_grammar.specs.Laws.{BodiesGrowByAttributes, ShortBodiesFit, BodyLawsHoldForAnyPeers};
 ghost use Rattle.link_message_grammar.specs.Laws.{LinkPeerIsLawful, PeersStandInLinkInfo};
 ghost use Rattle.link_message_grammar.specs.Body.{link_peer};
-
-use attribute_tables_grammar::laws::{lists_are_read_again, table_grammars_are_lawful};
 
 /// Lists of link attributes are lawful, under each address family.
 pub fn attributes_are_lawful()
@@ -79,10 +78,7 @@ pub fn bodies_are_headers_and_attributes()
 /// as from its own bytes.
 pub fn canonical_texts_are_read_again()
     ensures { CanonicalTextsAreReadAgain link_peer }
-{
-    lists_are_read_again();
-    table_grammars_are_lawful();
-}
+{}
 
 /// What is looked up of a kind is what the table of the family says of it.
 pub fn kinds_are_looked_up()
@@ -118,7 +114,4 @@ pub fn bodies_are_measured()
 /// What is stated here of bodies under the rule of peers in force holds under every lawful one.
 pub fn body_laws_hold_for_any_peers()
     ensures { BodyLawsHoldForAnyPeers }
-{
-    lists_are_read_again();
-    table_grammars_are_lawful();
-}
+{}

@@ -2,8 +2,10 @@
 use Rattle.std.proofs.Common.{◌≡◌, ℕ, ◌%◌, List, ◌++◌, length, Option, Some, None, refl, sym, ◌∙◌}
 use Rattle.std.specs.Prelude.{option_map}
 use Rattle.netlink_packet_core_grammar.specs.Attributes.{Attribute, IsAttributeList, attributes_of}
-use Rattle.netlink_packet_core_grammar.specs.Laws.{AttributesAreCut, Joined, TextIsCut}
-use Rattle.netlink_packet_core_grammar.proofs.Attributes.{attributes_cut, cut_attributes, attributes_of_text, IsAttributeList-joined, IsAttributeList-rest}
+use Rattle.netlink_packet_core_grammar.specs.Laws.{AttributesAreCut, Joined, FirstIsWithin}
+use Rattle.netlink_packet_core_grammar.proofs.Attributes.{one_cut, sized, attributes_cut, cut_attributes, first_attribute_text, attributes_of_text, IsAttributeList-joined, IsAttributeList-rest}
+use Rattle.netlink_packet_core_grammar.proofs.FirstAttribute.{first_attribute_is, first_attribute_none}
+use Rattle.netlink_packet_core_grammar.proofs.Numbers.{u16_at-append, u32_at-append}
 use Rattle.netlink_packet_core_grammar.proofs.Sizes.{length-list_text}
 
 pub attributes_are_cut : AttributesAreCut
@@ -23,5 +25,8 @@ joined_by a b es four h (Some fs) e = cut_attributes (a ++ b) (es ++ fs) (IsAttr
 pub joined : Joined
 joined a b es four h = joined_by a b es four (attributes_cut a es h) (attributes_of b) refl
 
-pub text_is_cut : TextIsCut
-text_is_cut es = (attributes_of_text es, length-list_text es)
+pub first_is_within : FirstIsWithin
+first_is_within = record { within = λ bytes e rest h. (sized bytes e rest h).within; rest_length = λ bytes e rest h. (sized bytes e rest h).rest_length }
+
+-- what the laws go by
+pub ruleset laws = (one_cut, attributes_are_cut, joined, attributes_of_text, length-list_text, first_attribute_is, first_attribute_none, first_is_within, first_attribute_text, u16_at-append, u32_at-append)

@@ -1,4 +1,5 @@
 //! Facts of the definitions. No function here makes a call.
+#![tactic(auto, using(crate::proofs::Together::laws))]
 
 ghost use Rattle.netlink_packet_core_grammar.specs.Laws.{OneCut, AttributesAreCut, Joined, TextIsCut, FirstIsViewed};
 ghost use Rattle.netlink_packet_core_grammar.specs.Laws.{FirstIsWithin, WrittenIsFirst, NumbersStandAlone};

@@ -4,4 +4,4 @@ use Rattle.link_message_grammar.proofs.ReadAgain.{canonical_texts_are_read_again
 use Rattle.link_message_grammar.proofs.laws.canonical_texts_are_read_again.Goals as goal
 
 pub returns : goal.returns
-returns c = canonical_texts_are_read_again c.lists_are_read_again.ensures c.table_grammars_are_lawful.ensures link_peer link_peer_lawful
+returns c = canonical_texts_are_read_again link_peer link_peer_lawful

@@ -1,5 +1,0 @@
-use Rattle.link_capture_grammar.proofs.EveryRule.{in_force}
-use Rattle.link_capture_grammar.proofs.laws.joined_captures_are_legal.Goals as goal
-
-pub returns : goal.returns
-returns c = in_force.joined_captures_are_legal

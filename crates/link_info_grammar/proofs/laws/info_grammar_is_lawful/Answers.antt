@@ -1,5 +1,0 @@
-use Rattle.link_info_grammar.proofs.Families.{info_grammar_is_lawful}
-use Rattle.link_info_grammar.proofs.laws.info_grammar_is_lawful.Goals as goal
-
-pub returns : goal.returns
-returns c = info_grammar_is_lawful

@@ -1,5 +1,0 @@
-use Rattle.link_info_grammar.proofs.Families.{info_is_a_payload}
-use Rattle.link_info_grammar.proofs.laws.info_is_a_payload.Goals as goal
-
-pub returns : goal.returns
-returns c = info_is_a_payload

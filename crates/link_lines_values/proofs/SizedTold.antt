@@ -1,6 +1,6 @@
 -- Payloads of one size are told by their value.
 use Rattle.std.proofs.Common.{◌≡◌, ℕ, ◌+◌, ◌%◌, ◌^◌, ◌<◌, ◌≤◌, Bool, true, false, cond, List, [], ◌∷◌, ◌++◌, length, get_or, refl, sym, ap, ◌∙◌, arith}
-use Rattle.std.specs.Prelude.{◌==◌, codes, decimal, nat_lt, reverse}
+use Rattle.std.specs.Prelude.{◌==◌, codes, decimal, nat_lt}
 use Rattle.std.proofs.lemmas.Bool.{eqb-true, ltb-true}
 use Rattle.std.proofs.lemmas.Fmt.{decimal_is_IsNumeral}
 use Rattle.std.proofs.lemmas.Str.Parse.{digit_at}
@@ -12,7 +12,7 @@ use Rattle.link_lines_values.specs.Laws.{BytesAreTold, NumbersAreTold, SettingsA
 use Rattle.link_lines_values.specs.Names.{named_number}
 use Rattle.link_lines_values.specs.Records.{is_size}
 use Rattle.link_lines_values.specs.Values.{Shown, tells_sized, value_text}
-use Rattle.link_lines_values.proofs.NumbersTold.{small, turned, turned_size}
+use Rattle.link_lines_values.proofs.NumbersTold.{highest_first, lowest_first, sized}
 
 pub record ValueLaws : Type 0 where
   pub bytes : BytesAreTold
@@ -80,11 +80,11 @@ no_hardware (b ∷ p) s e = other_third _ 121 (glyph_by (nat_lt (b % 16) 10) (b 
 no_word : (n : ℕ) (v : Shown) (p s : List ℕ) → tells_sized n v ≡ true → AreBytes p → length p ≡ n → value_text v p ≡ codes " bytes" ++ s → ⊥
 no_word n (V.Number numbers) p s h a k e =
     let size = ap is_size k ∙ h in
-    low_second _ s (chosen_low (is_number p) (32 ∷ named_number numbers (number p)) _ 1 size (digits_low (number p) _ (small p a size))) e
+    low_second _ s (chosen_low (is_number p) (32 ∷ named_number numbers (number p)) _ 1 size (digits_low (number p) _ (lowest_first.small p a (sized (length p) size)))) e
 no_word n (V.BigEndian numbers) p s h a k e =
     let size = ap is_size k ∙ h in
     low_second _ s (chosen_low (is_number p) (32 ∷ named_number numbers (big_endian p)) _ 1 size
-    (digits_low (big_endian p) _ (small (reverse p) (turned p a) (turned_size p size)))) e
+    (digits_low (big_endian p) _ (highest_first.small p a (sized (length p) size)))) e
 no_word n V.Signed p s h a k e = low_second _ s (chosen_low (length p == 4) (32 ∷ signed_text (number p)) _ 1 (ap (λ m. m == 4) k ∙ h) (signed_low (number p))) e
 no_word n V.Flags p s h a k e = low_second _ s (chosen_low (is_number p) (32 ∷ _) _ 1 (ap is_size k ∙ h) (omega arith)) e
 no_word n V.Presence p s h a k e = absurd cc

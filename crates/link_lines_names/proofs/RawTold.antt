@@ -1,5 +1,5 @@
 -- What is shown of raw attributes tells them.
-use Rattle.std.proofs.Common.{◌≡◌, ℕ, ◌+◌, ◌/◌, ◌%◌, ◌<◌, ◌≤◌, Bool, true, false, cond, List, [], ◌∷◌, ◌++◌, length, drop, get_or, Option, Some, None, refl, sym, ap, ◌∙◌, arith}
+use Rattle.std.proofs.Common.{◌≡◌, ℕ, ◌/◌, ◌%◌, ◌<◌, Bool, true, false, cond, List, [], ◌∷◌, ◌++◌, length, drop, get_or, Option, Some, None, refl, sym, ap, ◌∙◌, arith}
 use Rattle.std.specs.Prelude.{◌==◌, codes}
 use Rattle.std.proofs.lemmas.Bool.{and_parts, eqb-true}
 use Rattle.std.proofs.lemmas.Option.{same_Some}
@@ -7,7 +7,7 @@ use Rattle.netlink_packet_core_grammar.specs.Bytes.{AreBytes}
 use Rattle.link_lines_values.specs.declared.values.ShownBy.TheVariants as V
 use Rattle.link_lines_values.specs.Bytes.{bytes_text}
 use Rattle.link_lines_values.specs.Digits.{four_digits}
-use Rattle.link_lines_values.specs.Laws.{BytesAreTold, Ends, IsBehindASpace, IsLine, SizedValuesAreTold, ValuesStandOnALine}
+use Rattle.link_lines_values.specs.Laws.{BytesAreTold, IsBehindASpace, IsLine, SizedValuesAreTold, ValuesStandOnALine}
 use Rattle.link_lines_values.specs.Values.{Shown, is_shown_on_a_line, tells_sized, value_text}
 use Rattle.link_lines_names.specs.declared.raw.RawBy.TheVariants as R
 use Rattle.link_lines_names.specs.Laws.{RawAttributesAreTold}
@@ -15,7 +15,8 @@ use Rattle.link_lines_names.specs.Names.{Named}
 use Rattle.link_lines_names.specs.Raw.{Raw, named_text, raw_name, raw_payload, raw_text, raw_titles_of}
 use Rattle.link_lines_names.proofs.Named.{apart_in, name_of}
 use Rattle.link_lines_names.proofs.RawRows.{raw_apart, raw_named, raw_tells, raw_told}
-use Rattle.link_lines_names.proofs.Words.{Starts, cut_word, lines_joined, word_line}
+use Rattle.link_lines_names.proofs.Words.{cut_word, lines_joined, not_unnamed, space_ends, word_line}
+use Rattle.link_lines_values.proofs.OneLine.{either_line, either_space, hex_byte_line, more_line, tested}
 
 pub record ValueLaws : Type 0 where
   pub bytes : BytesAreTold
@@ -36,30 +37,15 @@ module _ (laws : ValueLaws) where
   payload_told R.Bytes p q h a b e = laws.bytes.bytes p q a b e
   payload_told (R.Sized n v) p q h a b e = sized_by n v p q (length p == n) (length q == n) refl refl (and_parts (tells_sized n v) (is_shown_on_a_line v) h).0 a b e
 
-  either_space : (t : Bool) (x y : List ℕ) → IsBehindASpace x → IsBehindASpace y → IsBehindASpace (cond t x y)
-  either_space true x y h k = h
-  either_space false x y h k = k
-
   payload_space : (r : Raw) (p : List ℕ) → IsBehindASpace (raw_payload r p)
   payload_space R.Bytes p = laws.values.space V.Bytes p
   payload_space (R.Sized n v) p = either_space (length p == n) (value_text v p) _ (laws.values.space v p) refl
-
-  either_line : (t : Bool) (x y : List ℕ) → IsLine x → IsLine y → IsLine (cond t x y)
-  either_line true x y h k = h
-  either_line false x y h k = k
-
-  word_is_line : IsLine (codes " bytes")
-  word_is_line = (omega arith, (omega arith, (omega arith, (omega arith, (omega arith, (omega arith, record {}))))))
 
   payload_line : (r : Raw) (p : List ℕ) → raw_tells r ≡ true → IsLine (raw_payload r p)
   payload_line R.Bytes p h = laws.values.line V.Bytes p refl
   payload_line (R.Sized n v) p h =
       either_line (length p == n) (value_text v p) _ (laws.values.line v p (and_parts (tells_sized n v) (is_shown_on_a_line v) h).1)
-      (lines_joined (codes " bytes") (bytes_text p) word_is_line (laws.values.line V.Bytes p refl))
-
-  space_ends : (s : List ℕ) → IsBehindASpace s → Ends s
-  space_ends [] h = record {}
-  space_ends (c ∷ s) h = omega (arith, h)
+      (lines_joined (codes " bytes") (bytes_text p) (tested (codes " bytes") refl) (laws.values.line V.Bytes p refl))
 
   -- ---- kinds without a name
 
@@ -78,28 +64,11 @@ module _ (laws : ValueLaws) where
       let same = laws.bytes.bytes (k / 256 ∷ k % 256 ∷ []) (l / 256 ∷ l % 256 ∷ []) (two_bytes k i) (two_bytes l j) digits in
       (of_two_bytes k l (ap (at 0) same) (ap (at 1) same), laws.bytes.bytes p q a b (ap (drop 11) h))
 
-  glyph_line : (t : Bool) (d : ℕ) → 32 ≤ cond t (48 + d) (87 + d)
-  glyph_line true d = omega arith
-  glyph_line false d = omega arith
-
-  digits_line : (n : ℕ) → IsLine (four_digits n)
-  digits_line n = (omega arith, (omega arith, (glyph_line _ (n / 256 / 16), (glyph_line _ (n / 256 % 16), (glyph_line _ (n % 256 / 16), (glyph_line _ (n % 256 % 16), record {}))))))
-
   kind_line : (k : ℕ) (p : List ℕ) → IsLine (codes "kind " ++ (four_digits k ++ bytes_text p))
   kind_line k p =
-      let rest : IsLine (four_digits k ++ bytes_text p) = lines_joined (four_digits k) (bytes_text p) (digits_line k) (laws.values.line V.Bytes p refl) in
-      (omega arith, (omega arith, (omega arith, (omega arith, (omega arith, rest)))))
-
-  lower_apart : (n m : ℕ) → m ≡ 107 → n < 97 → n ≡ m → ⊥
-  lower_apart n m is h e = omega arith
-
-  named_first : (a b : List ℕ) → Starts a → get_or (a ++ b) 0 0 ≡ get_or a 0 0
-  named_first [] b h = absurd h
-  named_first (c ∷ a) b h = refl
-
-  -- no name is the word in front of a number
-  not_unnamed : (name inside rest : List ℕ) → Starts name → get_or name 0 0 < 97 → name ++ inside ≡ 107 ∷ rest → ⊥
-  not_unnamed name inside rest h l e = lower_apart (get_or name 0 0) 107 refl l (sym (named_first name inside h) ∙ ap (λ z. get_or z 0 0) e)
+      let high = hex_byte_line (k / 256) in
+      let low = hex_byte_line (k % 256) in
+      search (lines_joined, more_line, laws.values.line V.Bytes p refl) depth 14
 
   -- ---- attributes
 

@@ -3,10 +3,10 @@ pub mod Zeros
 pub mod Listing
 pub mod Hex
 mod BytesTold
-mod NumbersTold
-mod ValuesTold
+pub mod NumbersTold
+pub mod ValuesTold
 mod RecordsTold
-mod OneLine
+pub mod OneLine
 mod SizedTold
 mod SizesTold
 pub mod Deeper

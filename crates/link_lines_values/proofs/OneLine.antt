@@ -30,7 +30,7 @@ pub either_line : (test : Bool) (s t : List ℕ) → IsLine s → IsLine t → I
 either_line true s t h k = h
 either_line false s t h k = k
 
-more_line : (c : ℕ) (s : List ℕ) → nat_le 32 c ≡ true → IsLine s → IsLine (c ∷ s)
+pub more_line : (c : ℕ) (s : List ℕ) → nat_le 32 c ≡ true → IsLine s → IsLine (c ∷ s)
 more_line c s l h = (leb-true 32 c l, h)
 
 -- texts of parts
@@ -46,7 +46,7 @@ lines_mapped f each [] = record {}
 lines_mapped f each (n ∷ p) = lines_joined (f n) (flat_map f p) (each n) (lines_mapped f each p)
 
 -- the test of a text that is written out
-tested : (s : List ℕ) → is_line s ≡ true → IsLine s
+pub tested : (s : List ℕ) → is_line s ≡ true → IsLine s
 tested [] h = record {}
 tested (c ∷ s) h =
     let parts = and_parts (nat_le 32 c) (is_line s) h in

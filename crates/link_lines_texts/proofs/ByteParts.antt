@@ -1,5 +1,5 @@
 -- Parts of bytes are bytes.
-use Rattle.std.proofs.Common.{ℕ, zero, suc, List, [], ◌∷◌, ◌++◌, take, drop}
+use Rattle.std.proofs.Common.{ℕ, List, [], ◌∷◌, ◌++◌}
 use Rattle.netlink_packet_core_grammar.specs.Bytes.{AreBytes}
 
 pub front_bytes : (a b : List ℕ) → AreBytes (a ++ b) → AreBytes a

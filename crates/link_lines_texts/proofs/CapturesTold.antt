@@ -1,16 +1,17 @@
 -- Where lines tell frames, they tell captures.
 use Rattle.std.proofs.Common.{◌≡◌, ℕ, zero, suc, ◌+◌, ◌-◌, ◌^◌, ◌<◌, ◌≤◌, Bool, true, false, cond, List, [], ◌∷◌, ◌++◌, length, take, drop, Result, Ok, Err, ◌⊎◌, inl, inr, None, refl, sym, ap, subst, ◌∙◌, append_assoc, arith}
-use Rattle.std.specs.Prelude.{nat_lt, nat_eq, codes, ⊤}
-use Rattle.std.proofs.lemmas.List.{take_at, drop_at, length-append, length-take, length-drop}
+use Rattle.std.specs.Prelude.{codes, ⊤}
+use Rattle.std.proofs.lemmas.Bool.{cond_both}
+use Rattle.std.proofs.lemmas.List.{take_at, drop_at, length-append, length-drop}
 use Rattle.netlink_packet_core_grammar.specs.Attributes.{nla_align, zeros}
 use Rattle.netlink_packet_core_grammar.specs.Bytes.{AreBytes}
 use Rattle.netlink_packet_core_grammar.specs.Frames.{frame_length, frame_type, frame_body, frame_text}
-use Rattle.netlink_packet_core_grammar.specs.Numbers.{u16_at, u32_at, le4}
+use Rattle.netlink_packet_core_grammar.specs.Numbers.{u16_at, le4}
 use Rattle.attribute_tables_grammar.specs.Rules.{Rule, Lawful}
 use Rattle.link_message_grammar.specs.Body.{link_body, link_peer}
 use Rattle.link_message_grammar.specs.Laws.{BodiesAreLawful, LinkPeerIsLawful}
 use Rattle.link_capture_grammar.specs.declared.fault.FaultKind.{FaultKind}
-use Rattle.link_capture_grammar.specs.Bodies.{Refusal, refused, empty_ports, unfit, error_text, done_text, ruled_text, body_text, body_text_under, is_link_type}
+use Rattle.link_capture_grammar.specs.Bodies.{Refusal, refused, empty_ports, unfit, ruled_text, body_text, body_text_under}
 use Rattle.link_capture_grammar.specs.Captures.{Judged, first_frame, next_texts, texts_after, texts_after_under, texts}
 use Rattle.link_capture_grammar.specs.Laws.{FramesAreJudged, FramesStandAlone, CapturesAreCounted, BodiesAreNormal, TextsTellMeanings}
 use Rattle.link_lines_values.specs.Flags.{named_flags}
@@ -37,36 +38,25 @@ of_number n = (omega arith, (omega arith, (omega arith, (omega arith, tt))))
 
 -- ---- the text of a body has bytes
 
-kept_bytes : (b text : List ℕ) → AreBytes b → ◌≡◌ {A = Result (List ℕ) Refusal} (Ok b) (Ok text) → AreBytes text
-kept_bytes b text h e = let is : b ≡ text = cc in subst AreBytes is h
+abbrev HasBytes : Result (List ℕ) Refusal → Type 0
+HasBytes (Ok text) = AreBytes text
+HasBytes (Err why) = ⊤
 
-error_bytes : (b text : List ℕ) (c : Bool) → AreBytes b → cond c (Err refused) (Ok b) ≡ Ok text → AreBytes text
-error_bytes b text true h e = absurd cc
-error_bytes b text false h e = kept_bytes b text h e
+either_bytes : (c : Bool) (x y : Result (List ℕ) Refusal) → HasBytes x → HasBytes y → HasBytes (cond c x y)
+either_bytes c x y h k = cond_both c x y HasBytes (λ e. h) (λ e. k)
 
-done_bytes : (b text : List ℕ) (a c : Bool) → AreBytes b → cond a (Ok (0 ∷ 0 ∷ 0 ∷ 0 ∷ [])) (cond c (Err refused) (Ok b)) ≡ Ok text → AreBytes text
-done_bytes b text true c h e = kept_bytes (0 ∷ 0 ∷ 0 ∷ 0 ∷ []) text (omega arith, (omega arith, (omega arith, (omega arith, tt)))) e
-done_bytes b text false c h e = error_bytes b text c h e
-
-ruled_bytes : (r : Rule) → Lawful r → (b text : List ℕ) (a p f : Bool) → r.accepted b ≡ a → r.fits b ≡ f → AreBytes b →
-    cond a (cond p (Err empty_ports) (cond f (Ok (r.canonical b)) (Err unfit))) (Err refused) ≡ Ok text → AreBytes text
-ruled_bytes r l b text false p f a c h e = absurd cc
-ruled_bytes r l b text true true f a c h e = absurd cc
-ruled_bytes r l b text true false false a c h e = absurd cc
-ruled_bytes r l b text true false true a c h e = kept_bytes (r.canonical b) text (l.bytes b a c h) e
-
-typed_bytes : Lawful link_body → (b text : List ℕ) (noop error done link : Bool) → AreBytes b →
-    cond noop (Ok []) (cond error (error_text b) (cond done (done_text b) (cond link (ruled_text link_body b) (Ok b)))) ≡ Ok text → AreBytes text
-typed_bytes l b text true error done link h e = kept_bytes [] text tt e
-typed_bytes l b text false true done link h e = error_bytes b text (nat_lt (length b) 4) h e
-typed_bytes l b text false false true link h e = done_bytes b text (nat_eq (length b) 0) (nat_lt (length b) 4) h e
-typed_bytes l b text false false false true h e =
-    ruled_bytes link_body l b text (link_body.accepted b) (link_body.empty_ports b) (link_body.fits b) refl refl h e
-typed_bytes l b text false false false false h e = kept_bytes b text h e
+ruled_bytes : (r : Rule) → Lawful r → (b : List ℕ) → AreBytes b → HasBytes (ruled_text r b)
+ruled_bytes r l b h =
+    cond_both (r.accepted b) _ (Err refused) HasBytes
+    (λ a. either_bytes (r.empty_ports b) (Err empty_ports) _ tt (cond_both (r.fits b) (Ok (r.canonical b)) (Err unfit) HasBytes (λ f. l.bytes b a f h) (λ f. tt))) (λ a. tt)
 
 body_bytes : Lawful link_body → (t : ℕ) (b text : List ℕ) → AreBytes b → body_text t b ≡ Ok text → AreBytes text
 unfolding body_text_under
-body_bytes l t b text h e = typed_bytes l b text (nat_eq t 1) (nat_eq t 2) (nat_eq t 3) (is_link_type t) h e
+body_bytes l t b text h e =
+    let link = ruled_bytes link_body l b h in
+    let zeros : AreBytes (0 ∷ 0 ∷ 0 ∷ 0 ∷ []) = (omega arith, (omega arith, (omega arith, (omega arith, tt)))) in
+    let all : HasBytes (body_text t b) = search either_bytes depth 7 in
+    subst HasBytes e all
 
 link_lawful : BodiesAreLawful → LinkPeerIsLawful → Lawful link_body
 link_lawful lawful peers = lawful link_peer peers
@@ -134,9 +124,7 @@ text_told c d body more h k e =
 
 header_some : (a b c more s : List ℕ) → ((a ++ (b ++ (c ++ 10 ∷ []))) ++ more) ++ s ≡ [] → ⊥
 header_some [] [] [] more s e = absurd cc
-header_some [] [] (x ∷ c) more s e = absurd cc
-header_some [] (x ∷ b) c more s e = absurd cc
-header_some (x ∷ a) b c more s e = absurd cc
+header_some a b c more s e = absurd cc
 
 pub frame_has_lines : (n : Bool) (f s : List ℕ) → frame_lines n f ++ s ≡ [] → ⊥
 unfolding frame_lines header_line
@@ -159,17 +147,13 @@ abbrev Known : Bool → List ℕ → Type 0
 Known true x = ⊤
 Known false x = (c : List ℕ) × (x ≡ numbers_cleared c)
 
-same_frame : (c x : List ℕ) → is_frame c ≡ false → x ≡ numbers_cleared c → is_frame x ≡ true → ⊥
-same_frame c x h e i = let bad : true ≡ false = sym i ∙ ap is_frame (e ∙ stopped c h) ∙ h in absurd cc
-
 cleared_front : (c x : List ℕ) (b : Bool) → is_frame c ≡ b → x ≡ numbers_cleared c → is_frame x ≡ true → NumbersAreKnown false (take (frame_length x) x) × Known false (drop (nla_align (frame_length x)) x)
-cleared_front c x false h e i = absurd (same_frame c x h e i)
+cleared_front c x false h e i = absurd (let bad : true ≡ false = sym i ∙ ap is_frame (e ∙ stopped c h) ∙ h in cc)
 cleared_front c x true h e i =
     let n : ℕ = frame_length c in
     let size : frame_length x ≡ n = ap (λ z. frame_length z) e ∙ (cleared_shape c h).size in
-    let own : take n (numbers_cleared c) ≡ take (frame_length x) x = sym (ap (take n) e) ∙ ap (λ k. take k x) (sym size) in
-    let rest : drop (nla_align (frame_length x)) x ≡ numbers_cleared (drop (nla_align n) c) = ap (λ k. drop (nla_align k) x) size ∙ ap (drop (nla_align n)) e ∙ behind c h in
-    (subst (NumbersAreKnown false) own (known_front c h), (drop (nla_align n) c, rest))
+    let rest : drop (nla_align (frame_length x)) x ≡ numbers_cleared (drop (nla_align n) c) = rw (size, e) (behind c h) in
+    (rw (size, e) (known_front c h), (drop (nla_align n) c, rest))
 
 known_by : (n : Bool) (x : List ℕ) → Known n x → is_frame x ≡ true → NumbersAreKnown n (take (frame_length x) x) × Known n (drop (nla_align (frame_length x)) x)
 known_by true x k i = (record { own = tt; request = λ two l. tt }, tt)

@@ -1,10 +1,10 @@
 -- The lines of texts go by their frames.
 use Rattle.std.proofs.Common.{◌≡◌, ℕ, zero, suc, ◌+◌, ◌-◌, ◌^◌, ◌<◌, ◌≤◌, Bool, true, false, cond, List, [], ◌∷◌, ◌++◌, length, take, drop, Result, Ok, Err, refl, sym, ap, ◌∙◌, append_assoc, arith}
 use Rattle.std.specs.Prelude.{◌&&◌, nat_le, nat_lt}
-use Rattle.std.proofs.lemmas.Bool.{and_from, and_parts, leb-true, le-leb, ltb-false}
-use Rattle.std.proofs.lemmas.List.{drop_at, length-append, take-append-le}
+use Rattle.std.proofs.lemmas.Bool.{and_from, le-leb, ltb-false}
+use Rattle.std.proofs.lemmas.List.{drop_at, length-append, length-drop, take-append-le}
 use Rattle.std.proofs.lemmas.Nat.{from_le_bytes-to_le_bytes_4}
-use Rattle.netlink_packet_core_grammar.specs.Attributes.{nla_align, zeros}
+use Rattle.netlink_packet_core_grammar.specs.Attributes.{nla_align}
 use Rattle.netlink_packet_core_grammar.specs.Frames.{frame_length, frame_type, frame_body, frame_text}
 use Rattle.netlink_packet_core_grammar.specs.Numbers.{u32_at, le4}
 use Rattle.link_message_grammar.specs.Body.{link_body}
@@ -44,6 +44,18 @@ stopped o (b ∷ c) h =
 pub by_frames : LinesGoByFrames
 by_frames = record { frame = whole; none = stopped }
 
+-- what holds of bytes that begin with a whole frame, where it holds of what stands behind it, and of other bytes, holds of all
+module _ (P : List ℕ → Type 0) (none : (c : List ℕ) → is_frame c ≡ false → P c) (more : (c : List ℕ) → is_frame c ≡ true → P (drop (nla_align (frame_length c)) c) → P c) where
+  fronts_within : (fuel : ℕ) (c : List ℕ) (b : Bool) → is_frame c ≡ b → length c ≤ fuel → P c
+  fronts_within fuel c false e l = none c e
+  fronts_within zero c true e l = let bounds = length_of c e in absurd (omega (arith, bounds.0, bounds.1))
+  fronts_within (suc fuel) c true e l =
+      let rest = drop (nla_align (frame_length c)) c in
+      more c e (fronts_within fuel rest (is_frame rest) refl (omega (arith, l, length-drop (nla_align (frame_length c)) c, (length_of c e).0)))
+
+  pub by_fronts : (c : List ℕ) → P c
+  by_fronts c = fronts_within (length c) c (is_frame c) refl (omega arith)
+
 -- ---- the text of a frame in front of other bytes
 
 length_kept : (n : ℕ) (more : List ℕ) → n < 2 ^ 32 → frame_length (le4 n ++ more) ≡ n
@@ -80,10 +92,7 @@ in_front j o c body r h b =
     let n = 16 + length body in
     let t = frame_text c body in
     let front = stands_in_front j c body r h b in
-    whole o (t ++ r) front.is
-    ∙ ap (λ m. shown_lines o (take m (t ++ r)) ++ text_lines o (drop (nla_align m) (t ++ r))) front.told
-    ∙ ap (λ z. shown_lines o z ++ text_lines o (drop (nla_align n) (t ++ r))) front.own
-    ∙ ap (λ z. shown_lines o (take n t) ++ text_lines o z) front.rest
+    whole o (t ++ r) front.is ∙ rw (front.told, front.own, front.rest) refl
 
 -- ---- a frame that is accepted has such a text
 

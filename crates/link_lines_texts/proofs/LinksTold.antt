@@ -1,5 +1,5 @@
 -- Lines tell the lists of link messages, and peers in them.
-use Rattle.std.proofs.Common.{◌≡◌, ℕ, ◌≤◌, Bool, true, false, cond, List, [], ◌++◌, length, drop, Some, None, refl, sym, ap, ◌∙◌}
+use Rattle.std.proofs.Common.{◌≡◌, ℕ, ◌≤◌, Bool, true, false, cond, List, ◌++◌, length, Some, refl, sym, ap, ◌∙◌}
 use Rattle.std.specs.Prelude.{◌==◌, ◌&&◌, not}
 use Rattle.std.proofs.lemmas.Bool.{and_parts, le-leb}
 use Rattle.attribute_tables_grammar.specs.Lists.{any}
@@ -10,13 +10,11 @@ use Rattle.attribute_tables_grammar.specs.Tables.{Payload}
 use Rattle.link_message_grammar.specs.Body.{body_rule, link_peer, list_rule_of}
 use Rattle.link_message_grammar.specs.Laws.{BodiesAreHeadersAndAttributes}
 use Rattle.link_message_grammar.specs.LinkMessage.{Family, unspec, bridge, inet_6, other, link_table}
-use Rattle.link_lines_values.specs.Laws.{DigitsAreTold}
 use Rattle.link_lines_values.specs.declared.values.ShownBy.TheVariants.{Bytes}
 use Rattle.link_lines_names.specs.Behind.{Inside.Peer as PeerInside, Inside.Nested}
 use Rattle.link_lines_texts.specs.Coverage.{holds_shown}
 use Rattle.link_lines_texts.specs.Laws.{RowsAreTold}
-use Rattle.link_lines_texts.specs.Links.{family_table, link_header_line}
-use Rattle.link_lines_texts.specs.Lists.{nested_lines, of_link}
+use Rattle.link_lines_texts.specs.Links.{family_table}
 use Rattle.link_lines_texts.specs.Telling.{IsOwn, ListsAreTold}
 use Rattle.link_lines_texts.proofs.LinkBodiesTold.{FamiliesTold, IsOwnLink, link_part, link_told, own_link}
 use Rattle.link_lines_texts.proofs.ListsTold.{InsideTold, NestedTold, below}
@@ -60,14 +58,14 @@ module _ (laws : TableLaws) (rows : RowsAreTold) where
       own_link bytes_peer parts p o.bytes (and_parts (r.accepted p) (not (r.empty_ports p)) fits.0).0 o.canonical
 
   peer_lines : (level : ℕ) (p : List ℕ) → 16 ≤ length p → below level false PeerInside p ≡ link_part level true p
-  peer_lines level p h = ap (λ b. cond b (link_header_line level p) [] ++ nested_lines level (cond b (Some (of_link true p, drop 16 p)) None)) (le-leb 16 (length p) h)
+  peer_lines level p h = rw (le-leb 16 (length p) h)
 
-  peers_told : DigitsAreTold → BodiesAreHeadersAndAttributes bytes_peer → PeersTold link_peer false
-  peers_told digits parts level p q x y o u sx sy same under =
+  peers_told : BodiesAreHeadersAndAttributes bytes_peer → PeersTold link_peer false
+  peers_told parts level p q x y o u sx sy same under =
       let a = own_peer parts p o in
       let b = own_peer parts q u in
-      link_told bytes_peer true (families_told bytes_peer true bytes_told) digits level p q x y o.bytes u.bytes a b sx sy
+      link_told bytes_peer true (families_told bytes_peer true bytes_told) level p q x y o.bytes u.bytes a b sx sy
       (sym (ap (λ z. z ++ x) (peer_lines level p a.size)) ∙ under ∙ ap (λ z. z ++ y) (peer_lines level q b.size))
 
-  pub lists_are_told : DigitsAreTold → BodiesAreHeadersAndAttributes bytes_peer → ListsAreTold
-  lists_are_told digits parts = families_told link_peer false (peers_told digits parts)
+  pub lists_are_told : BodiesAreHeadersAndAttributes bytes_peer → ListsAreTold
+  lists_are_told parts = families_told link_peer false (peers_told parts)

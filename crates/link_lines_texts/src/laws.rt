@@ -14,8 +14,8 @@ use link_capture_grammar::laws::{
 use link_capture_numbers::laws::cleared_captures_have_cleared_texts;
 use link_lines_names::laws::raw_attributes_are_told;
 use link_lines_values::laws::{
-    address_sizes_are_told, addresses_are_told, bytes_are_told, digits_are_told, numbers_are_told,
-    records_are_told, settings_are_told, values_stand_on_a_line,
+    address_sizes_are_told, addresses_are_told, bytes_are_told, numbers_are_told, records_are_told,
+    settings_are_told, values_stand_on_a_line,
 };
 use link_message_grammar::laws::{
     bodies_are_headers_and_attributes, bodies_are_lawful, body_laws_hold_for_any_peers,
@@ -77,7 +77,6 @@ pub fn lists_are_told()
     ensures { ListsAreTold }
 {
     body_laws_hold_for_any_peers();
-    digits_are_told();
     first_attributes_are_within();
     peers_that_are_bytes_are_lawful();
     raw_attributes_are_told();
@@ -94,7 +93,6 @@ pub fn frames_are_told()
 {
     bodies_are_headers_and_attributes();
     bytes_are_told();
-    digits_are_told();
     lists_are_told();
     numbers_are_told();
     values_stand_on_a_line();

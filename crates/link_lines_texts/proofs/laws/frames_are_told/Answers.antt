@@ -6,7 +6,6 @@ returns c =
     told (record {
       lists = c.lists_are_told.ensures;
       lines = c.values_stand_on_a_line.ensures;
-      digits = c.digits_are_told.ensures;
       bytes = c.bytes_are_told.ensures;
       numbers = c.numbers_are_told.ensures;
       parts = c.bodies_are_headers_and_attributes.ensures;

@@ -14,4 +14,4 @@ returns c =
       first = c.written_attributes_come_first.ensures;
     } in
     let bodies = c.body_laws_hold_for_any_peers.ensures bytes_peer c.peers_that_are_bytes_are_lawful.ensures in
-    lists_are_told (record { lists = lists; shapes = c.shapes_are_told.ensures }) c.rows_are_told.ensures c.digits_are_told.ensures bodies.headers_and_attributes
+    lists_are_told (record { lists = lists; shapes = c.shapes_are_told.ensures }) c.rows_are_told.ensures bodies.headers_and_attributes

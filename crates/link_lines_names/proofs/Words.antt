@@ -1,5 +1,5 @@
 -- Where lines end, and where words end.
-use Rattle.std.proofs.Common.{◌≡◌, ℕ, ◌<◌, ◌≤◌, true, List, [], ◌∷◌, ◌++◌, drop, refl, ap, arith}
+use Rattle.std.proofs.Common.{◌≡◌, ℕ, ◌<◌, ◌≤◌, true, List, [], ◌∷◌, ◌++◌, drop, refl, ap, ◌∙◌, append_assoc, arith}
 use Rattle.std.specs.Prelude.{get_or, nat_le}
 use Rattle.std.proofs.lemmas.Bool.{and_parts, leb-true}
 use Rattle.link_lines_values.specs.Laws.{Ends, IsBehindASpace, IsLine}
@@ -39,3 +39,7 @@ starts_joined (c ∷ a) b h = h
 pub not_unnamed : (name inside rest : List ℕ) → Starts name → get_or name 0 0 < 97 → name ++ inside ≡ 107 ∷ rest → ⊥
 not_unnamed [] inside rest h l e = h
 not_unnamed (c ∷ name) inside rest h l e = let first : c ≡ 107 = cc in omega arith
+
+-- what was appended in three steps
+pub three_parts : (o a b d x y z : List ℕ) → x ≡ o ++ a → y ≡ x ++ b → z ≡ y ++ d → z ≡ o ++ (a ++ (b ++ d))
+three_parts o a b d x y z e f g = g ∙ ap (λ v. v ++ d) (f ∙ ap (λ v. v ++ b) e) ∙ append_assoc (o ++ a) b d ∙ append_assoc o a (b ++ d)

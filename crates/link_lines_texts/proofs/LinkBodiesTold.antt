@@ -6,7 +6,7 @@ use Rattle.std.proofs.lemmas.List.{drop_at, length-append, length-take}
 use Rattle.netlink_packet_core_grammar.specs.Bytes.{AreBytes}
 use Rattle.attribute_tables_grammar.specs.Peers.{Peer}
 use Rattle.link_message_grammar.specs.Body.{body_rule, family, header_text, is_listed, layer_type_text, list_rule_of}
-use Rattle.link_message_grammar.specs.Laws.{BodiesAreHeadersAndAttributes}
+use Rattle.link_message_grammar.proofs.Parts.{bodies_are_headers_and_attributes}
 use Rattle.link_message_grammar.specs.LinkMessage.{family_of}
 use Rattle.link_lines_texts.specs.Links.{link_header_line}
 use Rattle.link_lines_texts.specs.Lists.{list_lines, of_link}
@@ -31,9 +31,9 @@ second_is (x ∷ y ∷ u ∷ v ∷ b) p l e = sym (ap (λ l. get_or l 1 0) e)
 second_is b p l e = absurd (omega arith)
 
 -- such a body has a header that is its own text, and attributes that are
-pub own_link : (peer : Peer) → BodiesAreHeadersAndAttributes peer → (b : List ℕ) → AreBytes b → (body_rule peer).accepted b ≡ true → (body_rule peer).canonical b ≡ b → IsOwnLink peer b
-own_link peer h b a accepts canonical =
-    let parts = h b in
+pub own_link : (peer : Peer) (b : List ℕ) → AreBytes b → (body_rule peer).accepted b ≡ true → (body_rule peer).canonical b ≡ b → IsOwnLink peer b
+own_link peer b a accepts canonical =
+    let parts = bodies_are_headers_and_attributes peer b in
     let rule = list_rule_of peer (family b) in
     let accepted = and_parts (nat_le 16 (length b)) (rule.accepted (drop 16 b)) (sym parts.accepted ∙ accepts) in
     let size = leb-true 16 (length b) accepted.0 in

@@ -14,7 +14,7 @@ use Rattle.attribute_tables_grammar.specs.Shapes.{number}
 use Rattle.link_lines_values.specs.Bytes.{address_text, is_zero, truth_text}
 use Rattle.link_lines_values.specs.Digits.{big_endian, hex_number}
 use Rattle.link_lines_values.specs.Values.{flags_and_mask_value, optional_byte_value, port_range_value, sized_flags_value}
-use Rattle.link_lines_values.specs.Laws.{Ends, SettingsAreTold}
+use Rattle.link_lines_values.specs.Laws.{AddressesAreTold, Ends, SettingsAreTold}
 use Rattle.std.specs.Fmt.{decimal}
 use Rattle.std.proofs.lemmas.List.{append_cancel_left, take-append-drop, length-take, length-drop}
 use Rattle.link_lines_values.proofs.NumbersTold.{Reads, Tells, decimal_told, hex_told, highest_first, lowest_first, number_alone, number_and_rest, number_told, sized_number}
@@ -67,11 +67,14 @@ ipv6_told p q a b l k e =
     (subst (λ t. IsIpv6Text t y) (sym e) (IsColonHex-ipv6_text (segments_of q) (segments_size 8 q k) (segments_at q b))) in
     segments_told 8 p q a b l k (ap (λ v. v.segments) same)
 
-pub address_4 : (p q : List ℕ) → AreBytes p → AreBytes q → length p ≡ 4 → length q ≡ 4 → address_text p ≡ address_text q → p ≡ q
+address_4 : (p q : List ℕ) → AreBytes p → AreBytes q → length p ≡ 4 → length q ≡ 4 → address_text p ≡ address_text q → p ≡ q
 address_4 p q a b l k e = ipv4_told p q a b l k (ap (drop 1) (rw (l, k) at e))
 
-pub address_16 : (p q : List ℕ) → AreBytes p → AreBytes q → length p ≡ 16 → length q ≡ 16 → address_text p ≡ address_text q → p ≡ q
+address_16 : (p q : List ℕ) → AreBytes p → AreBytes q → length p ≡ 16 → length q ≡ 16 → address_text p ≡ address_text q → p ≡ q
 address_16 p q a b l k e = ipv6_told p q a b l k (ap (drop 1) (rw (l, k) at e))
+
+pub addresses_told : AddressesAreTold
+addresses_told = record { ipv4 = address_4; ipv6 = address_16 }
 
 -- ---- parts
 

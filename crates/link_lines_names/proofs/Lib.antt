@@ -1,5 +1,5 @@
 pub mod Named
 mod RawRows
-mod RawTold
+pub mod RawTold
 pub mod Rows
 pub mod Words

@@ -1,6 +1,6 @@
 -- Each name of a raw attribute is a word of its own, and what stands behind it tells the payload, by computation.
-use Rattle.std.proofs.Common.{◌≡◌, ℕ, ◌-◌, Bool, true, false, cond, List, [], ◌∷◌, Some, refl}
-use Rattle.std.specs.Prelude.{◌==◌, ◌&&◌, ◌||◌, nat_lt, get_or}
+use Rattle.std.proofs.Common.{◌≡◌, ℕ, Bool, true, false, cond, List, [], ◌∷◌, Some, refl}
+use Rattle.std.specs.Prelude.{◌&&◌}
 use Rattle.std.specs.List.{list_all}
 use Rattle.std.proofs.lemmas.Bool.{and_parts}
 use Rattle.attribute_checks.proofs.LookUps.{all_at}
@@ -41,22 +41,15 @@ chosen : (f : List (Titled Raw) → Bool) (b : Bool) (x y : List (Titled Raw)) �
 chosen f true x y h k = h
 chosen f false x y h k = k
 
+pub first_holds : (x y : Bool) → (x && y) ≡ true → x ≡ true
+first_holds x y h = (and_parts x y h).0
+
+pub others_hold : (x y : Bool) → (x && y) ≡ true → y ≡ true
+others_hold x y h = (and_parts x y h).1
+
 in_list : (f : List (Titled Raw) → Bool) (m : ℕ) → f [] ≡ true → in_each f ≡ true → f (raw_titles_of m) ≡ true
 unfolding raw_titles_of table_titles
-in_list f m e h =
-    let parts = and_parts (list_all f raw_lists) _ h in
-    let a = and_parts (f vf_titles) _ parts.1 in
-    let b = and_parts (f link_titles) _ a.1 in
-    let c = and_parts (f geneve_titles) _ b.1 in
-    let d = and_parts (f gre_titles) _ c.1 in
-    let g = and_parts (f gre6_titles) _ d.1 in
-    let i = and_parts (f xfrm_titles) true g.1 in
-    chosen f (nat_lt m 44) (table_titles m) (get_or raw_lists (m - 44) [])
-    (chosen f (m == 11) vf_titles _ a.0
-    (chosen f (m == 15 || (m == 16 || (m == 17 || m == 18))) link_titles _ b.0
-    (chosen f (m == 23) geneve_titles _ c.0 (chosen f (m == 24) gre_titles _ d.0
-    (chosen f (m == 25) gre6_titles _ g.0 (chosen f (m == 39) xfrm_titles [] i.0 e))))))
-    (all_at f raw_lists (m - 44) [] parts.0 e)
+in_list f m e h = search (chosen f, all_at f, first_holds, others_hold) depth 12
 
 pub raw_named : (m k : ℕ) (n : Named Raw) → raw_name m k ≡ Some n → has_name k n ≡ true
 raw_named m k n h = found_in has_name k (raw_titles_of m) n (in_list (all_titles has_name) m refl all_are_named) h

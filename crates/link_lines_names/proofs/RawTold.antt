@@ -1,5 +1,5 @@
 -- What is shown of raw attributes tells them.
-use Rattle.std.proofs.Common.{◌≡◌, ℕ, ◌+◌, ◌/◌, ◌%◌, ◌<◌, ◌≤◌, Bool, true, false, cond, List, [], ◌∷◌, ◌++◌, length, drop, get_or, Option, Some, None, refl, sym, ap, ◌∙◌, arith}
+use Rattle.std.proofs.Common.{◌≡◌, ℕ, ◌/◌, ◌%◌, ◌<◌, Bool, true, false, cond, List, [], ◌∷◌, ◌++◌, length, drop, get_or, Option, Some, None, refl, sym, ap, ◌∙◌, arith}
 use Rattle.std.specs.Prelude.{◌==◌, codes}
 use Rattle.std.proofs.lemmas.Bool.{and_parts, eqb-true}
 use Rattle.std.proofs.lemmas.Option.{same_Some}
@@ -7,7 +7,7 @@ use Rattle.netlink_packet_core_grammar.specs.Bytes.{AreBytes}
 use Rattle.link_lines_values.specs.declared.values.ShownBy.TheVariants as V
 use Rattle.link_lines_values.specs.Bytes.{bytes_text}
 use Rattle.link_lines_values.specs.Digits.{four_digits}
-use Rattle.link_lines_values.specs.Laws.{BytesAreTold, Ends, IsBehindASpace, IsLine, SizedValuesAreTold, ValuesStandOnALine}
+use Rattle.link_lines_values.specs.Laws.{IsBehindASpace, IsLine}
 use Rattle.link_lines_values.specs.Values.{Shown, is_shown_on_a_line, tells_sized, value_text}
 use Rattle.link_lines_names.specs.declared.raw.RawBy.TheVariants as R
 use Rattle.link_lines_names.specs.Laws.{RawAttributesAreTold}
@@ -15,117 +15,82 @@ use Rattle.link_lines_names.specs.Names.{Named}
 use Rattle.link_lines_names.specs.Raw.{Raw, named_text, raw_name, raw_payload, raw_text, raw_titles_of}
 use Rattle.link_lines_names.proofs.Named.{apart_in, name_of}
 use Rattle.link_lines_names.proofs.RawRows.{raw_apart, raw_named, raw_tells, raw_told}
-use Rattle.link_lines_names.proofs.Words.{Starts, cut_word, lines_joined, word_line}
-
-pub record ValueLaws : Type 0 where
-  pub bytes : BytesAreTold
-  pub sized : SizedValuesAreTold
-  pub values : ValuesStandOnALine
+use Rattle.link_lines_names.proofs.Words.{cut_word, lines_joined, not_unnamed, space_ends, word_line}
+use Rattle.link_lines_values.proofs.BytesTold.{bytes_told}
+use Rattle.link_lines_values.proofs.SizedTold.{sized_told}
+use Rattle.link_lines_values.proofs.OneLine.{values_stand, either_line, either_space, hex_byte_line, more_line, tested}
 
 -- ---- payloads
 
-module _ (laws : ValueLaws) where
-  sized_by : (n : ℕ) (v : Shown) (p q : List ℕ) (t u : Bool) → (length p == n) ≡ t → (length q == n) ≡ u → tells_sized n v ≡ true → AreBytes p → AreBytes q →
-      cond t (value_text v p) (codes " bytes" ++ bytes_text p) ≡ cond u (value_text v q) (codes " bytes" ++ bytes_text q) → p ≡ q
-  sized_by n v p q true true h k r a b e = laws.sized.told n v p q r a b (eqb-true (length p) n h) (eqb-true (length q) n k) e
-  sized_by n v p q true false h k r a b e = absurd (laws.sized.apart n v p (bytes_text q) r a (eqb-true (length p) n h) e)
-  sized_by n v p q false true h k r a b e = absurd (laws.sized.apart n v q (bytes_text p) r b (eqb-true (length q) n k) (sym e))
-  sized_by n v p q false false h k r a b e = laws.bytes.bytes p q a b (ap (drop 6) e)
+sized_by : (n : ℕ) (v : Shown) (p q : List ℕ) (t u : Bool) → (length p == n) ≡ t → (length q == n) ≡ u → tells_sized n v ≡ true → AreBytes p → AreBytes q →
+    cond t (value_text v p) (codes " bytes" ++ bytes_text p) ≡ cond u (value_text v q) (codes " bytes" ++ bytes_text q) → p ≡ q
+sized_by n v p q true true h k r a b e = sized_told.told n v p q r a b (eqb-true (length p) n h) (eqb-true (length q) n k) e
+sized_by n v p q true false h k r a b e = absurd (sized_told.apart n v p (bytes_text q) r a (eqb-true (length p) n h) e)
+sized_by n v p q false true h k r a b e = absurd (sized_told.apart n v q (bytes_text p) r b (eqb-true (length q) n k) (sym e))
+sized_by n v p q false false h k r a b e = bytes_told.bytes p q a b (ap (drop 6) e)
 
-  payload_told : (r : Raw) (p q : List ℕ) → raw_tells r ≡ true → AreBytes p → AreBytes q → raw_payload r p ≡ raw_payload r q → p ≡ q
-  payload_told R.Bytes p q h a b e = laws.bytes.bytes p q a b e
-  payload_told (R.Sized n v) p q h a b e = sized_by n v p q (length p == n) (length q == n) refl refl (and_parts (tells_sized n v) (is_shown_on_a_line v) h).0 a b e
+payload_told : (r : Raw) (p q : List ℕ) → raw_tells r ≡ true → AreBytes p → AreBytes q → raw_payload r p ≡ raw_payload r q → p ≡ q
+payload_told R.Bytes p q h a b e = bytes_told.bytes p q a b e
+payload_told (R.Sized n v) p q h a b e = sized_by n v p q (length p == n) (length q == n) refl refl (and_parts (tells_sized n v) (is_shown_on_a_line v) h).0 a b e
 
-  either_space : (t : Bool) (x y : List ℕ) → IsBehindASpace x → IsBehindASpace y → IsBehindASpace (cond t x y)
-  either_space true x y h k = h
-  either_space false x y h k = k
+payload_space : (r : Raw) (p : List ℕ) → IsBehindASpace (raw_payload r p)
+payload_space R.Bytes p = values_stand.space V.Bytes p
+payload_space (R.Sized n v) p = either_space (length p == n) (value_text v p) _ (values_stand.space v p) refl
 
-  payload_space : (r : Raw) (p : List ℕ) → IsBehindASpace (raw_payload r p)
-  payload_space R.Bytes p = laws.values.space V.Bytes p
-  payload_space (R.Sized n v) p = either_space (length p == n) (value_text v p) _ (laws.values.space v p) refl
+payload_line : (r : Raw) (p : List ℕ) → raw_tells r ≡ true → IsLine (raw_payload r p)
+payload_line R.Bytes p h = values_stand.line V.Bytes p refl
+payload_line (R.Sized n v) p h =
+    either_line (length p == n) (value_text v p) _ (values_stand.line v p (and_parts (tells_sized n v) (is_shown_on_a_line v) h).1)
+    (lines_joined (codes " bytes") (bytes_text p) (tested (codes " bytes") refl) (values_stand.line V.Bytes p refl))
 
-  either_line : (t : Bool) (x y : List ℕ) → IsLine x → IsLine y → IsLine (cond t x y)
-  either_line true x y h k = h
-  either_line false x y h k = k
+-- ---- kinds without a name
 
-  word_is_line : IsLine (codes " bytes")
-  word_is_line = (omega arith, (omega arith, (omega arith, (omega arith, (omega arith, (omega arith, record {}))))))
+of_two_bytes : (k l : ℕ) → k / 256 ≡ l / 256 → k % 256 ≡ l % 256 → k ≡ l
+of_two_bytes k l h e = omega arith
 
-  payload_line : (r : Raw) (p : List ℕ) → raw_tells r ≡ true → IsLine (raw_payload r p)
-  payload_line R.Bytes p h = laws.values.line V.Bytes p refl
-  payload_line (R.Sized n v) p h =
-      either_line (length p == n) (value_text v p) _ (laws.values.line v p (and_parts (tells_sized n v) (is_shown_on_a_line v) h).1)
-      (lines_joined (codes " bytes") (bytes_text p) word_is_line (laws.values.line V.Bytes p refl))
+two_bytes : (k : ℕ) → k < 65536 → AreBytes (k / 256 ∷ k % 256 ∷ [])
+two_bytes k h = (omega arith, (omega arith, record {}))
 
-  space_ends : (s : List ℕ) → IsBehindASpace s → Ends s
-  space_ends [] h = record {}
-  space_ends (c ∷ s) h = omega (arith, h)
+-- an attribute without a name is told by its kind and its bytes
+unnamed_told : (k l : ℕ) (p q : List ℕ) → k < 65536 → l < 65536 → AreBytes p → AreBytes q →
+    codes "kind " ++ (four_digits k ++ bytes_text p) ≡ codes "kind " ++ (four_digits l ++ bytes_text q) → (k ≡ l) × (p ≡ q)
+unnamed_told k l p q i j a b h =
+    let at : ℕ → List ℕ → ℕ = λ n z. get_or z n 0 in
+    let digits : bytes_text (k / 256 ∷ k % 256 ∷ []) ≡ bytes_text (l / 256 ∷ l % 256 ∷ []) = λ x. 32 ∷ ap (at 7) h x ∷ ap (at 8) h x ∷ ap (at 9) h x ∷ ap (at 10) h x ∷ [] in
+    let same = bytes_told.bytes (k / 256 ∷ k % 256 ∷ []) (l / 256 ∷ l % 256 ∷ []) (two_bytes k i) (two_bytes l j) digits in
+    (of_two_bytes k l (ap (at 0) same) (ap (at 1) same), bytes_told.bytes p q a b (ap (drop 11) h))
 
-  -- ---- kinds without a name
+kind_line : (k : ℕ) (p : List ℕ) → IsLine (codes "kind " ++ (four_digits k ++ bytes_text p))
+kind_line k p =
+    let high = hex_byte_line (k / 256) in
+    let low = hex_byte_line (k % 256) in
+    search (lines_joined, more_line, values_stand.line V.Bytes p refl) depth 14
 
-  of_two_bytes : (k l : ℕ) → k / 256 ≡ l / 256 → k % 256 ≡ l % 256 → k ≡ l
-  of_two_bytes k l h e = omega arith
+-- ---- attributes
 
-  two_bytes : (k : ℕ) → k < 65536 → AreBytes (k / 256 ∷ k % 256 ∷ [])
-  two_bytes k h = (omega arith, (omega arith, record {}))
+named_line : (m k : ℕ) (p : List ℕ) (o : Option (Named Raw)) → raw_name m k ≡ o → IsLine (named_text o k p)
+named_line m k p None h = kind_line k p
+named_line m k p (Some n) h = lines_joined n.0 (raw_payload n.1 p) (word_line n.0 (name_of n.0 (raw_named m k n h)).0) (payload_line n.1 p (raw_told m k n h))
 
-  -- an attribute without a name is told by its kind and its bytes
-  unnamed_told : (k l : ℕ) (p q : List ℕ) → k < 65536 → l < 65536 → AreBytes p → AreBytes q →
-      codes "kind " ++ (four_digits k ++ bytes_text p) ≡ codes "kind " ++ (four_digits l ++ bytes_text q) → (k ≡ l) × (p ≡ q)
-  unnamed_told k l p q i j a b h =
-      let at : ℕ → List ℕ → ℕ = λ n z. get_or z n 0 in
-      let digits : bytes_text (k / 256 ∷ k % 256 ∷ []) ≡ bytes_text (l / 256 ∷ l % 256 ∷ []) = λ x. 32 ∷ ap (at 7) h x ∷ ap (at 8) h x ∷ ap (at 9) h x ∷ ap (at 10) h x ∷ [] in
-      let same = laws.bytes.bytes (k / 256 ∷ k % 256 ∷ []) (l / 256 ∷ l % 256 ∷ []) (two_bytes k i) (two_bytes l j) digits in
-      (of_two_bytes k l (ap (at 0) same) (ap (at 1) same), laws.bytes.bytes p q a b (ap (drop 11) h))
+both_told : (m k l : ℕ) (p q : List ℕ) (n o : Named Raw) → raw_name m k ≡ Some n → raw_name m l ≡ Some o → AreBytes p → AreBytes q → n.0 ++ raw_payload n.1 p ≡ o.0 ++ raw_payload o.1 q → (k ≡ l) × (p ≡ q)
+both_told m k l p q n o h i a b e =
+    let cut = cut_word n.0 o.0 (raw_payload n.1 p) (raw_payload o.1 q) (name_of n.0 (raw_named m k n h)).0 (name_of o.0 (raw_named m l o i)).0
+    (space_ends _ (payload_space n.1 p)) (space_ends _ (payload_space o.1 q)) e in
+    let kinds : k ≡ l = apart_in k l n o (raw_titles_of m) (raw_apart m) cut.0 h i in
+    let one : n ≡ o = same_Some n o (sym h ∙ ap (raw_name m) kinds ∙ i) in
+    (kinds, payload_told n.1 p q (raw_told m k n h) a b (cut.1 ∙ ap (λ w. raw_payload w.1 q) (sym one)))
 
-  glyph_line : (t : Bool) (d : ℕ) → 32 ≤ cond t (48 + d) (87 + d)
-  glyph_line true d = omega arith
-  glyph_line false d = omega arith
+named_told : (m k l : ℕ) (p q : List ℕ) (x y : Option (Named Raw)) → raw_name m k ≡ x → raw_name m l ≡ y → k < 65536 → l < 65536 → AreBytes p → AreBytes q → named_text x k p ≡ named_text y l q → (k ≡ l) × (p ≡ q)
+named_told m k l p q None None h i r s a b e = unnamed_told k l p q r s a b e
+named_told m k l p q None (Some o) h i r s a b e = let n = name_of o.0 (raw_named m l o i) in absurd (not_unnamed o.0 (raw_payload o.1 q) _ n.1.0 n.1.1 (sym e))
+named_told m k l p q (Some n) None h i r s a b e = let w = name_of n.0 (raw_named m k n h) in absurd (not_unnamed n.0 (raw_payload n.1 p) _ w.1.0 w.1.1 e)
+named_told m k l p q (Some n) (Some o) h i r s a b e = both_told m k l p q n o h i a b e
 
-  digits_line : (n : ℕ) → IsLine (four_digits n)
-  digits_line n = (omega arith, (omega arith, (glyph_line _ (n / 256 / 16), (glyph_line _ (n / 256 % 16), (glyph_line _ (n % 256 / 16), (glyph_line _ (n % 256 % 16), record {}))))))
-
-  kind_line : (k : ℕ) (p : List ℕ) → IsLine (codes "kind " ++ (four_digits k ++ bytes_text p))
-  kind_line k p =
-      let rest : IsLine (four_digits k ++ bytes_text p) = lines_joined (four_digits k) (bytes_text p) (digits_line k) (laws.values.line V.Bytes p refl) in
-      (omega arith, (omega arith, (omega arith, (omega arith, (omega arith, rest)))))
-
-  lower_apart : (n m : ℕ) → m ≡ 107 → n < 97 → n ≡ m → ⊥
-  lower_apart n m is h e = omega arith
-
-  named_first : (a b : List ℕ) → Starts a → get_or (a ++ b) 0 0 ≡ get_or a 0 0
-  named_first [] b h = absurd h
-  named_first (c ∷ a) b h = refl
-
-  -- no name is the word in front of a number
-  not_unnamed : (name inside rest : List ℕ) → Starts name → get_or name 0 0 < 97 → name ++ inside ≡ 107 ∷ rest → ⊥
-  not_unnamed name inside rest h l e = lower_apart (get_or name 0 0) 107 refl l (sym (named_first name inside h) ∙ ap (λ z. get_or z 0 0) e)
-
-  -- ---- attributes
-
-  named_line : (m k : ℕ) (p : List ℕ) (o : Option (Named Raw)) → raw_name m k ≡ o → IsLine (named_text o k p)
-  named_line m k p None h = kind_line k p
-  named_line m k p (Some n) h = lines_joined n.0 (raw_payload n.1 p) (word_line n.0 (name_of n.0 (raw_named m k n h)).0) (payload_line n.1 p (raw_told m k n h))
-
-  both_told : (m k l : ℕ) (p q : List ℕ) (n o : Named Raw) → raw_name m k ≡ Some n → raw_name m l ≡ Some o → AreBytes p → AreBytes q → n.0 ++ raw_payload n.1 p ≡ o.0 ++ raw_payload o.1 q → (k ≡ l) × (p ≡ q)
-  both_told m k l p q n o h i a b e =
-      let cut = cut_word n.0 o.0 (raw_payload n.1 p) (raw_payload o.1 q) (name_of n.0 (raw_named m k n h)).0 (name_of o.0 (raw_named m l o i)).0
-      (space_ends _ (payload_space n.1 p)) (space_ends _ (payload_space o.1 q)) e in
-      let kinds : k ≡ l = apart_in k l n o (raw_titles_of m) (raw_apart m) cut.0 h i in
-      let one : n ≡ o = same_Some n o (sym h ∙ ap (raw_name m) kinds ∙ i) in
-      (kinds, payload_told n.1 p q (raw_told m k n h) a b (cut.1 ∙ ap (λ w. raw_payload w.1 q) (sym one)))
-
-  named_told : (m k l : ℕ) (p q : List ℕ) (x y : Option (Named Raw)) → raw_name m k ≡ x → raw_name m l ≡ y → k < 65536 → l < 65536 → AreBytes p → AreBytes q → named_text x k p ≡ named_text y l q → (k ≡ l) × (p ≡ q)
-  named_told m k l p q None None h i r s a b e = unnamed_told k l p q r s a b e
-  named_told m k l p q None (Some o) h i r s a b e = let n = name_of o.0 (raw_named m l o i) in absurd (not_unnamed o.0 (raw_payload o.1 q) _ n.1.0 n.1.1 (sym e))
-  named_told m k l p q (Some n) None h i r s a b e = let w = name_of n.0 (raw_named m k n h) in absurd (not_unnamed n.0 (raw_payload n.1 p) _ w.1.0 w.1.1 e)
-  named_told m k l p q (Some n) (Some o) h i r s a b e = both_told m k l p q n o h i a b e
-
-  pub raw_attributes_told : RawAttributesAreTold
-  unfolding raw_text
-  raw_attributes_told = record {
-    name = raw_named;
-    space = payload_space;
-    line = λ m k p. named_line m k p (raw_name m k) refl;
-    told = λ m k l p q. named_told m k l p q (raw_name m k) (raw_name m l) refl refl;
-  }
+pub raw_attributes_told : RawAttributesAreTold
+unfolding raw_text
+raw_attributes_told = record {
+  name = raw_named;
+  space = payload_space;
+  line = λ m k p. named_line m k p (raw_name m k) refl;
+  told = λ m k l p q. named_told m k l p q (raw_name m k) (raw_name m l) refl refl;
+}

@@ -5,10 +5,9 @@ use Rattle.std.proofs.lemmas.Bool.{and_parts}
 use Rattle.std.proofs.lemmas.Option.{same_Some}
 use Rattle.netlink_packet_core_grammar.specs.Attributes.{Attribute, attribute_header, attribute_length, attribute_text, first_attribute, if_some, list_text, nla_align, zeros}
 use Rattle.netlink_packet_core_grammar.specs.Bytes.{AreBytes}
-use Rattle.netlink_packet_core_grammar.specs.Laws.{TextIsCut, WrittenIsFirst}
+use Rattle.netlink_packet_core_grammar.proofs.Attributes.{attributes_of_text, first_attribute_text}
 use Rattle.attribute_tables_grammar.specs.Lists.{Context, Grammar, ListForm, Row, all_accepted, any, first_alone, if_read, is_of_kind_one, kept, list_rule, non_empty, not_empty, nothing, of_kind_one, ports, read_as, rewrite, rewritten, row_of, written_kind}
 use Rattle.link_lines_texts.specs.Telling.{IsOwn}
-use Rattle.link_lines_texts.proofs.ByteParts.{back_bytes, front_bytes}
 
 -- an attribute that its row accepts and leaves as it is
 pub record OwnAttribute (r : Row) (e : Attribute) : Type 0 where
@@ -27,6 +26,14 @@ pub record OwnList (g : Grammar) (p : List ℕ) : Type 0 where
   pub own : AllOwn g nothing attributes
 
 -- ---- bytes
+
+front_bytes : (a b : List ℕ) → AreBytes (a ++ b) → AreBytes a
+front_bytes [] b h = record {}
+front_bytes (x ∷ a) b h = (h.0, front_bytes a b h.1)
+
+back_bytes : (a b : List ℕ) → AreBytes (a ++ b) → AreBytes b
+back_bytes [] b h = h
+back_bytes (x ∷ a) b h = back_bytes a b h.1
 
 two_bytes : (k : ℕ) → k % 256 < 256 → k / 256 < 256 → k < 65536
 two_bytes k h l = omega arith
@@ -111,20 +118,20 @@ one_rewritten : (g : Grammar) (e : Attribute) → rewritten g nothing (e ∷ [])
 unfolding rewritten
 one_rewritten g e = refl
 
-alone : WrittenIsFirst → (g : Grammar) (es gs : List Attribute) → gs ≡ rewritten g nothing es → option_map (λ x. x.0 ∷ []) (first_attribute (list_text gs)) ≡ Some es → gs ≡ es
-alone first g es gs w h =
+alone : (g : Grammar) (es gs : List Attribute) → gs ≡ rewritten g nothing es → option_map (λ x. x.0 ∷ []) (first_attribute (list_text gs)) ≡ Some es → gs ≡ es
+alone g es gs w h =
     let one = none_or_one (first_attribute (list_text gs)) es h in
     let f = rewrite (row_of g nothing one.0) one.0 in
     let is : gs ≡ f ∷ [] = w ∙ ap (λ z. rewritten g nothing z) one.1 ∙ one_rewritten g one.0 in
-    let read : first_attribute (list_text gs) ≡ Some (f, []) = ap (λ z. first_attribute (list_text z)) is ∙ ap (λ z. first_attribute z) (one_text f) ∙ first f [] in
+    let read : first_attribute (list_text gs) ≡ Some (f, []) = ap (λ z. first_attribute (list_text z)) is ∙ ap (λ z. first_attribute z) (one_text f) ∙ first_attribute_text f [] in
     is ∙ same_Some (f ∷ []) es (ap (λ o. option_map (λ x. x.0 ∷ []) o) (sym read) ∙ h)
 
-read_back : TextIsCut → WrittenIsFirst → (form : ListForm) (g : Grammar) (es gs : List Attribute) → gs ≡ rewritten g nothing (kept form es) → read_as form (list_text gs) ≡ Some es → gs ≡ es
-read_back cut first any g es gs w h = same_Some gs es (sym (cut gs).0 ∙ h)
-read_back cut first of_kind_one g es gs w h = same_Some gs es (sym (cut gs).0 ∙ h)
-read_back cut first non_empty g es gs w h = filled gs es (ap (λ o. if_some o not_empty) (sym (cut gs).0) ∙ h)
-read_back cut first ports g es gs w h = filled gs es (ap (λ o. if_some o not_empty) (sym (cut gs).0) ∙ h)
-read_back cut first first_alone g es gs w h = alone first g es gs w h
+read_back : (form : ListForm) (g : Grammar) (es gs : List Attribute) → gs ≡ rewritten g nothing (kept form es) → read_as form (list_text gs) ≡ Some es → gs ≡ es
+read_back any g es gs w h = same_Some gs es (sym (attributes_of_text gs) ∙ h)
+read_back of_kind_one g es gs w h = same_Some gs es (sym (attributes_of_text gs) ∙ h)
+read_back non_empty g es gs w h = filled gs es (ap (λ o. if_some o not_empty) (sym (attributes_of_text gs)) ∙ h)
+read_back ports g es gs w h = filled gs es (ap (λ o. if_some o not_empty) (sym (attributes_of_text gs)) ∙ h)
+read_back first_alone g es gs w h = alone g es gs w h
 
 -- such a form keeps all of them
 nothing_dropped : (form : ListForm) (g : Grammar) (es : List Attribute) → rewritten g nothing (kept form es) ≡ es → kept form es ≡ es
@@ -134,12 +141,12 @@ nothing_dropped first_alone g es h = refl
 nothing_dropped of_kind_one g es h = all_kept is_of_kind_one es (sym (rewritten_length g nothing (filter is_of_kind_one es)) ∙ ap length h)
 nothing_dropped ports g es h = all_kept is_of_kind_one es (sym (rewritten_length g nothing (filter is_of_kind_one es)) ∙ ap length h)
 
-module _ (cut : TextIsCut) (first : WrittenIsFirst) (form : ListForm) (g : Grammar) (p : List ℕ) (bytes : AreBytes p) where
+module _ (form : ListForm) (g : Grammar) (p : List ℕ) (bytes : AreBytes p) where
   own_by : (o : Option (List Attribute)) → read_as form p ≡ o → if_read false (λ es. all_accepted g nothing (kept form es)) o ≡ true → if_read [] (λ es. list_text (rewritten g nothing (kept form es))) o ≡ p → OwnList g p
   own_by None r a c = absurd cc
   own_by (Some es) r a c =
       let gs = rewritten g nothing (kept form es) in
-      let same : gs ≡ es = read_back cut first form g es gs refl (ap (read_as form) c ∙ r) in
+      let same : gs ≡ es = read_back form g es gs refl (ap (read_as form) c ∙ r) in
       let whole : kept form es ≡ es = nothing_dropped form g es same in
       let is : p ≡ list_text es = sym c ∙ ap list_text same in
       record {
@@ -148,5 +155,5 @@ module _ (cut : TextIsCut) (first : WrittenIsFirst) (form : ListForm) (g : Gramm
         own = all_own g nothing es (sym same ∙ ap (rewritten g nothing) whole) (ap (all_accepted g nothing) (sym whole) ∙ a) (subst AreBytes is bytes);
       }
 
-pub own_list : TextIsCut → WrittenIsFirst → (form : ListForm) (g : Grammar) (p : List ℕ) → IsOwn (list_rule form g) p → OwnList g p
-own_list cut first form g p o = own_by cut first form g p o.bytes (read_as form p) refl o.accepted o.canonical
+pub own_list : (form : ListForm) (g : Grammar) (p : List ℕ) → IsOwn (list_rule form g) p → OwnList g p
+own_list form g p o = own_by form g p o.bytes (read_as form p) refl o.accepted o.canonical

@@ -1,18 +1,20 @@
 -- Where lines tell frames, they tell captures.
 use Rattle.std.proofs.Common.{◌≡◌, ℕ, zero, suc, ◌+◌, ◌-◌, ◌^◌, ◌<◌, ◌≤◌, Bool, true, false, cond, List, [], ◌∷◌, ◌++◌, length, take, drop, Result, Ok, Err, ◌⊎◌, inl, inr, None, refl, sym, ap, subst, ◌∙◌, append_assoc, arith}
-use Rattle.std.specs.Prelude.{nat_lt, nat_eq, codes, ⊤}
-use Rattle.std.proofs.lemmas.List.{take_at, drop_at, length-append, length-take, length-drop}
+use Rattle.std.specs.Prelude.{codes, ⊤}
+use Rattle.std.proofs.lemmas.Bool.{cond_both}
+use Rattle.std.proofs.lemmas.List.{take_at, drop_at, length-append, length-drop}
 use Rattle.netlink_packet_core_grammar.specs.Attributes.{nla_align, zeros}
 use Rattle.netlink_packet_core_grammar.specs.Bytes.{AreBytes}
 use Rattle.netlink_packet_core_grammar.specs.Frames.{frame_length, frame_type, frame_body, frame_text}
-use Rattle.netlink_packet_core_grammar.specs.Numbers.{u16_at, u32_at, le4}
+use Rattle.netlink_packet_core_grammar.specs.Numbers.{u16_at, le4}
 use Rattle.attribute_tables_grammar.specs.Rules.{Rule, Lawful}
 use Rattle.link_message_grammar.specs.Body.{link_body, link_peer}
-use Rattle.link_message_grammar.specs.Laws.{BodiesAreLawful, LinkPeerIsLawful}
+use Rattle.link_message_grammar.proofs.Body.{body_lawful, link_peer_lawful}
 use Rattle.link_capture_grammar.specs.declared.fault.FaultKind.{FaultKind}
-use Rattle.link_capture_grammar.specs.Bodies.{Refusal, refused, empty_ports, unfit, error_text, done_text, ruled_text, body_text, body_text_under, is_link_type}
+use Rattle.link_capture_grammar.specs.Bodies.{Refusal, refused, empty_ports, unfit, ruled_text, body_text, body_text_under}
 use Rattle.link_capture_grammar.specs.Captures.{Judged, first_frame, next_texts, texts_after, texts_after_under, texts}
-use Rattle.link_capture_grammar.specs.Laws.{FramesAreJudged, FramesStandAlone, CapturesAreCounted, BodiesAreNormal, TextsTellMeanings}
+use Rattle.link_capture_grammar.proofs.EveryRule.{in_force}
+use Rattle.link_capture_grammar.proofs.Frames.{accepted}
 use Rattle.link_lines_values.specs.Flags.{named_flags}
 use Rattle.link_capture_numbers.specs.Cleared.{numbers_cleared}
 use Rattle.link_capture_numbers.specs.Laws.{ClearedCapturesHaveClearedTexts}
@@ -22,12 +24,13 @@ use Rattle.link_lines_texts.specs.Frames.{flag_names, type_text, numbers_text, h
 use Rattle.link_lines_texts.specs.Links.{labelled}
 use Rattle.link_lines_texts.specs.Captures.{Choice, everything, is_frame, lines_after, text_lines, without_numbers}
 use Rattle.link_lines_texts.specs.Laws.{LinesTellMeanings, LinesTellTexts, LinesWithoutNumbersTellClearedTexts}
-use Rattle.link_lines_texts.specs.Telling.{IsOwnFrame, StartsFrame, FramesAreTold, NumbersAreKnown}
-use Rattle.link_lines_texts.proofs.FrameSteps.{InFront, in_front, accepted_is, stands_in_front}
+use Rattle.link_lines_texts.specs.Telling.{IsOwnFrame, StartsFrame, NumbersAreKnown}
+use Rattle.link_lines_texts.proofs.FrameSteps.{InFront, in_front, stands_in_front}
+use Rattle.link_lines_texts.proofs.FramesTold.{told}
 use Rattle.link_lines_texts.proofs.NumbersLeft.{cleared_shape, numbers_are_left}
 use Rattle.link_lines_texts.proofs.NumbersKnown.{cleared_bytes, known_front}
 use Rattle.netlink_packet_core_grammar.proofs.Bytes.{AreBytes-append, AreBytes-drop, AreBytes-take}
-use Rattle.link_capture_grammar.proofs.Normal.{header_size}
+use Rattle.link_capture_grammar.proofs.Normal.{header_size, texted}
 
 -- ---- bytes
 
@@ -37,39 +40,28 @@ of_number n = (omega arith, (omega arith, (omega arith, (omega arith, tt))))
 
 -- ---- the text of a body has bytes
 
-kept_bytes : (b text : List ℕ) → AreBytes b → ◌≡◌ {A = Result (List ℕ) Refusal} (Ok b) (Ok text) → AreBytes text
-kept_bytes b text h e = let is : b ≡ text = cc in subst AreBytes is h
+abbrev HasBytes : Result (List ℕ) Refusal → Type 0
+HasBytes (Ok text) = AreBytes text
+HasBytes (Err why) = ⊤
 
-error_bytes : (b text : List ℕ) (c : Bool) → AreBytes b → cond c (Err refused) (Ok b) ≡ Ok text → AreBytes text
-error_bytes b text true h e = absurd cc
-error_bytes b text false h e = kept_bytes b text h e
+either_bytes : (c : Bool) (x y : Result (List ℕ) Refusal) → HasBytes x → HasBytes y → HasBytes (cond c x y)
+either_bytes c x y h k = cond_both c x y HasBytes (λ e. h) (λ e. k)
 
-done_bytes : (b text : List ℕ) (a c : Bool) → AreBytes b → cond a (Ok (0 ∷ 0 ∷ 0 ∷ 0 ∷ [])) (cond c (Err refused) (Ok b)) ≡ Ok text → AreBytes text
-done_bytes b text true c h e = kept_bytes (0 ∷ 0 ∷ 0 ∷ 0 ∷ []) text (omega arith, (omega arith, (omega arith, (omega arith, tt)))) e
-done_bytes b text false c h e = error_bytes b text c h e
+ruled_bytes : (r : Rule) → Lawful r → (b : List ℕ) → AreBytes b → HasBytes (ruled_text r b)
+ruled_bytes r l b h =
+    cond_both (r.accepted b) _ (Err refused) HasBytes
+    (λ a. either_bytes (r.empty_ports b) (Err empty_ports) _ tt (cond_both (r.fits b) (Ok (r.canonical b)) (Err unfit) HasBytes (λ f. l.bytes b a f h) (λ f. tt))) (λ a. tt)
 
-ruled_bytes : (r : Rule) → Lawful r → (b text : List ℕ) (a p f : Bool) → r.accepted b ≡ a → r.fits b ≡ f → AreBytes b →
-    cond a (cond p (Err empty_ports) (cond f (Ok (r.canonical b)) (Err unfit))) (Err refused) ≡ Ok text → AreBytes text
-ruled_bytes r l b text false p f a c h e = absurd cc
-ruled_bytes r l b text true true f a c h e = absurd cc
-ruled_bytes r l b text true false false a c h e = absurd cc
-ruled_bytes r l b text true false true a c h e = kept_bytes (r.canonical b) text (l.bytes b a c h) e
+link_lawful : Lawful link_body
+link_lawful = body_lawful link_peer link_peer_lawful
 
-typed_bytes : Lawful link_body → (b text : List ℕ) (noop error done link : Bool) → AreBytes b →
-    cond noop (Ok []) (cond error (error_text b) (cond done (done_text b) (cond link (ruled_text link_body b) (Ok b)))) ≡ Ok text → AreBytes text
-typed_bytes l b text true error done link h e = kept_bytes [] text tt e
-typed_bytes l b text false true done link h e = error_bytes b text (nat_lt (length b) 4) h e
-typed_bytes l b text false false true link h e = done_bytes b text (nat_eq (length b) 0) (nat_lt (length b) 4) h e
-typed_bytes l b text false false false true h e =
-    ruled_bytes link_body l b text (link_body.accepted b) (link_body.empty_ports b) (link_body.fits b) refl refl h e
-typed_bytes l b text false false false false h e = kept_bytes b text h e
-
-body_bytes : Lawful link_body → (t : ℕ) (b text : List ℕ) → AreBytes b → body_text t b ≡ Ok text → AreBytes text
+body_bytes : (t : ℕ) (b text : List ℕ) → AreBytes b → body_text t b ≡ Ok text → AreBytes text
 unfolding body_text_under
-body_bytes l t b text h e = typed_bytes l b text (nat_eq t 1) (nat_eq t 2) (nat_eq t 3) (is_link_type t) h e
-
-link_lawful : BodiesAreLawful → LinkPeerIsLawful → Lawful link_body
-link_lawful lawful peers = lawful link_peer peers
+body_bytes t b text h e =
+    let link = ruled_bytes link_body link_lawful b h in
+    let zeros : AreBytes (0 ∷ 0 ∷ 0 ∷ 0 ∷ []) = (omega arith, (omega arith, (omega arith, (omega arith, tt)))) in
+    let all : HasBytes (body_text t b) = search either_bytes depth 7 in
+    subst HasBytes e all
 
 -- ---- a frame's bytes without their padding
 
@@ -134,9 +126,7 @@ text_told c d body more h k e =
 
 header_some : (a b c more s : List ℕ) → ((a ++ (b ++ (c ++ 10 ∷ []))) ++ more) ++ s ≡ [] → ⊥
 header_some [] [] [] more s e = absurd cc
-header_some [] [] (x ∷ c) more s e = absurd cc
-header_some [] (x ∷ b) c more s e = absurd cc
-header_some (x ∷ a) b c more s e = absurd cc
+header_some a b c more s e = absurd cc
 
 pub frame_has_lines : (n : Bool) (f s : List ℕ) → frame_lines n f ++ s ≡ [] → ⊥
 unfolding frame_lines header_line
@@ -159,17 +149,13 @@ abbrev Known : Bool → List ℕ → Type 0
 Known true x = ⊤
 Known false x = (c : List ℕ) × (x ≡ numbers_cleared c)
 
-same_frame : (c x : List ℕ) → is_frame c ≡ false → x ≡ numbers_cleared c → is_frame x ≡ true → ⊥
-same_frame c x h e i = let bad : true ≡ false = sym i ∙ ap is_frame (e ∙ stopped c h) ∙ h in absurd cc
-
 cleared_front : (c x : List ℕ) (b : Bool) → is_frame c ≡ b → x ≡ numbers_cleared c → is_frame x ≡ true → NumbersAreKnown false (take (frame_length x) x) × Known false (drop (nla_align (frame_length x)) x)
-cleared_front c x false h e i = absurd (same_frame c x h e i)
+cleared_front c x false h e i = absurd (let bad : true ≡ false = sym i ∙ ap is_frame (e ∙ stopped c h) ∙ h in cc)
 cleared_front c x true h e i =
     let n : ℕ = frame_length c in
     let size : frame_length x ≡ n = ap (λ z. frame_length z) e ∙ (cleared_shape c h).size in
-    let own : take n (numbers_cleared c) ≡ take (frame_length x) x = sym (ap (take n) e) ∙ ap (λ k. take k x) (sym size) in
-    let rest : drop (nla_align (frame_length x)) x ≡ numbers_cleared (drop (nla_align n) c) = ap (λ k. drop (nla_align k) x) size ∙ ap (drop (nla_align n)) e ∙ behind c h in
-    (subst (NumbersAreKnown false) own (known_front c h), (drop (nla_align n) c, rest))
+    let rest : drop (nla_align (frame_length x)) x ≡ numbers_cleared (drop (nla_align n) c) = rw (size, e) (behind c h) in
+    (rw (size, e) (known_front c h), (drop (nla_align n) c, rest))
 
 known_by : (n : Bool) (x : List ℕ) → Known n x → is_frame x ≡ true → NumbersAreKnown n (take (frame_length x) x) × Known n (drop (nla_align (frame_length x)) x)
 known_by true x k i = (record { own = tt; request = λ two l. tt }, tt)
@@ -203,13 +189,13 @@ text_known n s body rest x h front e k =
     let more : drop (nla_align (frame_length x)) x ≡ rest = ap (λ m. drop (nla_align m) x) size ∙ ap (drop (nla_align (16 + length body))) e ∙ front.rest in
     (subst (NumbersAreKnown n) own r.0, subst (Known n) more r.1)
 
-module _ (n : Bool) (judged : FramesAreJudged link_body) (counted : CapturesAreCounted link_body) (alone : FramesStandAlone link_body) (normal : BodiesAreNormal link_body) (lawful : Lawful link_body) where
+module _ (n : Bool) where
   own_is : (c body : List ℕ) → 16 ≤ length c → AreBytes c → body_text (frame_type c) (frame_body c) ≡ Ok body → IsOwnFrame (own_frame c body)
   own_is c body h p o =
       let size = own_size c body h in
       let given : AreBytes (frame_body c) = AreBytes-take (frame_length c - 16) (drop 16 c) (AreBytes-drop 16 c p) in
-      let held = body_bytes lawful (frame_type c) (frame_body c) body given o in
-      let again : body_text (frame_type c) body ≡ Ok body = normal (frame_type c) (frame_body c) body o in
+      let held = body_bytes (frame_type c) (frame_body c) body given o in
+      let again : body_text (frame_type c) body ≡ Ok body = in_force.bodies_are_normal (frame_type c) (frame_body c) body o in
       let is = own_body c body h in
       record {
         bytes = AreBytes-append (le4 (16 + length body)) (take 12 (drop 4 c) ++ body) (of_number (16 + length body))
@@ -221,24 +207,24 @@ module _ (n : Bool) (judged : FramesAreJudged link_body) (counted : CapturesAreC
 
   fronted : (limit : ℕ) (s : List ℕ) (frame : ℕ × List ℕ) → limit < 2 ^ 32 → AreBytes s → first_frame limit s ≡ Ok frame → Front n limit s
   fronted limit s frame l p e =
-      let i = accepted_is limit s frame e in
+      let i = texted link_body limit s frame e in
+      let seen = accepted link_body limit s frame e in
       let after : List ℕ = drop (nla_align frame.0) s in
-      let small = i.small in
-      let header = i.header in
-      let low = (alone.accepted limit s frame e).low in
+      let small : 16 + length i.body < 2 ^ 32 = omega (arith, i.fits, l) in
+      let header = seen.header in
       let size = length-drop (nla_align frame.0) s in
-      let text : texts limit s ≡ frame_text s i.body ++ texts limit after = counted.next_text limit s frame e ∙ ap (λ z. z ++ texts limit after) i.is in
-      let front = stands_in_front judged s i.body (texts limit after) header (omega (arith, small, l)) in
+      let text : texts limit s ≡ frame_text s i.body ++ texts limit after = in_force.captures_are_counted.next_text limit s frame e ∙ ap (λ z. z ++ texts limit after) i.text_is in
+      let front = stands_in_front s i.body (texts limit after) header small in
       record {
         body = i.body;
         after = after;
         header = header;
-        own = own_is s i.body header p i.of_body;
+        own = own_is s i.body header p i.body_is;
         text = text;
-        lines = ap (λ z. text_lines (all_of n) z) text ∙ in_front judged (all_of n) s i.body (texts limit after) header (omega (arith, small, l))
+        lines = ap (λ z. text_lines (all_of n) z) text ∙ in_front (all_of n) s i.body (texts limit after) header small
             ∙ ap (λ z. frame_lines n z ++ text_lines (all_of n) (texts limit after)) (in_text s i.body header);
         known = text_known n s i.body (texts limit after) (texts limit s) header front text;
-        shorter = omega (arith, size, low, header);
+        shorter = omega (arith, size, seen.low, header);
         bytes = AreBytes-drop (nla_align frame.0) s p;
       }
 
@@ -252,11 +238,11 @@ module _ (n : Bool) (judged : FramesAreJudged link_body) (counted : CapturesAreC
   abbrev shown : List ℕ → List ℕ
   shown t = text_lines (all_of n) t
 
-  module _ (tell : FramesAreTold) (limit : ℕ) (l : limit < 2 ^ 32) where
+  module _ (limit : ℕ) (l : limit < 2 ^ 32) where
     -- what follows a frame's lines are a capture's lines
     starts : (s : List ℕ) → (texts limit s ≡ []) ⊎ Front n limit s → StartsFrame (shown (texts limit s))
     starts s (inl none) = subst StartsFrame (sym (ap shown none ∙ no_text_lines (all_of n))) tt
-    starts s (inr a) = subst StartsFrame (sym a.lines) (tell.starts n (own_frame s a.body) (shown (texts limit a.after)))
+    starts s (inr a) = subst StartsFrame (sym a.lines) (told.starts n (own_frame s a.body) (shown (texts limit a.after)))
 
     rest_starts : (s : List ℕ) → AreBytes s → StartsFrame (shown (texts limit s))
     rest_starts s p = starts s (first_of limit s l p)
@@ -275,9 +261,9 @@ module _ (n : Bool) (judged : FramesAreJudged link_body) (counted : CapturesAreC
         let alike = sym a.lines ∙ e ∙ b.lines in
         let p = a.known h in
         let q = b.known k in
-        let told = tell.told n (own_frame s a.body) (own_frame t b.body) x y a.own b.own p.0 q.0 (rest_starts a.after a.bytes) (rest_starts b.after b.bytes) alike in
-        a.text ∙ ap (λ z. z ++ texts limit a.after) (text_told s t a.body b.body a.header b.header told.0)
-        ∙ ap (λ z. frame_text t b.body ++ z) (rest p.1 q.1 told.1) ∙ sym b.text
+        let same = told.told n (own_frame s a.body) (own_frame t b.body) x y a.own b.own p.0 q.0 (rest_starts a.after a.bytes) (rest_starts b.after b.bytes) alike in
+        a.text ∙ ap (λ z. z ++ texts limit a.after) (text_told s t a.body b.body a.header b.header same.0)
+        ∙ ap (λ z. frame_text t b.body ++ z) (rest p.1 q.1 same.1) ∙ sym b.text
 
     -- captures, the first of fewer bytes than m, are told by their lines
     abbrev Told : ℕ → Type 0
@@ -296,14 +282,12 @@ module _ (n : Bool) (judged : FramesAreJudged link_body) (counted : CapturesAreC
     told_within zero s t h a b p q e = absurd (omega (arith, h))
     told_within (suc m) s t h a b p q e = from_front m s t (told_within m) h (first_of limit s l a) (first_of limit t l b) p q e
 
-pub captures_told : FramesAreTold → FramesAreJudged link_body → CapturesAreCounted link_body → FramesStandAlone link_body → BodiesAreNormal link_body → BodiesAreLawful → LinkPeerIsLawful → LinesTellTexts
-captures_told tell judged counted alone normal lawful peers limit s t l p q =
-    (told_within true judged counted alone normal (link_lawful lawful peers) tell limit l (suc (length s)) s t (omega arith) p q tt tt, λ e. ap (λ z. text_lines everything z) e)
+pub captures_told : LinesTellTexts
+captures_told limit s t l p q = (told_within true limit l (suc (length s)) s t (omega arith) p q tt tt, λ e. ap (λ z. text_lines everything z) e)
 
 -- lines without numbers tell what they tell with the numbers cleared
-pub cleared_told : FramesAreTold → FramesAreJudged link_body → CapturesAreCounted link_body → FramesStandAlone link_body → BodiesAreNormal link_body → BodiesAreLawful → LinkPeerIsLawful → ClearedCapturesHaveClearedTexts →
-    LinesWithoutNumbersTellClearedTexts
-cleared_told tell judged counted alone normal lawful peers cleared limit s t l p q =
+pub cleared_told : ClearedCapturesHaveClearedTexts → LinesWithoutNumbersTellClearedTexts
+cleared_told cleared limit s t l p q =
     let x : List ℕ = numbers_cleared s in
     let y : List ℕ = numbers_cleared t in
     let of_x = cleared.texts_cleared limit s l in
@@ -311,10 +295,11 @@ cleared_told tell judged counted alone normal lawful peers cleared limit s t l p
     let shown : List ℕ → List ℕ = λ z. text_lines without_numbers z in
     let one : shown (texts limit x) ≡ shown (texts limit s) = ap shown of_x ∙ numbers_are_left (texts limit s) in
     let other : shown (texts limit y) ≡ shown (texts limit t) = ap shown of_y ∙ numbers_are_left (texts limit t) in
-    let told = told_within false judged counted alone normal (link_lawful lawful peers) tell limit l (suc (length x)) x y (omega arith) (cleared_bytes s p) (cleared_bytes t q) (texts limit s, of_x) (texts limit t, of_y) in
-    (λ e. sym of_x ∙ told (one ∙ e ∙ sym other) ∙ of_y, λ e. sym one ∙ ap shown (of_x ∙ e ∙ sym of_y) ∙ other)
+    let same = told_within false limit l (suc (length x)) x y (omega arith) (cleared_bytes s p) (cleared_bytes t q) (texts limit s, of_x) (texts limit t, of_y) in
+    (λ e. sym of_x ∙ same (one ∙ e ∙ sym other) ∙ of_y, λ e. sym one ∙ ap shown (of_x ∙ e ∙ sym of_y) ∙ other)
 
-pub meanings_told : LinesTellTexts → TextsTellMeanings link_body → LinesTellMeanings
-meanings_told lines meanings limit a b l p q x y =
-    let told = lines limit a b l p q in
+pub meanings_told : LinesTellMeanings
+meanings_told limit a b l p q x y =
+    let told = captures_told limit a b l p q in
+    let meanings = in_force.texts_tell_meanings in
     (λ e. meanings.one_meaning limit a b l x y (told.0 e), λ s. told.1 (meanings.one_text limit a b s))

@@ -1,20 +1,19 @@
 -- The lines of texts go by their frames.
-use Rattle.std.proofs.Common.{◌≡◌, ℕ, zero, suc, ◌+◌, ◌-◌, ◌^◌, ◌<◌, ◌≤◌, Bool, true, false, cond, List, [], ◌∷◌, ◌++◌, length, take, drop, Result, Ok, Err, refl, sym, ap, ◌∙◌, append_assoc, arith}
-use Rattle.std.specs.Prelude.{◌&&◌, nat_le, nat_lt}
-use Rattle.std.proofs.lemmas.Bool.{and_from, and_parts, leb-true, le-leb, ltb-false}
-use Rattle.std.proofs.lemmas.List.{drop_at, length-append, take-append-le}
+use Rattle.std.proofs.Common.{◌≡◌, ℕ, zero, suc, ◌+◌, ◌-◌, ◌^◌, ◌<◌, ◌≤◌, Bool, true, false, cond, List, [], ◌∷◌, ◌++◌, length, take, drop, Ok, Err, refl, sym, ap, ◌∙◌, append_assoc, arith}
+use Rattle.std.specs.Prelude.{◌&&◌, nat_le}
+use Rattle.std.proofs.lemmas.Bool.{and_from, le-leb}
+use Rattle.std.proofs.lemmas.List.{drop_at, length-append, length-drop, take-append-le}
 use Rattle.std.proofs.lemmas.Nat.{from_le_bytes-to_le_bytes_4}
-use Rattle.netlink_packet_core_grammar.specs.Attributes.{nla_align, zeros}
-use Rattle.netlink_packet_core_grammar.specs.Frames.{frame_length, frame_type, frame_body, frame_text}
+use Rattle.netlink_packet_core_grammar.specs.Attributes.{nla_align}
+use Rattle.netlink_packet_core_grammar.specs.Frames.{frame_length, frame_text}
 use Rattle.netlink_packet_core_grammar.specs.Numbers.{u32_at, le4}
 use Rattle.link_message_grammar.specs.Body.{link_body}
-use Rattle.link_capture_grammar.specs.declared.fault.FaultKind.TheVariants.{Cut, ShortLength, OverLimit, TextOverLimit}
-use Rattle.link_capture_grammar.specs.Bodies.{Refusal, body_text}
-use Rattle.link_capture_grammar.specs.Captures.{Judged, judged_text, first_frame, first_frame_under, next_texts, texts_after, texts_after_under}
-use Rattle.link_capture_grammar.specs.Laws.{FramesAreJudged}
+use Rattle.link_capture_grammar.specs.Captures.{Judged, first_frame, next_texts, texts_after, texts_after_under}
+use Rattle.link_capture_grammar.proofs.EveryRule.{in_force}
+use Rattle.link_capture_grammar.proofs.Frames.{accepted}
 use Rattle.link_lines_texts.specs.Captures.{Choice, is_frame, lines_after, shown_lines, text_lines}
 use Rattle.link_lines_texts.specs.Laws.{LinesGoByFrames, LinesAreJoined}
-use Rattle.link_capture_grammar.proofs.Normal.{text_length}
+use Rattle.link_capture_grammar.proofs.Normal.{text_length, texted}
 use Rattle.link_capture_numbers.proofs.Steps.{length_of}
 
 passed : (o : Choice) (k : ℕ) (c : List ℕ) → lines_after o k c ≡ text_lines o (drop k c)
@@ -44,6 +43,18 @@ stopped o (b ∷ c) h =
 pub by_frames : LinesGoByFrames
 by_frames = record { frame = whole; none = stopped }
 
+-- what holds of bytes that begin with a whole frame, where it holds of what stands behind it, and of other bytes, holds of all
+module _ (P : List ℕ → Type 0) (none : (c : List ℕ) → is_frame c ≡ false → P c) (more : (c : List ℕ) → is_frame c ≡ true → P (drop (nla_align (frame_length c)) c) → P c) where
+  fronts_within : (fuel : ℕ) (c : List ℕ) (b : Bool) → is_frame c ≡ b → length c ≤ fuel → P c
+  fronts_within fuel c false e l = none c e
+  fronts_within zero c true e l = let bounds = length_of c e in absurd (omega (arith, bounds.0, bounds.1))
+  fronts_within (suc fuel) c true e l =
+      let rest = drop (nla_align (frame_length c)) c in
+      more c e (fronts_within fuel rest (is_frame rest) refl (omega (arith, l, length-drop (nla_align (frame_length c)) c, (length_of c e).0)))
+
+  pub by_fronts : (c : List ℕ) → P c
+  by_fronts c = fronts_within (length c) c (is_frame c) refl (omega arith)
+
 -- ---- the text of a frame in front of other bytes
 
 length_kept : (n : ℕ) (more : List ℕ) → n < 2 ^ 32 → frame_length (le4 n ++ more) ≡ n
@@ -57,12 +68,12 @@ pub record InFront (c body r : List ℕ) : Type 0 where
   pub own : take (16 + length body) (frame_text c body ++ r) ≡ take (16 + length body) (frame_text c body)
   pub rest : drop (nla_align (16 + length body)) (frame_text c body ++ r) ≡ r
 
-pub stands_in_front : FramesAreJudged link_body → (c body r : List ℕ) → 16 ≤ length c → 16 + length body < 2 ^ 32 → InFront c body r
-stands_in_front j c body r h b =
+pub stands_in_front : (c body r : List ℕ) → 16 ≤ length c → 16 + length body < 2 ^ 32 → InFront c body r
+stands_in_front c body r h b =
     let n = 16 + length body in
     let t = frame_text c body in
     let told = text_length c body r b in
-    let size : length t ≡ nla_align n = j.size c body h in
+    let size : length t ≡ nla_align n = in_force.frames_are_judged.size c body h in
     let low : 16 ≤ nla_align n = omega arith in
     let high : n ≤ nla_align n = omega arith in
     let all : length (t ++ r) ≡ length t + length r = length-append t r in
@@ -74,60 +85,29 @@ stands_in_front j c body r h b =
       rest = drop_at t r (nla_align n) size;
     }
 
-pub in_front : FramesAreJudged link_body → (o : Choice) (c body r : List ℕ) → 16 ≤ length c → 16 + length body < 2 ^ 32 →
+pub in_front : (o : Choice) (c body r : List ℕ) → 16 ≤ length c → 16 + length body < 2 ^ 32 →
     text_lines o (frame_text c body ++ r) ≡ shown_lines o (take (16 + length body) (frame_text c body)) ++ text_lines o r
-in_front j o c body r h b =
+in_front o c body r h b =
     let n = 16 + length body in
     let t = frame_text c body in
-    let front = stands_in_front j c body r h b in
-    whole o (t ++ r) front.is
-    ∙ ap (λ m. shown_lines o (take m (t ++ r)) ++ text_lines o (drop (nla_align m) (t ++ r))) front.told
-    ∙ ap (λ z. shown_lines o z ++ text_lines o (drop (nla_align n) (t ++ r))) front.own
-    ∙ ap (λ z. shown_lines o (take n t) ++ text_lines o z) front.rest
-
--- ---- a frame that is accepted has such a text
-
-pub record IsText (limit : ℕ) (c : List ℕ) (text : List ℕ) : Type 0 where
-  pub header : 16 ≤ length c
-  pub body : List ℕ
-  pub of_body : body_text (frame_type c) (frame_body c) ≡ Ok body
-  pub small : 16 + length body ≤ limit
-  pub is : text ≡ frame_text c body
-
-small_is : (limit : ℕ) (c : List ℕ) (frame : ℕ × List ℕ) (body : List ℕ) (b : Bool) → body_text (frame_type c) (frame_body c) ≡ Ok body → nat_lt limit (16 + length body) ≡ b → 16 ≤ length c → cond b (Err TextOverLimit) (Ok (frame_length c, frame_text c body)) ≡ Ok frame → IsText limit c frame.1
-small_is limit c frame body true o l h e = absurd cc
-small_is limit c frame body false o l h e = let m = ltb-false limit (16 + length body) l in record { header = h; body = body; of_body = o; small = omega (arith, m); is = cc }
-
-judged_is : (limit : ℕ) (c : List ℕ) (frame : ℕ × List ℕ) (o : Result (List ℕ) Refusal) → body_text (frame_type c) (frame_body c) ≡ o → 16 ≤ length c → judged_text limit c o ≡ Ok frame → IsText limit c frame.1
-judged_is limit c frame (Err why) b h e = absurd cc
-judged_is limit c frame (Ok body) b h e = small_is limit c frame body (nat_lt limit (16 + length body)) b refl h e
-
-tested_is : (a b d e : Bool) (j : Judged) (frame : ℕ × List ℕ) → cond a (Err Cut) (cond b (Err ShortLength) (cond d (Err OverLimit) (cond e (Err Cut) j))) ≡ Ok frame → (a ≡ false) × (j ≡ Ok frame)
-tested_is false false false false j frame h = (refl, h)
-tested_is a b d e j frame h = absurd cc
-
-pub accepted_is : (limit : ℕ) (c : List ℕ) (frame : ℕ × List ℕ) → first_frame limit c ≡ Ok frame → IsText limit c frame.1
-unfolding first_frame_under
-accepted_is limit c frame h =
-    let o = body_text (frame_type c) (frame_body c) in
-    let p = tested_is (nat_lt (length c) 16) (nat_lt (frame_length c) 16) (nat_lt limit (frame_length c)) (nat_lt (length c) (frame_length c)) (judged_text limit c o) frame h in
-    let m = ltb-false (length c) 16 p.0 in
-    judged_is limit c frame o refl (omega (arith, m)) p.1
+    let front = stands_in_front c body r h b in
+    whole o (t ++ r) front.is ∙ rw (front.told, front.own, front.rest) refl
 
 -- ---- texts in front of other bytes
 
-module _ (o : Choice) (j : FramesAreJudged link_body) (limit : ℕ) (l : limit < 2 ^ 32) where
-  frame_first : (c text : List ℕ) → IsText limit c text → (own : List ℕ) × ((r : List ℕ) → text_lines o (text ++ r) ≡ own ++ text_lines o r)
-  frame_first c text i =
-      let s = i.small in
-      (shown_lines o (take (16 + length i.body) (frame_text c i.body)), λ r. ap (λ z. text_lines o (z ++ r)) i.is ∙ in_front j o c i.body r i.header (omega (arith, s, l)))
+module _ (o : Choice) (limit : ℕ) (l : limit < 2 ^ 32) where
+  frame_first : (c : List ℕ) (frame : ℕ × List ℕ) → first_frame limit c ≡ Ok frame → (own : List ℕ) × ((r : List ℕ) → text_lines o (frame.1 ++ r) ≡ own ++ text_lines o r)
+  frame_first c frame h =
+      let t = texted link_body limit c frame h in
+      let small : 16 + length t.body < 2 ^ 32 = omega (arith, t.fits, l) in
+      (shown_lines o (take (16 + length t.body) (frame_text c t.body)), λ r. ap (λ z. text_lines o (z ++ r)) t.text_is ∙ in_front o c t.body r (accepted link_body limit c frame h).header small)
 
   next_joined : (c : List ℕ) (judged : Judged) (after : ℕ → List ℕ) (t : List ℕ) → first_frame limit c ≡ judged → ((k : ℕ) → text_lines o (after k ++ t) ≡ text_lines o (after k) ++ text_lines o t) → text_lines o (next_texts judged after ++ t) ≡ text_lines o (next_texts judged after) ++ text_lines o t
   unfolding text_lines lines_after
   next_joined c (Err kind) after t h i = refl
   next_joined c (Ok frame) after t h i =
       let more = after (nla_align frame.0 - 1) in
-      let f = frame_first c frame.1 (accepted_is limit c frame h) in
+      let f = frame_first c frame h in
       ap (λ z. text_lines o z) (append_assoc frame.1 more t) ∙ f.1 (more ++ t) ∙ ap (λ z. f.0 ++ z) (i (nla_align frame.0 - 1))
       ∙ sym (append_assoc f.0 (text_lines o more) (text_lines o t)) ∙ sym (ap (λ z. z ++ text_lines o t) (f.1 more))
 
@@ -137,5 +117,5 @@ module _ (o : Choice) (j : FramesAreJudged link_body) (limit : ℕ) (l : limit <
   joined_after (b ∷ s) (suc skip) t = joined_after s skip t
   joined_after (b ∷ s) zero t = next_joined (b ∷ s) (first_frame limit (b ∷ s)) (λ skip. texts_after limit skip s) t refl (λ k. joined_after s k t)
 
-pub joined : FramesAreJudged link_body → LinesAreJoined
-joined j o limit s t l = joined_after o j limit l s 0 t
+pub joined : LinesAreJoined
+joined o limit s t l = joined_after o limit l s 0 t

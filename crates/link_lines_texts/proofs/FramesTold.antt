@@ -1,151 +1,132 @@
 -- Lines tell frames, where they tell lists of attributes.
 use Rattle.std.proofs.Common.{◌≡◌, ℕ, ◌≤◌, Bool, true, false, cond, List, [], ◌∷◌, ◌++◌, length, take, drop, get_or, Ok, Err, refl, sym, ap, subst, ◌∙◌, append_assoc, arith, inl, inr}
-use Rattle.std.specs.Prelude.{◌==◌, ◌||◌, nat_le, codes}
+use Rattle.std.specs.Prelude.{◌==◌, nat_le, codes}
 use Rattle.std.proofs.lemmas.Bool.{eqb-true, leb-true, ltb-false, le-leb, ne_eqb}
 use Rattle.std.proofs.lemmas.Bool.Decides.{eqb_tells}
-use Rattle.std.proofs.lemmas.List.{append_cancel_left, length-drop, length-take, take-append-drop}
+use Rattle.std.proofs.lemmas.List.{append_cancel_left, length-drop, length-take}
 use Rattle.netlink_packet_core_grammar.specs.Bytes.{AreBytes}
 use Rattle.netlink_packet_core_grammar.specs.Numbers.{u16_at}
 use Rattle.link_message_grammar.specs.Body.{link_body, link_peer}
-use Rattle.link_message_grammar.specs.Laws.{BodiesAreHeadersAndAttributes}
-use Rattle.link_capture_grammar.specs.Bodies.{error_text, done_text, refused, empty_ports, unfit, is_link_type, body_text, body_text_under, ruled_text}
+use Rattle.link_capture_grammar.specs.Bodies.{refused, empty_ports, unfit, is_link_type, body_text, body_text_under, ruled_text}
 use Rattle.link_lines_values.specs.declared.values.ShownBy.TheVariants.{Signed, Bytes}
 use Rattle.link_lines_values.specs.Bytes.{bytes_text}
 use Rattle.link_lines_values.specs.Values.{value_text}
-use Rattle.link_lines_values.specs.Laws.{BytesAreTold, DigitsAreTold, NumbersAreTold, ValuesStandOnALine}
+use Rattle.link_lines_values.proofs.BytesTold.{bytes_told}
+use Rattle.link_lines_values.proofs.NumbersTold.{numbers_told}
+use Rattle.link_lines_values.proofs.OneLine.{values_stand}
 use Rattle.link_lines_texts.specs.Frames.{behind_code, bytes_line, body_lines, code_lines, frame_lines, header_line, link_lines, request_line, type_text}
-use Rattle.link_lines_texts.specs.Telling.{AreKnown, FramesAreTold, IsOwnFrame, IsShallow, ListsAreTold, NumbersAreKnown, StartsFrame}
+use Rattle.link_lines_texts.specs.Telling.{AreKnown, FramesAreTold, IsOwnFrame, IsShallow, NumbersAreKnown, StartsFrame}
 use Rattle.link_lines_texts.proofs.LineCuts.{behind, cut_line}
 use Rattle.link_lines_texts.proofs.HeadersTold.{flags_part, header_told, request_told, type_starts}
+use Rattle.link_lines_texts.proofs.LinksTold.{lists_are_told}
 use Rattle.link_lines_texts.proofs.LinkBodiesTold.{IsOwnLink, link_part, link_told, own_link}
+use Rattle.link_lines_values.proofs.ValuesTold.{both_parts}
 use Rattle.netlink_packet_core_grammar.proofs.Bytes.{AreBytes-drop, AreBytes-take}
 
 -- ---- lines of bytes, and of codes
 
-space_apart : (n c : ℕ) → n ≡ 32 → 48 ≤ c → n ≡ c → ⊥
-space_apart n c is h e = omega arith
-
 no_space : (s r : List ℕ) → StartsFrame s → s ≡ 32 ∷ r → ⊥
 no_space [] r h e = absurd cc
-no_space (c ∷ s) r h e = space_apart 32 c refl h (sym (ap (λ l. get_or l 0 0) e))
+no_space (c ∷ s) r h e = let first : c ≡ 32 = cc in omega arith
 
 -- a line of bytes tells them, and no bytes where there is none
-bytes_line_told : BytesAreTold → ValuesStandOnALine → (name p q s t : List ℕ) → AreBytes p → AreBytes q → StartsFrame s → StartsFrame t → bytes_line name p ++ s ≡ bytes_line name q ++ t → (p ≡ q) × (s ≡ t)
+bytes_line_told : (name p q s t : List ℕ) → AreBytes p → AreBytes q → StartsFrame s → StartsFrame t → bytes_line name p ++ s ≡ bytes_line name q ++ t → (p ≡ q) × (s ≡ t)
 unfolding bytes_line
-bytes_line_told k v name [] [] s t a b i j e = (refl, e)
-bytes_line_told k v name [] (y ∷ q) s t a b i j e = absurd (no_space s (32 ∷ (name ++ (bytes_text (y ∷ q) ++ 10 ∷ [])) ++ t) i e)
-bytes_line_told k v name (x ∷ p) [] s t a b i j e = absurd (no_space t (32 ∷ (name ++ (bytes_text (x ∷ p) ++ 10 ∷ [])) ++ s) j (sym e))
-bytes_line_told k v name (x ∷ p) (y ∷ q) s t a b i j e =
+bytes_line_told name [] [] s t a b i j e = (refl, e)
+bytes_line_told name [] (y ∷ q) s t a b i j e = absurd (no_space s (32 ∷ (name ++ (bytes_text (y ∷ q) ++ 10 ∷ [])) ++ t) i e)
+bytes_line_told name (x ∷ p) [] s t a b i j e = absurd (no_space t (32 ∷ (name ++ (bytes_text (x ∷ p) ++ 10 ∷ [])) ++ s) j (sym e))
+bytes_line_told name (x ∷ p) (y ∷ q) s t a b i j e =
     let m = bytes_text (x ∷ p) in
     let n = bytes_text (y ∷ q) in
     let named_alike = behind name (m ++ 10 ∷ []) s name (n ++ 10 ∷ []) t (ap (drop 2) e) in
     let shown = behind m (10 ∷ []) s n (10 ∷ []) t (append_cancel_left name ((m ++ 10 ∷ []) ++ s) ((n ++ 10 ∷ []) ++ t) named_alike) in
-    let r = cut_line m n s t (v.line Bytes (x ∷ p) refl) (v.line Bytes (y ∷ q) refl) shown in
-    (k.bytes (x ∷ p) (y ∷ q) a b r.0, r.1)
-
-joined : (n : ℕ) (p q : List ℕ) → take n p ≡ take n q → drop n p ≡ drop n q → p ≡ q
-joined n p q h k = sym (take-append-drop n p) ∙ (λ i. h i ++ k i) ∙ take-append-drop n q
+    let r = cut_line m n s t (values_stand.line Bytes (x ∷ p) refl) (values_stand.line Bytes (y ∷ q) refl) shown in
+    (bytes_told.bytes (x ∷ p) (y ∷ q) a b r.0, r.1)
 
 -- what stands behind a code of this type is told
 abbrev BehindIsTold : Bool → ℕ → Type 0
 BehindIsTold n m = (p q s t : List ℕ) → AreBytes p → AreBytes q → (m ≡ 2 → 16 ≤ length p → AreKnown n p) → (m ≡ 2 → 16 ≤ length q → AreKnown n q) → StartsFrame s → StartsFrame t →
     behind_code n m p ++ s ≡ behind_code n m q ++ t → (p ≡ q) × (s ≡ t)
 
-letters_apart : (a b : ℕ) → a ≡ 113 → b ≡ 115 → a ≡ b → ⊥
-letters_apart a b h k e = omega arith
-
 -- a request's line is no line of bytes, nor what follows a frame's lines
 request_apart : (n : Bool) (p q r s t : List ℕ) → StartsFrame t → (request_line n p ++ r) ++ s ≡ bytes_line (codes "rest") q ++ t → ⊥
 unfolding request_line bytes_line
 request_apart n p [] r s t h e = no_space t _ h (sym e)
-request_apart n p (y ∷ q) r s t h e = letters_apart 113 115 refl refl (ap (λ l. get_or l 4 0) e)
+request_apart n p (y ∷ q) r s t h e = let fifth : ◌≡◌ {A = ℕ} 113 115 = ap (λ l. get_or l 4 0) e in omega arith
 
-requests_by : DigitsAreTold → BytesAreTold → ValuesStandOnALine → (n : Bool) (p q s t : List ℕ) (x y : Bool) → AreBytes p → AreBytes q → nat_le 16 (length p) ≡ x → nat_le 16 (length q) ≡ y →
+requests_by : (n : Bool) (p q s t : List ℕ) (x y : Bool) → AreBytes p → AreBytes q → nat_le 16 (length p) ≡ x → nat_le 16 (length q) ≡ y →
     (16 ≤ length p → AreKnown n p) → (16 ≤ length q → AreKnown n q) → StartsFrame s → StartsFrame t →
     cond x (request_line n p ++ bytes_line (codes "rest") (drop 16 p)) (bytes_line (codes "rest") p) ++ s
     ≡ cond y (request_line n q ++ bytes_line (codes "rest") (drop 16 q)) (bytes_line (codes "rest") q) ++ t → (p ≡ q) × (s ≡ t)
-requests_by d k v n p q s t false false a b x y h m i j e = bytes_line_told k v (codes "rest") p q s t a b i j e
-requests_by d k v n p q s t false true a b x y h m i j e = absurd (request_apart n q p (bytes_line (codes "rest") (drop 16 q)) t s i (sym e))
-requests_by d k v n p q s t true false a b x y h m i j e = absurd (request_apart n p q (bytes_line (codes "rest") (drop 16 p)) s t j e)
-requests_by d k v n p q s t true true a b x y h m i j e =
+requests_by n p q s t false false a b x y h m i j e = bytes_line_told (codes "rest") p q s t a b i j e
+requests_by n p q s t false true a b x y h m i j e = absurd (request_apart n q p (bytes_line (codes "rest") (drop 16 q)) t s i (sym e))
+requests_by n p q s t true false a b x y h m i j e = absurd (request_apart n p q (bytes_line (codes "rest") (drop 16 p)) s t j e)
+requests_by n p q s t true true a b x y h m i j e =
     let l = leb-true 16 (length p) x in
     let o = leb-true 16 (length q) y in
     let u = bytes_line (codes "rest") (drop 16 p) in
     let w = bytes_line (codes "rest") (drop 16 q) in
-    let told = request_told d n p q (u ++ s) (w ++ t) a b l o (h l) (m o) (behind (request_line n p) u s (request_line n q) w t e) in
-    let r = bytes_line_told k v (codes "rest") (drop 16 p) (drop 16 q) s t (AreBytes-drop 16 p a) (AreBytes-drop 16 q b) i j told.1 in
+    let told = request_told n p q (u ++ s) (w ++ t) a b l o (h l) (m o) (behind (request_line n p) u s (request_line n q) w t e) in
+    let r = bytes_line_told (codes "rest") (drop 16 p) (drop 16 q) s t (AreBytes-drop 16 p a) (AreBytes-drop 16 q b) i j told.1 in
     (told.0 r.0, r.1)
 
-behind_error : DigitsAreTold → BytesAreTold → ValuesStandOnALine → (n : Bool) → BehindIsTold n 2
+behind_error : (n : Bool) → BehindIsTold n 2
 unfolding behind_code
-behind_error d k v n p q s t a b h m i j e = requests_by d k v n p q s t (nat_le 16 (length p)) (nat_le 16 (length q)) a b refl refl (h refl) (m refl) i j e
+behind_error n p q s t a b h m i j e = requests_by n p q s t (nat_le 16 (length p)) (nat_le 16 (length q)) a b refl refl (h refl) (m refl) i j e
 
-behind_done : BytesAreTold → ValuesStandOnALine → (n : Bool) → BehindIsTold n 3
+behind_done : (n : Bool) → BehindIsTold n 3
 unfolding behind_code
-behind_done k v n p q s t a b h m i j e = bytes_line_told k v (codes "rest") p q s t a b i j e
+behind_done n p q s t a b h m i j e = bytes_line_told (codes "rest") p q s t a b i j e
 
 abbrev rest_part : Bool → ℕ → List ℕ → List ℕ
 rest_part n m b = behind_code n m (drop 4 b)
 
 pub code_lines_are : (n : Bool) (m : ℕ) (b : List ℕ) → 4 ≤ length b → code_lines n m b ≡ codes "  code" ++ (value_text Signed (take 4 b) ++ 10 ∷ rest_part n m b)
 unfolding code_lines
-code_lines_are n m b h =
-    let lines = codes "  code" ++ (value_text Signed (take 4 b) ++ 10 ∷ rest_part n m b) in
-    ap (λ c. cond c lines (bytes_line (codes "body") b)) (le-leb 4 (length b) h)
+code_lines_are n m b h = rw (le-leb 4 (length b) h)
 
 -- the request's numbers in a body are known
 abbrev RequestIsKnown : Bool → ℕ → List ℕ → Type 0
 RequestIsKnown n m p = m ≡ 2 → 20 ≤ length p → AreKnown n (drop 4 p)
 
-code_told : NumbersAreTold → ValuesStandOnALine → (n : Bool) (m : ℕ) → BehindIsTold n m → (p q s t : List ℕ) → AreBytes p → AreBytes q → 4 ≤ length p → 4 ≤ length q →
+code_told : (n : Bool) (m : ℕ) → BehindIsTold n m → (p q s t : List ℕ) → AreBytes p → AreBytes q → 4 ≤ length p → 4 ≤ length q →
     RequestIsKnown n m p → RequestIsKnown n m q → StartsFrame s → StartsFrame t → code_lines n m p ++ s ≡ code_lines n m q ++ t → (p ≡ q) × (s ≡ t)
-code_told numbers v n m told p q s t a b l o g h i j e =
+code_told n m told p q s t a b l o g h i j e =
     let x = value_text Signed (take 4 p) in
     let y = value_text Signed (take 4 q) in
     let lines = sym (ap (λ z. z ++ s) (code_lines_are n m p l)) ∙ e ∙ ap (λ z. z ++ t) (code_lines_are n m q o) in
     let shown = behind x (10 ∷ rest_part n m p) s y (10 ∷ rest_part n m q) t (ap (drop 6) lines) in
-    let c = cut_line x y (rest_part n m p ++ s) (rest_part n m q ++ t) (v.line Signed (take 4 p) refl) (v.line Signed (take 4 q) refl) shown in
+    let c = cut_line x y (rest_part n m p ++ s) (rest_part n m q ++ t) (values_stand.line Signed (take 4 p) refl) (values_stand.line Signed (take 4 q) refl) shown in
     let r = told (drop 4 p) (drop 4 q) s t (AreBytes-drop 4 p a) (AreBytes-drop 4 q b)
     (λ two z. g two (omega (arith, z, length-drop 4 p))) (λ two z. h two (omega (arith, z, length-drop 4 q))) i j c.1 in
-    let code = numbers.signed (take 4 p) (take 4 q) (AreBytes-take 4 p a) (AreBytes-take 4 q b) (omega (arith, length-take 4 p)) (omega (arith, length-take 4 q)) c.0 in
-    (joined 4 p q code r.0, r.1)
+    let code = numbers_told.signed (take 4 p) (take 4 q) (AreBytes-take 4 p a) (AreBytes-take 4 q b) (omega (arith, length-take 4 p)) (omega (arith, length-take 4 q)) c.0 in
+    (both_parts 4 p q code r.0, r.1)
 
 -- ---- a link's body
 
 ruled_is : (x y z : Bool) (p b : List ℕ) → cond x (cond y (Err empty_ports) (cond z (Ok p) (Err unfit))) (Err refused) ≡ Ok b → (x ≡ true) × (p ≡ b)
-ruled_is false y z p b e = absurd cc
-ruled_is true true z p b e = absurd cc
-ruled_is true false false p b e = absurd cc
 ruled_is true false true p b e = (refl, cc)
+ruled_is x y z p b e = absurd cc
 
 -- a link's body that is its own text has a header that is, and attributes that are
-own_body : BodiesAreHeadersAndAttributes link_peer → (b : List ℕ) → AreBytes b → ruled_text link_body b ≡ Ok b → IsOwnLink link_peer b
-own_body h b a e =
+own_body : (b : List ℕ) → AreBytes b → ruled_text link_body b ≡ Ok b → IsOwnLink link_peer b
+own_body b a e =
     let r = ruled_is (link_body.accepted b) (link_body.empty_ports b) (link_body.fits b) (link_body.canonical b) b e in
-    own_link link_peer h b a r.0 r.1
+    own_link link_peer b a r.0 r.1
 
 link_lines_are : (b : List ℕ) → 16 ≤ length b → link_lines b ≡ link_part 1 false b
 unfolding link_lines
-link_lines_are b h = ap (λ c. cond c (link_part 1 false b) (bytes_line (codes "body") b)) (le-leb 16 (length b) h)
+link_lines_are b h = rw (le-leb 16 (length b) h)
 
 shallow : (s : List ℕ) → StartsFrame s → IsShallow 1 s
 shallow s h r = no_space s (32 ∷ r) h
 
-body_told : ListsAreTold → DigitsAreTold → (p q s t : List ℕ) → AreBytes p → AreBytes q → IsOwnLink link_peer p → IsOwnLink link_peer q → StartsFrame s → StartsFrame t → link_lines p ++ s ≡ link_lines q ++ t → (p ≡ q) × (s ≡ t)
-body_told lists d p q s t a b h k i j e =
+body_told : (p q s t : List ℕ) → AreBytes p → AreBytes q → IsOwnLink link_peer p → IsOwnLink link_peer q → StartsFrame s → StartsFrame t → link_lines p ++ s ≡ link_lines q ++ t → (p ≡ q) × (s ≡ t)
+body_told p q s t a b h k i j e =
     let lines = sym (ap (λ z. z ++ s) (link_lines_are p h.size)) ∙ e ∙ ap (λ z. z ++ t) (link_lines_are q k.size) in
-    link_told link_peer false lists d 1 p q s t a b h k (shallow s i) (shallow t j) lines
+    link_told link_peer false lists_are_told 1 p q s t a b h k (shallow s i) (shallow t j) lines
 
 -- ---- bodies by their type
-
--- the laws that are needed
-pub record Premises : Type 0 where
-  pub lists : ListsAreTold
-  pub lines : ValuesStandOnALine
-  pub digits : DigitsAreTold
-  pub bytes : BytesAreTold
-  pub numbers : NumbersAreTold
-  pub parts : BodiesAreHeadersAndAttributes link_peer
 
 abbrev BodiesOfTypeAreTold : Bool → ℕ → Type 0
 BodiesOfTypeAreTold numbers n = (p q s t : List ℕ) → AreBytes p → AreBytes q → body_text n p ≡ Ok p → body_text n q ≡ Ok q →
@@ -156,14 +137,11 @@ noop_is : (p : List ℕ) → body_text 1 p ≡ Ok p → [] ≡ p
 unfolding body_text_under
 noop_is p h = cc
 
-some_is_none : {x : ℕ} {p : List ℕ} → [] ≡ x ∷ p → ⊥
-some_is_none e = absurd cc
-
 noops_told : (numbers : Bool) → BodiesOfTypeAreTold numbers 1
 unfolding body_lines bytes_line
 noops_told numbers [] [] s t a b h k f g i j e = (refl, e)
-noops_told numbers [] (y ∷ q) s t a b h k f g i j e = absurd (some_is_none (noop_is (y ∷ q) k))
-noops_told numbers (x ∷ p) q s t a b h k f g i j e = absurd (some_is_none (noop_is (x ∷ p) h))
+noops_told numbers [] (y ∷ q) s t a b h k f g i j e = absurd (let none = noop_is (y ∷ q) k in cc)
+noops_told numbers (x ∷ p) q s t a b h k f g i j e = absurd (let none = noop_is (x ∷ p) h in cc)
 
 code_by : (b : Bool) (p q : List ℕ) → cond b (Err refused) (Ok q) ≡ Ok p → b ≡ false
 code_by true p q h = absurd cc
@@ -173,70 +151,54 @@ error_size : (p : List ℕ) → body_text 2 p ≡ Ok p → 4 ≤ length p
 unfolding body_text_under
 error_size p h = let l = ltb-false (length p) 4 (code_by _ p p h) in omega (arith, l)
 
-zeros_are_some : (p : List ℕ) → 0 ∷ 0 ∷ 0 ∷ 0 ∷ [] ≡ p → length p ≡ 0 → ⊥
-zeros_are_some p h l = let n : 4 ≡ length p = ap length h in omega arith
-
 done_by : (a b : Bool) (p : List ℕ) → (a ≡ true → length p ≡ 0) → cond a (Ok (0 ∷ 0 ∷ 0 ∷ 0 ∷ [])) (cond b (Err refused) (Ok p)) ≡ Ok p → b ≡ false
-done_by true b p l h = let z : 0 ∷ 0 ∷ 0 ∷ 0 ∷ [] ≡ p = cc in absurd (zeros_are_some p z (l refl))
+done_by true b p l h = let zeros : 0 ∷ 0 ∷ 0 ∷ 0 ∷ [] ≡ p = cc in let size : 4 ≡ length p = ap length zeros in absurd (omega (arith, l refl))
 done_by false b p l h = code_by b p p h
 
 done_size : (p : List ℕ) → body_text 3 p ≡ Ok p → 4 ≤ length p
 unfolding body_text_under
 done_size p h = let l = ltb-false (length p) 4 (done_by (length p == 0) _ p (eqb-true (length p) 0) h) in omega (arith, l)
 
-errors_told : Premises → (numbers : Bool) → BodiesOfTypeAreTold numbers 2
+errors_told : (numbers : Bool) → BodiesOfTypeAreTold numbers 2
 unfolding body_lines
-errors_told w numbers p q s t a b h k f g i j e =
-    code_told w.numbers w.lines numbers 2 (behind_error w.digits w.bytes w.lines numbers) p q s t a b (error_size p h) (error_size q k) f g i j e
+errors_told numbers p q s t a b h k f g i j e =
+    code_told numbers 2 (behind_error numbers) p q s t a b (error_size p h) (error_size q k) f g i j e
 
-dones_told : Premises → (numbers : Bool) → BodiesOfTypeAreTold numbers 3
+dones_told : (numbers : Bool) → BodiesOfTypeAreTold numbers 3
 unfolding body_lines
-dones_told w numbers p q s t a b h k f g i j e =
-    code_told w.numbers w.lines numbers 3 (behind_done w.bytes w.lines numbers) p q s t a b (done_size p h) (done_size q k) f g i j e
-
-text_by : (n : ℕ) (p : List ℕ) (a b c : Bool) → a ≡ false → b ≡ false → c ≡ false →
-    cond a (Ok []) (cond b (error_text p) (cond c (done_text p) (cond (is_link_type n) (ruled_text link_body p) (Ok p)))) ≡ cond (is_link_type n) (ruled_text link_body p) (Ok p)
-text_by n p false false false h k l = refl
-text_by n p true b c h k l = absurd cc
-text_by n p false true c h k l = absurd cc
-text_by n p false false true h k l = absurd cc
+dones_told numbers p q s t a b h k f g i j e =
+    code_told numbers 3 (behind_done numbers) p q s t a b (done_size p h) (done_size q k) f g i j e
 
 -- a body of a type other than 1, 2 and 3
 text_is : (n : ℕ) (p : List ℕ) → (n ≡ 1 → ⊥) → (n ≡ 2 → ⊥) → (n ≡ 3 → ⊥) → body_text n p ≡ cond (is_link_type n) (ruled_text link_body p) (Ok p)
 unfolding body_text_under
-text_is n p a b c = text_by n p (n == 1) (n == 2) (n == 3) (ne_eqb n 1 a) (ne_eqb n 2 b) (ne_eqb n 3 c)
-
-lines_by : (p coded : List ℕ) (l b c : Bool) → b ≡ false → c ≡ false →
-    cond l (link_lines p) (cond (b || c) coded (bytes_line (codes "body") p)) ≡ cond l (link_lines p) (bytes_line (codes "body") p)
-lines_by p coded l false false h k = refl
-lines_by p coded l true c h k = absurd cc
-lines_by p coded l false true h k = absurd cc
+text_is n p a b c = rw (ne_eqb n 1 a, ne_eqb n 2 b, ne_eqb n 3 c)
 
 lines_are : (numbers : Bool) (n : ℕ) (p : List ℕ) → (n ≡ 2 → ⊥) → (n ≡ 3 → ⊥) → body_lines numbers n p ≡ cond (is_link_type n) (link_lines p) (bytes_line (codes "body") p)
 unfolding body_lines
-lines_are numbers n p b c = lines_by p (code_lines numbers n p) (is_link_type n) (n == 2) (n == 3) (ne_eqb n 2 b) (ne_eqb n 3 c)
+lines_are numbers n p b c = rw (ne_eqb n 2 b, ne_eqb n 3 c)
 
-other_by : Premises → (l : Bool) (p q s t : List ℕ) → AreBytes p → AreBytes q → cond l (ruled_text link_body p) (Ok p) ≡ Ok p → cond l (ruled_text link_body q) (Ok q) ≡ Ok q → StartsFrame s → StartsFrame t →
+other_by : (l : Bool) (p q s t : List ℕ) → AreBytes p → AreBytes q → cond l (ruled_text link_body p) (Ok p) ≡ Ok p → cond l (ruled_text link_body q) (Ok q) ≡ Ok q → StartsFrame s → StartsFrame t →
     cond l (link_lines p) (bytes_line (codes "body") p) ++ s ≡ cond l (link_lines q) (bytes_line (codes "body") q) ++ t → (p ≡ q) × (s ≡ t)
-other_by w true p q s t a b h k i j e = body_told w.lists w.digits p q s t a b (own_body w.parts p a h) (own_body w.parts q b k) i j e
-other_by w false p q s t a b h k i j e = bytes_line_told w.bytes w.lines (codes "body") p q s t a b i j e
+other_by true p q s t a b h k i j e = body_told p q s t a b (own_body p a h) (own_body q b k) i j e
+other_by false p q s t a b h k i j e = bytes_line_told (codes "body") p q s t a b i j e
 
-others_told : Premises → (numbers : Bool) (n : ℕ) → (n ≡ 1 → ⊥) → (n ≡ 2 → ⊥) → (n ≡ 3 → ⊥) → BodiesOfTypeAreTold numbers n
-others_told w numbers n x y z p q s t a b h k f g i j e =
+others_told : (numbers : Bool) (n : ℕ) → (n ≡ 1 → ⊥) → (n ≡ 2 → ⊥) → (n ≡ 3 → ⊥) → BodiesOfTypeAreTold numbers n
+others_told numbers n x y z p q s t a b h k f g i j e =
     let lines = sym (ap (λ l. l ++ s) (lines_are numbers n p y z)) ∙ e ∙ ap (λ l. l ++ t) (lines_are numbers n q y z) in
-    other_by w (is_link_type n) p q s t a b (sym (text_is n p x y z) ∙ h) (sym (text_is n q x y z) ∙ k) i j lines
+    other_by (is_link_type n) p q s t a b (sym (text_is n p x y z) ∙ h) (sym (text_is n q x y z) ∙ k) i j lines
 
-bodies_told : Premises → (numbers : Bool) (n : ℕ) → BodiesOfTypeAreTold numbers n
-bodies_told w numbers n =
+bodies_told : (numbers : Bool) (n : ℕ) → BodiesOfTypeAreTold numbers n
+bodies_told numbers n =
     elim (eqb_tells n 1) [
       | inl x ↦ subst (BodiesOfTypeAreTold numbers) (sym x.1) (noops_told numbers)
       | inr x ↦
           elim (eqb_tells n 2) [
-            | inl y ↦ subst (BodiesOfTypeAreTold numbers) (sym y.1) (errors_told w numbers)
+            | inl y ↦ subst (BodiesOfTypeAreTold numbers) (sym y.1) (errors_told numbers)
             | inr y ↦
                 elim (eqb_tells n 3) [
-                  | inl z ↦ subst (BodiesOfTypeAreTold numbers) (sym z.1) (dones_told w numbers)
-                  | inr z ↦ others_told w numbers n x.1 y.1 z.1
+                  | inl z ↦ subst (BodiesOfTypeAreTold numbers) (sym z.1) (dones_told numbers)
+                  | inr z ↦ others_told numbers n x.1 y.1 z.1
                 ]
           ]
     ]
@@ -253,19 +215,19 @@ starts numbers f s =
     subst StartsFrame (sym parts) (type_starts (u16_at 4 f) (flags_part numbers f ++ (body ++ s)))
 
 -- all of a frame but its length is told, and where its lines end
-frames_told : Premises → (numbers : Bool) (f g s t : List ℕ) → IsOwnFrame f → IsOwnFrame g → NumbersAreKnown numbers f → NumbersAreKnown numbers g → StartsFrame s → StartsFrame t →
+frames_told : (numbers : Bool) (f g s t : List ℕ) → IsOwnFrame f → IsOwnFrame g → NumbersAreKnown numbers f → NumbersAreKnown numbers g → StartsFrame s → StartsFrame t →
     frame_lines numbers f ++ s ≡ frame_lines numbers g ++ t → (drop 4 f ≡ drop 4 g) × (s ≡ t)
 unfolding frame_lines
-frames_told w numbers f g s t h k x y i j e =
+frames_told numbers f g s t h k x y i j e =
     let lines : ℕ → List ℕ → List ℕ = λ n b. body_lines numbers n (drop 16 b) in
-    let same = header_told w.digits numbers f g (lines (u16_at 4 f) f ++ s) (lines (u16_at 4 g) g ++ t) h.bytes k.bytes h.header k.header x.own y.own
+    let same = header_told numbers f g (lines (u16_at 4 f) f ++ s) (lines (u16_at 4 g) g ++ t) h.bytes k.bytes h.header k.header x.own y.own
     (behind (header_line numbers f) (lines (u16_at 4 f) f) s (header_line numbers g) (lines (u16_at 4 g) g) t e) in
     let back = sym same.type in
     let other = subst (λ n. body_text n (drop 16 g) ≡ Ok (drop 16 g)) back k.body in
     let asked : RequestIsKnown numbers (u16_at 4 f) (drop 16 g) = λ two. y.request (back ∙ two) in
     let rest = same.rest ∙ ap (λ n. lines n g ++ t) back in
-    let r = bodies_told w numbers (u16_at 4 f) (drop 16 f) (drop 16 g) s t (AreBytes-drop 16 f h.bytes) (AreBytes-drop 16 g k.bytes) h.body other x.request asked i j rest in
+    let r = bodies_told numbers (u16_at 4 f) (drop 16 f) (drop 16 g) s t (AreBytes-drop 16 f h.bytes) (AreBytes-drop 16 g k.bytes) h.body other x.request asked i j rest in
     (same.bytes r.0, r.1)
 
-pub told : Premises → FramesAreTold
-told w = record { starts = starts; told = frames_told w }
+pub told : FramesAreTold
+told = record { starts = starts; told = frames_told }

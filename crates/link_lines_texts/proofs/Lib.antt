@@ -1,4 +1,3 @@
-pub mod ByteParts
 pub mod CanonicalLists
 pub mod CapturesTold
 pub mod FrameSteps
@@ -19,3 +18,4 @@ pub mod SomeLines
 pub mod TablesTold
 pub mod TitlesTold
 pub mod Told
+pub mod Together

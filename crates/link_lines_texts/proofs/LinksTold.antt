@@ -1,5 +1,5 @@
 -- Lines tell the lists of link messages, and peers in them.
-use Rattle.std.proofs.Common.{◌≡◌, ℕ, ◌≤◌, Bool, true, false, cond, List, [], ◌++◌, length, drop, Some, None, refl, sym, ap, ◌∙◌}
+use Rattle.std.proofs.Common.{◌≡◌, ℕ, ◌≤◌, Bool, true, false, cond, List, ◌++◌, length, Some, refl, sym, ap, ◌∙◌}
 use Rattle.std.specs.Prelude.{◌==◌, ◌&&◌, not}
 use Rattle.std.proofs.lemmas.Bool.{and_parts, le-leb}
 use Rattle.attribute_tables_grammar.specs.Lists.{any}
@@ -8,66 +8,63 @@ use Rattle.attribute_tables_grammar.specs.Rules.{shape_rule}
 use Rattle.attribute_tables_grammar.specs.Shapes.{raw}
 use Rattle.attribute_tables_grammar.specs.Tables.{Payload}
 use Rattle.link_message_grammar.specs.Body.{body_rule, link_peer, list_rule_of}
-use Rattle.link_message_grammar.specs.Laws.{BodiesAreHeadersAndAttributes}
 use Rattle.link_message_grammar.specs.LinkMessage.{Family, unspec, bridge, inet_6, other, link_table}
-use Rattle.link_lines_values.specs.Laws.{DigitsAreTold}
 use Rattle.link_lines_values.specs.declared.values.ShownBy.TheVariants.{Bytes}
 use Rattle.link_lines_names.specs.Behind.{Inside.Peer as PeerInside, Inside.Nested}
 use Rattle.link_lines_texts.specs.Coverage.{holds_shown}
-use Rattle.link_lines_texts.specs.Laws.{RowsAreTold}
-use Rattle.link_lines_texts.specs.Links.{family_table, link_header_line}
-use Rattle.link_lines_texts.specs.Lists.{nested_lines, of_link}
+use Rattle.link_lines_texts.proofs.ShapesTold.{shapes_told}
+use Rattle.link_lines_texts.proofs.Told.{told}
+use Rattle.link_lines_texts.specs.Links.{family_table}
 use Rattle.link_lines_texts.specs.Telling.{IsOwn, ListsAreTold}
 use Rattle.link_lines_texts.proofs.LinkBodiesTold.{FamiliesTold, IsOwnLink, link_part, link_told, own_link}
 use Rattle.link_lines_texts.proofs.ListsTold.{InsideTold, NestedTold, below}
-use Rattle.link_lines_texts.proofs.TablesTold.{TableLaws, payload_told, settled}
+use Rattle.link_lines_texts.proofs.TablesTold.{payload_told, settled}
 
-module _ (laws : TableLaws) (rows : RowsAreTold) where
-  -- what a peer is shown as tells it
-  abbrev PeersTold : Peer → Bool → Type 0
-  PeersTold peer in_peer = InsideTold in_peer (peer_rule peer) (settled in_peer PeerInside)
+-- what a peer is shown as tells it
+abbrev PeersTold : Peer → Bool → Type 0
+PeersTold peer in_peer = InsideTold in_peer (peer_rule peer) (settled in_peer PeerInside)
 
-  -- the attributes of a family, under its table of names
-  family_told : (peer : Peer) (in_peer : Bool) → PeersTold peer in_peer → (f : Family) (m : ℕ) → holds_shown (Payload.list any (link_table f)) (Some (Nested m)) ≡ true → NestedTold (list_rule_of peer f) (record { table = m; is_in_peer = in_peer })
-  unfolding list_rule_of
-  family_told peer in_peer peers f m h level p q s t o u sx sy same = payload_told laws peer in_peer peers (Payload.list any (link_table f)) (Nested m) h level p q s t o u sx sy refl same
+-- the attributes of a family, under its table of names
+family_told : (peer : Peer) (in_peer : Bool) → PeersTold peer in_peer → (f : Family) (m : ℕ) → holds_shown (Payload.list any (link_table f)) (Some (Nested m)) ≡ true → NestedTold (list_rule_of peer f) (record { table = m; is_in_peer = in_peer })
+unfolding list_rule_of
+family_told peer in_peer peers f m h level p q s t o u sx sy same = payload_told peer in_peer peers (Payload.list any (link_table f)) (Nested m) h level p q s t o u sx sy refl same
 
-  by_family : (peer : Peer) (in_peer : Bool) → PeersTold peer in_peer → (a b c : Bool) → NestedTold (list_rule_of peer (cond a unspec (cond b bridge (cond c inet_6 other)))) (record { table = cond a 15 (cond b 16 (cond c 17 18)); is_in_peer = in_peer })
-  by_family peer in_peer peers true b c = family_told peer in_peer peers unspec 15 rows.unspec_told
-  by_family peer in_peer peers false true c = family_told peer in_peer peers bridge 16 rows.bridge_told
-  by_family peer in_peer peers false false true = family_told peer in_peer peers inet_6 17 rows.inet6_told
-  by_family peer in_peer peers false false false = family_told peer in_peer peers other 18 rows.other_told
+by_family : (peer : Peer) (in_peer : Bool) → PeersTold peer in_peer → (a b c : Bool) → NestedTold (list_rule_of peer (cond a unspec (cond b bridge (cond c inet_6 other)))) (record { table = cond a 15 (cond b 16 (cond c 17 18)); is_in_peer = in_peer })
+by_family peer in_peer peers true b c = family_told peer in_peer peers unspec 15 told.unspec_told
+by_family peer in_peer peers false true c = family_told peer in_peer peers bridge 16 told.bridge_told
+by_family peer in_peer peers false false true = family_told peer in_peer peers inet_6 17 told.inet6_told
+by_family peer in_peer peers false false false = family_told peer in_peer peers other 18 told.other_told
 
-  families_told : (peer : Peer) (in_peer : Bool) → PeersTold peer in_peer → FamiliesTold peer in_peer
-  unfolding family_table
-  families_told peer in_peer peers level n p q s t = by_family peer in_peer peers (n == 0) (n == 7) (n == 10) level p q s t
+families_told : (peer : Peer) (in_peer : Bool) → PeersTold peer in_peer → FamiliesTold peer in_peer
+unfolding family_table
+families_told peer in_peer peers level n p q s t = by_family peer in_peer peers (n == 0) (n == 7) (n == 10) level p q s t
 
-  -- ---- peers
+-- ---- peers
 
-  -- in a peer, peers are bytes
-  own_bytes : (p : List ℕ) → IsOwn (peer_rule bytes_peer) p → IsOwn (shape_rule raw) p
-  own_bytes p o = record { bytes = o.bytes; accepted = refl; canonical = refl }
+-- in a peer, peers are bytes
+own_bytes : (p : List ℕ) → IsOwn (peer_rule bytes_peer) p → IsOwn (shape_rule raw) p
+own_bytes p o = record { bytes = o.bytes; accepted = refl; canonical = refl }
 
-  bytes_told : PeersTold bytes_peer true
-  bytes_told level p q x y o u sx sy same under = (laws.shapes raw Bytes p q refl (own_bytes p o) (own_bytes q u) same, under)
+bytes_told : PeersTold bytes_peer true
+bytes_told level p q x y o u sx sy same under = (shapes_told raw Bytes p q refl (own_bytes p o) (own_bytes q u) same, under)
 
-  -- else they are links
-  own_peer : BodiesAreHeadersAndAttributes bytes_peer → (p : List ℕ) → IsOwn (peer_rule link_peer) p → IsOwnLink bytes_peer p
-  unfolding link_peer
-  own_peer parts p o =
-      let r = body_rule bytes_peer in
-      let fits = and_parts (r.accepted p && not (r.empty_ports p)) (r.fits p) o.accepted in
-      own_link bytes_peer parts p o.bytes (and_parts (r.accepted p) (not (r.empty_ports p)) fits.0).0 o.canonical
+-- else they are links
+own_peer : (p : List ℕ) → IsOwn (peer_rule link_peer) p → IsOwnLink bytes_peer p
+unfolding link_peer
+own_peer p o =
+    let r = body_rule bytes_peer in
+    let fits = and_parts (r.accepted p && not (r.empty_ports p)) (r.fits p) o.accepted in
+    own_link bytes_peer p o.bytes (and_parts (r.accepted p) (not (r.empty_ports p)) fits.0).0 o.canonical
 
-  peer_lines : (level : ℕ) (p : List ℕ) → 16 ≤ length p → below level false PeerInside p ≡ link_part level true p
-  peer_lines level p h = ap (λ b. cond b (link_header_line level p) [] ++ nested_lines level (cond b (Some (of_link true p, drop 16 p)) None)) (le-leb 16 (length p) h)
+peer_lines : (level : ℕ) (p : List ℕ) → 16 ≤ length p → below level false PeerInside p ≡ link_part level true p
+peer_lines level p h = rw (le-leb 16 (length p) h)
 
-  peers_told : DigitsAreTold → BodiesAreHeadersAndAttributes bytes_peer → PeersTold link_peer false
-  peers_told digits parts level p q x y o u sx sy same under =
-      let a = own_peer parts p o in
-      let b = own_peer parts q u in
-      link_told bytes_peer true (families_told bytes_peer true bytes_told) digits level p q x y o.bytes u.bytes a b sx sy
-      (sym (ap (λ z. z ++ x) (peer_lines level p a.size)) ∙ under ∙ ap (λ z. z ++ y) (peer_lines level q b.size))
+peers_told : PeersTold link_peer false
+peers_told level p q x y o u sx sy same under =
+    let a = own_peer p o in
+    let b = own_peer q u in
+    link_told bytes_peer true (families_told bytes_peer true bytes_told) level p q x y o.bytes u.bytes a b sx sy
+    (sym (ap (λ z. z ++ x) (peer_lines level p a.size)) ∙ under ∙ ap (λ z. z ++ y) (peer_lines level q b.size))
 
-  pub lists_are_told : DigitsAreTold → BodiesAreHeadersAndAttributes bytes_peer → ListsAreTold
-  lists_are_told digits parts = families_told link_peer false (peers_told digits parts)
+pub lists_are_told : ListsAreTold
+lists_are_told = families_told link_peer false peers_told

@@ -1,10 +1,11 @@
 -- Lines of lists tell the lists, where the rows that have names tell what they hold.
-use Rattle.std.proofs.Common.{◌≡◌, ℕ, ◌+◌, ◌<◌, Bool, true, false, cond, List, [], ◌∷◌, ◌++◌, length, Option, Some, None, refl, sym, ap, subst, ◌∙◌, append_assoc, arith}
+use Rattle.std.proofs.Common.{◌≡◌, ℕ, ◌+◌, ◌<◌, Bool, true, cond, List, [], ◌∷◌, ◌++◌, length, Option, Some, None, refl, sym, ap, subst, ◌∙◌, append_assoc, arith}
 use Rattle.std.specs.Prelude.{get_or, nat_le}
+use Rattle.std.proofs.lemmas.Bool.{cond_both}
 use Rattle.std.proofs.lemmas.List.{append_cancel_left}
 use Rattle.std.proofs.lemmas.Option.{same_Some}
 use Rattle.netlink_packet_core_grammar.specs.Attributes.{Attribute, first_attribute, list_text, proper_kind}
-use Rattle.netlink_packet_core_grammar.specs.Laws.{TextIsCut, WrittenIsFirst}
+use Rattle.netlink_packet_core_grammar.proofs.Attributes.{first_attribute_text}
 use Rattle.attribute_checks.specs.declared.names.NameRow.{NameRow}
 use Rattle.attribute_checks.specs.declared.rows.Held.{Held}
 use Rattle.attribute_checks.specs.declared.rows.Held.TheVariants.{List as HeldList}
@@ -14,22 +15,23 @@ use Rattle.attribute_tables_grammar.specs.Lists.{Context, Grammar, ListForm, Row
 use Rattle.link_info_checks.specs.declared.rows.TheConstants.{KINDS, PORT_KINDS}
 use Rattle.link_lines_values.specs.Bytes.{bytes_text}
 use Rattle.link_lines_values.specs.Indents.{indent}
-use Rattle.link_lines_values.specs.Laws.{Ends, IsBehindASpace, IsLine, ValuesStandOnALine}
+use Rattle.link_lines_values.specs.Laws.{Ends, IsLine}
 use Rattle.link_lines_values.specs.Values.{value_text}
 use Rattle.link_lines_values.specs.declared.values.ShownBy.TheVariants.{Bytes}
 use Rattle.link_lines_names.specs.declared.behind.TheConstants.{NAMED_KINDS, NAMED_PORT_KINDS}
-use Rattle.link_lines_names.specs.Behind.{Inside, Inside.Value, Inside.Peer, Inside.Nested, Inside.Data, Inside.PortData, data_inside, is_inside_on_a_line, known_inside, of_held, of_name, of_named, port_inside}
-use Rattle.link_lines_names.specs.Laws.{RawAttributesAreTold}
+use Rattle.link_lines_names.specs.Behind.{Inside, Inside.Value, Inside.Peer, Inside.Data, Inside.PortData, data_inside, is_inside_on_a_line, known_inside, of_held, of_name, of_named, port_inside}
 use Rattle.link_lines_names.specs.Names.{Named}
 use Rattle.link_lines_names.specs.Raw.{Raw, named_text, raw_name, raw_payload, raw_text}
+use Rattle.link_lines_values.proofs.OneLine.{either_line, values_stand}
 use Rattle.link_lines_names.proofs.Named.{name_of}
+use Rattle.link_lines_names.proofs.RawTold.{raw_attributes_told}
 use Rattle.link_lines_texts.specs.declared.attributes.Place.{Place}
-use Rattle.link_lines_texts.specs.Laws.{ListsGoBySteps}
 use Rattle.link_lines_texts.specs.Lists.{header_inside, inside_list, inside_text, list_inside, list_lines, nested_lines, next_in, own_lines, rest_lines, titled_header, titled_list, titled_text}
 use Rattle.link_lines_texts.specs.Telling.{IsOwn, IsShallow}
 use Rattle.link_lines_texts.specs.Titles.{Name, title_of}
 use Rattle.link_lines_texts.proofs.CanonicalLists.{AllOwn, OwnAttribute, own_list}
-use Rattle.link_lines_texts.proofs.LineCuts.{IsWord, Starts, cut_line, cut_word, line_shallow, lines_joined, shallower, starts_joined, word_line}
+use Rattle.link_lines_texts.proofs.ListSteps.{steps}
+use Rattle.link_lines_texts.proofs.LineCuts.{IsWord, not_unnamed, space_ends, Starts, cut_line, cut_word, line_shallow, lines_joined, shallower, starts_joined, word_line}
 
 -- what stands below an attribute's line
 abbrev pub below : ℕ → Bool → Inside → List ℕ → List ℕ
@@ -67,12 +69,12 @@ no_attribute : first_attribute [] ≡ None
 unfolding first_attribute
 no_attribute = refl
 
-by_attributes : ListsGoBySteps → WrittenIsFirst → (level : ℕ) (m : Place) (c : Context) (es : List Attribute) → rest_lines level m c (list_text es) ≡ lines_of level m c es
+by_attributes : (level : ℕ) (m : Place) (c : Context) (es : List Attribute) → rest_lines level m c (list_text es) ≡ lines_of level m c es
 unfolding list_text
-by_attributes steps first level m c [] = steps.none level m c [] no_attribute
-by_attributes steps first level m c (e ∷ es) =
-    steps.next level m c (list_text (e ∷ es)) e (list_text es) (first e (list_text es))
-    ∙ ap (λ z. own_lines level m c e ++ (nested_lines (level + 1) (list_inside m c e) ++ z)) (by_attributes steps first level m (next_in m.table c e) es)
+by_attributes level m c [] = steps.none level m c [] no_attribute
+by_attributes level m c (e ∷ es) =
+    steps.next level m c (list_text (e ∷ es)) e (list_text es) (first_attribute_text e (list_text es))
+    ∙ ap (λ z. own_lines level m c e ++ (nested_lines (level + 1) (list_inside m c e) ++ z)) (by_attributes level m (next_in m.table c e) es)
 
 -- ---- one line
 
@@ -88,60 +90,38 @@ name_line : (o : Option (List ℕ)) (named kinds : List NameRow) → is_inside_o
 name_line None named kinds = refl
 name_line (Some n) named kinds = named_line (held_by_name named n) (held_by_name kinds n)
 
-peer_line : (in_peer : Bool) → is_inside_on_a_line (cond in_peer (Value Bytes) Peer) ≡ true
-peer_line true = refl
-peer_line false = refl
-
 -- what names in force tell stands on a line
 known_line : (in_peer : Bool) (c : Context) (i : Inside) → is_inside_on_a_line i ≡ true → is_inside_on_a_line (known_inside in_peer c i) ≡ true
 unfolding data_inside port_inside
-known_line in_peer c (Value v) h = h
-known_line in_peer c (Nested n) h = h
-known_line in_peer c Peer h = peer_line in_peer
+known_line in_peer c Peer h = cond_both in_peer (Value Bytes) Peer (λ i. is_inside_on_a_line i ≡ true) (λ e. refl) (λ e. refl)
 known_line in_peer c Data h = name_line c.kind NAMED_KINDS KINDS
 known_line in_peer c PortData h = name_line c.port_kind NAMED_PORT_KINDS PORT_KINDS
+known_line in_peer c i h = h
 
-space_ends : (s : List ℕ) → IsBehindASpace s → Ends s
-space_ends [] h = record {}
-space_ends (c ∷ s) h = omega (arith, h)
+inside_line : (i : Inside) (p : List ℕ) → is_inside_on_a_line i ≡ true → IsLine (inside_text i p)
+inside_line (Value v) p h = values_stand.line v p h
+inside_line Peer p h = either_line (nat_le 16 (length p)) [] (bytes_text p) (record {}) (values_stand.line Bytes p refl)
+inside_line i p h = record {}
 
-module _ (values : ValuesStandOnALine) where
-  headless_line : (b : Bool) (p : List ℕ) → IsLine (cond b [] (bytes_text p))
-  headless_line true p = record {}
-  headless_line false p = values.line Bytes p refl
+inside_ends : (i : Inside) (p : List ℕ) → Ends (inside_text i p)
+inside_ends (Value v) p = space_ends (value_text v p) (values_stand.space v p)
+inside_ends Peer p = cond_both (nat_le 16 (length p)) [] (bytes_text p) Ends (λ e. record {}) (λ e. space_ends (bytes_text p) (values_stand.space Bytes p))
+inside_ends i p = record {}
 
-  inside_line : (i : Inside) (p : List ℕ) → is_inside_on_a_line i ≡ true → IsLine (inside_text i p)
-  inside_line (Value v) p h = values.line v p h
-  inside_line Peer p h = headless_line (nat_le 16 (length p)) p
-  inside_line (Nested n) p h = record {}
-  inside_line Data p h = record {}
-  inside_line PortData p h = record {}
+titled_line : (m : Place) (names : NamesTold m.table) (c : Context) (k : ℕ) (o : Option Name) (e : Attribute) → k < 65536 → title_of m.table k ≡ o → IsLine (titled_text m c o e)
+titled_line m names c k None e l h = raw_attributes_told.line m.table e.kind e.payload
+titled_line m names c k (Some t) e l h =
+    lines_joined t.0 (inside_text (known_inside m.is_in_peer c t.1) e.payload) (word_line t.0 (names.word k t l h))
+    (inside_line (known_inside m.is_in_peer c t.1) e.payload (known_line m.is_in_peer c t.1 (names.line k t h)))
 
-  headless_ends : (b : Bool) (p : List ℕ) → Ends (cond b [] (bytes_text p))
-  headless_ends true p = record {}
-  headless_ends false p = space_ends (bytes_text p) (values.space Bytes p)
+raw_starts : (m k : ℕ) (p : List ℕ) (o : Option (Named Raw)) → raw_name m k ≡ o → Starts (named_text o k p)
+raw_starts m k p None h = omega arith
+raw_starts m k p (Some n) h = starts_joined n.0 (raw_payload n.1 p) (name_of n.0 (raw_attributes_told.name m k n h)).1.0
 
-  inside_ends : (i : Inside) (p : List ℕ) → Ends (inside_text i p)
-  inside_ends (Value v) p = space_ends (value_text v p) (values.space v p)
-  inside_ends Peer p = headless_ends (nat_le 16 (length p)) p
-  inside_ends (Nested n) p = record {}
-  inside_ends Data p = record {}
-  inside_ends PortData p = record {}
-
-  titled_line : RawAttributesAreTold → (m : Place) (names : NamesTold m.table) (c : Context) (k : ℕ) (o : Option Name) (e : Attribute) → k < 65536 → title_of m.table k ≡ o → IsLine (titled_text m c o e)
-  titled_line raw m names c k None e l h = raw.line m.table e.kind e.payload
-  titled_line raw m names c k (Some t) e l h =
-      lines_joined t.0 (inside_text (known_inside m.is_in_peer c t.1) e.payload) (word_line t.0 (names.word k t l h))
-      (inside_line (known_inside m.is_in_peer c t.1) e.payload (known_line m.is_in_peer c t.1 (names.line k t h)))
-
-raw_starts : RawAttributesAreTold → (m k : ℕ) (p : List ℕ) (o : Option (Named Raw)) → raw_name m k ≡ o → Starts (named_text o k p)
-raw_starts raw m k p None h = omega arith
-raw_starts raw m k p (Some n) h = starts_joined n.0 (raw_payload n.1 p) (name_of n.0 (raw.name m k n h)).1.0
-
-titled_starts : RawAttributesAreTold → (m : Place) (names : NamesTold m.table) (c : Context) (k : ℕ) (o : Option Name) (e : Attribute) → k < 65536 → title_of m.table k ≡ o → Starts (titled_text m c o e)
+titled_starts : (m : Place) (names : NamesTold m.table) (c : Context) (k : ℕ) (o : Option Name) (e : Attribute) → k < 65536 → title_of m.table k ≡ o → Starts (titled_text m c o e)
 unfolding raw_text
-titled_starts raw m names c k None e l h = raw_starts raw m.table e.kind e.payload (raw_name m.table e.kind) refl
-titled_starts raw m names c k (Some t) e l h = starts_joined t.0 (inside_text (known_inside m.is_in_peer c t.1) e.payload) (names.upper k t l h).0
+titled_starts m names c k None e l h = raw_starts m.table e.kind e.payload (raw_name m.table e.kind) refl
+titled_starts m names c k (Some t) e l h = starts_joined t.0 (inside_text (known_inside m.is_in_peer c t.1) e.payload) (names.upper k t l h).0
 
 small_kind : (k : ℕ) → proper_kind k < 65536
 small_kind k = omega arith
@@ -155,44 +135,37 @@ lines_are level m c e more =
     let header = titled_header (level + 1) m c (title_of m.table (proper_kind e.kind)) e in
     append_assoc (indent level) (own ++ 10 ∷ header) more ∙ ap (λ z. indent level ++ z) (append_assoc own (10 ∷ header) more)
 
-lines_over : RawAttributesAreTold → (level : ℕ) (m : Place) (names : NamesTold m.table) (c : Context) (e : Attribute) (more : List ℕ) → IsShallow (level + 1) (own_lines level m c e ++ more)
-lines_over raw level m names c e more =
+lines_over : (level : ℕ) (m : Place) (names : NamesTold m.table) (c : Context) (e : Attribute) (more : List ℕ) → IsShallow (level + 1) (own_lines level m c e ++ more)
+lines_over level m names c e more =
     let title = title_of m.table (proper_kind e.kind) in
     let own = titled_text m c title e in
     let rest = 10 ∷ (titled_header (level + 1) m c title e ++ more) in
-    let starts = starts_joined own rest (titled_starts raw m names c (proper_kind e.kind) title e (small_kind e.kind) refl) in
+    let starts = starts_joined own rest (titled_starts m names c (proper_kind e.kind) title e (small_kind e.kind) refl) in
     subst (IsShallow (level + 1)) (sym (lines_are level m c e more)) (line_shallow level (own ++ rest) starts)
 
 -- what follows a line is shallow for what stands below it
-rest_over : RawAttributesAreTold → (level : ℕ) (m : Place) (names : NamesTold m.table) (c : Context) (es : List Attribute) (s : List ℕ) → IsShallow level s → IsShallow (level + 1) (lines_of level m c es ++ s)
-rest_over raw level m names c [] s h = shallower level s h
-rest_over raw level m names c (e ∷ es) s h =
+rest_over : (level : ℕ) (m : Place) (names : NamesTold m.table) (c : Context) (es : List Attribute) (s : List ℕ) → IsShallow level s → IsShallow (level + 1) (lines_of level m c es ++ s)
+rest_over level m names c [] s h = shallower level s h
+rest_over level m names c (e ∷ es) s h =
     let inside = nested_lines (level + 1) (list_inside m c e) in
     let more = lines_of level m (next_in m.table c e) es in
-    subst (IsShallow (level + 1)) (sym (append_assoc (own_lines level m c e) (inside ++ more) s)) (lines_over raw level m names c e ((inside ++ more) ++ s))
+    subst (IsShallow (level + 1)) (sym (append_assoc (own_lines level m c e) (inside ++ more) s)) (lines_over level m names c e ((inside ++ more) ++ s))
 
 -- ---- one attribute
 
 same_attribute : (e f : Attribute) → e.kind ≡ f.kind → e.payload ≡ f.payload → e ≡ f
 same_attribute e f k p i = record { kind = k i; payload = p i }
 
-lower_apart : (n m : ℕ) → m ≡ 107 → n < 97 → n ≡ m → ⊥
-lower_apart n m is h e = omega arith
-
-first_kept : (a b : List ℕ) → Starts a → get_or (a ++ b) 0 0 ≡ get_or a 0 0
-first_kept [] b h = absurd h
-first_kept (c ∷ a) b h = refl
-
 proper_twice : (n : ℕ) → proper_kind (proper_kind n) ≡ proper_kind n
 proper_twice n = omega arith
 
 -- no attribute with a row is told as one without
-not_raw : RawAttributesAreTold → (m k l : ℕ) (names : NamesTold m) (t : Name) (s p : List ℕ) (o : Option (Named Raw)) → title_of m (proper_kind k) ≡ Some t → title_of m (proper_kind l) ≡ None → raw_name m l ≡ o → Ends s → t.0 ++ s ≡ named_text o l p → ⊥
-not_raw raw m k l names t s p None h none i ends e =
+not_raw : (m k l : ℕ) (names : NamesTold m) (t : Name) (s p : List ℕ) (o : Option (Named Raw)) → title_of m (proper_kind k) ≡ Some t → title_of m (proper_kind l) ≡ None → raw_name m l ≡ o → Ends s → t.0 ++ s ≡ named_text o l p → ⊥
+not_raw m k l names t s p None h none i ends e =
     let upper = names.upper (proper_kind k) t (small_kind k) h in
-    lower_apart (get_or t.0 0 0) 107 refl upper.1 (sym (first_kept t.0 s upper.0) ∙ ap (λ z. get_or z 0 0) e)
-not_raw raw m k l names t s p (Some n) h none i ends e =
-    let cut = cut_word t.0 n.0 s (raw_payload n.1 p) (names.word (proper_kind k) t (small_kind k) h) (name_of n.0 (raw.name m l n i)).0 ends (space_ends _ (raw.space n.1 p)) e in
+    not_unnamed t.0 s _ upper.0 upper.1 e
+not_raw m k l names t s p (Some n) h none i ends e =
+    let cut = cut_word t.0 n.0 s (raw_payload n.1 p) (names.word (proper_kind k) t (small_kind k) h) (name_of n.0 (raw_attributes_told.name m l n i)).0 ends (space_ends _ (raw_attributes_told.space n.1 p)) e in
     let kinds : proper_kind k ≡ l = names.raw (proper_kind k) l t n h i cut.0 in
     let both : Some t ≡ None = sym h ∙ ap (title_of m) (sym (proper_twice k) ∙ ap proper_kind kinds) ∙ none in
     absurd cc
@@ -204,7 +177,7 @@ written_typed r k h = ap (λ t. cond t (proper_kind k + cond r.is_nested 0x8000 
 abbrev titled_below : ℕ → Place → Context → Option Name → Attribute → List ℕ
 titled_below level m c o e = titled_header level m c o e ++ nested_lines level (titled_list m c o e)
 
-module _ (values : ValuesStandOnALine) (raw : RawAttributesAreTold) (g : Grammar) (m : Place) (names : NamesTold m.table) (rows : RowsTold g m) where
+module _ (g : Grammar) (m : Place) (names : NamesTold m.table) (rows : RowsTold g m) where
   same_kinds : (c : Context) (e f : Attribute) → (row_of g c e).is_typed ≡ true → OwnAttribute (row_of g c e) e → OwnAttribute (row_of g c f) f → proper_kind e.kind ≡ proper_kind f.kind → e.kind ≡ f.kind
   same_kinds c e f typed o u k =
       sym o.kind ∙ written_typed (row_of g c e) e.kind typed ∙ ap (λ n. n + cond (g.row c n).is_nested 0x8000 0) k
@@ -218,7 +191,7 @@ module _ (values : ValuesStandOnALine) (raw : RawAttributesAreTold) (g : Grammar
       let l = proper_kind f.kind in
       let known : Name → Inside = λ w. known_inside m.is_in_peer c w.1 in
       let cut = cut_word t.0 u.0 (inside_text (known t) e.payload) (inside_text (known u) f.payload) (names.word k t (small_kind e.kind) h) (names.word l u (small_kind f.kind) i)
-      (inside_ends values (known t) e.payload) (inside_ends values (known u) f.payload) same in
+      (inside_ends (known t) e.payload) (inside_ends (known u) f.payload) same in
       let kinds : k ≡ l = names.apart k l t u (small_kind e.kind) (small_kind f.kind) h i cut.0 in
       let one : t ≡ u = same_Some t u (sym h ∙ ap (title_of m.table) kinds ∙ i) in
       let told = rows.titled c k t (small_kind e.kind) h in
@@ -234,14 +207,14 @@ module _ (values : ValuesStandOnALine) (raw : RawAttributesAreTold) (g : Grammar
       titled_below level m c a e ++ x ≡ titled_below level m c b f ++ y → (e ≡ f) × (x ≡ y)
   unfolding raw_text
   either_told level c e f x y None None h i o v sx sy same under =
-      let r = raw.told m.table e.kind f.kind e.payload f.payload o.small v.small o.payload.bytes v.payload.bytes same in
+      let r = raw_attributes_told.told m.table e.kind f.kind e.payload f.payload o.small v.small o.payload.bytes v.payload.bytes same in
       (same_attribute e f r.0 r.1, under)
   either_told level c e f x y None (Some u) h i o v sx sy same under =
-      absurd (not_raw raw m.table f.kind e.kind names u (inside_text (known_inside m.is_in_peer c u.1) f.payload) e.payload (raw_name m.table e.kind) i h refl
-      (inside_ends values (known_inside m.is_in_peer c u.1) f.payload) (sym same))
+      absurd (not_raw m.table f.kind e.kind names u (inside_text (known_inside m.is_in_peer c u.1) f.payload) e.payload (raw_name m.table e.kind) i h refl
+      (inside_ends (known_inside m.is_in_peer c u.1) f.payload) (sym same))
   either_told level c e f x y (Some t) None h i o v sx sy same under =
-      absurd (not_raw raw m.table e.kind f.kind names t (inside_text (known_inside m.is_in_peer c t.1) e.payload) f.payload (raw_name m.table f.kind) h i refl
-      (inside_ends values (known_inside m.is_in_peer c t.1) e.payload) same)
+      absurd (not_raw m.table e.kind f.kind names t (inside_text (known_inside m.is_in_peer c t.1) e.payload) f.payload (raw_name m.table f.kind) h i refl
+      (inside_ends (known_inside m.is_in_peer c t.1) e.payload) same)
   either_told level c e f x y (Some t) (Some u) h i o v sx sy same under = titled_told level c e f x y t u h i o v sx sy same under
 
   -- two attributes and what follows them
@@ -257,8 +230,8 @@ module _ (values : ValuesStandOnALine) (raw : RawAttributesAreTold) (g : Grammar
       let header_f = titled_header (level + 1) m c b f in
       let behind : titled_text m c a e ++ 10 ∷ (header_e ++ (list_e ++ x)) ≡ titled_text m c b f ++ 10 ∷ (header_f ++ (list_f ++ y)) =
       append_cancel_left (indent level) _ _ (sym (lines_are level m c e (list_e ++ x)) ∙ same ∙ lines_are level m c f (list_f ++ y)) in
-      let cut = cut_line (titled_text m c a e) (titled_text m c b f) (header_e ++ (list_e ++ x)) (header_f ++ (list_f ++ y)) (titled_line values raw m names c (proper_kind e.kind) a e (small_kind e.kind) refl)
-      (titled_line values raw m names c (proper_kind f.kind) b f (small_kind f.kind) refl) behind in
+      let cut = cut_line (titled_text m c a e) (titled_text m c b f) (header_e ++ (list_e ++ x)) (header_f ++ (list_f ++ y)) (titled_line m names c (proper_kind e.kind) a e (small_kind e.kind) refl)
+      (titled_line m names c (proper_kind f.kind) b f (small_kind f.kind) refl) behind in
       either_told (level + 1) c e f x y a b refl refl o v sx sy cut.0 (append_assoc header_e list_e x ∙ cut.1 ∙ sym (append_assoc header_f list_f y))
 
   -- ---- attributes in order
@@ -279,7 +252,7 @@ module _ (values : ValuesStandOnALine) (raw : RawAttributesAreTold) (g : Grammar
   attributes_told level c (e ∷ es) (f ∷ fs) s t a b h k same =
       let more_e = lines_of level m (next_in m.table c e) es in
       let more_f = lines_of level m (next_in m.table c f) fs in
-      let one = attribute_told level c e f (more_e ++ s) (more_f ++ t) a.0 b.0 (rest_over raw level m names (next_in m.table c e) es s h) (rest_over raw level m names (next_in m.table c f) fs t k)
+      let one = attribute_told level c e f (more_e ++ s) (more_f ++ t) a.0 b.0 (rest_over level m names (next_in m.table c e) es s h) (rest_over level m names (next_in m.table c f) fs t k)
       (sym (more_lines level c e more_e s) ∙ same ∙ more_lines level c f more_f t) in
       let own_e : AllOwn g (next_in m.table c e) es = subst (λ d. AllOwn g d es) (rows.next c e) a.1 in
       let context : g.next c f ≡ next_in m.table c e = ap (λ x. g.next c x) (sym one.0) ∙ rows.next c e in
@@ -287,22 +260,14 @@ module _ (values : ValuesStandOnALine) (raw : RawAttributesAreTold) (g : Grammar
       let rest = attributes_told level (next_in m.table c e) es fs s t own_e own_f h k (one.1 ∙ ap (λ x. lines_of level m (next_in m.table c x) fs ++ t) (sym one.0)) in
       (λ i. one.0 i ∷ rest.0 i, rest.1)
 
--- the laws that lists are told by
-pub record ListLaws : Type 0 where
-  pub values : ValuesStandOnALine
-  pub raw : RawAttributesAreTold
-  pub steps : ListsGoBySteps
-  pub cut : TextIsCut
-  pub first : WrittenIsFirst
-
-by_start : (laws : ListLaws) (level : ℕ) (m : Place) (p : List ℕ) (es : List Attribute) → p ≡ list_text es → list_lines level m p ≡ lines_of level m nothing es
-by_start laws level m p es h = laws.steps.start level m p ∙ ap (rest_lines level m nothing) h ∙ by_attributes laws.steps laws.first level m nothing es
+by_start : (level : ℕ) (m : Place) (p : List ℕ) (es : List Attribute) → p ≡ list_text es → list_lines level m p ≡ lines_of level m nothing es
+by_start level m p es h = steps.start level m p ∙ ap (rest_lines level m nothing) h ∙ by_attributes level m nothing es
 
 -- lines tell a list whose rows they tell
-pub lists_told : ListLaws → (form : ListForm) (g : Grammar) (m : Place) → NamesTold m.table → RowsTold g m → NestedTold (list_rule form g) m
-lists_told laws form g m names rows level p q s t o u h k same =
-    let a = own_list laws.cut laws.first form g p o in
-    let b = own_list laws.cut laws.first form g q u in
-    let r = attributes_told laws.values laws.raw g m names rows level nothing a.attributes b.attributes s t a.own b.own h k
-    (ap (λ z. z ++ s) (sym (by_start laws level m p a.attributes a.is)) ∙ same ∙ ap (λ z. z ++ t) (by_start laws level m q b.attributes b.is)) in
+pub lists_told : (form : ListForm) (g : Grammar) (m : Place) → NamesTold m.table → RowsTold g m → NestedTold (list_rule form g) m
+lists_told form g m names rows level p q s t o u h k same =
+    let a = own_list form g p o in
+    let b = own_list form g q u in
+    let r = attributes_told g m names rows level nothing a.attributes b.attributes s t a.own b.own h k
+    (ap (λ z. z ++ s) (sym (by_start level m p a.attributes a.is)) ∙ same ∙ ap (λ z. z ++ t) (by_start level m q b.attributes b.is)) in
     (a.is ∙ ap list_text r.0 ∙ sym b.is, r.1)

@@ -1,33 +1,23 @@
 -- The numbers of cleared texts are known.
-use Rattle.std.proofs.Common.{◌≡◌, ℕ, zero, suc, ◌+◌, ◌-◌, ◌≤◌, Bool, true, false, cond, List, [], ◌∷◌, ◌++◌, length, take, drop, refl, sym, ap, subst, ◌∙◌, arith}
-use Rattle.std.specs.Prelude.{◌&&◌, nat_eq, nat_le, slice_index}
-use Rattle.std.specs.Int.{w32, from_le_bytes}
+use Rattle.std.proofs.Common.{◌≡◌, ℕ, ◌+◌, ◌-◌, ◌≤◌, Bool, true, false, cond, List, ◌++◌, length, take, drop, refl, sym, ap, ◌∙◌, arith}
+use Rattle.std.specs.Prelude.{nat_eq, nat_le}
 use Rattle.std.proofs.lemmas.Bool.{and_from, le-leb}
-use Rattle.std.proofs.lemmas.List.{get_or-drop, length-take, length-take-le, length-drop, drop-drop, drop-take, take-take, take_at, drop_at}
+use Rattle.std.proofs.lemmas.List.{length-take, length-take-le, length-drop, drop-drop, drop-take, take-take, take_at, drop_at}
 use Rattle.netlink_packet_core_grammar.specs.Attributes.{nla_align, zeros}
 use Rattle.netlink_packet_core_grammar.specs.Bytes.{AreBytes}
 use Rattle.netlink_packet_core_grammar.specs.Frames.{frame_length, frame_type, frame_body}
 use Rattle.netlink_packet_core_grammar.specs.Numbers.{u16_at, u32_at}
 use Rattle.link_capture_numbers.specs.Cleared.{zeros_at, repeats_request, front_cleared, numbers_cleared}
 use Rattle.link_capture_numbers.proofs.Steps.{length_of, whole, stopped}
-use Rattle.link_capture_numbers.proofs.Fronts.{Shape, body_cleared, byte_of, length_same, type_same}
+use Rattle.link_capture_numbers.proofs.Fronts.{body_cleared, byte_of, length_same, type_same}
 use Rattle.link_lines_texts.specs.Captures.{is_frame}
 use Rattle.link_lines_texts.specs.Telling.{HasNoNumbers, NumbersAreKnown}
+use Rattle.link_lines_texts.proofs.FrameSteps.{by_fronts}
+use Rattle.link_lines_texts.proofs.HeadersTold.{u32_after}
 use Rattle.link_lines_texts.proofs.NumbersLeft.{cleared_shape, own_body}
 use Rattle.netlink_packet_core_grammar.proofs.Bytes.{AreBytes-append, AreBytes-drop, AreBytes-take}
 
 -- ---- zeros over both numbers
-
-place_after : (i k : ℕ) (p : List ℕ) → slice_index (drop i p) k ≡ slice_index p (i + k)
-place_after i k p = get_or-drop i p k 0
-
-sequence_of : (p : List ℕ) → u32_at 8 p ≡ u32_at 0 (drop 8 p)
-unfolding u32_at
-sequence_of p = sym (λ j. from_le_bytes w32 (place_after 8 0 p j ∷ place_after 8 1 p j ∷ place_after 8 2 p j ∷ place_after 8 3 p j ∷ []))
-
-port_of : (p : List ℕ) → u32_at 12 p ≡ u32_at 4 (drop 8 p)
-unfolding u32_at
-port_of p = sym (λ j. from_le_bytes w32 (place_after 8 4 p j ∷ place_after 8 5 p j ∷ place_after 8 6 p j ∷ place_after 8 7 p j ∷ []))
 
 second_same : (c d : List ℕ) → take 8 d ≡ take 8 c → u32_at 4 d ≡ u32_at 4 c
 unfolding u32_at
@@ -39,8 +29,8 @@ no_number = (refl, refl)
 
 of_zeros : (p : List ℕ) → take 8 (drop 8 p) ≡ zeros 8 → HasNoNumbers p
 of_zeros p e = record {
-  sequence = sequence_of p ∙ length_same (zeros 8) (drop 8 p) e ∙ no_number.0;
-  port = port_of p ∙ second_same (zeros 8) (drop 8 p) e ∙ no_number.1;
+  sequence = sym (u32_after 8 p) ∙ length_same (zeros 8) (drop 8 p) e ∙ no_number.0;
+  port = sym (u32_after 12 p) ∙ ap (u32_at 0) (sym (drop-drop 4 8 p)) ∙ u32_after 4 (drop 8 p) ∙ second_same (zeros 8) (drop 8 p) e ∙ no_number.1;
 }
 
 -- ---- the frame in front of cleared bytes
@@ -99,23 +89,10 @@ front_is : (c : List ℕ) → AreBytes c → AreBytes (front_cleared c)
 unfolding front_cleared
 front_is c h = front_by c (repeats_request c) h
 
-next_bytes : (fuel : ℕ) (c : List ℕ) (b : Bool) → is_frame c ≡ b → length c ≤ suc fuel → AreBytes c → ((d : List ℕ) → length d ≤ fuel → AreBytes d → AreBytes (numbers_cleared d)) → AreBytes (numbers_cleared c)
-next_bytes fuel c false h l a rest = subst AreBytes (sym (stopped c h)) a
-next_bytes fuel c true h l a rest =
+bytes_behind : (c : List ℕ) → is_frame c ≡ true → (AreBytes (drop (nla_align (frame_length c)) c) → AreBytes (numbers_cleared (drop (nla_align (frame_length c)) c))) → AreBytes c → AreBytes (numbers_cleared c)
+bytes_behind c h rest a =
     let n : ℕ = nla_align (frame_length c) in
-    let bounds = length_of c h in
-    let low = bounds.0 in
-    let left = length-drop n c in
-    subst AreBytes (sym (whole c h))
-    (AreBytes-append (take n (front_cleared c)) (numbers_cleared (drop n c)) (AreBytes-take n (front_cleared c) (front_is c a)) (rest (drop n c) (omega (arith, left, low, l)) (AreBytes-drop n c a)))
-
-bytes_by : (c : List ℕ) (b : Bool) → is_frame c ≡ b → length c ≤ 0 → AreBytes c → AreBytes (numbers_cleared c)
-bytes_by c false h l a = subst AreBytes (sym (stopped c h)) a
-bytes_by c true h l a = let bounds = length_of c h in absurd (omega (arith, bounds.0, bounds.1, l))
-
-bytes_within : (fuel : ℕ) (c : List ℕ) → length c ≤ fuel → AreBytes c → AreBytes (numbers_cleared c)
-bytes_within zero c l a = bytes_by c (is_frame c) refl l a
-bytes_within (suc fuel) c l a = next_bytes fuel c (is_frame c) refl l a (λ d. bytes_within fuel d)
+    rw (whole c h) (AreBytes-append (take n (front_cleared c)) (numbers_cleared (drop n c)) (AreBytes-take n (front_cleared c) (front_is c a)) (rest (AreBytes-drop n c a)))
 
 pub cleared_bytes : (c : List ℕ) → AreBytes c → AreBytes (numbers_cleared c)
-cleared_bytes c a = bytes_within (length c) c (omega arith) a
+cleared_bytes = by_fronts (λ c. AreBytes c → AreBytes (numbers_cleared c)) (λ c h a. rw (stopped c h) a) bytes_behind

@@ -1,11 +1,11 @@
 -- Lines without numbers don't tell them.
-use Rattle.std.proofs.Common.{◌≡◌, ℕ, zero, suc, ◌+◌, ◌-◌, ◌≤◌, Bool, true, false, cond, List, [], ◌∷◌, ◌++◌, length, take, drop, refl, sym, ap, subst, ◌∙◌, arith}
+use Rattle.std.proofs.Common.{◌≡◌, ℕ, ◌+◌, ◌-◌, ◌≤◌, Bool, true, false, cond, List, [], ◌∷◌, ◌++◌, length, take, drop, refl, sym, ap, subst, ◌∙◌, arith}
 use Rattle.std.specs.Prelude.{◌&&◌, nat_eq, nat_le, codes, decimal}
 use Rattle.std.proofs.lemmas.Bool.{and_from, and_parts, eqb-true, le-leb}
 use Rattle.std.proofs.lemmas.List.{length-take-le, length-drop, drop-drop, drop-take, take-take, take_at}
 use Rattle.netlink_packet_core_grammar.specs.Attributes.{nla_align, zeros}
 use Rattle.netlink_packet_core_grammar.specs.Frames.{frame_length, frame_type, frame_body}
-use Rattle.netlink_packet_core_grammar.specs.Numbers.{u16_at, u32_at}
+use Rattle.netlink_packet_core_grammar.specs.Numbers.{u16_at}
 use Rattle.link_capture_numbers.specs.Cleared.{zeros_at, repeats_request, numbers_cleared}
 use Rattle.link_capture_numbers.proofs.Steps.{length_of, whole, stopped}
 use Rattle.link_capture_numbers.proofs.Zeros.{length-zeros, drop-zeros, take-zeros, repeated}
@@ -44,7 +44,7 @@ request_same c d e =
 
 behind_is : (r : List ℕ) → 16 ≤ length r → behind_code false 2 r ≡ request_line false r ++ bytes_line (codes "rest") (drop 16 r)
 unfolding behind_code
-behind_is r h = ap (λ c. cond c (request_line false r ++ bytes_line (codes "rest") (drop 16 r)) (bytes_line (codes "rest") r)) (le-leb 16 (length r) h)
+behind_is r h = rw (le-leb 16 (length r) h)
 
 behind_same : (q r : List ℕ) → 16 ≤ length q → 16 ≤ length r → take 8 q ≡ take 8 r → drop 16 q ≡ drop 16 r → behind_code false 2 q ≡ behind_code false 2 r
 behind_same q r l m e rest =
@@ -66,8 +66,7 @@ unfolding body_lines
 error_is b = refl
 
 error_same : (t : ℕ) (b : List ℕ) → t ≡ 2 → 20 ≤ length b → body_lines false t (zeros_at 12 b) ≡ body_lines false t b
-error_same t b e h =
-    ap (λ t. body_lines false t (zeros_at 12 b)) e ∙ error_is (zeros_at 12 b) ∙ code_same b h ∙ sym (error_is b) ∙ sym (ap (λ t. body_lines false t b) e)
+error_same t b e h = rw e (error_is (zeros_at 12 b) ∙ code_same b h ∙ sym (error_is b))
 
 body_long : (c : List ℕ) → 36 ≤ frame_length c → frame_length c ≤ length c → 20 ≤ length (frame_body c)
 body_long c h l =
@@ -131,34 +130,21 @@ cleared_is_frame c h =
     and_from (nat_le 16 (length d)) (nat_le 16 (frame_length d) && nat_le (frame_length d) (length d)) (le-leb 16 (length d) (omega (arith, low, long)))
     (and_from (nat_le 16 (frame_length d)) (nat_le (frame_length d) (length d)) (le-leb 16 (frame_length d) (omega (arith, low, size))) (le-leb (frame_length d) (length d) (omega (arith, size, long))))
 
-no_frame : (c : List ℕ) → is_frame c ≡ true → length c ≤ 0 → ⊥
-no_frame c h l = let bounds = length_of c h in omega (arith, bounds, l)
+abbrev AreLeft : List ℕ → Type 0
+AreLeft c = text_lines without_numbers (numbers_cleared c) ≡ text_lines without_numbers c
 
-next_left : (fuel : ℕ) (c : List ℕ) (b : Bool) → is_frame c ≡ b → length c ≤ suc fuel → ((d : List ℕ) → length d ≤ fuel → text_lines without_numbers (numbers_cleared d) ≡ text_lines without_numbers d) →
-    text_lines without_numbers (numbers_cleared c) ≡ text_lines without_numbers c
-next_left fuel c false h l rest = ap (text_lines without_numbers) (stopped c h)
-next_left fuel c true h l rest =
+left_behind : (c : List ℕ) → is_frame c ≡ true → AreLeft (drop (nla_align (frame_length c)) c) → AreLeft c
+left_behind c h rest =
     let n : ℕ = frame_length c in
     let d : List ℕ = numbers_cleared c in
     let bounds = length_of c h in
-    let low = bounds.0 in
     let s = cleared_shape c h in
-    let left = length-drop (nla_align n) c in
     Lines.whole without_numbers d (cleared_is_frame c h)
     ∙ ap (λ k. frame_lines false (take k d) ++ text_lines without_numbers (drop (nla_align k) d)) s.size
-    ∙ ap (λ z. z ++ text_lines without_numbers (drop (nla_align n) d)) (frame_same c d bounds.0 bounds.1 s)
-    ∙ ap (λ z. frame_lines false (take n c) ++ text_lines without_numbers z) (behind c h)
-    ∙ ap (λ z. frame_lines false (take n c) ++ z) (rest (drop (nla_align n) c) (omega (arith, left, low, l)))
+    ∙ (λ i. frame_same c d bounds.0 bounds.1 s i ++ text_lines without_numbers (behind c h i))
+    ∙ ap (λ z. frame_lines false (take n c) ++ z) rest
     ∙ sym (Lines.whole without_numbers c h)
-
-left_by : (c : List ℕ) (b : Bool) → is_frame c ≡ b → length c ≤ 0 → text_lines without_numbers (numbers_cleared c) ≡ text_lines without_numbers c
-left_by c true h l = absurd (no_frame c h l)
-left_by c false h l = ap (text_lines without_numbers) (stopped c h)
-
-left_within : (fuel : ℕ) (c : List ℕ) → length c ≤ fuel → text_lines without_numbers (numbers_cleared c) ≡ text_lines without_numbers c
-left_within zero c l = left_by c (is_frame c) refl l
-left_within (suc fuel) c l = next_left fuel c (is_frame c) refl l (λ d. left_within fuel d)
 
 -- bytes whose numbers are cleared have the same lines without numbers
 pub numbers_are_left : (c : List ℕ) → text_lines without_numbers (numbers_cleared c) ≡ text_lines without_numbers c
-numbers_are_left c = left_within (length c) c (omega arith)
+numbers_are_left = Lines.by_fronts AreLeft (λ c h. ap (text_lines without_numbers) (stopped c h)) left_behind

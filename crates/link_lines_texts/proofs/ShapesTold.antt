@@ -12,20 +12,16 @@ use Rattle.link_lines_values.specs.declared.fields.FieldShown.{FieldShown}
 use Rattle.link_lines_values.specs.declared.fields.FieldShown.TheVariants as F
 use Rattle.link_lines_values.specs.declared.values.ShownBy.TheVariants as V
 use Rattle.link_lines_values.specs.Bytes.{address_text, is_zero}
-use Rattle.link_lines_values.specs.Laws.{AddressSizesAreTold, AddressesAreTold, AllKnown, BytesAreTold, HoldsFields, IsKnown, NumbersAreTold, RecordsAreTold, SettingsAreTold}
+use Rattle.link_lines_values.specs.Laws.{AllKnown, HoldsFields, IsKnown}
 use Rattle.link_lines_values.specs.Records.{Field, fields_tell, record_text, total_size}
 use Rattle.link_lines_values.specs.Values.{sized_flags_value}
+use Rattle.link_lines_values.proofs.BytesTold.{bytes_told}
+use Rattle.link_lines_values.proofs.NumbersTold.{numbers_told}
+use Rattle.link_lines_values.proofs.RecordsTold.{records_told}
+use Rattle.link_lines_values.proofs.SizesTold.{sizes_told}
+use Rattle.link_lines_values.proofs.ValuesTold.{addresses_told, settings_told}
 use Rattle.link_lines_texts.specs.Coverage.{own_size, is_sized, is_size, is_truth, is_presence, is_string, is_optional, is_address, is_no_truth, lacks_truths, is_setting, has_fields}
 use Rattle.link_lines_texts.specs.Telling.{IsOwn, ShapesAreTold}
-
--- the laws of values that are needed
-pub record ValueLaws : Type 0 where
-  pub bytes : BytesAreTold
-  pub numbers : NumbersAreTold
-  pub addresses : AddressesAreTold
-  pub address_sizes : AddressSizesAreTold
-  pub settings : SettingsAreTold
-  pub records : RecordsAreTold
 
 abbrev Own : Shape → List ℕ → Type 0
 Own s p = IsOwn (shape_rule s) p
@@ -39,27 +35,13 @@ record HasSize (s : Shape) (f : ℕ → Bool) : Type 0 where
   size : (p : List ℕ) → Own s p → length p ≡ n
 
 record_length : (m n : ℕ) (p : List ℕ) → m ≤ n → m ≤ length p → take m p ++ zeros (n - m) ≡ p → length p ≡ n
-record_length m n p l h e =
-    let a = length-take m p in
-    let b : length (zeros (n - m)) ≡ n - m = length-replicate (n - m) 0 in
-    let c = length-append (take m p) (zeros (n - m)) in
-    let d : length (take m p ++ zeros (n - m)) ≡ length p = ap length e in
-    omega (arith, a, b, c, d)
+record_length m n p l h e = omega (arith, simp (length-append, length-take, length-replicate) at (ap length e))
 
 setting_length : (p : List ℕ) → 8 ≤ length p → take 4 p ++ number_truth (take 4 (drop 4 p)) ≡ p → length p ≡ 8
-setting_length p h e =
-    let a = length-take 4 p in
-    let c = length-append (take 4 p) (number_truth (take 4 (drop 4 p))) in
-    let d : length (take 4 p ++ number_truth (take 4 (drop 4 p))) ≡ length p = ap length e in
-    omega (arith, a, c, d)
+setting_length p h e = omega (arith, simp (length-append, length-take) at (ap length e))
 
 resized_length : (n : ℕ) (p : List ℕ) → take n (p ++ zeros n) ≡ p → length p ≡ n
-resized_length n p e =
-    let a = length-take n (p ++ zeros n) in
-    let b : length (zeros n) ≡ n = length-replicate n 0 in
-    let c = length-append p (zeros n) in
-    let d : length (take n (p ++ zeros n)) ≡ length p = ap length e in
-    omega (arith, a, b, c, d)
+resized_length n p e = omega (arith, simp (length-append, length-take, length-replicate) at (ap length e))
 
 record_sized : (m n : ℕ) (f : ℕ → Bool) (t : Bool) → nat_le m n ≡ t → is_sized (cond t (Some n) None) f ≡ true → HasSize (fixed_record m n) f
 record_sized m n f true l h = record { n = n; known = h; size = λ p o. record_length m n p (leb-true m n l) (leb-true m (length p) o.accepted) o.canonical }
@@ -119,11 +101,8 @@ truth_sized s h = absurd cc
 -- ---- records
 
 never_truth : (v : FieldShown) (p : List ℕ) → is_no_truth v ≡ true → IsKnown v p
-never_truth F.Number p h = record {}
-never_truth F.Signed p h = record {}
-never_truth F.BigEndian p h = record {}
-never_truth F.Address p h = record {}
 never_truth F.Truth p h = absurd cc
+never_truth v p h = record {}
 
 no_truths : (fs : List Field) (p : List ℕ) → lacks_truths fs ≡ true → AllKnown fs p
 no_truths [] p h = record {}
@@ -164,17 +143,11 @@ either_record m n held p true e o l h k =
 either_record m n held p false e o l h k = filled_record m n held p o (eqb-true (total_size held) m h) k
 
 known_setting : (v : FieldShown) (p : List ℕ) → number p ≤ 1 → IsKnown v p
-known_setting F.Number p h = record {}
-known_setting F.Signed p h = record {}
-known_setting F.BigEndian p h = record {}
-known_setting F.Address p h = record {}
 known_setting F.Truth p h = h
+known_setting v p h = record {}
 
 -- a number and a truth of 4 bytes each
 setting_known : (fs : List Field) (p : List ℕ) → is_setting fs ≡ true → number (drop 4 p) ≤ 1 → length p ≡ 8 → (total_size fs ≡ 8) × AllKnown fs p
-setting_known [] p h n l = absurd cc
-setting_known (f ∷ []) p h n l = absurd cc
-setting_known (f ∷ g ∷ x ∷ fs) p h n l = absurd cc
 setting_known (f ∷ g ∷ []) p h n l =
     let first = and_parts (f.1 == 4) (is_no_truth f.2 && (g.1 == 4)) h in
     let second = and_parts (is_no_truth f.2) (g.1 == 4) first.1 in
@@ -184,6 +157,7 @@ setting_known (f ∷ g ∷ []) p h n l =
     let same : take g.1 (drop f.1 p) ≡ drop 4 p = (λ i. take (b i) (drop (a i) p)) ∙ take_all 4 (drop 4 p) (omega (arith, back)) in
     let small : number (take g.1 (drop f.1 p)) ≤ 1 = subst (λ q. number q ≤ 1) (sym same) n in
     (omega (arith, a, b), (never_truth f.2 (take f.1 p) second.0, (known_setting g.2 (take g.1 (drop f.1 p)) small, record {})))
+setting_known fs p h n l = absurd cc
 
 setting_record : (held : List Field) (p : List ℕ) → Own id_and_truth p → is_setting held ≡ true → HoldsFields held p
 setting_record held p o h =
@@ -220,9 +194,7 @@ holds s held p h o = absurd cc
 record_lengths : (s : Shape) (fs : List Field) → has_fields s fs ≡ true → HasSize s (λ n. true)
 record_lengths (exact n) fs h = sized (exact n) (λ n. true) refl
 record_lengths (resized n) fs h = sized (resized n) (λ n. true) refl
-record_lengths (fixed_record m n) fs h =
-    let l = leb-true m n (and_parts (nat_le m n) (((total_size fs == n) || (total_size fs == m)) && lacks_truths fs) h).0 in
-    record { n = n; known = refl; size = λ p o. record_length m n p l (leb-true m (length p) o.accepted) o.canonical }
+record_lengths (fixed_record m n) fs h = sized (fixed_record m n) (λ n. true) (rw (and_parts (nat_le m n) _ h).0 refl)
 record_lengths id_and_truth fs h = sized id_and_truth (λ n. true) refl
 record_lengths s fs h = absurd cc
 
@@ -235,16 +207,16 @@ address_size (either m n) p h o =
     (λ i. (length p == sym (eqb-true m 4 both.0) i) || (length p == sym (eqb-true n 16 both.1) i)) ∙ o.accepted
 address_size s p h o = absurd cc
 
-module _ (laws : ValueLaws) (s : Shape) where
+module _ (s : Shape) where
   by_sizes : (p q : List ℕ) (t u : Bool) → (length p == 4) ≡ t → (length q == 4) ≡ u → (t || (length p == 16)) ≡ true → (u || (length q == 16)) ≡ true → Own s p → Own s q → address_text p ≡ address_text q → p ≡ q
-  by_sizes p q true true a b h k o u e = laws.addresses.ipv4 p q o.bytes u.bytes (eqb-true (length p) 4 a) (eqb-true (length q) 4 b) e
-  by_sizes p q true false a b h k o u e = absurd (laws.address_sizes p q o.bytes u.bytes (eqb-true (length p) 4 a) (eqb-true (length q) 16 k) e)
-  by_sizes p q false true a b h k o u e = absurd (laws.address_sizes q p u.bytes o.bytes (eqb-true (length q) 4 b) (eqb-true (length p) 16 h) (sym e))
-  by_sizes p q false false a b h k o u e = laws.addresses.ipv6 p q o.bytes u.bytes (eqb-true (length p) 16 h) (eqb-true (length q) 16 k) e
+  by_sizes p q true true a b h k o u e = addresses_told.ipv4 p q o.bytes u.bytes (eqb-true (length p) 4 a) (eqb-true (length q) 4 b) e
+  by_sizes p q true false a b h k o u e = absurd (sizes_told p q o.bytes u.bytes (eqb-true (length p) 4 a) (eqb-true (length q) 16 k) e)
+  by_sizes p q false true a b h k o u e = absurd (sizes_told q p u.bytes o.bytes (eqb-true (length q) 4 b) (eqb-true (length p) 16 h) (sym e))
+  by_sizes p q false false a b h k o u e = addresses_told.ipv6 p q o.bytes u.bytes (eqb-true (length p) 16 h) (eqb-true (length q) 16 k) e
 
   flags_by : (p q : List ℕ) (t : Bool) → (length p == 4) ≡ t → (t || (length p == 2)) ≡ true → length p ≡ length q → Own s p → Own s q → sized_flags_value p ≡ sized_flags_value q → p ≡ q
-  flags_by p q true a h l o u e = let four = eqb-true (length p) 4 a in laws.settings.sized_4 p q o.bytes u.bytes four (sym l ∙ four) e
-  flags_by p q false a h l o u e = let two = eqb-true (length p) 2 h in laws.settings.sized_2 p q o.bytes u.bytes two (sym l ∙ two) e
+  flags_by p q true a h l o u e = let four = eqb-true (length p) 4 a in settings_told.sized_4 p q o.bytes u.bytes four (sym l ∙ four) e
+  flags_by p q false a h l o u e = let two = eqb-true (length p) 2 h in settings_told.sized_2 p q o.bytes u.bytes two (sym l ∙ two) e
 
 -- ---- bytes that hold no number
 
@@ -262,31 +234,31 @@ optional_size s p h o = absurd cc
 
 -- ---- a form that tells the shape
 
-record_told : ValueLaws → (s : Shape) (sparse : Bool) (fields : List Field) (p q : List ℕ) → (fields_tell fields && has_fields s fields) ≡ true → Own s p → Own s q → record_text sparse fields p ≡ record_text sparse fields q → p ≡ q
-record_told laws s sparse fields p q h o u e =
+record_told : (s : Shape) (sparse : Bool) (fields : List Field) (p q : List ℕ) → (fields_tell fields && has_fields s fields) ≡ true → Own s p → Own s q → record_text sparse fields p ≡ record_text sparse fields q → p ≡ q
+record_told s sparse fields p q h o u e =
     let parts = and_parts (fields_tell fields) (has_fields s fields) h in
     let k = parts.1 in
-    laws.records sparse fields p q parts.0 (holds s fields p k o) (holds s fields q k u) (same_length s (λ n. true) p q (record_lengths s fields k) o u) e
+    records_told sparse fields p q parts.0 (holds s fields p k o) (holds s fields q k u) (same_length s (λ n. true) p q (record_lengths s fields k) o u) e
 
-pub shapes_told : ValueLaws → ShapesAreTold
-shapes_told laws s (V.Number numbers) p q h o u e = let z = sized s is_size h in laws.numbers.little numbers p q o.bytes u.bytes (same_length s is_size p q z o u) (length_holds s is_size p z o) e
-shapes_told laws s (V.BigEndian numbers) p q h o u e = let z = sized s is_size h in laws.numbers.big numbers p q o.bytes u.bytes (same_length s is_size p q z o u) (length_holds s is_size p z o) e
-shapes_told laws s V.Signed p q h o u e = let z = sized s (λ n. n == 4) h in laws.numbers.signed p q o.bytes u.bytes (length_is s 4 p z o) (length_is s 4 q z u) e
-shapes_told laws s V.Flags p q h o u e = let z = sized s is_size h in laws.numbers.flags p q o.bytes u.bytes (same_length s is_size p q z o u) (length_holds s is_size p z o) e
-shapes_told laws s (V.NamedFlags names) p q h o u e = let z = sized s is_size h in laws.numbers.named_flags names p q o.bytes u.bytes (same_length s is_size p q z o u) (length_holds s is_size p z o) e
-shapes_told laws s V.BigEndianFlags p q h o u e = let z = sized s is_size h in laws.settings.big p q o.bytes u.bytes (same_length s is_size p q z o u) (length_holds s is_size p z o) e
-shapes_told laws s V.FlagsBySize p q h o u e =
+pub shapes_told : ShapesAreTold
+shapes_told s (V.Number numbers) p q h o u e = let z = sized s is_size h in numbers_told.little numbers p q o.bytes u.bytes (same_length s is_size p q z o u) (length_holds s is_size p z o) e
+shapes_told s (V.BigEndian numbers) p q h o u e = let z = sized s is_size h in numbers_told.big numbers p q o.bytes u.bytes (same_length s is_size p q z o u) (length_holds s is_size p z o) e
+shapes_told s V.Signed p q h o u e = let z = sized s (λ n. n == 4) h in numbers_told.signed p q o.bytes u.bytes (length_is s 4 p z o) (length_is s 4 q z u) e
+shapes_told s V.Flags p q h o u e = let z = sized s is_size h in numbers_told.flags p q o.bytes u.bytes (same_length s is_size p q z o u) (length_holds s is_size p z o) e
+shapes_told s (V.NamedFlags names) p q h o u e = let z = sized s is_size h in numbers_told.named_flags names p q o.bytes u.bytes (same_length s is_size p q z o u) (length_holds s is_size p z o) e
+shapes_told s V.BigEndianFlags p q h o u e = let z = sized s is_size h in settings_told.big p q o.bytes u.bytes (same_length s is_size p q z o u) (length_holds s is_size p z o) e
+shapes_told s V.FlagsBySize p q h o u e =
     let z = sized s (λ n. (n == 4) || (n == 2)) h in
-    flags_by laws s p q (length p == 4) refl (length_holds s (λ n. (n == 4) || (n == 2)) p z o) (same_length s (λ n. (n == 4) || (n == 2)) p q z o u) o u e
-shapes_told laws s V.Truth p q h o u e =
-    laws.settings.truth p q o.bytes u.bytes (same_length s (λ n. true) p q (truth_sized s h) o u) (at_most_one s p h o) (at_most_one s q h u) (ap (drop 1) e)
-shapes_told laws s V.Presence p q h o u e = presences s p q h o u
-shapes_told laws s V.OptionalByte p q h o u e = laws.settings.optional p q o.bytes u.bytes (optional_size s p h o) (optional_size s q h u) e
-shapes_told laws s V.Text p q h o u e = strings s p q h o u (laws.bytes.text p q o.bytes u.bytes (ap (drop 1) e))
-shapes_told laws s V.Bytes p q h o u e = laws.bytes.bytes p q o.bytes u.bytes e
-shapes_told laws s V.HardwareAddress p q h o u e = laws.bytes.hardware p q o.bytes u.bytes e
-shapes_told laws s V.Address p q h o u e = by_sizes laws s p q (length p == 4) (length q == 4) refl refl (address_size s p h o) (address_size s q h u) o u e
-shapes_told laws s V.PortRange p q h o u e = let z = sized s (λ n. n == 4) h in laws.settings.ports p q o.bytes u.bytes (length_is s 4 p z o) (length_is s 4 q z u) e
-shapes_told laws s V.FlagsAndMask p q h o u e = let z = sized s (λ n. n == 8) h in laws.settings.masked p q o.bytes u.bytes (length_is s 8 p z o) (length_is s 8 q z u) e
-shapes_told laws s (V.Record fields) p q h o u e = record_told laws s false fields p q h o u e
-shapes_told laws s (V.SparseRecord fields) p q h o u e = record_told laws s true fields p q h o u e
+    flags_by s p q (length p == 4) refl (length_holds s (λ n. (n == 4) || (n == 2)) p z o) (same_length s (λ n. (n == 4) || (n == 2)) p q z o u) o u e
+shapes_told s V.Truth p q h o u e =
+    settings_told.truth p q o.bytes u.bytes (same_length s (λ n. true) p q (truth_sized s h) o u) (at_most_one s p h o) (at_most_one s q h u) (ap (drop 1) e)
+shapes_told s V.Presence p q h o u e = presences s p q h o u
+shapes_told s V.OptionalByte p q h o u e = settings_told.optional p q o.bytes u.bytes (optional_size s p h o) (optional_size s q h u) e
+shapes_told s V.Text p q h o u e = strings s p q h o u (bytes_told.text p q o.bytes u.bytes (ap (drop 1) e))
+shapes_told s V.Bytes p q h o u e = bytes_told.bytes p q o.bytes u.bytes e
+shapes_told s V.HardwareAddress p q h o u e = bytes_told.hardware p q o.bytes u.bytes e
+shapes_told s V.Address p q h o u e = by_sizes s p q (length p == 4) (length q == 4) refl refl (address_size s p h o) (address_size s q h u) o u e
+shapes_told s V.PortRange p q h o u e = let z = sized s (λ n. n == 4) h in settings_told.ports p q o.bytes u.bytes (length_is s 4 p z o) (length_is s 4 q z u) e
+shapes_told s V.FlagsAndMask p q h o u e = let z = sized s (λ n. n == 8) h in settings_told.masked p q o.bytes u.bytes (length_is s 8 p z o) (length_is s 8 q z u) e
+shapes_told s (V.Record fields) p q h o u e = record_told s false fields p q h o u e
+shapes_told s (V.SparseRecord fields) p q h o u e = record_told s true fields p q h o u e

@@ -4,27 +4,29 @@ use Rattle.netlink_packet_core_grammar.specs.Attributes.{nla_align}
 use Rattle.netlink_packet_core_grammar.specs.Frames.{frame_text}
 use Rattle.link_message_grammar.specs.Body.{link_body}
 use Rattle.link_capture_grammar.specs.Captures.{Judged, first_frame, texts}
-use Rattle.link_capture_grammar.specs.Laws.{FramesAreJudged, CapturesAreCounted}
+use Rattle.link_capture_grammar.proofs.EveryRule.{in_force}
+use Rattle.link_capture_grammar.proofs.Frames.{accepted}
+use Rattle.link_capture_grammar.proofs.Normal.{texted}
 use Rattle.link_lines_texts.specs.Captures.{everything, lines, text_lines}
 use Rattle.link_lines_texts.specs.Frames.{frame_lines}
 use Rattle.link_lines_texts.specs.Laws.{AcceptedFramesHaveLines}
 use Rattle.link_lines_texts.proofs.CapturesTold.{frame_has_lines, no_text_lines, stopped_texts}
-use Rattle.link_lines_texts.proofs.FrameSteps.{in_front, accepted_is}
+use Rattle.link_lines_texts.proofs.FrameSteps.{in_front}
 
 some_since : (s : List ℕ) → (s ≡ [] → ⊥) → 0 < length s
 some_since [] h = absurd (h refl)
 some_since (x ∷ s) h = omega arith
 
 -- those of a frame that is accepted
-accepted_lines : FramesAreJudged link_body → CapturesAreCounted link_body → (limit : ℕ) (c : List ℕ) (frame : ℕ × List ℕ) → limit < 2 ^ 32 → first_frame limit c ≡ Ok frame → 0 < length (lines everything limit c)
-accepted_lines judged counted limit c frame l e =
-    let i = accepted_is limit c frame e in
-    let small = i.small in
+accepted_lines : (limit : ℕ) (c : List ℕ) (frame : ℕ × List ℕ) → limit < 2 ^ 32 → first_frame limit c ≡ Ok frame → 0 < length (lines everything limit c)
+accepted_lines limit c frame l e =
+    let i = texted link_body limit c frame e in
+    let small : 16 + length i.body < 2 ^ 32 = omega (arith, i.fits, l) in
     let more = texts limit (drop (nla_align frame.0) c) in
-    let text : texts limit c ≡ frame_text c i.body ++ more = counted.next_text limit c frame e ∙ ap (λ z. z ++ more) i.is in
+    let text : texts limit c ≡ frame_text c i.body ++ more = in_force.captures_are_counted.next_text limit c frame e ∙ ap (λ z. z ++ more) i.text_is in
     let own = take (16 + length i.body) (frame_text c i.body) in
     let all : lines everything limit c ≡ frame_lines true own ++ text_lines everything more =
-    ap (λ z. text_lines everything z) text ∙ in_front judged everything c i.body more i.header (omega (arith, small, l)) in
+    ap (λ z. text_lines everything z) text ∙ in_front everything c i.body more (accepted link_body limit c frame e).header small in
     some_since (lines everything limit c) (λ none. frame_has_lines true own (text_lines everything more) (sym all ∙ none))
 
 -- one that isn't has none
@@ -34,5 +36,5 @@ judged_lines limit c (Err kind) e h =
     let none : lines everything limit c ≡ [] = ap (λ z. text_lines everything z) (stopped_texts limit c kind e) ∙ no_text_lines everything in
     absurd (omega (arith, ap length none, h))
 
-pub have_lines : FramesAreJudged link_body → CapturesAreCounted link_body → AcceptedFramesHaveLines
-have_lines judged counted limit c l = (judged_lines limit c (first_frame limit c) refl, λ a. accepted_lines judged counted limit c a.0 l a.1)
+pub have_lines : AcceptedFramesHaveLines
+have_lines limit c l = (judged_lines limit c (first_frame limit c) refl, λ a. accepted_lines limit c a.0 l a.1)

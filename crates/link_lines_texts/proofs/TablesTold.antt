@@ -20,19 +20,19 @@ use Rattle.link_lines_names.specs.Behind.{Inside, Inside.Value, Inside.Peer as P
 use Rattle.link_lines_names.specs.Names.{all_titles}
 use Rattle.link_lines_texts.specs.declared.attributes.Place.{Place}
 use Rattle.link_lines_texts.specs.Coverage.{Kinds, all_listed, behind, data_kinds, has_row, holds_shown, is_in, is_info_kind, kind_inside, kinds_listed, names_shown, port_kinds, rows_shown, shape_tells}
-use Rattle.link_lines_texts.specs.Telling.{ShapesAreTold}
+use Rattle.link_lines_texts.proofs.ShapesTold.{shapes_told}
 use Rattle.link_lines_texts.specs.Titles.{Name, info_titles, link_titles, own_titles, title_of, titles_of}
-use Rattle.link_lines_texts.proofs.ListsTold.{InsideTold, ListLaws, NestedTold, RowsTold, lists_told}
+use Rattle.link_lines_texts.proofs.ListsTold.{InsideTold, NestedTold, RowsTold, lists_told}
 use Rattle.link_lines_texts.proofs.TitlesTold.{found, names_told}
 use Rattle.link_lines_texts.proofs.Told.{info_is_named}
 
 -- ---- payloads of shapes
 
-pub plain_told : ShapesAreTold → (in_peer : Bool) (s : Shape) (v : Shown) → shape_tells s v ≡ true → InsideTold in_peer (shape_rule s) (Value v)
-plain_told shapes in_peer s v h level p q x y o u sx sy same under = (shapes s v p q h o u same, under)
+pub plain_told : (in_peer : Bool) (s : Shape) (v : Shown) → shape_tells s v ≡ true → InsideTold in_peer (shape_rule s) (Value v)
+plain_told in_peer s v h level p q x y o u sx sy same under = (shapes_told s v p q h o u same, under)
 
-bytes_told : ShapesAreTold → (in_peer : Bool) → InsideTold in_peer (shape_rule raw) (Value V.Bytes)
-bytes_told shapes in_peer = plain_told shapes in_peer raw V.Bytes refl
+bytes_told : (in_peer : Bool) → InsideTold in_peer (shape_rule raw) (Value V.Bytes)
+bytes_told in_peer = plain_told in_peer raw V.Bytes refl
 
 never_told : (in_peer : Bool) (i : Inside) → InsideTold in_peer (shape_rule never) i
 never_told in_peer i level p q x y o u sx sy same under = absurd (let no : false ≡ true = o.accepted in absurd cc)
@@ -119,10 +119,10 @@ unlisted_inside kinds ns n h l =
     let parts = and_parts (kinds_listed kinds.named ns) (kinds_listed kinds.all ns) h in
     λ i. of_named (unlisted kinds.named ns n parts.0 l i) (unlisted kinds.all ns n parts.1 l i)
 
-any_name_by : ShapesAreTold → (peer : Peer) (in_peer : Bool) (kinds : Kinds) (ns : Names) (n : List ℕ) (b : Bool) → lacks_name n ns ≡ b → all_listed kinds ns ≡ true → (lacks_name n ns ≡ false → NameTold peer in_peer ns kinds n) → NameTold peer in_peer ns kinds n
-any_name_by shapes peer in_peer kinds ns n false l h told = told l
-any_name_by shapes peer in_peer kinds ns n true l h told =
-    subst (λ r. InsideTold in_peer r (kind_inside kinds n)) (sym (other_name peer in_peer ns n l)) (subst (InsideTold in_peer (shape_rule raw)) (sym (unlisted_inside kinds ns n h l)) (bytes_told shapes in_peer))
+any_name_by : (peer : Peer) (in_peer : Bool) (kinds : Kinds) (ns : Names) (n : List ℕ) (b : Bool) → lacks_name n ns ≡ b → all_listed kinds ns ≡ true → (lacks_name n ns ≡ false → NameTold peer in_peer ns kinds n) → NameTold peer in_peer ns kinds n
+any_name_by peer in_peer kinds ns n false l h told = told l
+any_name_by peer in_peer kinds ns n true l h told =
+    subst (λ r. InsideTold in_peer r (kind_inside kinds n)) (sym (other_name peer in_peer ns n l)) (subst (InsideTold in_peer (shape_rule raw)) (sym (unlisted_inside kinds ns n h l)) (bytes_told in_peer))
 
 -- ---- link info
 
@@ -140,9 +140,9 @@ force_typed : (o : Option (List ℕ)) (f : List ℕ → Rule) → (row_in_force 
 force_typed None f = refl
 force_typed (Some n) f = refl
 
-force_raw : ShapesAreTold → (in_peer : Bool) (o : Option (List ℕ)) → InsideTold in_peer (row_in_force o (λ n. shape_rule raw)).rule (Value V.Bytes)
-force_raw shapes in_peer None = never_told in_peer (Value V.Bytes)
-force_raw shapes in_peer (Some n) = bytes_told shapes in_peer
+force_raw : (in_peer : Bool) (o : Option (List ℕ)) → InsideTold in_peer (row_in_force o (λ n. shape_rule raw)).rule (Value V.Bytes)
+force_raw in_peer None = never_told in_peer (Value V.Bytes)
+force_raw in_peer (Some n) = bytes_told in_peer
 
 module _ (peer : Peer) (in_peer : Bool) where
   -- the data of all names are told
@@ -153,17 +153,17 @@ module _ (peer : Peer) (in_peer : Bool) where
   force_told ns kinds None told = never_told in_peer (Value V.Bytes)
   force_told ns kinds (Some n) told = told n
 
-  module _ (shapes : ShapesAreTold) (data' ports : Names) (data_told : AllNamesTold data' data_kinds) (ports_told : AllNamesTold ports port_kinds) where
+  module _ (data' ports : Names) (data_told : AllNamesTold data' data_kinds) (ports_told : AllNamesTold ports port_kinds) where
     abbrev info : Context → ℕ → Row
     info c k = info_row (named peer data') (named peer ports) c k
 
     info_told : (c : Context) (k : ℕ) → 1 ≤ k → k ≤ 5 → ((info c k).is_typed ≡ true) × KnownTold in_peer (info c k).rule c (behind (title_of 19 k))
     unfolding title_of titles_of link_titles own_titles info_titles data_inside port_inside
     info_told c zero h l = absurd (omega arith)
-    info_told c (suc zero) h l = (refl, plain_told shapes in_peer text V.Text refl)
+    info_told c (suc zero) h l = (refl, plain_told in_peer text V.Text refl)
     info_told c (suc (suc zero)) h l = (force_typed c.kind (named peer data'), force_told data' data_kinds c.kind data_told)
-    info_told c (suc (suc (suc zero))) h l = (force_typed c.kind (λ n. shape_rule raw), force_raw shapes in_peer c.kind)
-    info_told c (suc (suc (suc (suc zero)))) h l = (refl, plain_told shapes in_peer text V.Text refl)
+    info_told c (suc (suc (suc zero))) h l = (force_typed c.kind (λ n. shape_rule raw), force_raw in_peer c.kind)
+    info_told c (suc (suc (suc (suc zero)))) h l = (refl, plain_told in_peer text V.Text refl)
     info_told c (suc (suc (suc (suc (suc zero))))) h l = (force_typed c.port_kind (named peer ports), force_told ports port_kinds c.port_kind ports_told)
     info_told c (suc (suc (suc (suc (suc (suc k)))))) h l = absurd (omega arith)
 
@@ -178,11 +178,7 @@ module _ (peer : Peer) (in_peer : Bool) where
 
 -- ---- tables
 
-pub record TableLaws : Type 0 where
-  pub lists : ListLaws
-  pub shapes : ShapesAreTold
-
-module _ (laws : TableLaws) (peer : Peer) (in_peer : Bool) (peers : InsideTold in_peer (peer_rule peer) (settled in_peer PeerInside)) where
+module _ (peer : Peer) (in_peer : Bool) (peers : InsideTold in_peer (peer_rule peer) (settled in_peer PeerInside)) where
   abbrev place : ℕ → Place
   place n = record { table = n; is_in_peer = in_peer }
 
@@ -198,7 +194,7 @@ module _ (laws : TableLaws) (peer : Peer) (in_peer : Bool) (peers : InsideTold i
       let parts = and_parts (not (n == 19)) (all_titles (is_in table) (titles_of n) && rows_shown n table) h in
       let more = and_parts (all_titles (is_in table) (titles_of n)) (rows_shown n table) parts.1 in
       nested_told in_peer (rule peer (Payload.list form table)) n
-      (lists_told laws.lists form (without_context (row_in peer table)) (place n) (names_told n) (table_rows n table (not-true (n == 19) parts.0) more.0 (rows more.1)))
+      (lists_told form (without_context (row_in peer table)) (place n) (names_told n) (table_rows n table (not-true (n == 19) parts.0) more.0 (rows more.1)))
 
   info_list_told : (form : ListForm) (data' ports : Names) (n : ℕ) → ((n == 19) && ((names_shown data' data_kinds && all_listed data_kinds data') && (names_shown ports port_kinds && all_listed port_kinds ports))) ≡ true →
       (names_shown data' data_kinds ≡ true → (m : List ℕ) → lacks_name m data' ≡ false → NameTold peer in_peer data' data_kinds m) → (names_shown ports port_kinds ≡ true → (m : List ℕ) → lacks_name m ports ≡ false → NameTold peer in_peer ports port_kinds m) →
@@ -208,9 +204,9 @@ module _ (laws : TableLaws) (peer : Peer) (in_peer : Bool) (peers : InsideTold i
       let both = and_parts (names_shown data' data_kinds && all_listed data_kinds data') (names_shown ports port_kinds && all_listed port_kinds ports) parts.1 in
       let first = and_parts (names_shown data' data_kinds) (all_listed data_kinds data') both.0 in
       let second = and_parts (names_shown ports port_kinds) (all_listed port_kinds ports) both.1 in
-      let data_all : AllNamesTold peer in_peer data' data_kinds = λ m. any_name_by laws.shapes peer in_peer data_kinds data' m (lacks_name m data') refl first.1 (data_told first.0 m) in
-      let ports_all : AllNamesTold peer in_peer ports port_kinds = λ m. any_name_by laws.shapes peer in_peer port_kinds ports m (lacks_name m ports) refl second.1 (ports_told second.0 m) in
-      let told = lists_told laws.lists form (names_grammar (named peer data') (named peer ports)) (place 19) (names_told 19) (info_rows peer in_peer laws.shapes data' ports data_all ports_all) in
+      let data_all : AllNamesTold peer in_peer data' data_kinds = λ m. any_name_by peer in_peer data_kinds data' m (lacks_name m data') refl first.1 (data_told first.0 m) in
+      let ports_all : AllNamesTold peer in_peer ports port_kinds = λ m. any_name_by peer in_peer port_kinds ports m (lacks_name m ports) refl second.1 (ports_told second.0 m) in
+      let told = lists_told form (names_grammar (named peer data') (named peer ports)) (place 19) (names_told 19) (info_rows peer in_peer data' ports data_all ports_all) in
       subst (λ k. InsideTold in_peer (rule peer (Payload.link_info form data' ports)) (Nested k)) (sym (eqb-true n 19 parts.0)) (nested_told in_peer (rule peer (Payload.link_info form data' ports)) 19 told)
 
   -- data under a name are no peer
@@ -224,7 +220,7 @@ module _ (laws : TableLaws) (peer : Peer) (in_peer : Bool) (peers : InsideTold i
 
   mutual
     pub payload_told : (s : Payload) (i : Inside) → holds_shown s (Some i) ≡ true → InsideTold in_peer (rule peer s) (settled in_peer i)
-    payload_told (Payload.plain s) (Value v) h = plain_told laws.shapes in_peer s v h
+    payload_told (Payload.plain s) (Value v) h = plain_told in_peer s v h
     payload_told Payload.peer PeerInside h = peers
     payload_told (Payload.list form table) (Nested n) h = list_told form table n h (rows_told n table)
     payload_told (Payload.link_info form data' ports) (Nested n) h = info_list_told form data' ports n h (data_names_told data' data_kinds) (data_names_told ports port_kinds)

@@ -17,7 +17,7 @@ use link_lines_names::{
 };
 use link_lines_values::{push_bytes, push_indent, push_value};
 use netlink_packet_core::{NlaBuffer, skip_first};
-use netlink_packet_core_grammar::laws::{first_attributes_are_viewed, first_attributes_are_within};
+use netlink_packet_core_grammar::laws::first_attributes_are_viewed;
 use netlink_packet_core_numbers::without_nul;
 use std::alloc::AllocError;
 
@@ -222,7 +222,6 @@ pub(crate) fn push_list(
     requires { level + length bytes.now < 2 ^ 63 }
     ensures ok { OnOk result (out.new.items ≡ out.old.items ++ list_lines level place bytes.now) }
 {
-    first_attributes_are_within();
     lists_go_by_steps();
     let mut rest = bytes;
     let mut force = InForce {

@@ -1,5 +1,5 @@
 -- Bytes are told by their text.
-use Rattle.std.proofs.Common.{◌≡◌, ℕ, zero, suc, ◌/◌, ◌%◌, ◌<◌, Bool, true, false, List, [], ◌∷◌, ◌++◌, drop, refl, sym, ap, ◌∙◌, arith, append_assoc, cond}
+use Rattle.std.proofs.Common.{◌≡◌, ℕ, ◌/◌, ◌%◌, ◌<◌, Bool, true, false, List, [], ◌∷◌, ◌++◌, drop, refl, sym, ap, ◌∙◌, arith, append_assoc, cond}
 use Rattle.std.specs.Prelude.{◌==◌, ◌&&◌, ◌||◌, get_or, flat_map, nat_le, nat_lt}
 use Rattle.std.specs.Fmt.{digit_glyph}
 use Rattle.std.proofs.lemmas.Bool.Decides.{nat_tests}
@@ -24,12 +24,11 @@ byte_told a b p q h l =
 
 pub hex_told : (p q : List ℕ) → AreBytes p → AreBytes q → hex_text p ≡ hex_text q → p ≡ q
 hex_told [] [] a b e = refl
-hex_told [] (y ∷ q) a b e = absurd cc
-hex_told (x ∷ p) [] a b e = absurd cc
 hex_told (x ∷ p) (y ∷ q) a b e =
     let first : x ≡ y = byte_told x y a.0 b.0 (ap (λ l. get_or l 0 0) e) (ap (λ l. get_or l 1 0) e) in
     let rest : p ≡ q = hex_told p q a.1 b.1 (ap (drop 2) e) in
-    λ t. first t ∷ rest t
+    cc
+hex_told p q a b e = absurd cc
 
 bytes : (p q : List ℕ) → AreBytes p → AreBytes q → bytes_text p ≡ bytes_text q → p ≡ q
 bytes [] [] a b e = refl

@@ -2,12 +2,13 @@ pub mod Readings
 pub mod Zeros
 pub mod Listing
 pub mod Hex
-mod BytesTold
-mod NumbersTold
-mod ValuesTold
-mod RecordsTold
-mod OneLine
-mod SizedTold
-mod SizesTold
+pub mod BytesTold
+pub mod NumbersTold
+pub mod ValuesTold
+pub mod RecordsTold
+pub mod OneLine
+pub mod SizedTold
+pub mod SizesTold
 pub mod Deeper
 pub mod Places
+pub mod Together

@@ -1,36 +1,40 @@
 -- A value's text stands on one line, behind a space.
-use Rattle.std.proofs.Common.{◌≡◌, ℕ, zero, suc, ◌+◌, ◌-◌, ◌/◌, ◌%◌, ◌≤◌, Bool, true, false, List, [], ◌∷◌, ◌++◌, length, take, drop, refl, arith}
-use Rattle.std.specs.Prelude.{◌==◌, ◌&&◌, ◌||◌, bit_and, codes, cond, flat_map, max, nat_le, nat_lt, slice_index}
+use Rattle.std.proofs.Common.{◌≡◌, ℕ, zero, suc, ◌+◌, ◌/◌, ◌%◌, ◌≤◌, Bool, true, false, List, [], ◌∷◌, ◌++◌, length, take, drop, refl, arith}
+use Rattle.std.specs.Prelude.{◌==◌, ◌&&◌, ◌||◌, bit_and, codes, cond, flat_map, nat_le, nat_lt, slice_index}
 use Rattle.std.specs.Char.{digit_char}
 use Rattle.std.specs.Fmt.{decimal, digits}
 use Rattle.std.specs.List.{AllByRecursion, list_all}
-use Rattle.std.specs.Net.Addr.{octets_of, segments_of}
 use Rattle.std.specs.Net.Text.{compressed_text, dotted_text, groups_text, hex, hex_groups_text, ipv4_text, ipv6_text, leading_zero_digits, longest_zero_run}
 use Rattle.std.proofs.lemmas.Bool.{and_parts, leb-true}
 use Rattle.std.proofs.lemmas.Bool.Decides.{nat_tests}
 use Rattle.netlink_packet_core_grammar.specs.Texts.{without_nul}
-use Rattle.attribute_tables_grammar.specs.Shapes.{number}
 use Rattle.link_lines_values.specs.declared.fields.FieldShown.{FieldShown}
 use Rattle.link_lines_values.specs.declared.fields.FieldShown.TheVariants as F
 use Rattle.link_lines_values.specs.declared.values.ShownBy.TheVariants as S
-use Rattle.link_lines_values.specs.Bytes.{address_text, bytes_text, colon_byte, colons, count_without_zeros, escaped, hardware_text, hex_text, is_zero, quoted, truth_text}
-use Rattle.link_lines_values.specs.Digits.{big_endian, hex_byte, hex_number, is_number, signed_text}
-use Rattle.link_lines_values.specs.Flags.{listed, named_flags, nameless, nameless_text, names_set, opened, separated}
+use Rattle.link_lines_values.specs.Bytes.{address_text, bytes_text, colon_byte, colons, escaped, hardware_text, hex_text, is_zero, quoted, truth_text}
+use Rattle.link_lines_values.specs.Digits.{hex_byte, hex_number, signed_text}
+use Rattle.link_lines_values.specs.Flags.{listed, named_flags, nameless, nameless_text, names_set, separated}
 use Rattle.link_lines_values.specs.Laws.{IsBehindASpace, IsLine, ValuesStandOnALine}
 use Rattle.link_lines_values.specs.Names.{Text, bracketed, named_number, text_in}
 use Rattle.link_lines_values.specs.Records.{Field, field_text, field_value, fields_text, record_text, total_size}
 use Rattle.link_lines_values.specs.Values.{Shown, is_line, is_shown_on_a_line, value_text}
-use Rattle.link_lines_values.proofs.NumbersTold.{Digits, high, high_by}
+use Rattle.link_lines_values.proofs.NumbersTold.{Digits, high, high_glyph}
 
 -- ---- lines in general
 
-lines_joined : (s t : List ℕ) → IsLine s → IsLine t → IsLine (s ++ t)
+pub lines_joined : (s t : List ℕ) → IsLine s → IsLine t → IsLine (s ++ t)
 lines_joined [] t h k = k
 lines_joined (c ∷ s) t h k = (h.0, lines_joined s t h.1 k)
 
-either_line : (test : Bool) (s t : List ℕ) → IsLine s → IsLine t → IsLine (cond test s t)
+pub either_line : (test : Bool) (s t : List ℕ) → IsLine s → IsLine t → IsLine (cond test s t)
 either_line true s t h k = h
 either_line false s t h k = k
+
+pub more_line : (c : ℕ) (s : List ℕ) → nat_le 32 c ≡ true → IsLine s → IsLine (c ∷ s)
+more_line c s l h = (leb-true 32 c l, h)
+
+-- texts of parts
+ruleset joins = (either_line, more_line, lines_joined)
 
 line_dropped : (n : ℕ) (s : List ℕ) → IsLine s → IsLine (drop n s)
 line_dropped zero s h = h
@@ -42,7 +46,7 @@ lines_mapped f each [] = record {}
 lines_mapped f each (n ∷ p) = lines_joined (f n) (flat_map f p) (each n) (lines_mapped f each p)
 
 -- the test of a text that is written out
-tested : (s : List ℕ) → is_line s ≡ true → IsLine s
+pub tested : (s : List ℕ) → is_line s ≡ true → IsLine s
 tested [] h = record {}
 tested (c ∷ s) h =
     let parts = and_parts (nat_le 32 c) (is_line s) h in
@@ -53,7 +57,7 @@ tested (c ∷ s) h =
 over_space : (c : ℕ) → 48 ≤ c → 32 ≤ c
 over_space c h = omega arith
 
-digits_line : (s : List ℕ) → Digits s → IsLine s
+pub digits_line : (s : List ℕ) → Digits s → IsLine s
 digits_line [] h = record {}
 digits_line (c ∷ s) h = (over_space c h.0, digits_line s h.1)
 
@@ -64,12 +68,12 @@ hex_line : (n : ℕ) → IsLine (hex_number n)
 hex_line n = lines_joined (codes "0x") (digits 16 false n) (tested (codes "0x") refl) (digits_line (digits 16 false n) (high 16 n))
 
 signed_line : (n : ℕ) → IsLine (signed_text n)
-signed_line n = either_line (nat_lt n 2147483648) (decimal n) (45 ∷ decimal (4294967296 - n)) (decimal_line n) (omega arith, decimal_line (4294967296 - n))
+signed_line n = search (joins, decimal_line)
 
-glyph_line : (d : ℕ) → 32 ≤ cond (nat_lt d 10) (48 + d) (87 + d)
-glyph_line d = over_space (cond (nat_lt d 10) (48 + d) (87 + d)) (high_by (nat_lt d 10) d)
+pub glyph_line : (d : ℕ) → 32 ≤ cond (nat_lt d 10) (48 + d) (87 + d)
+glyph_line d = over_space _ (high_glyph d)
 
-hex_byte_line : (byte : ℕ) → IsLine (hex_byte byte)
+pub hex_byte_line : (byte : ℕ) → IsLine (hex_byte byte)
 hex_byte_line byte = (glyph_line (byte / 16), (glyph_line (byte % 16), record {}))
 
 -- ---- bytes
@@ -108,20 +112,15 @@ escaped_line : (byte : ℕ) → IsLine (escaped byte)
 escaped_line byte = escaped_by byte _ refl
 
 quoted_line : (p : List ℕ) → IsLine (quoted p)
-quoted_line p =
-    let inner = lines_mapped escaped escaped_line (without_nul p) in
-    (omega arith, lines_joined (flat_map escaped (without_nul p)) (34 ∷ []) inner (tested (34 ∷ []) refl))
+quoted_line p = let inner = lines_mapped escaped escaped_line (without_nul p) in search joins
 
 truth_line : (p : List ℕ) → IsLine (truth_text p)
-truth_line p = either_line (is_zero p) (codes "off") (codes "on") (tested (codes "off") refl) (tested (codes "on") refl)
+truth_line p = search (joins, tested)
 
 -- ---- addresses
 
-dot_joined : (s : List ℕ) (n : ℕ) → IsLine s → IsLine (s ++ codes "." ++ decimal n)
-dot_joined s n h = lines_joined (s ++ codes ".") (decimal n) (lines_joined s (codes ".") h (tested (codes ".") refl)) (decimal_line n)
-
 dotted_line : (a b c d : ℕ) → IsLine (dotted_text a b c d)
-dotted_line a b c d = dot_joined _ d (dot_joined _ c (dot_joined (decimal a) b (decimal_line a)))
+dotted_line a b c d = search (joins, decimal_line, tested) depth 12
 
 ipv4_line : (o : List ℕ) → IsLine (ipv4_text o)
 ipv4_line o = dotted_line (slice_index o 0) (slice_index o 1) (slice_index o 2) (slice_index o 3)
@@ -137,14 +136,10 @@ colon_segment_line n = (omega arith, segment_line n)
 
 groups_line : (s : List ℕ) → IsLine (groups_text s)
 groups_line [] = record {}
-groups_line (n ∷ s) = lines_joined (hex n) (flat_map (λ t. codes ":" ++ hex t) s) (segment_line n) (lines_mapped (λ t. codes ":" ++ hex t) colon_segment_line s)
+groups_line (n ∷ s) = let more = lines_mapped (λ t. codes ":" ++ hex t) colon_segment_line s in search (joins, segment_line)
 
 compressed_line : (s : List ℕ) (run : ℕ × ℕ) → IsLine (compressed_text s run)
-compressed_line s run =
-    let head = groups_text (take run.0 s) in
-    let tail = groups_text (drop (run.0 + run.1) s) in
-    either_line (nat_lt 1 run.1) (head ++ codes "::" ++ tail) (groups_text s)
-    (lines_joined (head ++ codes "::") tail (lines_joined head (codes "::") (groups_line _) (tested (codes "::") refl)) (groups_line _)) (groups_line s)
+compressed_line s run = search (joins, groups_line, tested) depth 7
 
 hex_groups_line : (s : List ℕ) → IsLine (hex_groups_text s)
 unfolding hex_groups_text
@@ -152,14 +147,10 @@ hex_groups_line s = compressed_line s (longest_zero_run s)
 
 ipv6_line : (s : List ℕ) → IsLine (ipv6_text s)
 unfolding ipv6_text
-ipv6_line s =
-    either_line _ (codes "::ffff:" ++ ipv4_text (octets_of (drop 6 s))) (hex_groups_text s)
-    (lines_joined (codes "::ffff:") _ (tested (codes "::ffff:") refl) (ipv4_line (octets_of (drop 6 s)))) (hex_groups_line s)
+ipv6_line s = search (joins, hex_groups_line, ipv4_line) depth 12
 
 address_line : (p : List ℕ) → IsLine (address_text p)
-address_line p =
-    either_line (length p == 4) (32 ∷ ipv4_text p) (cond (length p == 16) (32 ∷ ipv6_text (segments_of p)) (bytes_text p)) (omega arith, ipv4_line p)
-    (either_line (length p == 16) (32 ∷ ipv6_text (segments_of p)) (bytes_text p) (omega arith, ipv6_line (segments_of p)) (bytes_line p))
+address_line p = search (joins, ipv4_line, ipv6_line, bytes_line)
 
 -- ---- numbers and their names
 
@@ -174,8 +165,7 @@ text_line (r ∷ rs) n h =
 
 bracketed_line : (name : List ℕ) → IsLine name → IsLine (bracketed name)
 bracketed_line [] h = record {}
-bracketed_line (c ∷ name) h =
-    lines_joined (codes " (") (c ∷ name ++ codes ")") (tested (codes " (") refl) (lines_joined (c ∷ name) (codes ")") h (tested (codes ")") refl))
+bracketed_line (c ∷ name) h = let inner = lines_joined (c ∷ name) (codes ")") h (tested (codes ")") refl) in search joins
 
 named_line : (texts : List Text) (n : ℕ) → are_lines texts ≡ true → IsLine (named_number texts n)
 named_line texts n h = lines_joined (decimal n) (bracketed (text_in texts n)) (decimal_line n) (bracketed_line (text_in texts n) (text_line texts n h))
@@ -197,33 +187,26 @@ set_lines (r ∷ rs) n h =
 
 separated_line : (names : List (List ℕ)) → AllLines names → IsLine (separated names)
 separated_line [] h = record {}
-separated_line (name ∷ names) h =
-    lines_joined (codes " | ") (name ++ separated names) (tested (codes " | ") refl) (lines_joined name (separated names) h.0 (separated_line names h.1))
+separated_line (name ∷ names) h = let more = separated_line names h.1 in search joins depth 7
 
 nameless_line : (n : ℕ) → IsLine (nameless_text n)
-nameless_line n = either_line (n == 0) [] (codes " | " ++ hex_number n) (record {}) (lines_joined (codes " | ") (hex_number n) (tested (codes " | ") refl) (hex_line n))
+nameless_line n = search (joins, hex_line, tested) depth 7
 
 listed_line : (names : List (List ℕ)) (rest : ℕ) → AllLines names → IsLine (listed names rest)
 listed_line [] rest h = record {}
-listed_line (name ∷ names) rest h =
-    let last = lines_joined (nameless_text rest) (codes ")") (nameless_line rest) (tested (codes ")") refl) in
-    let inner = lines_joined name (separated names) h.0 (separated_line names h.1) in
-    lines_joined (opened (name ∷ names)) (nameless_text rest ++ codes ")") (lines_joined (codes " (") (name ++ separated names) (tested (codes " (") refl) inner) last
+listed_line (name ∷ names) rest h = let more = separated_line names h.1 in search (joins, nameless_line, tested) depth 9
 
 flags_line : (names : List Text) (n : ℕ) → are_lines names ≡ true → IsLine (named_flags names n)
-flags_line names n h = lines_joined (hex_number n) (listed (names_set names n) (nameless names n)) (hex_line n) (listed_line (names_set names n) (nameless names n) (set_lines names n h))
+flags_line names n h = lines_joined (hex_number n) _ (hex_line n) (listed_line (names_set names n) (nameless names n) (set_lines names n h))
 
 -- ---- records
 
 field_value_line : (v : FieldShown) (p : List ℕ) → IsLine (field_value v p)
-field_value_line F.Number p = either_line (is_number p) (decimal (number p)) (hex_text p) (decimal_line (number p)) (hex_text_line p)
-field_value_line F.Signed p = either_line (length p == 4) (signed_text (number p)) (hex_text p) (signed_line (number p)) (hex_text_line p)
-field_value_line F.BigEndian p = either_line (is_number p) (decimal (big_endian p)) (hex_text p) (decimal_line (big_endian p)) (hex_text_line p)
-field_value_line F.Address p = colons_line (take (max 6 (count_without_zeros p)) p)
 field_value_line F.Truth p = truth_line p
+field_value_line v p = search (joins, decimal_line, signed_line, hex_text_line, colons_line)
 
 field_line : (f : Field) (p : List ℕ) → is_line f.0 ≡ true → IsLine (field_text f p)
-field_line f p h = (omega arith, lines_joined f.0 (61 ∷ field_value f.2 p) (tested f.0 h) (omega arith, field_value_line f.2 p))
+field_line f p h = search (joins, tested, field_value_line) depth 7
 
 abbrev names_are_lines : List Field → Bool
 names_are_lines fs = list_all (λ f. is_line f.0) fs
@@ -245,56 +228,21 @@ record_line sparse fs p h =
 
 -- ---- values
 
--- a text behind a space, or the bytes
-value_line : (test : Bool) (s p : List ℕ) → IsLine s → IsLine (cond test (32 ∷ s) (bytes_text p))
-value_line test s p h = either_line test (32 ∷ s) (bytes_text p) (omega arith, h) (bytes_line p)
-
 optional_line : (p : List ℕ) → IsLine (value_text S.OptionalByte p)
 optional_line [] = record {}
 optional_line (byte ∷ []) = (omega arith, decimal_line byte)
 optional_line (a ∷ b ∷ p) = bytes_line (a ∷ b ∷ p)
 
-flags_by_size_line : (p : List ℕ) → IsLine (value_text S.FlagsBySize p)
-flags_by_size_line p =
-    either_line (length p == 4) (32 ∷ hex_number (number p)) (cond (length p == 2) (32 ∷ hex_number (big_endian p)) (bytes_text p))
-    (omega arith, hex_line (number p)) (value_line (length p == 2) (hex_number (big_endian p)) p (hex_line (big_endian p)))
-
-ports_line : (p : List ℕ) → IsLine (value_text S.PortRange p)
-ports_line p =
-    let first = decimal (big_endian (take 2 p)) in
-    let last = decimal (big_endian (drop 2 p)) in
-    value_line (length p == 4) (first ++ 32 ∷ last) p (lines_joined first (32 ∷ last) (decimal_line _) (omega arith, decimal_line _))
-
-mask_line : (p : List ℕ) → IsLine (value_text S.FlagsAndMask p)
-mask_line p =
-    let flags = hex_number (number (take 4 p)) in
-    let mask = hex_number (number (drop 4 p)) in
-    value_line (length p == 8) (flags ++ (codes " mask " ++ mask)) p
-    (lines_joined flags (codes " mask " ++ mask) (hex_line _) (lines_joined (codes " mask ") mask (tested (codes " mask ") refl) (hex_line _)))
+ruleset lines = (joins, decimal_line, hex_line, signed_line, named_line, flags_line, bytes_line, hardware_line, address_line, record_line, truth_line, quoted_line)
 
 line : (shown : Shown) (p : List ℕ) → is_shown_on_a_line shown ≡ true → IsLine (value_text shown p)
-line (S.Number texts) p h = value_line (is_number p) (named_number texts (number p)) p (named_line texts (number p) h)
-line (S.BigEndian texts) p h = value_line (is_number p) (named_number texts (big_endian p)) p (named_line texts (big_endian p) h)
-line S.Signed p h = value_line (length p == 4) (signed_text (number p)) p (signed_line (number p))
-line S.Flags p h = value_line (is_number p) (hex_number (number p)) p (hex_line (number p))
-line (S.NamedFlags names) p h = value_line (is_number p) (named_flags names (number p)) p (flags_line names (number p) h)
-line S.BigEndianFlags p h = value_line (is_number p) (hex_number (big_endian p)) p (hex_line (big_endian p))
-line S.FlagsBySize p h = flags_by_size_line p
-line S.Truth p h = (omega arith, truth_line p)
 line S.Presence p h = record {}
 line S.OptionalByte p h = optional_line p
-line S.Text p h = (omega arith, quoted_line p)
-line S.Bytes p h = bytes_line p
-line S.HardwareAddress p h = hardware_line p
-line S.Address p h = address_line p
-line S.PortRange p h = ports_line p
-line S.FlagsAndMask p h = mask_line p
-line (S.Record fields) p h = record_line false fields p h
-line (S.SparseRecord fields) p h = record_line true fields p h
+line shown p h = search lines depth 12
 
 -- ---- a space in front
 
-either_space : (test : Bool) (s t : List ℕ) → IsBehindASpace s → IsBehindASpace t → IsBehindASpace (cond test s t)
+pub either_space : (test : Bool) (s t : List ℕ) → IsBehindASpace s → IsBehindASpace t → IsBehindASpace (cond test s t)
 either_space true s t h k = h
 either_space false s t h k = k
 
@@ -309,13 +257,6 @@ bytes_space (byte ∷ p) = refl
 hardware_space : (p : List ℕ) → IsBehindASpace (hardware_text p)
 hardware_space [] = record {}
 hardware_space (byte ∷ p) = refl
-
-value_space : (test : Bool) (s p : List ℕ) → IsBehindASpace (cond test (32 ∷ s) (bytes_text p))
-value_space test s p = either_space test (32 ∷ s) (bytes_text p) refl (bytes_space p)
-
--- of two texts behind a space, or the bytes
-other_space : (a b : Bool) (s t p : List ℕ) → IsBehindASpace (cond a (32 ∷ s) (cond b (32 ∷ t) (bytes_text p)))
-other_space a b s t p = either_space a (32 ∷ s) (cond b (32 ∷ t) (bytes_text p)) refl (value_space b t p)
 
 optional_space : (p : List ℕ) → IsBehindASpace (value_text S.OptionalByte p)
 optional_space [] = record {}
@@ -337,25 +278,11 @@ record_space sparse fs p =
     either_space (nat_le n (length p) && is_zero (drop n p)) (fields_text sparse fs (take n p)) (bytes_text p)
     (fields_space sparse fs (take n p)) (bytes_space p)
 
+ruleset spaces = (either_space, bytes_space, hardware_space, record_space)
+
 space : (shown : Shown) (p : List ℕ) → IsBehindASpace (value_text shown p)
-space (S.Number texts) p = value_space (is_number p) (named_number texts (number p)) p
-space (S.BigEndian texts) p = value_space (is_number p) (named_number texts (big_endian p)) p
-space S.Signed p = value_space (length p == 4) (signed_text (number p)) p
-space S.Flags p = value_space (is_number p) (hex_number (number p)) p
-space (S.NamedFlags names) p = value_space (is_number p) (named_flags names (number p)) p
-space S.BigEndianFlags p = value_space (is_number p) (hex_number (big_endian p)) p
-space S.FlagsBySize p = other_space (length p == 4) (length p == 2) (hex_number (number p)) (hex_number (big_endian p)) p
-space S.Truth p = refl
-space S.Presence p = record {}
 space S.OptionalByte p = optional_space p
-space S.Text p = refl
-space S.Bytes p = bytes_space p
-space S.HardwareAddress p = hardware_space p
-space S.Address p = other_space (length p == 4) (length p == 16) (ipv4_text p) (ipv6_text (segments_of p)) p
-space S.PortRange p = value_space (length p == 4) (decimal (big_endian (take 2 p)) ++ 32 ∷ decimal (big_endian (drop 2 p))) p
-space S.FlagsAndMask p = value_space (length p == 8) (hex_number (number (take 4 p)) ++ (codes " mask " ++ hex_number (number (drop 4 p)))) p
-space (S.Record fields) p = record_space false fields p
-space (S.SparseRecord fields) p = record_space true fields p
+space shown p = search spaces
 
 pub values_stand : ValuesStandOnALine
 values_stand = record { line = line; space = space }

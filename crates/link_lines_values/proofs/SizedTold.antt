@@ -1,6 +1,6 @@
 -- Payloads of one size are told by their value.
 use Rattle.std.proofs.Common.{◌≡◌, ℕ, ◌+◌, ◌%◌, ◌^◌, ◌<◌, ◌≤◌, Bool, true, false, cond, List, [], ◌∷◌, ◌++◌, length, get_or, refl, sym, ap, ◌∙◌, arith}
-use Rattle.std.specs.Prelude.{◌==◌, codes, decimal, nat_lt, reverse}
+use Rattle.std.specs.Prelude.{◌==◌, codes, decimal, nat_lt}
 use Rattle.std.proofs.lemmas.Bool.{eqb-true, ltb-true}
 use Rattle.std.proofs.lemmas.Fmt.{decimal_is_IsNumeral}
 use Rattle.std.proofs.lemmas.Str.Parse.{digit_at}
@@ -8,31 +8,27 @@ use Rattle.netlink_packet_core_grammar.specs.Bytes.{AreBytes}
 use Rattle.attribute_tables_grammar.specs.Shapes.{number}
 use Rattle.link_lines_values.specs.declared.values.ShownBy.TheVariants as V
 use Rattle.link_lines_values.specs.Digits.{big_endian, is_number, signed_text}
-use Rattle.link_lines_values.specs.Laws.{BytesAreTold, NumbersAreTold, SettingsAreTold, SizedValuesAreTold}
+use Rattle.link_lines_values.specs.Laws.{SizedValuesAreTold}
 use Rattle.link_lines_values.specs.Names.{named_number}
 use Rattle.link_lines_values.specs.Records.{is_size}
 use Rattle.link_lines_values.specs.Values.{Shown, tells_sized, value_text}
-use Rattle.link_lines_values.proofs.NumbersTold.{small, turned, turned_size}
-
-pub record ValueLaws : Type 0 where
-  pub bytes : BytesAreTold
-  pub numbers : NumbersAreTold
-  pub settings : SettingsAreTold
+use Rattle.link_lines_values.proofs.NumbersTold.{highest_first, lowest_first, numbers_told, sized}
+use Rattle.link_lines_values.proofs.BytesTold.{bytes_told}
+use Rattle.link_lines_values.proofs.ValuesTold.{settings_told}
 
 none_are : (p : List ℕ) → length p ≡ 0 → [] ≡ p
 none_are [] h = refl
 none_are (x ∷ p) h = absurd (omega arith)
 
-module _ (laws : ValueLaws) where
-  value_told : (n : ℕ) (v : Shown) (p q : List ℕ) → tells_sized n v ≡ true → AreBytes p → AreBytes q → length p ≡ n → length q ≡ n → value_text v p ≡ value_text v q → p ≡ q
-  value_told n (V.Number numbers) p q h a b k l e = laws.numbers.little numbers p q a b (k ∙ sym l) (ap is_size k ∙ h) e
-  value_told n (V.BigEndian numbers) p q h a b k l e = laws.numbers.big numbers p q a b (k ∙ sym l) (ap is_size k ∙ h) e
-  value_told n V.Signed p q h a b k l e = laws.numbers.signed p q a b (k ∙ eqb-true n 4 h) (l ∙ eqb-true n 4 h) e
-  value_told n V.Flags p q h a b k l e = laws.numbers.flags p q a b (k ∙ sym l) (ap is_size k ∙ h) e
-  value_told n V.Presence p q h a b k l e = sym (none_are p (k ∙ eqb-true n 0 h)) ∙ none_are q (l ∙ eqb-true n 0 h)
-  value_told n V.HardwareAddress p q h a b k l e = laws.bytes.hardware p q a b e
-  value_told n V.FlagsAndMask p q h a b k l e = laws.settings.masked p q a b (k ∙ eqb-true n 8 h) (l ∙ eqb-true n 8 h) e
-  value_told n v p q h a b k l e = absurd cc
+value_told : (n : ℕ) (v : Shown) (p q : List ℕ) → tells_sized n v ≡ true → AreBytes p → AreBytes q → length p ≡ n → length q ≡ n → value_text v p ≡ value_text v q → p ≡ q
+value_told n (V.Number numbers) p q h a b k l e = numbers_told.little numbers p q a b (k ∙ sym l) (ap is_size k ∙ h) e
+value_told n (V.BigEndian numbers) p q h a b k l e = numbers_told.big numbers p q a b (k ∙ sym l) (ap is_size k ∙ h) e
+value_told n V.Signed p q h a b k l e = numbers_told.signed p q a b (k ∙ eqb-true n 4 h) (l ∙ eqb-true n 4 h) e
+value_told n V.Flags p q h a b k l e = numbers_told.flags p q a b (k ∙ sym l) (ap is_size k ∙ h) e
+value_told n V.Presence p q h a b k l e = sym (none_are p (k ∙ eqb-true n 0 h)) ∙ none_are q (l ∙ eqb-true n 0 h)
+value_told n V.HardwareAddress p q h a b k l e = bytes_told.hardware p q a b e
+value_told n V.FlagsAndMask p q h a b k l e = settings_told.masked p q a b (k ∙ eqb-true n 8 h) (l ∙ eqb-true n 8 h) e
+value_told n v p q h a b k l e = absurd cc
 
 -- ---- no value begins as the word for bytes does
 
@@ -80,11 +76,11 @@ no_hardware (b ∷ p) s e = other_third _ 121 (glyph_by (nat_lt (b % 16) 10) (b 
 no_word : (n : ℕ) (v : Shown) (p s : List ℕ) → tells_sized n v ≡ true → AreBytes p → length p ≡ n → value_text v p ≡ codes " bytes" ++ s → ⊥
 no_word n (V.Number numbers) p s h a k e =
     let size = ap is_size k ∙ h in
-    low_second _ s (chosen_low (is_number p) (32 ∷ named_number numbers (number p)) _ 1 size (digits_low (number p) _ (small p a size))) e
+    low_second _ s (chosen_low (is_number p) (32 ∷ named_number numbers (number p)) _ 1 size (digits_low (number p) _ (lowest_first.small p a (sized (length p) size)))) e
 no_word n (V.BigEndian numbers) p s h a k e =
     let size = ap is_size k ∙ h in
     low_second _ s (chosen_low (is_number p) (32 ∷ named_number numbers (big_endian p)) _ 1 size
-    (digits_low (big_endian p) _ (small (reverse p) (turned p a) (turned_size p size)))) e
+    (digits_low (big_endian p) _ (highest_first.small p a (sized (length p) size)))) e
 no_word n V.Signed p s h a k e = low_second _ s (chosen_low (length p == 4) (32 ∷ signed_text (number p)) _ 1 (ap (λ m. m == 4) k ∙ h) (signed_low (number p))) e
 no_word n V.Flags p s h a k e = low_second _ s (chosen_low (is_number p) (32 ∷ _) _ 1 (ap is_size k ∙ h) (omega arith)) e
 no_word n V.Presence p s h a k e = absurd cc
@@ -92,5 +88,5 @@ no_word n V.HardwareAddress p s h a k e = no_hardware p s e
 no_word n V.FlagsAndMask p s h a k e = low_second _ s (chosen_low (length p == 8) (32 ∷ _) _ 1 (ap (λ m. m == 8) k ∙ h) (omega arith)) e
 no_word n v p s h a k e = absurd cc
 
-pub sized_told : ValueLaws → SizedValuesAreTold
-sized_told laws = record { told = value_told laws; apart = no_word }
+pub sized_told : SizedValuesAreTold
+sized_told = record { told = value_told; apart = no_word }

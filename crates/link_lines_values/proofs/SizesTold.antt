@@ -1,6 +1,5 @@
 -- No address of 4 bytes has the text of one of 16.
-use Rattle.std.proofs.Common.{◌≡◌, ℕ, List, ◌∷◌, length, drop, sym, ap, subst, eq-eqb}
-use Rattle.std.specs.Prelude.{◌==◌, Bool, true, false, cond}
+use Rattle.std.proofs.Common.{◌≡◌, ℕ, List, length, drop, sym, ap, subst}
 use Rattle.std.specs.Net.Addr.{segments_of}
 use Rattle.std.specs.Net.Text.{ipv4_text, ipv6_text}
 use Rattle.std.specs.Net.Grammar.{IsColonHex}
@@ -16,15 +15,5 @@ texts_apart p q a b l k e =
     let hex : IsColonHex (ipv6_text (segments_of q)) (segments_of q) = IsColonHex-ipv6_text (segments_of q) (segments_size 8 q k) (segments_at q b) in
     IsDotted-not_colon_hex (ipv4_text p) p (segments_of q) (IsDotted-ipv4_text p l (bytes_at p a)) (subst (λ t. IsColonHex t (segments_of q)) (sym e) hex)
 
--- the texts that are shown of the two sizes
-shown_of : (a b c : Bool) (x y s t u : List ℕ) → a ≡ true → b ≡ false → c ≡ true → cond a x s ≡ cond b t (cond c y u) → x ≡ y
-shown_of true false true x y s t u h i j e = e
-shown_of true false false x y s t u h i j e = absurd cc
-shown_of true true c x y s t u h i j e = absurd cc
-shown_of false b c x y s t u h i j e = absurd cc
-
 pub sizes_told : AddressSizesAreTold
-sizes_told p q a b l k e =
-    let shown = shown_of (length p == 4) (length q == 4) (length q == 16) (32 ∷ ipv4_text p) (32 ∷ ipv6_text (segments_of q)) _ _ _
-    (eq-eqb _ 4 l) (ap (λ n. n == 4) k) (eq-eqb _ 16 k) e in
-    texts_apart p q a b l k (ap (drop 1) shown)
+sizes_told p q a b l k e = texts_apart p q a b l k (ap (drop 1) (rw (l, k) at e))

@@ -1,6 +1,7 @@
 -- The bytes without the zeros at the end, counted from the first on.
 use Rattle.std.proofs.Common.{◌≡◌, ◌≢◌, ℕ, ◌+◌, ◌&&◌, Bool, true, false, cond, List, [], ◌∷◌, refl, ap, sym, ◌∙◌, zero-add, add_assoc, eq-eqb, ne_eqb, ◌<◌, length, drop, get_or, drop-cons, add-one, arith}
 use Rattle.std.specs.Prelude.{◌*◌, ◌==◌}
+use Rattle.std.proofs.lemmas.Bool.{eqb-true}
 use Rattle.std.proofs.lemmas.Bool.Decides.{nat_tests}
 use Rattle.attribute_tables_grammar.specs.Shapes.{number}
 use Rattle.link_lines_values.specs.Bytes.{is_zero, count_without_zeros}
@@ -17,7 +18,7 @@ pub counted_all : (bytes : List ℕ) → counted 0 0 bytes ≡ count_without_zer
 counted_all [] = refl
 counted_all (b ∷ bytes) = none (is_zero (b ∷ bytes)) (1 + count_without_zeros bytes)
 
-all_zero : (bytes : List ℕ) → is_zero bytes ≡ true → count_without_zeros bytes ≡ 0
+pub all_zero : (bytes : List ℕ) → is_zero bytes ≡ true → count_without_zeros bytes ≡ 0
 all_zero [] h = refl
 all_zero (b ∷ bytes) h = ap (λ z. cond z 0 (1 + count_without_zeros bytes)) h
 
@@ -56,3 +57,6 @@ zero_by b n t h = grind (arith, nat_tests)
 pub zero_by_number : (p : List ℕ) → (number p == 0) ≡ is_zero p
 zero_by_number [] = refl
 zero_by_number (b ∷ p) = zero_by b (number p) (is_zero p) (zero_by_number p)
+
+pub zero_number : (p : List ℕ) → is_zero p ≡ true → number p ≡ 0
+zero_number p h = eqb-true (number p) 0 (zero_by_number p ∙ h)

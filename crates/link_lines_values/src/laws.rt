@@ -1,4 +1,5 @@
 //! Laws of the definitions: each function does nothing, and what it states holds of all values.
+#![tactic(auto, using(crate::proofs::Together::laws))]
 
 ghost use Rattle.link_lines_values.specs.Laws.{AddressesAreTold, AddressSizesAreTold, BytesAreTold, DigitsAreTold};
 ghost use Rattle.link_lines_values.specs.Laws.{NumbersAreTold, RecordsAreTold, SettingsAreTold, SizedValuesAreTold};
@@ -49,8 +50,4 @@ pub fn values_stand_on_a_line()
 /// the word `bytes`.
 pub fn sized_values_are_told()
     ensures { SizedValuesAreTold }
-{
-    bytes_are_told();
-    numbers_are_told();
-    settings_are_told();
-}
+{}

@@ -1,11 +1,9 @@
-use Rattle.std.proofs.Common.{◌≡◌, List, ℕ, ◌++◌, codes, ap, ◌∙◌, append_assoc}
+use Rattle.std.proofs.Common.{codes}
 use Rattle.std.proofs.lemmas.Result.{on_ok_weaker}
 use Rattle.link_lines_values.specs.Bytes.{bytes_text}
 use Rattle.link_lines_values.specs.Digits.{four_digits}
+use Rattle.link_lines_names.proofs.Words.{three_parts}
 use Rattle.link_lines_names.proofs.raw.push_unnamed.Goals as goal
-
-three_parts : (o a b d x y z : List ℕ) → x ≡ o ++ a → y ≡ x ++ b → z ≡ y ++ d → z ≡ o ++ (a ++ (b ++ d))
-three_parts o a b d x y z e f g = g ∙ ap (λ v. v ++ d) (f ∙ ap (λ v. v ++ b) e) ∙ append_assoc (o ++ a) b d ∙ append_assoc o a (b ++ d)
 
 pub returns : goal.returns
 returns c = record {

@@ -1,13 +1,11 @@
 -- When payloads of a shape mean the same, as the code compares them.
-use Rattle.std.proofs.Common.{◌≡◌, ℕ, zero, suc, ◌+◌, ◌-◌, ◌≤◌, ◌++◌, Bool, true, false, cond, List, [], ◌∷◌, length, take, drop, map, min, ◌⊎◌, inl, inr, refl, sym, ap, ◌∙◌, append_assoc, arith}
-use Rattle.std.specs.Prelude.{◌==◌, ◌&&◌, ◌*◌, bytes_eq, get_or, not}
+use Rattle.std.proofs.Common.{◌≡◌, ℕ, zero, suc, ◌+◌, ◌-◌, ◌≤◌, ◌++◌, Bool, true, false, List, [], ◌∷◌, length, take, drop, map, min, refl, sym, ap, ◌∙◌, arith}
+use Rattle.std.specs.Prelude.{◌==◌, ◌&&◌, ◌*◌, bytes_eq, not}
 use mir.Val.{bool_byte}
 use Rattle.std.proofs.Math.Bool.{beq, and_assoc, and-true}
-use Rattle.std.proofs.lemmas.Bool.{ne_eqb, eq-eqb, eqb-true}
+use Rattle.std.proofs.lemmas.Bool.{ne_eqb, eq-eqb}
 use Rattle.std.proofs.lemmas.Bool.Decides.{same_from_decides, nat_tests}
-use Rattle.std.proofs.lemmas.List.{take-append-drop, take-append-le, drop-append-le, length-drop, length-take, take_rest, take-replicate}
-use Rattle.std.proofs.Math.ListN.{drop_of_length-le}
-use Rattle.std.proofs.Math.Seq.{drop-append_seam}
+use Rattle.std.proofs.lemmas.List.{take-append-drop, length-drop, length-take, take_rest, take-replicate}
 use Rattle.std.proofs.lemmas.Slice.Eq.{bytes_eq-Decides}
 use Rattle.netlink_packet_core_grammar.specs.Attributes.{zeros}
 use Rattle.netlink_packet_core_grammar.specs.Truths.{truth_of}
@@ -46,7 +44,7 @@ cut_truth p a x e h =
     h ∙ ap (λ a. take 4 (take (length p - length a) (drop (length a) p))) e
     ∙ ap (take 4) (take_rest p (length (take 4 p)) ∙ after_four p)
 
-behind_same : (a x y : List ℕ) → bytes_eq x y ≡ bytes_eq (a ++ x) (a ++ y)
+pub behind_same : (a x y : List ℕ) → bytes_eq x y ≡ bytes_eq (a ++ x) (a ++ y)
 behind_same [] x y = refl
 behind_same (b ∷ a) x y = behind_same a x y ∙ simp (eq-eqb b b refl)
 

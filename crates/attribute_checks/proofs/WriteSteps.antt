@@ -9,7 +9,7 @@ use Rattle.attribute_tables_grammar.specs.Walks.{IsWalked}
 use Rattle.attribute_tables_grammar.specs.Writing.{IsWritable}
 use Rattle.attribute_tables_grammar.specs.Laws.{MeasuresTellRules}
 use Rattle.attribute_checks.specs.declared.rows.Form.{Form}
-use Rattle.attribute_checks.specs.declared.rows.Form.TheVariants.{Any, NonEmpty, OfKindOne, Ports, FirstAlone}
+use Rattle.attribute_checks.specs.declared.rows.Form.TheVariants.{Any, OfKindOne, FirstAlone}
 use Rattle.attribute_checks.specs.Rows.{form_of}
 
 -- where the row's rule is known by another name, and there is more room

@@ -1,5 +1,5 @@
 -- The constant rows are the tables, and the constant names those of kinds and port kinds.
-use Rattle.std.proofs.Common.{◌≡◌, ℕ, true, List, [], ◌∷◌, get_or, map, refl}
+use Rattle.std.proofs.Common.{◌≡◌, ℕ, true, List, [], get_or, map, refl}
 use Rattle.attribute_tables_grammar.specs.Shapes.{raw}
 use Rattle.attribute_tables_grammar.specs.Tables.{Payload.plain, Table.end, rows_bounded}
 use Rattle.attribute_checks.specs.declared.rows.Row.{Row}

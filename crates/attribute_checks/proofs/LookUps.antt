@@ -1,5 +1,5 @@
 -- The row that is found is the line of the table that the rows build.
-use Rattle.std.proofs.Common.{◌≡◌, ℕ, zero, suc, ◌+◌, ◌-◌, ◌<◌, ◌≤◌, Bool, true, List, [], ◌∷◌, length, get_or, Bor, Option, None, refl, sym, ap, ◌∙◌, arith}
+use Rattle.std.proofs.Common.{◌≡◌, ℕ, zero, suc, ◌+◌, ◌-◌, ◌<◌, ◌≤◌, Bool, true, List, [], ◌∷◌, length, get_or, Option, None, refl, sym, ap, ◌∙◌, arith}
 use Rattle.std.specs.Prelude.{◌&&◌, ◌==◌}
 use Rattle.std.specs.List.{list_all}
 use Rattle.std.proofs.lemmas.Bool.{and_parts, eqb-true, eq-eqb, ne_eqb, ltb-true}
@@ -7,7 +7,7 @@ use Rattle.attribute_tables_grammar.specs.LookUps.{line_at, payload_rule, rows_r
 use Rattle.attribute_tables_grammar.specs.Rules.{Rule}
 use Rattle.attribute_tables_grammar.specs.Lists.{list_rule}
 use Rattle.attribute_tables_grammar.specs.Peers.{Peer}
-use Rattle.attribute_tables_grammar.specs.Tables.{Payload, Table, Table.end}
+use Rattle.attribute_tables_grammar.specs.Tables.{Payload, Table}
 use Rattle.attribute_tables_grammar.specs.Laws.{RowsAreLookedUp}
 use Rattle.attribute_tables_grammar.specs.Walks.{Measure, measure}
 use Rattle.attribute_checks.specs.declared.rows.Row.{Row}
@@ -15,7 +15,7 @@ use Rattle.attribute_checks.specs.declared.rows.Row.TheVariants.{Listed, Unliste
 use Rattle.attribute_checks.specs.declared.rows.Held.{Held}
 use Rattle.attribute_checks.specs.declared.rows.Held.TheVariants.{List as HeldList}
 use Rattle.attribute_checks.specs.declared.rows.Form.{Form}
-use Rattle.attribute_checks.specs.Rows.{form_of, kind_of, stand_from, are_dense, are_known, is_known, is_below, build, line_of, payload_of, lists_of, tables_of}
+use Rattle.attribute_checks.specs.Rows.{form_of, kind_of, stand_from, are_dense, are_known, is_known, is_below, build, line_of, payload_of}
 use Rattle.attribute_checks.specs.Measures.{rows_of}
 
 module _ (tables : ℕ → Table) (info : Payload) where
@@ -63,17 +63,6 @@ pub known_at : (n : ℕ) (rs : List Row) (j : ℕ) (d : Row) → are_known n rs 
 known_at n [] j d h l = absurd (omega arith)
 known_at n (r ∷ rs) zero d h l = (and_parts (is_known n r) (are_known n rs) h).0
 known_at n (r ∷ rs) (suc j) d h l = known_at n rs j d (and_parts (is_known n r) (are_known n rs) h).1 (omega (arith, l))
-
--- rows that stand one after another, by number
-pub list_at : (bs : List (Bor (List Row))) (n : ℕ) (d : Bor (List Row)) → n < length bs → (get_or bs n d).now ≡ get_or (lists_of bs) n []
-list_at [] n d l = absurd (omega arith)
-list_at (b ∷ bs) zero d l = refl
-list_at (b ∷ bs) (suc n) d l = list_at bs n d (omega (arith, l))
-
-pub built_at : (tables : ℕ → Table) (info : Payload) (lists : List (List Row)) (n : ℕ) → build tables info (get_or lists n []) ≡ get_or (tables_of tables info lists) n end
-built_at tables info [] n = refl
-built_at tables info (rs ∷ lists) zero = refl
-built_at tables info (rs ∷ lists) (suc n) = built_at tables info lists n
 
 -- what holds of each list, and of none, holds of one by number
 pub all_at : {A : Type 0} (f : A → Bool) (xs : List A) (n : ℕ) (d : A) → list_all f xs ≡ true → f d ≡ true → f (get_or xs n d) ≡ true

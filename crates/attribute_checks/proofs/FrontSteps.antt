@@ -1,9 +1,9 @@
 -- How far from its front a list is its own text, attribute by attribute.
 use Rattle.std.proofs.Common.{◌≡◌, ℕ, ◌+◌, ◌-◌, ◌≤◌, ◌++◌, Bool, true, false, cond, List, [], ◌∷◌, length, take, drop, Option, Some, None, refl, sym, ap, ◌∙◌, append_assoc, arith}
 use Rattle.std.specs.Prelude.{◌&&◌, nat_le, option_map}
-use Rattle.std.proofs.lemmas.Bool.{and_parts}
+use Rattle.std.proofs.lemmas.Bool.{and_parts, cond_both, false≢true}
 use Rattle.std.proofs.lemmas.List.{length-append, take-append-drop, take_at}
-use Rattle.std.proofs.Math.Seq.{drop-append_seam}
+use Rattle.std.proofs.lemmas.List.Prefix.{front_rest}
 use Rattle.netlink_packet_core_grammar.specs.Attributes.{Attribute, attribute_text, list_text, first_attribute, attributes_of}
 use Rattle.netlink_packet_core_grammar.proofs.FirstAttribute.{attributes_step}
 use Rattle.attribute_tables_grammar.specs.Rules.{Rule}
@@ -18,7 +18,7 @@ module _ (f : ℕ → Row) where
   behind_by : (e : Attribute) (bytes after : List ℕ) (o : Option (List Attribute)) → attributes_of after ≡ o → attributes_of bytes ≡ option_map (λ es. e ∷ es) o
       → rule.accepted bytes ≡ true → rule.fits bytes ≡ true → GoesOn rule bytes (attribute_text (rewrite (row_at f e) e)) after
   unfolding all_accepted all_fit rewritten list_text
-  behind_by e bytes after None a s x h = absurd (let y : false ≡ true = sym (ap (if_read false (all_accepted (without_context f) nothing)) s) ∙ x in cc)
+  behind_by e bytes after None a s x h = absurd (false≢true (sym (ap (if_read false (all_accepted (without_context f) nothing)) s) ∙ x))
   behind_by e bytes after (Some es) a s x h =
       let g = without_context f in
       let r = row_at f e in
@@ -56,7 +56,7 @@ module _ (f : ℕ → Row) where
   place_behind bytes rest n e after s =
       let front = take n bytes ++ attribute_text e in
       let w = whole bytes rest n e after s in
-      ap (λ k. drop k bytes) (sym (seam front after bytes w)) ∙ ap (drop (length front)) w ∙ drop-append_seam front after
+      ap (λ k. drop k bytes) (sym (seam front after bytes w)) ∙ front_rest bytes front after w
 
   further : (bytes rest : List ℕ) (n : ℕ) (e : Attribute) (after : List ℕ) → first_attribute rest ≡ Some (e, after) → IsOwnStep bytes rest n e after → IsOwnFront rule bytes n → IsOwnFront rule bytes (length bytes - length after)
   further bytes rest n e after h s o =
@@ -73,18 +73,13 @@ module _ (f : ℕ → Row) where
             record {
               accepted = ap rule.accepted left ∙ d.accepted;
               fits = ap rule.fits left ∙ d.fits;
-              text =
-                  b.text ∙ ap (λ x. take n bytes ++ rule.canonical x) s.place
-                  ∙ ap (λ x. take n bytes ++ x) (d.text ∙ ap (λ a. attribute_text a ++ rule.canonical after) is)
-                  ∙ sym (append_assoc (take n bytes) (attribute_text e) (rule.canonical after))
-                  ∙ (λ i. sym at i ++ rule.canonical (sym left i));
+              text = cc (append_assoc (take n bytes) (attribute_text e) (rule.canonical after));
             };
       }
 
   -- it goes on as long as all is its own text; so many bytes are left behind it
   pub front_step : (bytes rest : List ℕ) (left : ℕ) (e : Attribute) (after : List ℕ) (b : Bool) → first_attribute rest ≡ Some (e, after) → (b ≡ true → IsOwnStep bytes rest (length bytes - left) e after) → IsOwnFront rule bytes (length bytes - left) → IsOwnFront rule bytes (length bytes - cond b (length after) left)
-  front_step bytes rest left e after true h s o = further bytes rest (length bytes - left) e after h (s refl) o
-  front_step bytes rest left e after false h s o = o
+  front_step bytes rest left e after b h s o = cond_both b (length after) left (λ n. IsOwnFront rule bytes (length bytes - n)) (λ is. further bytes rest (length bytes - left) e after h (s is) o) (λ _. o)
 
   pub place_step : (bytes rest : List ℕ) (left : ℕ) (e : Attribute) (after : List ℕ) (b : Bool) → (b ≡ true → IsOwnStep bytes rest (length bytes - left) e after) → b ≡ true → drop (length bytes - cond b (length after) left) bytes ≡ after
   place_step bytes rest left e after true s h = place_behind bytes rest (length bytes - left) e after (s refl)
@@ -92,5 +87,4 @@ module _ (f : ℕ → Row) where
 
 -- no more is left than there was
 pub left_step : (whole rest left : ℕ) (b : Bool) → rest ≤ whole → left ≤ whole → cond b rest left ≤ whole
-left_step whole rest left true r l = r
-left_step whole rest left false r l = l
+left_step whole rest left b r l = cond_both b rest left (λ n. n ≤ whole) (λ _. r) (λ _. l)

@@ -1,5 +1,6 @@
 -- Padding, names, and what is in force, as the code finds them.
 use Rattle.std.proofs.Common.{◌≡◌, ℕ, zero, suc, ◌-◌, ◌<◌, ◌++◌, List, [], ◌∷◌, length, take, drop, Option, Some, refl, sym, ap, ◌∙◌, arith}
+use Rattle.std.proofs.lemmas.List.{take-replicate}
 use Rattle.netlink_packet_core_grammar.specs.Attributes.{nla_align, zeros, Attribute}
 use Rattle.netlink_packet_core_grammar.specs.AttributeViews.{viewed_length, viewed_attribute, after_first}
 use Rattle.netlink_packet_core_grammar.specs.Texts.{without_nul}
@@ -12,15 +13,8 @@ viewed_at bytes rest r o h =
     ∙ ap (λ n. Some (record { kind = kind_at bytes; payload = take (n - 4) (drop 4 bytes) }, drop (nla_align n) bytes)) (length_sum bytes)
     ∙ ap (λ x. Some (record { kind = kind_at bytes; payload = take (length_at bytes - 4) (drop 4 bytes) }, x)) (sym r)
 
-zeros_three : (n : ℕ) → n < 4 → take n (0 ∷ 0 ∷ 0 ∷ []) ≡ zeros n
-zeros_three zero h = refl
-zeros_three (suc zero) h = refl
-zeros_three (suc (suc zero)) h = refl
-zeros_three (suc (suc (suc zero))) h = refl
-zeros_three (suc (suc (suc (suc n)))) h = absurd (omega arith)
-
 pub padded : (xs : List ℕ) (p q n : ℕ) → p ≡ n → q ≡ n → n < 4 → take p xs ≡ take q (0 ∷ 0 ∷ 0 ∷ []) → take n xs ≡ zeros n
-padded xs p q n e f l h = ap (λ k. take k xs) (sym e) ∙ h ∙ ap (λ k. take k (0 ∷ 0 ∷ 0 ∷ [])) f ∙ zeros_three n l
+padded xs p q n e f l h = ap (λ k. take k xs) (sym e) ∙ h ∙ ap (λ k. take k (0 ∷ 0 ∷ 0 ∷ [])) f ∙ take-replicate n 3 0 (omega arith)
 
 -- a name with a NUL behind it is its own text
 pub own_name : (p : List ℕ) → length (without_nul p) < length p → without_nul p ++ 0 ∷ [] ≡ p

@@ -1,60 +1,33 @@
 -- When payloads of a shape mean the same, as the code compares them.
-use Rattle.std.proofs.Common.{◌≡◌, ℕ, zero, suc, ◌+◌, ◌-◌, ◌≤◌, ◌++◌, Bool, true, false, cond, List, [], ◌∷◌, length, take, drop, map, min, ◌⊎◌, inl, inr, refl, sym, ap, ◌∙◌, append_assoc, arith}
-use Rattle.std.specs.Prelude.{◌==◌, bytes_eq, get_or, not}
+use Rattle.std.proofs.Common.{◌≡◌, ℕ, zero, suc, ◌+◌, ◌-◌, ◌≤◌, ◌++◌, Bool, true, false, List, [], ◌∷◌, length, take, drop, map, min, refl, sym, ap, ◌∙◌, arith}
+use Rattle.std.specs.Prelude.{◌==◌, ◌&&◌, ◌*◌, bytes_eq, not}
 use mir.Val.{bool_byte}
-use Rattle.std.proofs.Math.Bool.{beq}
-use Rattle.std.proofs.lemmas.Bool.{ne_eqb, eq-eqb, eqb-true}
-use Rattle.std.proofs.lemmas.Bool.Decides.{leb_tells}
-use Rattle.std.proofs.lemmas.List.{take-append-drop, take-append-le, drop-append-le, length-drop, take_rest, take-replicate, replicate-append-replicate}
-use Rattle.std.proofs.Math.ListN.{drop_of_length-le}
-use Rattle.std.proofs.Math.Seq.{drop-append_seam}
+use Rattle.std.proofs.Math.Bool.{beq, and_assoc, and-true}
+use Rattle.std.proofs.lemmas.Bool.{ne_eqb, eq-eqb}
+use Rattle.std.proofs.lemmas.Bool.Decides.{same_from_decides, nat_tests}
+use Rattle.std.proofs.lemmas.List.{take-append-drop, length-drop, length-take, take_rest, take-replicate}
 use Rattle.std.proofs.lemmas.Slice.Eq.{bytes_eq-Decides}
 use Rattle.netlink_packet_core_grammar.specs.Attributes.{zeros}
 use Rattle.netlink_packet_core_grammar.specs.Truths.{truth_of}
 use Rattle.attribute_tables_grammar.specs.Shapes.{number, number_truth}
 use Rattle.attribute_checks.specs.Sameness.{mark_of}
 
--- two tests that follow from one another answer alike
-alike : (a b : Bool) → (a ≡ true → b ≡ true) → (b ≡ true → a ≡ true) → a ≡ b
-alike true b f g = sym (f refl)
-alike false true f g = g refl
-alike false false f g = refl
-
-pub apart : true ≡ false → ⊥
-apart h = absurd cc
-
-no_by : (b : Bool) → (b ≡ true → ⊥) → false ≡ b
-no_by true f = absurd (f refl)
-no_by false f = refl
-
 -- ---- bytes that are zero or not
 
-flip : ℕ → ℕ
-flip zero = 1
-flip (suc n) = 0
+suc_not : (n : ℕ) → (suc n == 0) ≡ false
+suc_not n = ne_eqb (suc n) 0 (λ h. absurd (omega arith))
 
-mark_suc : (b : ℕ) → mark_of 0 (suc b) ≡ 0
-mark_suc b = ap (λ t. cond t 1 0) (ne_eqb (suc b) 0 (λ h. absurd (omega (arith, h))))
-
-marked : (p : List ℕ) → map flip (map truth_of p) ≡ map (mark_of 0) p
-unfolding flip
-marked [] = refl
-marked (zero ∷ p) = ap (λ x. 1 ∷ x) (marked p)
-marked (suc b ∷ p) = λ i. sym (mark_suc b) i ∷ marked p i
-
-unmarked : (p : List ℕ) → map flip (map (mark_of 0) p) ≡ map truth_of p
-unfolding flip
-unmarked [] = refl
-unmarked (zero ∷ p) = ap (λ x. 0 ∷ x) (unmarked p)
-unmarked (suc b ∷ p) = λ i. flip (mark_suc b i) ∷ unmarked p i
+same_truth : (a b : ℕ) → (mark_of 0 a == mark_of 0 b) ≡ (truth_of a == truth_of b)
+same_truth zero zero = refl
+same_truth zero (suc b) = simp suc_not
+same_truth (suc a) zero = simp suc_not
+same_truth (suc a) (suc b) = simp suc_not
 
 pub same_truths : (p q : List ℕ) → bytes_eq (map (mark_of 0) p) (map (mark_of 0) q) ≡ bytes_eq (map truth_of p) (map truth_of q)
-same_truths p q =
-    let m = bytes_eq-Decides (map (mark_of 0) p) (map (mark_of 0) q) in
-    let t = bytes_eq-Decides (map truth_of p) (map truth_of q) in
-    alike _ _
-    (λ h. t.1 (sym (unmarked p) ∙ ap (map flip) (m.0 h) ∙ unmarked q))
-    (λ h. m.1 (sym (marked p) ∙ ap (map flip) (t.0 h) ∙ marked q))
+same_truths [] [] = refl
+same_truths [] (b ∷ q) = refl
+same_truths (a ∷ p) [] = refl
+same_truths (a ∷ p) (b ∷ q) = λ i. same_truth a b i && same_truths p q i
 
 -- ---- 4 bytes and a truth
 
@@ -65,52 +38,27 @@ after_four (a ∷ b ∷ []) = refl
 after_four (a ∷ b ∷ c ∷ []) = refl
 after_four (a ∷ b ∷ c ∷ d ∷ p) = refl
 
-suc_not : (n : ℕ) → (suc n == 0) ≡ false
-suc_not n = ne_eqb (suc n) 0 (λ h. absurd (omega (arith, h)))
-
-truth_by : (m n : ℕ) → (m == 0) ≡ (n == 0) → truth_of m ≡ truth_of n
-truth_by zero zero h = refl
-truth_by zero (suc n) h = absurd (apart (h ∙ suc_not n))
-truth_by (suc m) zero h = absurd (apart (sym h ∙ suc_not m))
-truth_by (suc m) (suc n) h = refl
-
-zero_by : (m n : ℕ) → truth_of m ≡ truth_of n → (m == 0) ≡ (n == 0)
-zero_by zero zero h = refl
-zero_by zero (suc n) h = absurd (omega (arith, h))
-zero_by (suc m) zero h = absurd (omega (arith, h))
-zero_by (suc m) (suc n) h = suc_not m ∙ sym (suc_not n)
-
-beq-true : (r s : Bool) → beq r s ≡ true → r ≡ s
-beq-true true true h = refl
-beq-true true false h = absurd cc
-beq-true false true h = absurd cc
-beq-true false false h = refl
-
-eq-beq : (r s : Bool) → r ≡ s → beq r s ≡ true
-eq-beq true true h = refl
-eq-beq true false h = absurd (apart h)
-eq-beq false true h = absurd (apart (sym h))
-eq-beq false false h = refl
-
-truths_alike : (a b x y : List ℕ) → a ≡ b → bytes_eq (a ++ number_truth x) (b ++ number_truth y) ≡ true → (number x == 0) ≡ (number y == 0)
-truths_alike a b x y e h =
-    let same : number_truth x ≡ number_truth y = sym (drop-append_seam a (number_truth x)) ∙ ap (drop (length a)) ((bytes_eq-Decides _ _).0 h) ∙ ap (λ z. drop (length z) (b ++ number_truth y)) e ∙ drop-append_seam b (number_truth y) in
-    zero_by (number x) (number y) (ap (λ v. get_or v 0 0) same)
-
-alike_truths : (a b x y : List ℕ) → a ≡ b → (number x == 0) ≡ (number y == 0) → bytes_eq (a ++ number_truth x) (b ++ number_truth y) ≡ true
-alike_truths a b x y e h = (bytes_eq-Decides _ _).1 (λ i. e i ++ (truth_by (number x) (number y) h i ∷ 0 ∷ 0 ∷ 0 ∷ []))
-
 -- the payload's 4 bytes and the 4 behind them, as the code cuts them
 cut_truth : (p a x : List ℕ) → a ≡ take 4 p → x ≡ take 4 (take (length p - length a) (drop (length a) p)) → x ≡ take 4 (drop 4 p)
 cut_truth p a x e h =
     h ∙ ap (λ a. take 4 (take (length p - length a) (drop (length a) p))) e
     ∙ ap (take 4) (take_rest p (length (take 4 p)) ∙ after_four p)
 
+pub behind_same : (a x y : List ℕ) → bytes_eq x y ≡ bytes_eq (a ++ x) (a ++ y)
+behind_same [] x y = refl
+behind_same (b ∷ a) x y = behind_same a x y ∙ simp (eq-eqb b b refl)
+
+truths : (m n : ℕ) → beq (m == 0) (n == 0) ≡ bytes_eq (truth_of m ∷ 0 ∷ 0 ∷ 0 ∷ []) (truth_of n ∷ 0 ∷ 0 ∷ 0 ∷ [])
+truths zero zero = refl
+truths zero (suc n) = simp suc_not
+truths (suc m) zero = simp suc_not
+truths (suc m) (suc n) = simp suc_not
+
 pub same_after : (p q : List ℕ) (r s : Bool) (a b x y : List ℕ) → a ≡ take 4 p → b ≡ take 4 q →
     x ≡ take 4 (take (length p - length a) (drop (length a) p)) → y ≡ take 4 (take (length q - length b) (drop (length b) q)) → a ≡ b → r ≡ (number x == 0) → s ≡ (number y == 0) →
     beq r s ≡ bytes_eq (take 4 p ++ number_truth (take 4 (drop 4 p))) (take 4 q ++ number_truth (take 4 (drop 4 q)))
 same_after p q r s a b x y ea eb ex ey e z w =
-    alike _ _ (λ h. alike_truths a b x y e (sym z ∙ beq-true r s h ∙ w)) (λ h. eq-beq r s (z ∙ truths_alike a b x y e h ∙ sym w))
+    (λ i. beq (z i) (w i)) ∙ truths (number x) (number y) ∙ behind_same b (number_truth x) (number_truth y) ∙ ap (λ a. bytes_eq (a ++ number_truth x) (b ++ number_truth y)) (sym e)
     ∙ (λ i. bytes_eq (ea i ++ number_truth (cut_truth p a x ea ex i)) (eb i ++ number_truth (cut_truth q b y eb ey i)))
 
 -- ---- cut or filled up to a size
@@ -122,96 +70,57 @@ number_zero (b ∷ xs) h =
     let n : number xs ≡ 0 = omega (arith, h) in
     λ i. z i ∷ number_zero xs n i
 
-front_zero : (xs ys : List ℕ) (k : ℕ) → xs ++ ys ≡ zeros k → number xs ≡ 0
-front_zero [] ys k h = refl
-front_zero (x ∷ xs) ys zero h = absurd cc
-front_zero (x ∷ xs) ys (suc k) h =
-    let z : x ≡ 0 = ap (λ v. get_or v 0 0) h in
-    let n = front_zero xs ys k (ap (drop 1) h) in
-    omega (arith, z, n)
-
 pub pad_in : (n k : ℕ) (p : List ℕ) → n ≤ k → take n (p ++ zeros k) ≡ take n p ++ zeros (n - length (take n p))
 pad_in zero k p l = refl
 pad_in (suc n) k [] l = let e : suc n ≡ suc n - 0 = omega arith in take-replicate (suc n) k 0 l ∙ ap zeros e
 pad_in (suc n) k (x ∷ p) l = let e : n - length (take n p) ≡ suc n - suc (length (take n p)) = omega arith in ap (λ y. x ∷ y) (pad_in n k p (omega (arith, l))) ∙ ap (λ m. x ∷ take n p ++ zeros m) e
 
-cut_small : (n : ℕ) (p : List ℕ) → length (take n p) ≤ n
-cut_small zero p = omega arith
-cut_small (suc n) [] = omega arith
-cut_small (suc n) (x ∷ p) = omega (arith, cut_small n p)
+-- zeros, and bytes filled up with them
+times : (k : ℕ) → (k == 0) ≡ (0 + 256 * k == 0)
+times k = grind (arith, nat_tests)
 
--- what is zero behind a part of it, with zeros behind that
-filled : (n c : ℕ) (p : List ℕ) → c ≤ length p → length p ≤ n → number (drop c p) ≡ 0 → p ++ zeros (n - length p) ≡ take c p ++ zeros (n - c)
-filled n c p l m h =
-    let z : drop c p ≡ zeros (length p - c) = number_zero (drop c p) h ∙ ap zeros (length-drop c p) in
-    let k : (length p - c) + (n - length p) ≡ n - c = omega (arith, l, m) in
-    ap (λ x. x ++ zeros (n - length p)) (sym (take-append-drop c p) ∙ ap (λ x. take c p ++ x) z)
-    ∙ append_assoc (take c p) (zeros (length p - c)) (zeros (n - length p))
-    ∙ ap (λ x. take c p ++ x) (replicate-append-replicate (length p - c) (n - length p) 0 ∙ ap zeros k)
+filled : (i j : ℕ) (y : List ℕ) → i ≡ j + length y → bytes_eq (zeros i) (y ++ zeros j) ≡ (number y == 0)
+filled i j [] e = let f : i ≡ j = omega arith in (bytes_eq-Decides _ _).1 (ap zeros f)
+filled zero j (b ∷ y) e = absurd (omega arith)
+filled (suc i) j (zero ∷ y) e = filled i j y (omega arith) ∙ times (number y)
+filled (suc i) j (suc b ∷ y) e = ap (λ t. t && bytes_eq (zeros i) (y ++ zeros j)) (ne_eqb 0 (suc b) (λ h. absurd (omega arith))) ∙ sym (ne_eqb (number (suc b ∷ y)) 0 (λ h. absurd (omega arith)))
 
--- what is as long as another, or stands where the other's zeros do
-rest_zero : (c a b : ℕ) (p q : List ℕ) → c ≤ length p → (c ≡ length p) ⊎ (c ≡ length q) → p ++ zeros a ≡ q ++ zeros b → number (drop c p) ≡ 0
-rest_zero c a b p q l (inl e) h = ap number (drop_of_length-le p (omega (arith, e)))
-rest_zero c a b p q l (inr e) h = front_zero (drop c p) (zeros a) b (sym (drop-append-le c p (zeros a) l) ∙ ap (drop c) h ∙ ap (λ n. drop n (q ++ zeros b)) e ∙ drop-append_seam q (zeros b))
+other_way : (x y : List ℕ) → bytes_eq x y ≡ bytes_eq y x
+other_way x y = same_from_decides _ _ (bytes_eq-Decides x y) (let d = bytes_eq-Decides y x in (λ h. sym (d.0 h), λ h. d.1 (sym h)))
+
+-- two payloads filled up to one size are the same where they are as far as both go, and the rest is zero
+same_filled : (c i j : ℕ) (x y : List ℕ) → c ≡ min (length x) (length y) → i + length x ≡ j + length y →
+    (bytes_eq (take c x) (take c y) && ((number (drop c x) == 0) && (number (drop c y) == 0))) ≡ bytes_eq (x ++ zeros i) (y ++ zeros j)
+same_filled zero i j [] y h e = sym (filled i j y (omega arith))
+same_filled zero i j (a ∷ x) [] h e = and-true _ ∙ sym (filled j i (a ∷ x) (omega arith)) ∙ other_way (zeros j) ((a ∷ x) ++ zeros i)
+same_filled zero i j (a ∷ x) (b ∷ y) h e = absurd (omega arith)
+same_filled (suc c) i j [] y h e = absurd (omega arith)
+same_filled (suc c) i j (a ∷ x) [] h e = absurd (omega arith)
+same_filled (suc c) i j (a ∷ x) (b ∷ y) h e = and_assoc (a == b) _ _ ∙ ap (λ t. (a == b) && t) (same_filled c i j x y (omega arith) (omega arith))
 
 -- two payloads cut to n bytes, and the length that both have
 module _ (n c : ℕ) (p q x y : List ℕ) (ex : x ≡ take n p) (ey : y ≡ take n q) (ec : c ≡ min (length x) (length y)) where
   abbrev equal : Bool
   equal = bytes_eq (take n (p ++ zeros n)) (take n (q ++ zeros n))
 
+  abbrev is_rest_zero : List ℕ → Bool
+  is_rest_zero x = number (take (length x - c) (drop c x)) == 0
+
   pad : (p x : List ℕ) → x ≡ take n p → take n (p ++ zeros n) ≡ x ++ zeros (n - length x)
   pad p x e = pad_in n n p (omega arith) ∙ ap (λ x. x ++ zeros (n - length x)) (sym e)
 
-  small : (p x : List ℕ) → x ≡ take n p → length x ≤ n
-  small p x e = omega (arith, ap length e, cut_small n p)
+  told : (bytes_eq (take c x) (take c y) && (is_rest_zero x && is_rest_zero y)) ≡ equal
+  told =
+      (λ i. bytes_eq (take c x) (take c y) && ((number (take_rest x c i) == 0) && (number (take_rest y c i) == 0)))
+      ∙ same_filled c _ _ x y ec (let a = ap length ex ∙ length-take n p in let b = ap length ey ∙ length-take n q in omega arith)
+      ∙ (λ i. bytes_eq (sym (pad p x ex) i) (sym (pad q y ey) i))
 
-  in_left : c ≤ length x
-  in_left = omega (arith, ec)
-
-  in_right : c ≤ length y
-  in_right = omega (arith, ec)
-
-  one_of_both : (c ≡ length x) ⊎ (c ≡ length y)
-  one_of_both = by (length x) (length y) ec where
-    by : (a b : ℕ) → c ≡ min a b → (c ≡ a) ⊎ (c ≡ b)
-    by a b e = elim (leb_tells a b) [
-      | inl l ↦ let m = l.1 in inl (omega (arith, e, m))
-      | inr l ↦ let m = l.1 in inr (omega (arith, e, m))
-    ]
-
-  other_way : (c ≡ length x) ⊎ (c ≡ length y) → (c ≡ length y) ⊎ (c ≡ length x)
-  other_way (inl e) = inr e
-  other_way (inr e) = inl e
-
-  padded : equal ≡ true → x ++ zeros (n - length x) ≡ y ++ zeros (n - length y)
-  padded h = sym (pad p x ex) ∙ (bytes_eq-Decides _ _).0 h ∙ pad q y ey
-
-  left_zero : equal ≡ true → number (drop c x) ≡ 0
-  left_zero h = rest_zero c (n - length x) (n - length y) x y in_left one_of_both (padded h)
-
-  right_zero : equal ≡ true → number (drop c y) ≡ 0
-  right_zero h = rest_zero c (n - length y) (n - length x) y x in_right (other_way one_of_both) (sym (padded h))
-
-  same_front : equal ≡ true → take c x ≡ take c y
-  same_front h = sym (take-append-le c x (zeros (n - length x)) in_left) ∙ ap (take c) (padded h) ∙ take-append-le c y (zeros (n - length y)) in_right
-
-  if_zero : take c x ≡ take c y → number (drop c x) ≡ 0 → number (drop c y) ≡ 0 → equal ≡ true
-  if_zero t a b =
-      (bytes_eq-Decides _ _).1
-      (pad p x ex ∙ filled n c x in_left (small p x ex) a ∙ ap (λ x. x ++ zeros (n - c)) t ∙ sym (filled n c y in_right (small q y ey) b) ∙ sym (pad q y ey))
-
-  -- the fronts are the same and the left rest is zero: the right rest tells
-  pub by_right : bytes_eq (take c x) (take c y) ≡ true → (number (take (length x - c) (drop c x)) == 0) ≡ true → (number (take (length y - c) (drop c y)) == 0) ≡ equal
-  by_right t a =
-      let zx = ap number (sym (take_rest x c)) ∙ eqb-true _ _ a in
-      ap (λ z. number z == 0) (take_rest y c)
-      ∙ alike _ _ (λ b. if_zero ((bytes_eq-Decides _ _).0 t) zx (eqb-true _ _ b)) (λ h. eq-eqb _ _ (right_zero h))
-
-  pub by_left : (number (take (length x - c) (drop c x)) == 0) ≡ false → false ≡ equal
-  by_left a = no_by equal (λ h. apart (sym (eq-eqb _ _ (ap number (take_rest x c) ∙ left_zero h)) ∙ a))
+  -- the fronts are the same, and the left rest tells
+  pub by_rests : (b : Bool) → bytes_eq (take c x) (take c y) ≡ true → is_rest_zero x ≡ b → (b && is_rest_zero y) ≡ equal
+  by_rests b t a = (λ i. sym t i && (sym a i && is_rest_zero y)) ∙ told
 
   pub by_front : bytes_eq (take c x) (take c y) ≡ false → false ≡ equal
-  by_front t = no_by equal (λ h. apart (sym ((bytes_eq-Decides _ _).1 (same_front h)) ∙ t))
+  by_front t = ap (λ b. b && (is_rest_zero x && is_rest_zero y)) (sym t) ∙ told
 
 -- a byte that is one where a number isn't zero
 pub truth_byte : (n : ℕ) (b : Bool) → b ≡ (n == 0) → bool_byte (not b) ≡ truth_of n

@@ -9,7 +9,7 @@ use Rattle.attribute_tables_grammar.specs.Walks.{IsWalked}
 use Rattle.attribute_tables_grammar.specs.Writing.{IsWritable}
 use Rattle.attribute_tables_grammar.specs.Laws.{MeasuresTellRules}
 use Rattle.attribute_checks.specs.declared.rows.Form.{Form}
-use Rattle.attribute_checks.specs.declared.rows.Form.TheVariants.{Any, NonEmpty, OfKindOne, Ports, FirstAlone}
+use Rattle.attribute_checks.specs.declared.rows.Form.TheVariants.{Any, OfKindOne, FirstAlone}
 use Rattle.attribute_checks.specs.Rows.{form_of}
 
 -- where the row's rule is known by another name, and there is more room
@@ -25,7 +25,7 @@ writable_as r f p room more e l w =
 
 -- an accepted payload isn't refused
 pub not_refused : (r f : Rule) (p : List ℕ) (room : ℕ) → f ≡ r → IsWritable r p room → f.accepted p ≡ false → ⊥
-not_refused r f p room e w h = let x : true ≡ false = sym w.accepted ∙ sym (ap (λ r. r.accepted p) e) ∙ h in cc
+not_refused r f p room e w h = cc (ap (λ r. r.accepted p) e)
 
 -- a header over the four bytes in front of a payload, and padding behind it, are the attribute's text
 pub three_parts : (kind : ℕ) (text out a b c new : List ℕ) (start size : ℕ) → start ≡ length out → size ≡ length text → a ≡ out ++ 0 ∷ 0 ∷ 0 ∷ 0 ∷ [] → b ≡ a ++ text → c ≡ take start b ++ (attribute_header (4 + size) kind ++ drop (start + 4) b) → new ≡ c ++ zeros (nla_align (4 + size) - (4 + size)) → new ≡ out ++ attribute_text (record { kind = kind; payload = text })
@@ -50,8 +50,6 @@ rewritten_as row f e kind out new r k h = h ∙ (λ i. out ++ attribute_text (re
 pub walked_if : MeasuresTellRules → (form : Form) (g : Grammar) (bytes : List ℕ) → (form ≡ FirstAlone → ⊥) → (list_rule (form_of form) g).accepted bytes ≡ true → IsWalked (form_of form) bytes
 walked_if law Any g bytes n a = tt
 walked_if law OfKindOne g bytes n a = tt
-walked_if law NonEmpty g [] n a = let h = law.denies (list_rule (form_of NonEmpty) g) [] (law.no_bytes (form_of NonEmpty) g [] (omega arith) tt) in absurd (let x : true ≡ false = sym a ∙ h in cc)
-walked_if law NonEmpty g (b ∷ bytes) n a = omega arith
-walked_if law Ports g [] n a = let h = law.denies (list_rule (form_of Ports) g) [] (law.no_bytes (form_of Ports) g [] (omega arith) tt) in absurd (let x : true ≡ false = sym a ∙ h in cc)
-walked_if law Ports g (b ∷ bytes) n a = omega arith
 walked_if law FirstAlone g bytes n a = absurd (n refl)
+walked_if law form g [] n a = absurd (cc (a, law.denies (list_rule (form_of form) g) [] (law.no_bytes (form_of form) g [] refl tt)))
+walked_if law form g (b ∷ bytes) n a = omega arith

@@ -1,6 +1,6 @@
 -- What constant rows stand for.
 use Rattle.std.specs.Borrow.{Bor}
-use Rattle.std.specs.Prelude.{ℕ, suc, ◌==◌, ◌&&◌, nat_lt, Bool, true, List, [], ◌∷◌, Option, Some, None}
+use Rattle.std.specs.Prelude.{ℕ, suc, ◌==◌, ◌&&◌, nat_lt, Bool, true, List, [], ◌∷◌, map, Option, Some, None}
 use Rattle.attribute_tables_grammar.specs.Shapes as shapes
 use Rattle.attribute_tables_grammar.specs.Lists as lists
 use Rattle.attribute_tables_grammar.specs.LookUps.{Line}
@@ -83,10 +83,4 @@ are_known n (r ∷ rs) = is_known n r && are_known n rs
 
 -- the rows of tables that stand one after another
 abbrev pub lists_of : List (Bor (List Row)) → List (List Row)
-lists_of [] = []
-lists_of (b ∷ bs) = b.now ∷ lists_of bs
-
--- what one number after another names, as its rows build it
-abbrev pub tables_of : (ℕ → Table) → Payload → List (List Row) → List Table
-tables_of tables info [] = []
-tables_of tables info (rs ∷ lists) = build tables info rs ∷ tables_of tables info lists
+lists_of bs = map (λ b. b.now) bs

@@ -1,7 +1,8 @@
 //! One attribute in front of bytes.
 
-ghost use Rattle.std.specs.Prelude.{◌≡◌, ◌≤◌, ◌-◌, ◌+◌, ◌++◌, Some, true, length, take, drop, option_map};
-ghost use Rattle.netlink_packet_core_grammar.specs.Attributes.{first_attribute, Attribute, attribute_text, nla_align, zeros};
+ghost use Rattle.std.specs.Prelude.{◌≡◌, ◌≤◌, ◌-◌, ◌+◌, ◌++◌, Some, true, length, take, drop, option_map, IfSome};
+ghost use Rattle.netlink_packet_core_grammar.specs.Attributes.{first_attribute, attribute_text, nla_align, zeros};
+ghost use Rattle.attribute_checks.specs.Sameness.{attribute_of};
 
 use attribute_tables_grammar::laws::own_texts_go_by_steps;
 use netlink_packet_core_grammar::laws::{first_attributes_are_viewed, first_attributes_are_within};
@@ -19,10 +20,13 @@ pub struct Attribute<'a> {
 /// The attribute that begins the bytes, and what comes after its padding: length u16 and kind u16,
 /// lowest byte first, then the payload (netlink.h, struct nlattr).
 pub fn first_attribute(bytes: &[u8]) -> Option<(Attribute<'_>, &[u8])>
-    ensures { first_attribute bytes.now
-        ≡ option_map (λ r. (record { kind = r.0.kind; payload = r.0.payload.now }, r.1.now)) result }
+    ensures first { first_attribute bytes.now ≡ option_map (λ r. (attribute_of r.0, r.1.now)) result }
+    ensures within { IfSome result (λ r. 4 + length r.0.payload.now ≤ length bytes.now) }
+    ensures behind { IfSome result
+        (λ r. length r.1.now ≡ length bytes.now - nla_align (4 + length r.0.payload.now)) }
 {
     first_attributes_are_viewed();
+    first_attributes_are_within();
     if bytes.len() < 4 {
         return None;
     }
@@ -51,10 +55,8 @@ fn is_padded(bytes: &[u8], size: usize) -> bool
 
 /// Whether the attribute in front of bytes stands there as its own text.
 pub fn is_own_attribute(bytes: &[u8], attribute: Attribute<'_>, after: &[u8]) -> bool
-    requires { first_attribute bytes.now
-        ≡ Some (record { kind = attribute.kind; payload = attribute.payload.now }, after.now) }
-    ensures { result ≡ true → bytes.now ≡ attribute_text
-        (record { kind = attribute.entry.kind; payload = attribute.entry.payload.now }) ++ after.now }
+    requires { first_attribute bytes.now ≡ Some (attribute_of attribute, after.now) }
+    ensures { result ≡ true → bytes.now ≡ attribute_text (attribute_of attribute.entry) ++ after.now }
 {
     first_attributes_are_within();
     own_texts_go_by_steps();

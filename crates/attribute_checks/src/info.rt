@@ -26,7 +26,6 @@ use attribute_tables_grammar::laws::{
     attributes_are_compared, measures_go_by_steps, names_are_looked_up, own_texts_go_by_steps,
     sameness_goes_by_steps, texts_are_written_by_steps, what_is_kept_goes_by_steps,
 };
-use netlink_packet_core_grammar::laws::first_attributes_are_within;
 use netlink_packet_core_numbers::without_nul;
 
 /// What the data of a kind, and of a port kind, hold.
@@ -189,7 +188,6 @@ pub fn write_info<T: NameSet + WriteSet>(set: &T, bytes: &[u8], out: &mut Vec<u8
     ensures room { vec_capacity out.old ≤ vec_capacity out.new }
 {
     texts_are_written_by_steps();
-    first_attributes_are_within();
     let mut rest = bytes;
     let mut force = InForce {
         kind: None,
@@ -257,7 +255,6 @@ pub fn same_info<T: NameSet>(set: &T, left: &[u8], right: &[u8]) -> bool
     what_is_kept_goes_by_steps();
     sameness_goes_by_steps();
     attributes_are_compared();
-    first_attributes_are_within();
     let mut rest = left;
     let mut other = right;
     let mut force = InForce {

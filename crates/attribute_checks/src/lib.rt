@@ -15,6 +15,7 @@ mod tables;
 mod write;
 mod write_shapes;
 
+pub use attribute::{Attribute, KIND_BOUND, first_attribute};
 pub use info::{NameSet, measure_info, same_info, write_info};
 pub use measure::{measure_held, walk_list};
 pub use names::{NameRow, held_by_name};

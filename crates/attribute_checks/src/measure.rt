@@ -6,6 +6,7 @@ ghost use Rattle.attribute_tables_grammar.specs.Walks.{measure, plus, with_heade
 ghost use Rattle.attribute_checks.specs.Rows.{is_below, form_of};
 ghost use Rattle.attribute_checks.specs.Fronts.{IsOwnFront};
 ghost use Rattle.attribute_checks.specs.Measures.{view, rows_of, held_rule, table_list};
+ghost use Rattle.attribute_checks.specs.Sameness.{attribute_of};
 
 use crate::attribute::{Attribute, KIND_BOUND, first_attribute, is_own_attribute};
 use crate::rows::{Form, Held};
@@ -14,12 +15,10 @@ use crate::tables::{TableSet, find};
 use attribute_tables_grammar::laws::{
     measures_go_by_steps, measures_tell_rules, own_texts_go_by_steps, rows_are_looked_up,
 };
-use netlink_packet_core_grammar::laws::first_attributes_are_within;
 
 /// Whether a list of this form keeps an attribute.
 pub fn is_kept(form: Form, attribute: Attribute<'_>) -> bool
-    ensures { result ≡ is_kept (form_of form)
-        (record { kind = attribute.entry.kind; payload = attribute.entry.payload.now }) }
+    ensures { result ≡ is_kept (form_of form) (attribute_of attribute.entry) }
 {
     match form {
         Form::OfKindOne | Form::Ports => attribute.kind % KIND_BOUND == 1,
@@ -159,7 +158,6 @@ pub fn walk_list<T: TableSet>(set: &T, form: Form, table: u8, bytes: &[u8]) -> O
     measures_go_by_steps();
     measures_tell_rules();
     own_texts_go_by_steps();
-    first_attributes_are_within();
     match form {
         Form::FirstAlone => return measure_first(set, table, bytes),
         Form::NonEmpty | Form::Ports => {
@@ -210,7 +208,6 @@ fn measure_first<T: TableSet>(set: &T, table: u8, bytes: &[u8]) -> Option<Measur
     measures_go_by_steps();
     measures_tell_rules();
     own_texts_go_by_steps();
-    first_attributes_are_within();
     let Some((attribute, after)) = first_attribute(bytes) else {
         return None;
     };

@@ -17,7 +17,6 @@ use crate::tables::{TableSet, find};
 use attribute_tables_grammar::laws::{
     attributes_are_compared, rows_are_looked_up, sameness_goes_by_steps, what_is_kept_goes_by_steps,
 };
-use netlink_packet_core_grammar::laws::first_attributes_are_within;
 
 /// What a list goes on with.
 #[derive(Clone, Copy)]
@@ -35,7 +34,6 @@ fn next_kept(form: Form, bytes: &[u8]) -> Next<'_>
     ensures shorter { IsShorter bytes.now result }
 {
     what_is_kept_goes_by_steps();
-    first_attributes_are_within();
     let mut rest = bytes;
     while !rest.is_empty() {
         let Some((attribute, after)) = first_attribute(rest) else {
@@ -93,7 +91,6 @@ fn same_list<T: TableSet>(set: &T, form: Form, table: u8, left: &[u8], right: &[
 {
     sameness_goes_by_steps();
     attributes_are_compared();
-    first_attributes_are_within();
     match form {
         Form::FirstAlone => return same_first(set, table, left, right),
         Form::NonEmpty | Form::Ports => {
@@ -132,7 +129,6 @@ fn same_first<T: TableSet>(set: &T, table: u8, left: &[u8], right: &[u8]) -> boo
 {
     sameness_goes_by_steps();
     attributes_are_compared();
-    first_attributes_are_within();
     let Some((a, _)) = first_attribute(left) else {
         return false;
     };

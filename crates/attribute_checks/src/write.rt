@@ -17,7 +17,6 @@ use crate::write_shapes::write_shape;
 use attribute_tables_grammar::laws::{
     measures_tell_rules, rows_are_looked_up, texts_are_written_by_steps,
 };
-use netlink_packet_core_grammar::laws::first_attributes_are_within;
 
 /// Appends the canonical text of accepted bytes that fit, for which there has to be room.
 #[cycle(write)]
@@ -84,7 +83,6 @@ fn write_list<T: WriteSet>(set: &T, form: Form, table: u8, bytes: &[u8], out: &m
     }
     measures_tell_rules();
     texts_are_written_by_steps();
-    first_attributes_are_within();
     let mut rest = bytes;
     while !rest.is_empty() {
         let Some((attribute, after)) = first_attribute(rest) else {
@@ -111,7 +109,6 @@ fn write_first<T: WriteSet>(set: &T, table: u8, bytes: &[u8], out: &mut Vec<u8>)
     ensures room { vec_capacity out.old ≤ vec_capacity out.new }
 {
     texts_are_written_by_steps();
-    first_attributes_are_within();
     let Some((attribute, _)) = first_attribute(bytes) else {
         unreachable!();
     };

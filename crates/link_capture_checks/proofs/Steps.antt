@@ -11,16 +11,9 @@ use Rattle.link_capture_grammar.specs.Laws.{LegalFrame, SamenessGoesByFrames}
 use Rattle.link_capture_grammar.specs.Same.{SameFrame, SameCapture}
 use Rattle.link_capture_checks.specs.Partings.{Part}
 
-pub apart : true ≡ false → ⊥
-apart h = absurd cc
-
 -- a frame of the bytes of a legal one
 pub of_one_bytes : (law : SamenessGoesByFrames link_body) (limit : ℕ) (a b : List ℕ) (n : ℕ) → LegalFrame limit a → n ≡ frame_length a → bytes_eq (take n a) (take n b) ≡ true → LegalFrame limit b × SameFrame a b
 of_one_bytes law limit a b n p e h = law.equal limit a b p (subst (λ k. take k b ≡ take k a) e (sym ((bytes_eq-Decides _ _).0 h)))
-
-pub some_bytes : (xs : List ℕ) (b : Bool) → b ≡ false → b ≡ eqb (length xs) 0 → 0 < length xs
-some_bytes [] b p q = absurd (apart (sym q ∙ p))
-some_bytes (x ∷ xs) b p q = omega arith
 
 module _ (law : SamenessGoesByFrames link_body) (limit : ℕ) (a b l r : List ℕ) (so_far : SameCapture limit a b ↔ SameCapture limit l r) where
   pub one_further : LegalFrame limit a → LegalFrame limit b → SameFrame a b → (x y : List ℕ) → x ≡ drop (nla_align (frame_length a)) a → y ≡ drop (nla_align (frame_length b)) b → SameCapture limit x y ↔ SameCapture limit l r
@@ -47,4 +40,4 @@ module _ (law : SamenessGoesByFrames link_body) (limit : ℕ) (a b l r : List �
     by (x ∷ z) e =
         let n : 0 < length a = subst (λ y. 0 < length y) e (omega arith) in
         let other : answer ≡ false = is ∙ ne_eqb (length a) 0 (λ h. absurd (omega (arith, h, n))) in
-        (λ h. absurd (apart (sym h ∙ other)), λ s. absurd (law.left_longer limit a b n k (so_far.1 s)))
+        (λ h. absurd cc, λ s. absurd (law.left_longer limit a b n k (so_far.1 s)))

@@ -1,3 +1,2 @@
 pub mod Built
 pub mod Lookups
-pub mod PeerRows

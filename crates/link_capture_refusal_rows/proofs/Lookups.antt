@@ -1,26 +1,24 @@
 -- Rows in code, and what they say.
-use Rattle.std.proofs.Common.{◌≡◌, ℕ, zero, suc, ◌+◌, ◌<◌, Bool, true, false, cond, List, [], ◌∷◌, get_or, length, Bor, Option, Some, refl, sym, ap, ◌∙◌, subst, zero-add, arith}
+use Rattle.std.proofs.Common.{◌≡◌, ℕ, zero, suc, ◌+◌, Bool, true, false, cond, List, [], ◌∷◌, get_or, Bor, Option, Some, refl, sym, ap, ◌∙◌, subst, zero-add, arith}
 use Rattle.std.specs.Prelude.{◌==◌, ◌&&◌, nat_lt, option_map}
 use Rattle.std.specs.List.{list_all}
 use Rattle.std.specs.Str.{IsAscii, IsUtf8}
-use Rattle.std.proofs.lemmas.Bool.{and_parts, ltb-true}
+use Rattle.std.proofs.lemmas.Bool.{and_parts, cond_both, ltb-true}
 use Rattle.std.proofs.lemmas.Str.{IsUtf8-from_ascii}
 use Rattle.std.proofs.lemmas.Str.Ascii.{IsAscii-nil, IsAscii-cons}
 use Rattle.netlink_packet_core_grammar.specs.Attributes.{Attribute, proper_kind}
 use Rattle.attribute_tables_grammar.specs.Lists.{is_kept}
 use Rattle.attribute_tables_grammar.specs.Tables.{info_next}
 use Rattle.link_info_grammar.specs.LinkInfo.{info_grammar_under}
-use Rattle.attribute_checks.specs.Names.{names_known}
 use Rattle.attribute_checks.specs.Rows.{form_of, is_below}
 use Rattle.attribute_checks.specs.declared.rows.Held.{Held}
 use Rattle.attribute_checks.specs.declared.rows.Held.TheVariants as H
-use Rattle.link_info_checks.specs.declared.rows.TheConstants.{KINDS, PORT_KINDS}
 use Rattle.link_capture_refusal_rows.specs.declared.tables.Inside.{Inside}
 use Rattle.link_capture_refusal_rows.specs.declared.tables.Inside.TheVariants as I
 use Rattle.link_capture_refusal_rows.specs.declared.tables.Table.{Table}
 use Rattle.link_capture_refusal_rows.specs.declared.tables.Table.TheVariants.{Message, Info, Data}
 use Rattle.link_capture_refusal_rows.specs.RowRules.{behind, grammar_at}
-use Rattle.link_capture_refusal_rows.specs.RefusalTables.{IsInside, IsLower, IsTable, Listing, NamedRow, all_said, data_inside, data_rows, depth, find, inside_depth, is_name, message_inside, message_rows, said}
+use Rattle.link_capture_refusal_rows.specs.RefusalTables.{IsInside, IsLower, IsTable, Listing, NamedRow, data_inside, data_rows, depth, find, inside_depth, is_name, message_inside, message_rows, said}
 
 -- a row in code, and what it says
 abbrev pub Row : Type 0
@@ -31,11 +29,6 @@ row r = (r.0, r.1.now, r.2)
 
 abbrev pub rows : List Row → List NamedRow
 rows rs = said (λ n. n.now) rs
-
-pub said_at : (bs : List (Bor (List Row))) (n : ℕ) (d : Bor (List Row)) → n < length bs → rows (get_or bs n d).now ≡ get_or (all_said (λ b. b.now) (λ n. n.now) bs) n []
-said_at [] n d l = absurd (omega arith)
-said_at (b ∷ bs) zero d l = refl
-said_at (b ∷ bs) (suc n) d l = said_at bs n d (omega (arith, l))
 
 ascii : (n : List ℕ) → is_name n ≡ true → IsAscii n
 ascii [] h = IsAscii-nil
@@ -81,13 +74,11 @@ all_at f g n (suc i) (rs ∷ ls) h =
     let e : suc n + i ≡ n + suc i = omega arith in
     subst (λ m. list_all (passes f (g m)) (get_or ls i []) ≡ true) e (all_at f g (suc n) i ls (and_parts (list_all (passes f (g n)) rs) _ h).1)
 
-found_picked : (q : NamedRow → Bool) (b : Bool) (r s : NamedRow) (o : Option NamedRow) → q r ≡ true → (o ≡ Some s → q s ≡ true) → cond b (Some r) o ≡ Some s → q s ≡ true
-found_picked q true r s o h i e = let j : r ≡ s = cc in subst (λ x. q x ≡ true) j h
-found_picked q false r s o h i e = i e
-
 found : (q : NamedRow → Bool) (k : ℕ) (rs : List NamedRow) (s : NamedRow) → list_all q rs ≡ true → find k rs ≡ Some s → q s ≡ true
 found q k [] s h e = absurd cc
-found q k (r ∷ rs) s h e = let a = and_parts (q r) (list_all q rs) h in found_picked q (k == r.0) r s (find k rs) a.0 (found q k rs s a.1) e
+found q k (r ∷ rs) s h e =
+    let a = and_parts (q r) (list_all q rs) h in
+    cond_both (k == r.0) (Some r) (find k rs) (λ o. o ≡ Some s → q s ≡ true) (λ _ e. let j : r ≡ s = cc in subst (λ x. q x ≡ true) j a.0) (λ _. found q k rs s a.1) e
 
 -- the row of a kind in a table of either
 pub record Passed (t : Table) (n : List ℕ) (inside : Inside) : Type 0 where
@@ -133,12 +124,6 @@ data_known (H.Plain s) k = tt
 data_known H.Peer k = tt
 data_known (H.List f t) k = ltb-true t 24 k
 data_known H.LinkInfo k = tt
-
-pub kinds_known : names_known 24 KINDS ≡ true
-kinds_known = refl
-
-pub port_kinds_known : names_known 24 PORT_KINDS ≡ true
-port_kinds_known = refl
 
 -- ---- lists
 

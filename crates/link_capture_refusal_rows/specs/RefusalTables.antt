@@ -1,5 +1,5 @@
 -- The lists of links, and what their attributes are called and hold.
-use Rattle.std.specs.Prelude.{ℕ, zero, suc, ◌==◌, ◌<◌, nat_le, nat_lt, Bool, cond, List, [], ◌∷◌, codes, get_or, Option, Some, None, option_map}
+use Rattle.std.specs.Prelude.{ℕ, zero, suc, ◌==◌, ◌<◌, nat_le, nat_lt, Bool, cond, List, [], ◌∷◌, codes, get_or, map, Option, Some, None, option_map}
 use Rattle.std.specs.List.{list_all}
 use Rattle.attribute_checks.specs.Names.{held_by_name}
 use Rattle.attribute_checks.specs.declared.rows.Held.{Held}
@@ -25,13 +25,11 @@ NamedRow = ℕ × List ℕ × Held
 
 -- the rows in code
 abbrev pub said : {N : Type 0} → (N → List ℕ) → List (ℕ × N × Held) → List NamedRow
-said f [] = []
-said f (r ∷ rs) = (r.0, f r.1, r.2) ∷ said f rs
+said f rs = map (λ r. (r.0, f r.1, r.2)) rs
 
 -- those of tables that stand one after another
 abbrev pub all_said : {B N : Type 0} → (B → List (ℕ × N × Held)) → (N → List ℕ) → List B → List (List NamedRow)
-all_said g f [] = []
-all_said g f (b ∷ bs) = said f (g b) ∷ all_said g f bs
+all_said g f bs = map (λ b. said f (g b)) bs
 
 unfoldable pub message_rows : List (List NamedRow)
 message_rows = all_said (λ b. b.now) (λ n. n.now) MESSAGE_ROWS

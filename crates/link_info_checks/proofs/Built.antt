@@ -1,10 +1,11 @@
 -- The constant rows are the tables, and the constant names those of kinds and port kinds.
-use Rattle.std.proofs.Common.{◌≡◌, ℕ, true, List, [], ◌∷◌, get_or, map, refl}
+use Rattle.std.proofs.Common.{◌≡◌, ℕ, true, List, [], get_or, map, refl, sym}
+use Rattle.std.proofs.Math.ListN.{get_or-map}
 use Rattle.attribute_tables_grammar.specs.Shapes.{raw}
 use Rattle.attribute_tables_grammar.specs.Tables.{Payload.plain, Table.end, rows_bounded}
 use Rattle.attribute_checks.specs.declared.rows.Row.{Row}
 use Rattle.attribute_checks.specs.Rows.{build, are_dense, are_known}
-use Rattle.attribute_checks.proofs.LookUps.{all_at, built_at}
+use Rattle.attribute_checks.proofs.LookUps.{all_at}
 use Rattle.attribute_checks.specs.Names.{names_of, names_known}
 use Rattle.link_info_grammar.specs.Families.{kinds, port_kinds}
 use Rattle.link_info_checks.specs.declared.rows.TheConstants.{TABLES, KINDS, PORT_KINDS}
@@ -22,7 +23,7 @@ known t = all_at (are_known 24) lists t [] refl refl
 
 pub built : (t : ℕ) → build table_of (plain raw) (get_or lists t []) ≡ table_of t
 unfolding table_of
-built t = built_at table_of (plain raw) lists t
+built t = sym (get_or-map (build table_of (plain raw)) lists t [])
 
 pub bounded : (t : ℕ) → rows_bounded (table_of t) ≡ true
 unfolding table_of

@@ -1,9 +1,10 @@
 -- The constant rows are the tables.
-use Rattle.std.proofs.Common.{◌≡◌, ℕ, true, List, [], get_or, map, refl}
+use Rattle.std.proofs.Common.{◌≡◌, ℕ, true, List, [], get_or, map, refl, sym}
+use Rattle.std.proofs.Math.ListN.{get_or-map}
 use Rattle.attribute_tables_grammar.specs.Tables.{Table.end, rows_bounded}
 use Rattle.attribute_checks.specs.declared.rows.Row.{Row}
 use Rattle.attribute_checks.specs.Rows.{build, are_dense, are_known}
-use Rattle.attribute_checks.proofs.LookUps.{all_at, built_at}
+use Rattle.attribute_checks.proofs.LookUps.{all_at}
 use Rattle.link_message_grammar.specs.NestedTables.{settings}
 use Rattle.link_message_grammar.specs.LinkMessage.{info}
 use Rattle.link_message_checks.specs.declared.rows.TheConstants.{TABLES}
@@ -21,7 +22,7 @@ known t = all_at (are_known 19) lists t [] refl refl
 
 pub built : (t : ℕ) → build table_of info (get_or lists t []) ≡ table_of t
 unfolding table_of settings
-built t = built_at table_of info lists t
+built t = sym (get_or-map (build table_of info) lists t [])
 
 pub bounded : (t : ℕ) → rows_bounded (table_of t) ≡ true
 unfolding table_of settings

@@ -1,18 +1,16 @@
 -- A header that is written as it stands, and two that are compared.
-use Rattle.std.proofs.Common.{◌≡◌, ℕ, ◌+◌, ◌-◌, ◌*◌, ◌/◌, ◌%◌, ◌<◌, ◌≤◌, min, Bool, true, false, cond, List, [], ◌∷◌, ◌++◌, length, take, drop, refl, sym, ap, ◌∙◌, arith}
-use Rattle.std.specs.Prelude.{◌&&◌, bytes_eq, slice_index}
-use Rattle.std.proofs.lemmas.Bool.{eq-eqb}
+use Rattle.std.proofs.Common.{◌≡◌, ℕ, ◌+◌, ◌-◌, ◌*◌, ◌/◌, ◌%◌, ◌<◌, ◌≤◌, min, true, false, cond, List, [], ◌∷◌, ◌++◌, length, take, drop, refl, sym, ap, ◌∙◌, arith}
+use Rattle.std.specs.Prelude.{bytes_eq, slice_index}
+use Rattle.std.proofs.lemmas.Bool.{false_from_ne_true}
 use Rattle.std.proofs.lemmas.List.{take_min}
 use Rattle.std.proofs.lemmas.Slice.Eq.{bytes_eq-Decides}
+use Rattle.attribute_checks.proofs.SameShapes.{behind_same}
 use Rattle.link_message_grammar.specs.Body.{header_text, is_listed, layer_type_text}
 
 pub own_header : (b : List ℕ) → 16 ≤ length b → slice_index b 1 ≡ 0 → is_listed (slice_index b 2 + 256 * slice_index b 3) ≡ true → header_text b ≡ take 16 b
 own_header (f ∷ x ∷ k ∷ l ∷ tail) long z h =
     ap (λ v. f ∷ 0 ∷ (cond v (k ∷ l ∷ []) (255 ∷ 255 ∷ []) ++ take 12 tail)) h ∙ ap (λ n. f ∷ n ∷ k ∷ l ∷ take 12 tail) (sym z)
-own_header [] long z h = absurd (omega arith)
-own_header (f ∷ []) long z h = absurd (omega arith)
-own_header (f ∷ x ∷ []) long z h = absurd (omega arith)
-own_header (f ∷ x ∷ k ∷ []) long z h = absurd (omega arith)
+own_header b long z h = absurd (omega arith)
 
 -- the layer type that is written, in two bytes
 pub named_layer : (a b : ℕ) → a < 256 → is_listed (a + 256 * b) ≡ true → (a + 256 * b) % 256 ∷ (a + 256 * b) / 256 ∷ [] ≡ layer_type_text a b
@@ -35,43 +33,29 @@ pub by_fields : (b : List ℕ) (end layer : ℕ) → 4 ≤ length b → end ≡ 
 by_fields (f ∷ x ∷ k ∷ l ∷ tail) end layer long e t =
     let n : min 12 (length tail) ≡ end - 4 = omega (arith, e) in
     ap (λ (z : List ℕ). f ∷ 0 ∷ (z ++ take 12 tail)) (sym t) ∙ ap (fields f layer) (sym (take_min 12 tail) ∙ ap (λ n. take n tail) n)
-by_fields [] end layer long e t = absurd (omega (arith, long))
-by_fields (f ∷ []) end layer long e t = absurd (omega (arith, long))
-by_fields (f ∷ x ∷ []) end layer long e t = absurd (omega (arith, long))
-by_fields (f ∷ x ∷ k ∷ []) end layer long e t = absurd (omega (arith, long))
-
-one_front : (front x y : List ℕ) → bytes_eq x y ≡ bytes_eq (front ++ x) (front ++ y)
-one_front [] x y = refl
-one_front (b ∷ front) x y = one_front front x y ∙ ap (λ v. v && bytes_eq (front ++ x) (front ++ y)) (sym (eq-eqb b b refl))
-
-no_by : (v : Bool) → (v ≡ true → ⊥) → false ≡ v
-no_by true f = absurd (f refl)
-no_by false f = refl
+by_fields b end layer long e t = absurd (omega arith)
 
 first_byte : (b : List ℕ) → 4 ≤ length b → slice_index (header_text b) 0 ≡ slice_index b 0
 first_byte (f ∷ x ∷ k ∷ l ∷ tail) long = refl
-first_byte [] long = absurd (omega (arith, long))
-first_byte (f ∷ []) long = absurd (omega (arith, long))
-first_byte (f ∷ x ∷ []) long = absurd (omega (arith, long))
-first_byte (f ∷ x ∷ k ∷ []) long = absurd (omega (arith, long))
+first_byte b long = absurd (omega arith)
 
 module _ (a b : List ℕ) where
   equal : bytes_eq (header_text a) (header_text b) ≡ true → header_text a ≡ header_text b
   equal = (bytes_eq-Decides (header_text a) (header_text b)).0
 
   pub families_differ : 4 ≤ length a → 4 ≤ length b → (slice_index a 0 ≡ slice_index b 0 → ⊥) → false ≡ bytes_eq (header_text a) (header_text b)
-  families_differ l m other = no_by _ (λ h. other (sym (first_byte a l) ∙ ap (λ z. slice_index z 0) (equal h) ∙ first_byte b m))
+  families_differ l m other = sym (false_from_ne_true _ (λ h. other (sym (first_byte a l) ∙ ap (λ z. slice_index z 0) (equal h) ∙ first_byte b m)))
 
   module _ (f g k l : ℕ) (x y : List ℕ) (left : header_text a ≡ fields f k x) (right : header_text b ≡ fields g l y) where
     pub layers_differ : (k ≡ l → ⊥) → false ≡ bytes_eq (header_text a) (header_text b)
-    layers_differ other = no_by _ (λ h.
+    layers_differ other = sym (false_from_ne_true _ (λ h.
         let e : fields f k x ≡ fields g l y = sym left ∙ equal h ∙ right in
         let low : k % 256 ≡ l % 256 = ap (λ z. slice_index z 2) e in
         let high : k / 256 ≡ l / 256 = ap (λ z. slice_index z 3) e in
-        other (omega (arith, low, high)))
+        other (omega arith)))
 
     pub rest_tells : f ≡ g → k ≡ l → bytes_eq x y ≡ bytes_eq (header_text a) (header_text b)
     rest_tells e h =
-        one_front (fields f k []) x y
+        behind_same (fields f k []) x y
         ∙ (λ i. bytes_eq (fields f k x) (fields (e i) (h i) y))
         ∙ (λ i. bytes_eq (sym left i) (sym right i))

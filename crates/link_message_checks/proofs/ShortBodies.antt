@@ -20,17 +20,11 @@ header_size (f ∷ x ∷ k ∷ l ∷ tail) long =
     let layer = two_bytes (is_listed (k + 256 * l)) k l in
     let all = length-append (layer_type_text k l) (take 12 tail) in
     omega (arith, layer, all, length-take 12 tail)
-header_size [] long = absurd (omega (arith, long))
-header_size (f ∷ []) long = absurd (omega (arith, long))
-header_size (f ∷ x ∷ []) long = absurd (omega (arith, long))
-header_size (f ∷ x ∷ k ∷ []) long = absurd (omega (arith, long))
+header_size b long = absurd (omega arith)
 
 short_header : (b : List ℕ) → length b < 16 → length (header_text b) < 16
 short_header (f ∷ x ∷ k ∷ l ∷ tail) short = omega (arith, header_size (f ∷ x ∷ k ∷ l ∷ tail) (omega arith), short)
-short_header [] short = omega arith
-short_header (f ∷ []) short = omega arith
-short_header (f ∷ x ∷ []) short = omega arith
-short_header (f ∷ x ∷ k ∷ []) short = omega arith
+short_header b short = omega arith
 
 both_short : (a b : List ℕ) → header_text a ≡ header_text b → length a < 16 → length b < 16
 both_short a b e short = elim (leb_tells 16 (length b)) [

@@ -11,4 +11,4 @@ mod rows;
 
 pub use attributes::{accepts_attribute, accepts_attributes, attribute_error, attributes_error};
 pub use message::{BodyMeasure, check, same, walk_body, write_body, write_canonical};
-pub use peer::LinkPeer;
+pub use peer::{LinkPeer, has_empty_ports};

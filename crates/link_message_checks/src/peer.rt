@@ -1,6 +1,8 @@
 //! Peers that are themselves bodies of link messages.
 
-ghost use Rattle.link_message_grammar.specs.Body.{link_peer};
+ghost use Rattle.std.specs.Prelude.{◌≡◌, true};
+ghost use Rattle.attribute_tables_grammar.specs.Peers.{bytes_peer};
+ghost use Rattle.link_message_grammar.specs.Body.{body_rule, link_peer};
 
 use crate::body::{body_laws_hold, same_body_over, walk_body_over, write_body_over};
 use crate::header::{HEADER_LEN, same_header};
@@ -90,5 +92,17 @@ impl WritePeer for LinkPeer {
     #[tactic(auto, unfolding(link_message_grammar::specs::Body::link_peer))]
     fn write_peer(&self, payload: &[u8], out: &mut Vec<u8>) {
         write_body_over(&BytesPeer, payload, 0, out);
+    }
+}
+
+/// Whether an accepted link that is a peer has an IFLA_VF_PORTS of which nothing is kept.
+pub fn has_empty_ports(body: &[u8]) -> bool
+    requires { (body_rule bytes_peer).accepted body.now ≡ true }
+    ensures { result ≡ (body_rule bytes_peer).empty_ports body.now }
+{
+    measures_tell_rules();
+    match walk_body_over(&BytesPeer, body) {
+        Some(found) => found.empty_ports,
+        None => unreachable!(),
     }
 }

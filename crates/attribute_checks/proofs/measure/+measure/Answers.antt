@@ -1,13 +1,13 @@
-use Rattle.std.proofs.Common.{◌≡◌, ◌-◌, ◌≤◌, true, false, length, drop, Some, None, sym, ap, subst, ◌∙◌, arith}
-use Rattle.std.specs.Prelude.{◌&&◌, ◌==◌, IfSome}
+use Rattle.std.proofs.Common.{◌≡◌, ◌-◌, ◌≤◌, true, length, drop, Some, None, sym, ap, subst, ◌∙◌, arith}
+use Rattle.std.specs.Prelude.{IfSome}
 use Rattle.std.proofs.lemmas.Bool.{eqb-true, and_parts}
-use Rattle.netlink_packet_core_grammar.specs.Attributes.{Attribute}
 use Rattle.attribute_tables_grammar.specs.Lists.{nothing, any, list_rule}
 use Rattle.attribute_tables_grammar.specs.LookUps.{table_row}
 use Rattle.attribute_tables_grammar.specs.Walks.{Measure, MeasuredSoFar, measure}
 use Rattle.attribute_checks.specs.Fronts.{IsOwnFront}
 use Rattle.attribute_checks.specs.Rows.{form_of}
 use Rattle.attribute_checks.specs.Measures.{view, rows_of}
+use Rattle.attribute_checks.specs.Sameness.{attribute_of}
 use Rattle.attribute_checks.proofs.LookUps.{list_held, measured_as}
 use Rattle.attribute_checks.proofs.FrontSteps.{IsOwnStep, front_step, place_step, left_step}
 use Rattle.attribute_checks.proofs.Loop.{plus_start}
@@ -24,49 +24,26 @@ measure_inside-returns-in-List-clause-own g t c =
 
 pub measure_first-returns-in_default-measure_held-clause-measure : goal.measure_first-returns-in_default-measure_held-clause-measure
 measure_first-returns-in_default-measure_held-clause-measure g t c =
-    let rows = rows_of g.T.TableSet.peer (g.T.TableSet.tables c.args.table) in
-    let e : Attribute = record { kind = c.in-Some.attribute.kind; payload = c.in-Some.attribute.payload.now } in
-    c.measures_tell_rules.ensures.first_some rows c.args.bytes.now e c.in-Some.after.now None c.in-Some.ensures
-    (measured_as _ _ e.payload None c.find-found.ensures.rule c.in_default-measure_held.ensures.measure)
+    c.measures_tell_rules.ensures.first_some _ _ _ _ None c.in-Some.ensures.first (measured_as _ _ _ _ c.find-found.ensures.rule c.in_default-measure_held.ensures.measure)
 
 pub measure_first-returns-clause-measure : goal.measure_first-returns-clause-measure
 measure_first-returns-clause-measure g t c =
-    let rows = rows_of g.T.TableSet.peer (g.T.TableSet.tables c.args.table) in
-    let e : Attribute = record { kind = c.in-Some.attribute.kind; payload = c.in-Some.attribute.payload.now } in
-    ap (λ m. Some m) c.with_attribute.ensures.measure ∙ plus_start (view c.in-Some-measure_held.inside)
-    ∙ c.measures_tell_rules.ensures.first_some rows c.args.bytes.now e c.in-Some.after.now (Some (view c.in-Some-measure_held.inside)) c.in-Some.ensures
-    (measured_as _ _ e.payload (Some (view c.in-Some-measure_held.inside)) c.find-found.ensures.rule c.in-Some-measure_held.ensures.measure)
+    let inside = view c.in-Some-measure_held.inside in
+    ap (λ m. Some m) c.with_attribute.ensures.measure ∙ plus_start inside
+    ∙ c.measures_tell_rules.ensures.first_some _ _ _ _ (Some inside) c.in-Some.ensures.first (measured_as _ _ _ _ c.find-found.ensures.rule c.in-Some-measure_held.ensures.measure)
 
 pub measure_first-returns-clause-own : goal.measure_first-returns-clause-own
-measure_first-returns-clause-own g t c =
-    let rows = rows_of g.T.TableSet.peer (g.T.TableSet.tables c.args.table) in
-    let e : Attribute = record { kind = c.in-Some.attribute.kind; payload = c.in-Some.attribute.payload.now } in
-    λ h.
-    let b = and_parts c.in-Some-measure_held.inside.is_own (c.is_own_attribute-is_own.result && ((c.find-found.result.kind == c.in-Some.attribute.kind) && c.is_empty.result)) (sym c.with_attribute.ensures.own ∙ h) in
-    let d = and_parts c.is_own_attribute-is_own.result ((c.find-found.result.kind == c.in-Some.attribute.kind) && c.is_empty.result) b.1 in
-    let k = and_parts (c.find-found.result.kind == c.in-Some.attribute.kind) c.is_empty.result d.1 in
-    c.own_texts_go_by_steps.ensures.alone rows c.args.bytes.now e c.in-Some.after.now c.in-Some.ensures (eqb-true (length c.in-Some.after.now) 0 (sym c.is_empty.ensures ∙ k.1)) (sym c.find-found.ensures.written ∙ eqb-true _ _ k.0)
-    (sym (ap (λ r. r.canonical e.payload) c.find-found.ensures.rule) ∙ c.in-Some-measure_held.ensures.own b.0) (c.is_own_attribute-is_own.ensures d.0)
+measure_first-returns-clause-own g t c = λ h.
+    let a = and_parts _ _ (sym c.with_attribute.ensures.own ∙ h) in
+    let b = and_parts _ _ a.1 in
+    let d = and_parts _ _ b.1 in
+    c.own_texts_go_by_steps.ensures.alone _ _ _ _ c.in-Some.ensures.first (eqb-true _ 0 (sym c.is_empty.ensures ∙ d.1)) (sym c.find-found.ensures.written ∙ eqb-true _ _ d.0)
+    (sym (ap (λ r. r.canonical c.in-Some.attribute.payload.now) c.find-found.ensures.rule) ∙ c.in-Some-measure_held.ensures.own a.0) (c.is_own_attribute-is_own.ensures b.0)
 
 pub walk_list-returns-in_default-measure_held-clause-measure : goal.walk_list-returns-in_default-measure_held-clause-measure
 walk_list-returns-in_default-measure_held-clause-measure g t c =
-    let e : Attribute = record { kind = c.in-Some.attribute.kind; payload = c.in-Some.attribute.payload.now } in
-    c.measures_go_by_steps.ensures.refused (form_of c.args.form) (rows_of g.T.TableSet.peer (g.T.TableSet.tables c.args.table)) c.args.bytes.now c.loop-rest.rest.now nothing e c.in-Some.after.now (view c.loop-rest.total) c.loop-rest.invariant.walked c.in-Some.ensures (sym c.is_kept.ensures ∙ c.if-is_kept.true)
-    (measured_as _ _ e.payload None c.find-found.ensures.rule c.in_default-measure_held.ensures.measure) c.loop-rest.invariant.so_far
-
-pub walk_list-loop-rest-smaller-in-Some-measure_held : goal.walk_list-loop-rest-smaller-in-Some-measure_held
-walk_list-loop-rest-smaller-in-Some-measure_held g t c =
-    let e : Attribute = record { kind = c.in-Some.attribute.kind; payload = c.in-Some.attribute.payload.now } in
-    let w = c.first_attributes_are_within.ensures.within c.loop-rest.rest.now e c.in-Some.after.now c.in-Some.ensures in
-    let l = c.first_attributes_are_within.ensures.rest_length c.loop-rest.rest.now e c.in-Some.after.now c.in-Some.ensures in
-    omega (arith, w, l)
-
-pub walk_list-loop-rest-smaller : goal.walk_list-loop-rest-smaller
-walk_list-loop-rest-smaller g t c =
-    let e : Attribute = record { kind = c.in-Some.attribute.kind; payload = c.in-Some.attribute.payload.now } in
-    let w = c.first_attributes_are_within.ensures.within c.loop-rest.rest.now e c.in-Some.after.now c.in-Some.ensures in
-    let l = c.first_attributes_are_within.ensures.rest_length c.loop-rest.rest.now e c.in-Some.after.now c.in-Some.ensures in
-    omega (arith, w, l)
+    c.measures_go_by_steps.ensures.refused _ _ _ _ _ _ _ _ c.loop-rest.invariant.walked c.in-Some.ensures.first (sym c.is_kept.ensures ∙ c.if-is_kept.true)
+    (measured_as _ _ _ _ c.find-found.ensures.rule c.in_default-measure_held.ensures.measure) c.loop-rest.invariant.so_far
 
 pub walk_list-loop-rest-preserved-in-Some-measure_held : goal.walk_list-loop-rest-preserved-in-Some-measure_held
 walk_list-loop-rest-preserved-in-Some-measure_held g t c =
@@ -75,14 +52,13 @@ walk_list-loop-rest-preserved-in-Some-measure_held g t c =
     let bytes = c.args.bytes.now in
     let rest = c.loop-rest.rest.now in
     let after = c.in-Some.after.now in
-    let e : Attribute = record { kind = c.in-Some.attribute.kind; payload = c.in-Some.attribute.payload.now } in
-    let f = c.in-Some.ensures in
+    let e = attribute_of c.in-Some.attribute in
+    let f = c.in-Some.ensures.first in
     let k = sym c.is_kept.ensures ∙ c.if-is_kept.true in
     let inside = measured_as _ _ e.payload (Some (view c.in-Some-measure_held.inside)) c.find-found.ensures.rule c.in-Some-measure_held.ensures.measure in
     let s = c.measures_go_by_steps.ensures.small _ c.find-found.ensures.lawful rest e after (view c.in-Some-measure_held.inside) f inside in
     let is = c.with_attribute-total.ensures.measure in
-    let f_of = table_row g.T.TableSet.peer (g.T.TableSet.tables c.args.table) in
-    let own_step : c.with_attribute-total.result.is_own ≡ true → IsOwnStep f_of bytes rest (length bytes - c.loop-rest.left) e after = λ h.
+    let own_step : c.with_attribute-total.result.is_own ≡ true → IsOwnStep (table_row g.T.TableSet.peer (g.T.TableSet.tables c.args.table)) bytes rest (length bytes - c.loop-rest.left) e after = λ h.
     let a = and_parts _ _ (sym c.with_attribute-total.ensures.own ∙ h) in
     let b = and_parts _ _ a.1 in
     let d = and_parts _ _ b.1 in
@@ -99,38 +75,28 @@ walk_list-loop-rest-preserved-in-Some-measure_held g t c =
       so_far = subst (λ m. MeasuredSoFar form rows bytes m nothing after) (sym is)
           (c.measures_go_by_steps.ensures.more form rows bytes rest nothing e after (view c.loop-rest.total) (view c.in-Some-measure_held.inside) f k inside c.loop-rest.invariant.so_far);
       own = λ h.
-          let a = and_parts _ _ (sym c.with_attribute-total.ensures.own ∙ h) in
-          let b = and_parts _ _ a.1 in
-          let d = and_parts _ _ b.1 in
-          c.own_texts_go_by_steps.ensures.more form rows bytes rest nothing e after f k (sym c.find-found.ensures.written ∙ eqb-true _ _ d.1)
-          (sym (ap (λ r. r.canonical e.payload) c.find-found.ensures.rule) ∙ c.in-Some-measure_held.ensures.own b.0) (c.is_own_attribute-is_own.ensures d.0) (c.loop-rest.invariant.own a.0);
-      front = subst (λ n. IsOwnFront (list_rule any rows) bytes (length bytes - n)) (sym c.left_behind-left.ensures) (front_step f_of bytes rest c.loop-rest.left e after c.with_attribute-total.result.is_own f own_step c.loop-rest.invariant.front);
-      place = λ h. ap (λ n. drop (length bytes - n) bytes) c.left_behind-left.ensures ∙ place_step f_of bytes rest c.loop-rest.left e after c.with_attribute-total.result.is_own own_step h;
-      left = subst (λ n. n ≤ length bytes) (sym c.left_behind-left.ensures) (left_step (length bytes) (length after) c.loop-rest.left c.with_attribute-total.result.is_own (omega (arith, c.first_attributes_are_within.ensures.rest_length rest e after f, c.loop-rest.invariant.few)) c.loop-rest.invariant.left);
-      within = omega (arith, s.within, size_is, c.loop-rest.invariant.within);
-      few = omega (arith, s.few, headers_is, c.loop-rest.invariant.few);
+          let o = own_step h in
+          c.own_texts_go_by_steps.ensures.more form rows bytes rest nothing e after f k o.kind o.payload o.text (c.loop-rest.invariant.own (and_parts _ _ (sym c.with_attribute-total.ensures.own ∙ h)).0);
+      front = subst (λ n. IsOwnFront (list_rule any rows) bytes (length bytes - n)) (sym c.left_behind-left.ensures) (front_step _ bytes rest c.loop-rest.left e after c.with_attribute-total.result.is_own f own_step c.loop-rest.invariant.front);
+      place = λ h. ap (λ n. drop (length bytes - n) bytes) c.left_behind-left.ensures ∙ place_step _ bytes rest c.loop-rest.left e after c.with_attribute-total.result.is_own own_step h;
+      left = subst (λ n. n ≤ length bytes) (sym c.left_behind-left.ensures) (left_step _ (length after) c.loop-rest.left c.with_attribute-total.result.is_own (omega arith) c.loop-rest.invariant.left);
+      within = omega (arith, s.within, size_is);
+      few = omega (arith, s.few, headers_is);
     }
 
 pub walk_list-loop-rest-preserved : goal.walk_list-loop-rest-preserved
 walk_list-loop-rest-preserved g t c =
-    let form = form_of c.args.form in
-    let rows = rows_of g.T.TableSet.peer (g.T.TableSet.tables c.args.table) in
-    let after = c.in-Some.after.now in
-    let e : Attribute = record { kind = c.in-Some.attribute.kind; payload = c.in-Some.attribute.payload.now } in
-    let f = c.in-Some.ensures in
-    let w = c.first_attributes_are_within.ensures.within c.loop-rest.rest.now e after f in
-    let l = c.first_attributes_are_within.ensures.rest_length c.loop-rest.rest.now e after f in
     let is = c.with_dropped-total.ensures.measure in
     let size_is = ap (λ (m : Measure). m.size) is in
     let headers_is = ap (λ (m : Measure). m.attributes) is in
     record {
       walked = c.loop-rest.invariant.walked;
-      so_far = subst (λ m. MeasuredSoFar form rows c.args.bytes.now m nothing after) (sym is)
-          (c.measures_go_by_steps.ensures.past form rows c.args.bytes.now c.loop-rest.rest.now nothing e after (view c.loop-rest.total) f (sym c.is_kept.ensures ∙ c.if-is_kept.false) c.loop-rest.invariant.so_far);
-      own = λ h. absurd (let x : true ≡ false = sym h ∙ c.with_dropped-total.ensures.own in cc);
+      so_far = subst (λ m. MeasuredSoFar (form_of c.args.form) (rows_of g.T.TableSet.peer (g.T.TableSet.tables c.args.table)) c.args.bytes.now m nothing c.in-Some.after.now) (sym is)
+          (c.measures_go_by_steps.ensures.past _ _ _ _ _ _ _ _ c.in-Some.ensures.first (sym c.is_kept.ensures ∙ c.if-is_kept.false) c.loop-rest.invariant.so_far);
+      own = λ h. absurd (cc c.with_dropped-total.ensures.own);
       front = c.loop-rest.invariant.front;
       left = c.loop-rest.invariant.left;
-      place = λ h. absurd (let x : true ≡ false = sym h ∙ c.with_dropped-total.ensures.own in cc);
-      within = omega (arith, w, l, size_is, c.loop-rest.invariant.within);
-      few = omega (arith, w, l, headers_is, c.loop-rest.invariant.few);
+      place = λ h. absurd (cc c.with_dropped-total.ensures.own);
+      within = omega (arith, size_is, c.in-Some.ensures.within, c.in-Some.ensures.behind);
+      few = omega (arith, headers_is, c.in-Some.ensures.within, c.in-Some.ensures.behind);
     }

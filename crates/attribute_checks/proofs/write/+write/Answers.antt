@@ -1,11 +1,11 @@
-use Rattle.std.proofs.Common.{◌+◌, ◌-◌, ◌++◌, length, sym, ap, ◌∙◌, arith}
+use Rattle.std.proofs.Common.{◌++◌, length, sym, ap, ◌∙◌, arith}
 use Rattle.std.proofs.lemmas.Bool.{eqb-true}
 use Rattle.std.proofs.lemmas.List.{length-append}
-use Rattle.netlink_packet_core_grammar.specs.Attributes.{Attribute}
-use Rattle.attribute_tables_grammar.specs.Lists.{nothing, row_of, list_rule, first_alone}
+use Rattle.attribute_tables_grammar.specs.Lists.{nothing, row_of}
 use Rattle.attribute_tables_grammar.specs.LookUps.{payload_rule}
-use Rattle.attribute_checks.specs.Rows.{form_of, payload_of}
+use Rattle.attribute_checks.specs.Rows.{payload_of}
 use Rattle.attribute_checks.specs.Measures.{rows_of}
+use Rattle.attribute_checks.specs.Sameness.{attribute_of}
 use Rattle.attribute_checks.proofs.LookUps.{list_held, known_list}
 use Rattle.attribute_checks.proofs.Loop.{some_bytes}
 use Rattle.attribute_checks.proofs.WriteSteps.{writable_as, rewritten_as, three_parts, walked_if}
@@ -29,98 +29,52 @@ write_attribute-returns-clause-text g t c =
 
 pub write_first-write_attribute-requires : goal.write_first-write_attribute-requires
 write_first-write_attribute-requires g t c κs within =
-    let rows = rows_of g.T.TableSet.peer (g.T.TableSet.tables c.args.table) in
-    let e : Attribute = record { kind = c.in-Some.attribute.kind; payload = c.in-Some.attribute.payload.now } in
-    let w = c.texts_are_written_by_steps.ensures.alone rows c.args.bytes.now e c.in-Some.field-0-1.now c.in-Some.ensures c.requires.accepted c.requires.fits in
-    let v = c.first_attributes_are_within.ensures.within c.args.bytes.now e c.in-Some.field-0-1.now c.in-Some.ensures in
-    (omega (arith, v), (within, (c.find-found.ensures.known, writable_as (row_of rows nothing e).rule _ e.payload (length ((list_rule first_alone rows).canonical c.args.bytes.now)) _ c.find-found.ensures.rule (omega (arith, c.requires.room)) w.0)))
+    let w = c.texts_are_written_by_steps.ensures.alone _ _ _ _ c.in-Some.ensures.first c.requires.accepted c.requires.fits in
+    (omega (arith, c.in-Some.ensures.within), (within, (c.find-found.ensures.known, writable_as _ _ _ _ _ c.find-found.ensures.rule (omega (arith, c.requires.room)) w.0)))
 
 pub write_first-returns-clause-text : goal.write_first-returns-clause-text
 write_first-returns-clause-text g t c =
-    let rows = rows_of g.T.TableSet.peer (g.T.TableSet.tables c.args.table) in
-    let e : Attribute = record { kind = c.in-Some.attribute.kind; payload = c.in-Some.attribute.payload.now } in
-    let w = c.texts_are_written_by_steps.ensures.alone rows c.args.bytes.now e c.in-Some.field-0-1.now c.in-Some.ensures c.requires.accepted c.requires.fits in
-    rewritten_as (row_of rows nothing e) _ e c.find-found.result.kind c.args.out.now.items c.write_attribute.new.out.items c.find-found.ensures.rule c.find-found.ensures.written c.write_attribute.ensures.text
-    ∙ ap (λ x. c.args.out.now.items ++ x) (sym w.1)
+    rewritten_as (row_of (rows_of g.T.TableSet.peer (g.T.TableSet.tables c.args.table)) nothing (attribute_of c.in-Some.attribute)) _ (attribute_of c.in-Some.attribute) _ _ _ c.find-found.ensures.rule c.find-found.ensures.written c.write_attribute.ensures.text
+    ∙ ap (λ x. c.args.out.now.items ++ x) (sym (c.texts_are_written_by_steps.ensures.alone _ _ _ _ c.in-Some.ensures.first c.requires.accepted c.requires.fits).1)
 
 pub write_list-loop-rest-init : goal.write_list-loop-rest-init
 write_list-loop-rest-init g t c =
-    let rows = rows_of g.T.TableSet.peer (g.T.TableSet.tables c.args.table) in
-    let form = form_of c.args.form in
-    let a = c.requires.accepted in
+    let walked = walked_if c.measures_tell_rules.ensures c.args.form _ _ c.in_default.not-FirstAlone c.requires.accepted in
     record {
-      so_far = c.texts_are_written_by_steps.ensures.start form rows c.args.bytes.now c.args.out.now.items (walked_if c.measures_tell_rules.ensures c.args.form rows c.args.bytes.now c.in_default.not-FirstAlone a) a c.requires.fits;
+      so_far = c.texts_are_written_by_steps.ensures.start _ _ _ _ walked c.requires.accepted c.requires.fits;
       room = omega arith;
       within = omega arith;
     }
 
 pub write_list-unreachable-requires : goal.write_list-unreachable-requires
 write_list-unreachable-requires g t c =
-    let rows = rows_of g.T.TableSet.peer (g.T.TableSet.tables c.args.table) in
-    c.texts_are_written_by_steps.ensures.stopped (form_of c.args.form) rows c.args.bytes.now c.args.out.now.items c.loop-rest.out.items c.loop-rest.rest.now nothing c.in_default-first_attribute.ensures (some_bytes c.loop-rest.rest.now c.is_empty.result c.loop-rest-test.true c.is_empty.ensures) c.loop-rest.invariant.so_far
+    c.texts_are_written_by_steps.ensures.stopped _ _ _ _ _ _ _ c.in_default-first_attribute.ensures.first (some_bytes _ _ c.loop-rest-test.true c.is_empty.ensures) c.loop-rest.invariant.so_far
 
 pub write_list-write_attribute-requires : goal.write_list-write_attribute-requires
 write_list-write_attribute-requires g t c κs within =
-    let rows = rows_of g.T.TableSet.peer (g.T.TableSet.tables c.args.table) in
-    let form = form_of c.args.form in
-    let bytes = c.args.bytes.now in
-    let rest = c.loop-rest.rest.now in
-    let e : Attribute = record { kind = c.in-Some.attribute.kind; payload = c.in-Some.attribute.payload.now } in
-    let f = c.in-Some.ensures in
-    let k = sym c.is_kept.ensures ∙ c.if-is_kept.true in
-    let room = length c.args.out.now.items + length ((list_rule form rows).canonical bytes) - length c.loop-rest.out.items in
-    let w = c.texts_are_written_by_steps.ensures.writable form rows bytes c.args.out.now.items c.loop-rest.out.items rest nothing e c.in-Some.after.now f k c.loop-rest.invariant.so_far in
-    let v = c.first_attributes_are_within.ensures.within rest e c.in-Some.after.now f in
-    (omega (arith, v, c.loop-rest.invariant.within), (within, (c.find-found.ensures.known, writable_as (row_of rows nothing e).rule _ e.payload room _ c.find-found.ensures.rule (omega (arith, c.requires.room, c.loop-rest.invariant.room)) w)))
-
-pub write_list-loop-rest-smaller-then-is_kept : goal.write_list-loop-rest-smaller-then-is_kept
-write_list-loop-rest-smaller-then-is_kept g t c =
-    let e : Attribute = record { kind = c.in-Some.attribute.kind; payload = c.in-Some.attribute.payload.now } in
-    let v = c.first_attributes_are_within.ensures.within c.loop-rest.rest.now e c.in-Some.after.now c.in-Some.ensures in
-    let l = c.first_attributes_are_within.ensures.rest_length c.loop-rest.rest.now e c.in-Some.after.now c.in-Some.ensures in
-    omega (arith, v, l)
+    let w = c.texts_are_written_by_steps.ensures.writable _ _ _ _ _ _ _ _ _ c.in-Some.ensures.first (sym c.is_kept.ensures ∙ c.if-is_kept.true) c.loop-rest.invariant.so_far in
+    (omega (arith, c.in-Some.ensures.within), (within, (c.find-found.ensures.known, writable_as _ _ _ _ _ c.find-found.ensures.rule (omega arith) w)))
 
 pub write_list-loop-rest-preserved-then-is_kept : goal.write_list-loop-rest-preserved-then-is_kept
 write_list-loop-rest-preserved-then-is_kept g t c =
-    let rows = rows_of g.T.TableSet.peer (g.T.TableSet.tables c.args.table) in
-    let form = form_of c.args.form in
-    let bytes = c.args.bytes.now in
-    let rest = c.loop-rest.rest.now in
-    let e : Attribute = record { kind = c.in-Some.attribute.kind; payload = c.in-Some.attribute.payload.now } in
-    let f = c.in-Some.ensures in
-    let k = sym c.is_kept.ensures ∙ c.if-is_kept.true in
-    let v = c.first_attributes_are_within.ensures.within rest e c.in-Some.after.now f in
-    let l = c.first_attributes_are_within.ensures.rest_length rest e c.in-Some.after.now f in
-    let written = rewritten_as (row_of rows nothing e) _ e c.find-found.result.kind c.loop-rest.out.items c.write_attribute.new.out.items c.find-found.ensures.rule c.find-found.ensures.written c.write_attribute.ensures.text in
+    let written = rewritten_as _ _ (attribute_of c.in-Some.attribute) _ _ _ c.find-found.ensures.rule c.find-found.ensures.written c.write_attribute.ensures.text in
     record {
-      so_far = c.texts_are_written_by_steps.ensures.more form rows bytes c.args.out.now.items c.loop-rest.out.items c.write_attribute.new.out.items rest nothing e c.in-Some.after.now f k written c.loop-rest.invariant.so_far;
-      room = omega (arith, c.loop-rest.invariant.room, c.write_attribute.ensures.room);
-      within = omega (arith, v, l, c.loop-rest.invariant.within);
+      so_far = c.texts_are_written_by_steps.ensures.more _ _ _ _ _ _ _ _ _ _ c.in-Some.ensures.first (sym c.is_kept.ensures ∙ c.if-is_kept.true) written c.loop-rest.invariant.so_far;
+      room = omega arith;
+      within = omega (arith, c.in-Some.ensures.within, c.in-Some.ensures.behind);
     }
-
-pub write_list-loop-rest-smaller : goal.write_list-loop-rest-smaller
-write_list-loop-rest-smaller g t c =
-    let e : Attribute = record { kind = c.in-Some.attribute.kind; payload = c.in-Some.attribute.payload.now } in
-    let v = c.first_attributes_are_within.ensures.within c.loop-rest.rest.now e c.in-Some.after.now c.in-Some.ensures in
-    let l = c.first_attributes_are_within.ensures.rest_length c.loop-rest.rest.now e c.in-Some.after.now c.in-Some.ensures in
-    omega (arith, v, l)
 
 pub write_list-loop-rest-preserved : goal.write_list-loop-rest-preserved
 write_list-loop-rest-preserved g t c =
-    let rows = rows_of g.T.TableSet.peer (g.T.TableSet.tables c.args.table) in
-    let e : Attribute = record { kind = c.in-Some.attribute.kind; payload = c.in-Some.attribute.payload.now } in
-    let v = c.first_attributes_are_within.ensures.within c.loop-rest.rest.now e c.in-Some.after.now c.in-Some.ensures in
-    let l = c.first_attributes_are_within.ensures.rest_length c.loop-rest.rest.now e c.in-Some.after.now c.in-Some.ensures in
     record {
-      so_far = c.texts_are_written_by_steps.ensures.past (form_of c.args.form) rows c.args.bytes.now c.args.out.now.items c.loop-rest.out.items c.loop-rest.rest.now nothing e c.in-Some.after.now c.in-Some.ensures (sym c.is_kept.ensures ∙ c.if-is_kept.false) c.loop-rest.invariant.so_far;
+      so_far = c.texts_are_written_by_steps.ensures.past _ _ _ _ _ _ _ _ _ c.in-Some.ensures.first (sym c.is_kept.ensures ∙ c.if-is_kept.false) c.loop-rest.invariant.so_far;
       room = c.loop-rest.invariant.room;
-      within = omega (arith, v, l, c.loop-rest.invariant.within);
+      within = omega (arith, c.in-Some.ensures.within, c.in-Some.ensures.behind);
     }
 
 pub write_list-returns : goal.write_list-returns
 write_list-returns g t c =
-    let rows = rows_of g.T.TableSet.peer (g.T.TableSet.tables c.args.table) in
     record {
-      text = c.texts_are_written_by_steps.ensures.done (form_of c.args.form) rows c.args.bytes.now c.args.out.now.items c.loop-rest.out.items c.loop-rest.rest.now nothing (eqb-true (length c.loop-rest.rest.now) 0 (sym c.is_empty.ensures ∙ c.loop-rest-test.false)) c.loop-rest.invariant.so_far;
+      text = c.texts_are_written_by_steps.ensures.done _ _ _ _ _ _ _ (eqb-true _ 0 (sym c.is_empty.ensures ∙ c.loop-rest-test.false)) c.loop-rest.invariant.so_far;
       room = c.loop-rest.invariant.room;
     }

@@ -1,6 +1,6 @@
 use Rattle.std.proofs.Common.{refl, sym, ap, ◌∙◌}
 use Rattle.netlink_packet_core.specs.Frames.{frame_length}
-use Rattle.link_capture_checks.proofs.Steps.{apart, of_one_bytes}
+use Rattle.link_capture_checks.proofs.Steps.{of_one_bytes}
 use Rattle.link_capture_checks.proofs.sameness.is_same_frame.Goals as goal
 
 pub returns-then-eq : goal.returns-then-eq
@@ -19,4 +19,4 @@ returns-in-Ok c = (
 )
 
 pub returns-in-Err : goal.returns-in-Err
-returns-in-Err c = (λ h. absurd (apart (sym h)), λ s. (let e = sym s.0.is ∙ c.in-Err.ensures.err in absurd cc))
+returns-in-Err c = (λ h. absurd cc, λ s. absurd (cc (s.0.is, c.in-Err.ensures.err)))

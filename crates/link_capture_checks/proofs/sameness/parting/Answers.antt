@@ -5,23 +5,24 @@ use Rattle.netlink_packet_core.specs.Frames.{frame_length}
 use Rattle.link_capture_grammar.specs.Captures.{first_fault, raised, IsLegal}
 use Rattle.link_capture_grammar.specs.Laws.{LegalFrame}
 use Rattle.link_capture_grammar.specs.Same.{SameFrame}
-use Rattle.link_capture_checks.proofs.Steps.{some_bytes, one_further}
+use Rattle.attribute_checks.proofs.Loop.{some_bytes}
+use Rattle.link_capture_checks.proofs.Steps.{one_further}
 use Rattle.link_capture_checks.proofs.sameness.parting.Goals as goal
 
 pub is_same_frame-requires : goal.is_same_frame-requires
 is_same_frame-requires c =
     let rest = c.loop-other.rest.now in
-    c.sameness_goes_by_frames.ensures.front c.args.limit rest c.loop-other.invariant.legal (some_bytes rest c.is_empty.result c.loop-other-test.true c.is_empty.ensures)
+    c.sameness_goes_by_frames.ensures.front c.args.limit rest c.loop-other.invariant.legal (some_bytes rest _ c.loop-other-test.true c.is_empty.ensures)
 
 pub behind-rest-requires : goal.behind-rest-requires
 behind-rest-requires c =
     let rest = c.loop-other.rest.now in
-    (c.sameness_goes_by_frames.ensures.front c.args.limit rest c.loop-other.invariant.legal (some_bytes rest c.is_empty.result c.loop-other-test.true c.is_empty.ensures)).frame
+    (c.sameness_goes_by_frames.ensures.front c.args.limit rest c.loop-other.invariant.legal (some_bytes rest _ c.loop-other-test.true c.is_empty.ensures)).frame
 
 pub loop-other-smaller : goal.loop-other-smaller
 loop-other-smaller c =
     let rest = c.loop-other.rest.now in
-    let p = c.sameness_goes_by_frames.ensures.front c.args.limit rest c.loop-other.invariant.legal (some_bytes rest c.is_empty.result c.loop-other-test.true c.is_empty.ensures) in
+    let p = c.sameness_goes_by_frames.ensures.front c.args.limit rest c.loop-other.invariant.legal (some_bytes rest _ c.loop-other-test.true c.is_empty.ensures) in
     let size : length c.behind-rest.result.now ≡ length rest - nla_align (frame_length rest) = ap length c.behind-rest.ensures ∙ length-drop (nla_align (frame_length rest)) rest in
     omega (arith, size, p.frame.covers_header, p.frame.within)
 
@@ -33,7 +34,7 @@ loop-other-preserved c =
     let right = c.args.right.now in
     let at = c.loop-other.at in
     let w = c.loop-other.invariant in
-    let p = law.front limit rest w.legal (some_bytes rest c.is_empty.result c.loop-other-test.true c.is_empty.ensures) in
+    let p = law.front limit rest w.legal (some_bytes rest _ c.loop-other-test.true c.is_empty.ensures) in
     let other : List ℕ = drop at right in
     let both = subst (λ x. LegalFrame limit x × SameFrame rest x) (take_rest right at) (c.is_same_frame.ensures.0 c.if-not-is_same_frame.false) in
     let q = both.0 in

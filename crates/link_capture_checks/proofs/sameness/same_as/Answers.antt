@@ -3,7 +3,7 @@ use Rattle.std.proofs.lemmas.List.{drop_all, take_rest}
 use Rattle.link_message_grammar.specs.Body.{link_body}
 use Rattle.link_capture_grammar.specs.Captures.{first_fault, raised, IsLegal}
 use Rattle.link_capture_grammar.proofs.Frames.{fault_nil}
-use Rattle.link_capture_checks.proofs.Steps.{apart, frames_differ, right_ended}
+use Rattle.link_capture_checks.proofs.Steps.{frames_differ, right_ended}
 use Rattle.link_capture_checks.proofs.sameness.same_as.Goals as goal
 
 pub returns-then-at-right-clause-legal : goal.returns-then-at-right-clause-legal
@@ -30,4 +30,4 @@ returns-in-Ok-clause-same c =
     let right = c.args.right.now in
     let alike = c.parting-at.ensures.alike in
     let legal = subst (IsLegal c.args.limit) (take_rest right at) c.in-Ok.ensures.legal in
-    (λ h. absurd (apart (sym h)), λ s. absurd (frames_differ c.sameness_goes_by_frames.ensures c.args.limit c.parting-at.result.0.now (drop at right) c.args.left.now right alike.same alike.legal legal c.parting-at.ensures.parts (omega (arith, length-drop at right, c.if-at-right.false)) s))
+    (λ h. absurd cc, λ s. absurd (frames_differ c.sameness_goes_by_frames.ensures c.args.limit c.parting-at.result.0.now (drop at right) c.args.left.now right alike.same alike.legal legal c.parting-at.ensures.parts (omega (arith, length-drop at right, c.if-at-right.false)) s))

@@ -5,17 +5,11 @@ use Rattle.link_message_checks.specs.Tables.{table_of}
 use Rattle.link_message_checks.proofs.Built.{dense, known, built, bounded}
 use Rattle.link_message_checks.proofs.body.MessageTablesTableSet.table.Goals as goal
 
-pub returns-clause-dense : goal.returns-clause-dense
-returns-clause-dense g c = ap are_dense c.table_at.ensures ∙ dense c.args.table
-
-pub returns-clause-known : goal.returns-clause-known
-returns-clause-known g c = ap (are_known 19) c.table_at.ensures ∙ known c.args.table
-
-pub returns-clause-built : goal.returns-clause-built
-returns-clause-built g c = ap (build table_of info) c.table_at.ensures ∙ built c.args.table
-
-pub returns-clause-bounded : goal.returns-clause-bounded
-returns-clause-bounded g c = bounded c.args.table
-
-pub returns-clause-lawful_peer : goal.returns-clause-lawful_peer
-returns-clause-lawful_peer g c = c.peers_are_lawful.ensures
+pub returns : goal.returns
+returns g c = record {
+  dense = ap are_dense c.table_at.ensures ∙ dense c.args.table;
+  known = ap (are_known 19) c.table_at.ensures ∙ known c.args.table;
+  built = ap (build table_of info) c.table_at.ensures ∙ built c.args.table;
+  bounded = bounded c.args.table;
+  lawful_peer = c.peers_are_lawful.ensures;
+}

@@ -9,52 +9,62 @@ use std::test::Fail;
 
 #[test]
 fn numbers_name_values(rt: HostRuntime) {
-    assert!(rt; is_numbered(1u16, IpoibMode::Connected));
-    assert!(rt; is_numbered(2u16, IpVlanMode::L3S));
-    assert!(rt; is_numbered(8u32, MacVlanMode::Passthrough));
-    assert!(rt; is_numbered(3u32, MacVlanMacAddressMode::Set));
-    assert!(rt; is_numbered(0x0080C20001000002u64, MacSecCipherId::GcmAes256));
-    assert!(rt; is_numbered(2u8, MacSecValidate::Strict));
-    assert!(rt; is_numbered(0xffu8, MacSecOffload::Other(0xff)));
-    assert!(rt; is_numbered(1u32, NetkitMode::L3));
-    assert!(rt; is_numbered(7u32, NetkitPolicy::Redirect));
-    assert!(rt; is_numbered(1u32, NetkitScrub::Default));
-    assert!(rt; NetkitScrub::from(2) == NetkitScrub::Default);
+    let named = [
+        is_numbered(1u16, IpoibMode::Connected),
+        is_numbered(2u16, IpVlanMode::L3S),
+        is_numbered(8u32, MacVlanMode::Passthrough),
+        is_numbered(3u32, MacVlanMacAddressMode::Set),
+        is_numbered(0x0080C20001000002u64, MacSecCipherId::GcmAes256),
+        is_numbered(2u8, MacSecValidate::Strict),
+        is_numbered(0xffu8, MacSecOffload::Other(0xff)),
+        is_numbered(1u32, NetkitMode::L3),
+        is_numbered(7u32, NetkitPolicy::Redirect),
+        is_numbered(1u32, NetkitScrub::Default),
+        NetkitScrub::from(2) == NetkitScrub::Default,
+    ];
+    assert_eq!(rt; named, [true; 11]);
 }
 
 #[test]
 fn texts_name_values(rt: HostRuntime) -> Result<(), Fail> {
-    assert!(rt; is_named(rt.alloc(), IpVlanMode::L3S, "l3s")?);
-    assert!(rt; is_named(rt.alloc(), MacVlanMode::Passthrough, "passthru")?);
-    assert!(rt; is_named(rt.alloc(), NetkitMode::L2, "l2")?);
-    assert!(rt; is_named(rt.alloc(), NetkitPolicy::Forward, "forward")?);
-    assert!(rt; is_named(rt.alloc(), NetkitScrub::None, "none")?);
-    assert!(rt; is_displayed(rt.alloc(), MacVlanMode::Other(3), "3")?);
-    assert!(rt; MacVlanMode::from_str("passthrough").is_err());
-    assert!(rt; IpVlanMode::from_str("L3S").is_err());
+    let named = [
+        is_named(rt.alloc(), IpVlanMode::L3S, "l3s")?,
+        is_named(rt.alloc(), MacVlanMode::Passthrough, "passthru")?,
+        is_named(rt.alloc(), NetkitMode::L2, "l2")?,
+        is_named(rt.alloc(), NetkitPolicy::Forward, "forward")?,
+        is_named(rt.alloc(), NetkitScrub::None, "none")?,
+        is_displayed(rt.alloc(), MacVlanMode::Other(3), "3")?,
+        MacVlanMode::from_str("passthrough").is_err(),
+        IpVlanMode::from_str("L3S").is_err(),
+    ];
+    assert_eq!(rt; named, [true; 8]);
     Ok(())
 }
 
 #[test]
 fn flags_have_their_bits(rt: HostRuntime) {
-    assert!(rt; are_flags(IpVlanFlags::Vepa, 0x2u16, IpVlanFlags::Private));
-    assert!(rt; are_flags(MacVlanFlags::NoDst, 0x2u16, MacVlanFlags::NoPromisc));
-    assert!(rt;
+    let held = [
+        are_flags(IpVlanFlags::Vepa, 0x2u16, IpVlanFlags::Private),
+        are_flags(MacVlanFlags::NoDst, 0x2u16, MacVlanFlags::NoPromisc),
         are_flags(
             RmNetFlags::EgressMapCksumV5,
             0x20u32,
-            RmNetFlags::EgressMapCksumV4
-        )
-    );
-    assert!(rt; RmNetFlags::from_bits_retain(u32::MAX).bits() == u32::MAX);
-    assert!(rt; IpVlanFlags::default() == IpVlanFlags::empty());
+            RmNetFlags::EgressMapCksumV4,
+        ),
+        RmNetFlags::from_bits_retain(u32::MAX).bits() == u32::MAX,
+        IpVlanFlags::default() == IpVlanFlags::empty(),
+    ];
+    assert_eq!(rt; held, [true; 5]);
 }
 
 #[test]
 fn taps_have_the_types_of_vlans(rt: HostRuntime) {
-    assert!(rt; IpVtapMode::L2 == IpVlanMode::L2);
-    assert!(rt; IpVtapFlags::Vepa == IpVlanFlags::Vepa);
-    assert!(rt; MacVtapMode::Vepa == MacVlanMode::Vepa);
-    assert!(rt; MacVtapFlags::NoDst == MacVlanFlags::NoDst);
-    assert!(rt; MacVtapMacAddressMode::Del == MacVlanMacAddressMode::Del);
+    let alike = [
+        IpVtapMode::L2 == IpVlanMode::L2,
+        IpVtapFlags::Vepa == IpVlanFlags::Vepa,
+        MacVtapMode::Vepa == MacVlanMode::Vepa,
+        MacVtapFlags::NoDst == MacVlanFlags::NoDst,
+        MacVtapMacAddressMode::Del == MacVlanMacAddressMode::Del,
+    ];
+    assert_eq!(rt; alike, [true; 5]);
 }

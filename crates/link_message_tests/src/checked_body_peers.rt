@@ -88,7 +88,6 @@ fn peers_in_bodies_are_compared_one_level_deep(rt: HostRuntime) {
         (INSIDE, INSIDE_WRITTEN, false),
     ] {
         assert!(rt; left.len() >= 16 && right.len() >= 16);
-        assert!(rt; same(left, right) == is_same);
-        assert!(rt; same(right, left) == is_same);
+        assert!(rt; [same(left, right), same(right, left)] == [is_same; 2]);
     }
 }

@@ -51,12 +51,11 @@ fn attributes_of_peers_count(rt: HostRuntime) -> Result<(), Fail> {
             attributes: 4,
             fits: true,
         };
-        assert!(rt; check_list(bytes)? == by_bytes);
-        assert!(rt; check_list_with(bytes, &LinkPeer)? == by_body);
+        let told = [check_list(bytes)?, check_list_with(bytes, &LinkPeer)?];
+        assert!(rt; told == [by_bytes, by_body]);
     }
     for bytes in [VETH_EMPTY_PORTS, VETH_THREE] {
-        assert!(rt; check_list(bytes).is_ok());
-        assert!(rt; check_list_with(bytes, &LinkPeer).is_err());
+        assert!(rt; check_list(bytes).is_ok() && check_list_with(bytes, &LinkPeer).is_err());
     }
     Ok(())
 }
@@ -69,8 +68,11 @@ fn peers_are_compared_as_bodies(rt: HostRuntime) {
         (VETH_SHORTER, VETH_PADDED, true),
         (VETH_SHORTER, VETH_OTHER, false),
     ] {
-        assert!(rt; same_list_with(left, right, &LinkPeer) == is_same);
-        assert!(rt; !same_list(left, right));
+        let told = [
+            same_list_with(left, right, &LinkPeer),
+            same_list(left, right),
+        ];
+        assert!(rt; told == [is_same, false]);
     }
 }
 
@@ -90,8 +92,8 @@ fn bytes_under_a_header_are_compared(rt: HostRuntime) {
         ),
         (&BODY[..15], &BODY[..16], false),
     ] {
-        assert!(rt; LinkPeer.same(left, right) == is_same);
-        assert!(rt; LinkPeer.same(right, left) == is_same);
+        let told = [LinkPeer.same(left, right), LinkPeer.same(right, left)];
+        assert!(rt; told == [is_same; 2]);
     }
 }
 

@@ -67,8 +67,8 @@ fn peers_are_counted_by_the_rule(rt: HostRuntime) -> Result<(), Fail> {
             attributes,
             fits: true,
         };
-        assert!(rt; check_list(bytes)? == measure);
-        assert!(rt; check_list_with(bytes, &BytesPeer)? == measure);
+        let told = [check_list(bytes)?, check_list_with(bytes, &BytesPeer)?];
+        assert!(rt; told == [measure, measure]);
         match by_rule {
             Some((text_len, attributes)) => {
                 let measure = ListMeasure {
@@ -96,9 +96,12 @@ fn peers_are_compared_by_the_rule(rt: HostRuntime) {
         (VETH, VETH_BEHIND, true, false),
         (VETH, VETH_AMONG, false, false),
     ] {
-        assert!(rt; same_list_with(left, right, &FrontPeer) == by_rule);
-        assert!(rt; same_list_with(left, right, &BytesPeer) == by_bytes);
-        assert!(rt; same_list(left, right) == by_bytes);
+        let told = [
+            same_list_with(left, right, &FrontPeer),
+            same_list_with(left, right, &BytesPeer),
+            same_list(left, right),
+        ];
+        assert!(rt; told == [by_rule, by_bytes, by_bytes]);
     }
 }
 

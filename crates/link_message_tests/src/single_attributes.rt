@@ -59,12 +59,14 @@ fn other_kinds_than_one_are_refused(rt: HostRuntime) -> Result<(), Fail> {
     for kind in &[[0, 0], [2, 0], [1, 1]] {
         let function = [8, 0, kind[0], kind[1], 4, 0, 99, 0];
         let buffer = NlaBuffer::new_checked(function.as_slice())?;
-        assert!(rt; LinkVfInfo::parse(alloc, &buffer).is_err());
-        assert!(rt; LinkVfPort::parse(alloc, &buffer).is_err());
+        assert!(rt;
+            LinkVfInfo::parse(alloc, &buffer).is_err() && LinkVfPort::parse(alloc, &buffer).is_err()
+        );
     }
     let buffer = NlaBuffer::new_checked([8, 0, 1, 0, 4, 0, 99, 0].as_slice())?;
-    assert!(rt; LinkVfInfo::parse(alloc, &buffer).is_ok());
-    assert!(rt; LinkVfPort::parse(alloc, &buffer).is_ok());
+    assert!(rt;
+        LinkVfInfo::parse(alloc, &buffer).is_ok() && LinkVfPort::parse(alloc, &buffer).is_ok()
+    );
     Ok(())
 }
 

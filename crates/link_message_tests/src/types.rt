@@ -8,14 +8,17 @@ use std::test::Fail;
 
 #[test]
 fn numbers_name_values(rt: HostRuntime) {
-    assert!(rt; AddressFamily::from(45) == AddressFamily::Mctp);
-    assert!(rt; LinkLayerType::from(513) == LinkLayerType::Cisco);
-    assert!(rt; LinkLayerType::from(1280) == LinkLayerType::Void);
-    assert!(rt; u16::from(LinkLayerType::Ieee80211Radiotap) == 803);
-    assert!(rt; VfLinkState::from(2) == VfLinkState::Disable);
-    assert!(rt; VlanProtocol::from(0x88a8) == VlanProtocol::Ieee8021Ad);
-    assert!(rt; u8::from(&MctpPhysBinding::Ucie) == 9);
-    assert!(rt; u8::from(&In6AddrGenMode::Random) == 3);
+    let named = [
+        AddressFamily::from(45) == AddressFamily::Mctp,
+        LinkLayerType::from(513) == LinkLayerType::Cisco,
+        LinkLayerType::from(1280) == LinkLayerType::Void,
+        u16::from(LinkLayerType::Ieee80211Radiotap) == 803,
+        VfLinkState::from(2) == VfLinkState::Disable,
+        VlanProtocol::from(0x88a8) == VlanProtocol::Ieee8021Ad,
+        u8::from(&MctpPhysBinding::Ucie) == 9,
+        u8::from(&In6AddrGenMode::Random) == 3,
+    ];
+    assert_eq!(rt; named, [true; 8]);
 }
 
 #[test]

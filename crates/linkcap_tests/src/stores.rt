@@ -41,15 +41,18 @@ const CUT_FAULT: CaptureFault = CaptureFault {
 fn captures_that_mean_the_same_have_one_place(rt: HostRuntime) -> Result<(), Fail> {
     let alloc = rt.alloc();
     let mut store = Store::new(alloc, 1000);
-    assert_eq!(rt; store.get(alloc, &ASKED), Ok(None));
-    assert_eq!(rt; store.insert(alloc, &ASKED, 1u32), Ok(None));
-    assert_eq!(rt; store.get(alloc, &ALIKE), Ok(Some(&1)));
-    assert_eq!(rt; store.insert(alloc, &ALIKE, 2), Ok(Some(1)));
-    assert_eq!(rt; store.get(alloc, &ASKED), Ok(Some(&2)));
-    assert_eq!(rt; store.get(alloc, &OTHER), Ok(None));
-    assert_eq!(rt; store.insert(alloc, &OTHER, 3), Ok(None));
-    assert_eq!(rt; store.get(alloc, &ALIKE), Ok(Some(&2)));
-    assert_eq!(rt; store.get(alloc, &OTHER), Ok(Some(&3)));
+    let told = [
+        store.get(alloc, &ASKED) == Ok(None),
+        store.insert(alloc, &ASKED, 1u32) == Ok(None),
+        store.get(alloc, &ALIKE) == Ok(Some(&1)),
+        store.insert(alloc, &ALIKE, 2) == Ok(Some(1)),
+        store.get(alloc, &ASKED) == Ok(Some(&2)),
+        store.get(alloc, &OTHER) == Ok(None),
+        store.insert(alloc, &OTHER, 3) == Ok(None),
+        store.get(alloc, &ALIKE) == Ok(Some(&2)),
+        store.get(alloc, &OTHER) == Ok(Some(&3)),
+    ];
+    assert_eq!(rt; told, [true; 9]);
     Ok(())
 }
 
@@ -57,14 +60,17 @@ fn captures_that_mean_the_same_have_one_place(rt: HostRuntime) -> Result<(), Fai
 fn a_capture_with_a_fault_is_not_stored(rt: HostRuntime) -> Result<(), Fail> {
     let alloc = rt.alloc();
     let mut store = Store::new(alloc, 1000);
-    assert_eq!(rt; store.insert(alloc, &ASKED, 1u32), Ok(None));
     let refused = NotStored {
         fault: CUT_FAULT,
         value: 2,
     };
-    assert_eq!(rt; store.insert(alloc, &CUT, 2), Err(refused));
-    assert_eq!(rt; store.get(alloc, &CUT), Err(CUT_FAULT));
-    assert_eq!(rt; store.get(alloc, &ASKED), Ok(Some(&1)));
+    let told = [
+        store.insert(alloc, &ASKED, 1u32) == Ok(None),
+        store.insert(alloc, &CUT, 2) == Err(refused),
+        store.get(alloc, &CUT) == Err(CUT_FAULT),
+        store.get(alloc, &ASKED) == Ok(Some(&1)),
+    ];
+    assert_eq!(rt; told, [true; 4]);
     Ok(())
 }
 
@@ -72,25 +78,28 @@ fn a_capture_with_a_fault_is_not_stored(rt: HostRuntime) -> Result<(), Fail> {
 fn a_small_limit_leaves_the_empty_capture(rt: HostRuntime) -> Result<(), Fail> {
     let alloc = rt.alloc();
     let mut store = Store::new(alloc, 15);
-    assert_eq!(rt; store.insert(alloc, &[], 1u32), Ok(None));
-    assert_eq!(rt; store.get(alloc, &[]), Ok(Some(&1)));
     let fault = CaptureFault {
         kind: FaultKind::OverLimit,
         offset: 0,
     };
-    assert_eq!(rt; store.get(alloc, &ASKED), Err(fault));
+    let told = [
+        store.insert(alloc, &[], 1u32) == Ok(None),
+        store.get(alloc, &[]) == Ok(Some(&1)),
+        store.get(alloc, &ASKED) == Err(fault),
+    ];
+    assert_eq!(rt; told, [true; 3]);
     Ok(())
 }
 
 #[test]
 fn captures_are_held_against_a_golden_file(rt: HostRuntime) -> Result<(), Fail> {
-    assert_eq!(rt; hold_against(&ASKED, &ALIKE, 1000), Finding::Golden);
-    assert_eq!(rt; hold_against(&ASKED, &OTHER, 1000), Finding::Changed);
-    assert_eq!(rt; hold_against(&ASKED, &CUT, 1000), Finding::Fault(CUT_FAULT));
-    assert_eq!(rt;
-        hold_against(&CUT, &ASKED, 1000),
-        Finding::GoldenFault(CUT_FAULT)
-    );
+    let found = [
+        hold_against(&ASKED, &ALIKE, 1000) == Finding::Golden,
+        hold_against(&ASKED, &OTHER, 1000) == Finding::Changed,
+        hold_against(&ASKED, &CUT, 1000) == Finding::Fault(CUT_FAULT),
+        hold_against(&CUT, &ASKED, 1000) == Finding::GoldenFault(CUT_FAULT),
+    ];
+    assert_eq!(rt; found, [true; 4]);
     Ok(())
 }
 
@@ -122,13 +131,15 @@ fn interfaces_are_kept(rt: HostRuntime) -> Result<(), Fail> {
         kind: FaultKind::Cut,
         offset: 180,
     };
-    assert_eq!(rt; learn_all(alloc, &LINKS, 1000, &mut interfaces), Err(fault));
-    assert_eq!(rt; interfaces.len(), 2);
-    assert!(rt; holds(&interfaces, 1, "lo", 0x49) && holds(&interfaces, 3, "dummy", 0));
-    assert_eq!(rt;
-        learn_all(alloc, &LINKS[40..92], 1000, &mut interfaces),
-        Ok(())
-    );
-    assert!(rt; interfaces.len() == 3 && holds(&interfaces, 2, "eth0", 0x1003));
+    let told = [
+        learn_all(alloc, &LINKS, 1000, &mut interfaces) == Err(fault),
+        interfaces.len() == 2,
+        holds(&interfaces, 1, "lo", 0x49),
+        holds(&interfaces, 3, "dummy", 0),
+        learn_all(alloc, &LINKS[40..92], 1000, &mut interfaces) == Ok(()),
+        interfaces.len() == 3,
+        holds(&interfaces, 2, "eth0", 0x1003),
+    ];
+    assert_eq!(rt; told, [true; 7]);
     Ok(())
 }

@@ -20,11 +20,14 @@ fn find(bytes: &[u8], kind: u16) -> Option<&[u8]> {
 
 #[test]
 fn lengths_are_aligned(rt: HostRuntime) {
-    assert!(rt; nla_align(13) == 16);
-    assert!(rt; nla_align(16) == 16);
-    assert!(rt; nla_align(0) == 0);
-    assert!(rt; nla_align(1) == 4);
-    assert!(rt; nla_align(usize::MAX - 4) == usize::MAX - 3);
+    let aligned = [
+        nla_align(13) == 16,
+        nla_align(16) == 16,
+        nla_align(0) == 0,
+        nla_align(1) == 4,
+        nla_align(usize::MAX - 4) == usize::MAX - 3,
+    ];
+    assert_eq!(rt; aligned, [true; 5]);
 }
 
 /// The kinds and flags that are read of an attribute, which then has its first flag alone.

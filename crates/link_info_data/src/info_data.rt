@@ -179,7 +179,15 @@ impl InfoData {
             InfoKind::ErSpan => data!(ErSpan, parse_family(alloc, payload)),
             InfoKind::Ip6ErSpan => data!(Ip6ErSpan, parse_family(alloc, payload)),
             InfoKind::Wireguard => data!(Wireguard, parse_family(alloc, payload)),
-            _ => Ok(Self::Other(parse_bytes(alloc, payload)?)),
+            InfoKind::Dummy
+            | InfoKind::Ifb
+            | InfoKind::Nlmon
+            | InfoKind::Vcan
+            | InfoKind::Netdevsim
+            | InfoKind::VirtWifi
+            | InfoKind::Team
+            | InfoKind::Pfcp
+            | InfoKind::Other(_) => Ok(Self::Other(parse_bytes(alloc, payload)?)),
         }
     }
 

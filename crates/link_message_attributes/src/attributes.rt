@@ -1,7 +1,7 @@
 //! The attributes of a link (if_link.h, IFLA_*), under the address family of the message's header.
 //! Numbers are little-endian.
 
-ghost use Rattle.std.specs.Prelude.{◌≡◌, ◌==◌, ◌<◌, false, true, length, map, Some, IfOk, IfErr, IfNone, IsSome};
+ghost use Rattle.std.specs.Prelude.{◌≡◌, ◌==◌, ◌<◌, false, true, length, map, Some, IfOk, IfErr, IfNone};
 ghost use Rattle.std.specs.List.{All};
 ghost use Rattle.netlink_packet_core.specs.AttributeViews.{IsAttribute};
 ghost use Rattle.netlink_packet_core.specs.Families.{attribute};
@@ -421,7 +421,8 @@ impl LinkAttribute {
     ) -> Result<Option<Self>, DecodeError>
         ensures judged { SucceedsWhere result
             ((plain_row (table_family family) 26).rule.accepted payload.now) }
-        ensures some { IfOk result (λ o. IsSome o) }
+        ensures none { IfOk result
+            (λ o. IfNone o (has_no_link_row (table_family family) 26)) }
         ensures typed { IfRead result
             (λ _. (plain_row (table_family family) 26).is_typed ≡ true) }
         ensures written { RowIsRewrittenBy result link_attribute_entry link_attribute_fits

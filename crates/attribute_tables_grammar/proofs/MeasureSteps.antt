@@ -5,11 +5,11 @@ use Rattle.std.proofs.Math.Bool.{and-true, or-false}
 use Rattle.std.proofs.Math.Nat.{add-zero, zero-add}
 use Rattle.std.proofs.lemmas.Bool.{ne_eqb}
 use Rattle.std.proofs.lemmas.Option.{cond_some}
-use Rattle.netlink_packet_core_grammar.specs.Attributes.{nla_align, list_text, Attribute, first_attribute, if_some, attributes_within, attributes_of}
+use Rattle.netlink_packet_core_grammar.specs.Attributes.{nla_align, list_text, Attribute, first_attribute, if_some, attributes_of}
 use Rattle.netlink_packet_core_grammar.proofs.Attributes.{sized}
-use Rattle.attribute_tables_grammar.specs.Rules.{Rule, Lawful}
-use Rattle.attribute_tables_grammar.specs.Lists.{Context, nothing, Grammar, ListForm, any, non_empty, of_kind_one, ports, first_alone, is_kept, kept, is_empty_ports, row_of, list_rule, if_read, all_accepted, rewritten, attributes_inside, all_fit, some_empty_ports}
-use Rattle.attribute_tables_grammar.specs.Walks.{Measure, measure, plus, none_yet, dropped, with_header, both, measures, walk, or_empty, walk_as, MeasuredSoFar, closed, IsWalked, WantsAttribute, IsSmall, IsMeasure}
+use Rattle.attribute_tables_grammar.specs.Rules.{Rule}
+use Rattle.attribute_tables_grammar.specs.Lists.{Context, nothing, Grammar, ListForm, any, non_empty, ports, first_alone, is_kept, kept, is_empty_ports, row_of, list_rule, if_read, all_accepted, rewritten, attributes_inside, all_fit, some_empty_ports}
+use Rattle.attribute_tables_grammar.specs.Walks.{Measure, measure, plus, none_yet, dropped, with_header, both, measures, walk, or_empty, walk_as, closed, IsWalked, WantsAttribute, IsMeasure}
 use Rattle.attribute_tables_grammar.specs.Laws.{MeasuresGoBySteps, MeasuresTellRules}
 use Rattle.attribute_tables_grammar.proofs.Kept.{kept_more, kept_past, bytes_not_empty, read_walked, read_none}
 use Rattle.attribute_tables_grammar.proofs.Walks.{both_assoc, walk_list, walk_end, walk_stop, walk_step}

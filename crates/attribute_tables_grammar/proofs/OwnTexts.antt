@@ -5,9 +5,9 @@ use Rattle.std.proofs.lemmas.List.{take-append-drop, drop-drop, length-take-le}
 use Rattle.netlink_packet_core_grammar.specs.Attributes.{nla_align, zeros, Attribute, attribute_length, attribute_text, list_text, first_attribute, attributes_within, attributes_of}
 use Rattle.netlink_packet_core_grammar.proofs.Attributes.{IsCut, headed}
 use Rattle.netlink_packet_core_grammar.proofs.FirstAttribute.{attributes_step}
-use Rattle.attribute_tables_grammar.specs.Lists.{Context, nothing, Grammar, row_of, rewrite, rewritten, written_kind, ListForm, any, non_empty, of_kind_one, ports, first_alone, is_kept, kept, if_read, list_rule}
+use Rattle.attribute_tables_grammar.specs.Lists.{Context, nothing, Grammar, row_of, rewrite, rewritten, written_kind, ListForm, is_kept, kept, if_read, list_rule}
 use Rattle.attribute_tables_grammar.specs.Walks.{IsWalked}
-use Rattle.attribute_tables_grammar.specs.OwnTexts.{text_from, OwnSoFar}
+use Rattle.attribute_tables_grammar.specs.OwnTexts.{text_from}
 use Rattle.attribute_tables_grammar.specs.Laws.{OwnTextsGoBySteps}
 use Rattle.attribute_tables_grammar.proofs.Kept.{kept_more, kept_none, read_walked}
 

@@ -7,11 +7,11 @@ use Rattle.netlink_packet_core_grammar.specs.Fits.{attribute_fits}
 use Rattle.netlink_packet_core_grammar.specs.AttributeViews.{viewed_attribute, after_first}
 use Rattle.netlink_packet_core_grammar.proofs.FirstAttribute.{first_attribute_is, first_attribute_none, attributes_step, attributes_stop}
 use Rattle.netlink_packet_core_grammar.proofs.Sizes.{length-list_text}
-use Rattle.attribute_tables_grammar.specs.Lists.{Context, nothing, Row, Grammar, without_context, row_of, rewritten, all_accepted, some_empty_ports, all_fit, attributes_inside, ListForm, any, non_empty, of_kind_one, ports, first_alone, not_empty, read_as, is_kept, kept, is_empty_ports, if_read, list_rule}
+use Rattle.attribute_tables_grammar.specs.Lists.{Context, nothing, Grammar, without_context, row_of, rewritten, all_accepted, some_empty_ports, all_fit, attributes_inside, ListForm, any, non_empty, of_kind_one, ports, not_empty, read_as, is_kept, kept, is_empty_ports, if_read, list_rule}
 use Rattle.attribute_tables_grammar.specs.LookUps.{rows_rule}
 use Rattle.attribute_tables_grammar.specs.Laws.{ReadingsGoBySteps, ReadingsTellRules, FirstAloneIsRead, PortsAreEntries}
 use Rattle.attribute_tables_grammar.specs.Walks.{WantsAttribute}
-use Rattle.attribute_tables_grammar.specs.Readings.{Written, written_by, written_list, reading, reading_as, all_written_fit, followed_by, SoFar, Tells}
+use Rattle.attribute_tables_grammar.specs.Readings.{Written, written_by, written_list, reading, reading_as, all_written_fit, followed_by, Tells}
 use Rattle.attribute_tables_grammar.proofs.Kept.{kept_more, kept_past, kept_none, bytes_not_empty, read_none}
 
 -- ---- the steps

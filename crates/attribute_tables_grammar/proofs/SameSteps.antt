@@ -1,5 +1,5 @@
 -- Two lists mean the same attribute by attribute, over any rows.
-use Rattle.std.proofs.Common.{◌≡◌, ℕ, zero, suc, ◌<◌, Bool, true, false, cond, List, [], ◌∷◌, length, Option, Some, None, inl, inr, refl, sym, ap, ◌∙◌, arith}
+use Rattle.std.proofs.Common.{◌≡◌, ℕ, zero, suc, Bool, true, false, cond, List, [], ◌∷◌, length, Option, Some, None, inl, inr, refl, sym, ap, ◌∙◌, arith}
 use Rattle.std.specs.Prelude.{◌==◌, ◌&&◌, ◌||◌, option_map}
 use Rattle.std.proofs.lemmas.Bool.{eqb-true, ne_eqb, and_parts}
 use Rattle.std.proofs.lemmas.Bool.Decides.{eqb_tells}
@@ -8,10 +8,9 @@ use Rattle.netlink_packet_core_grammar.specs.Attributes.{Attribute, proper_kind,
 use Rattle.netlink_packet_core_grammar.specs.Texts.{without_nul}
 use Rattle.netlink_packet_core_grammar.proofs.FirstAttribute.{attributes_step, attributes_stop}
 use Rattle.attribute_tables_grammar.specs.Rules.{Rule}
-use Rattle.attribute_tables_grammar.specs.Lists.{Context, nothing, Row, Grammar, row_of, row_at, same_kind, same_attribute, all_same, ListForm, any, non_empty, of_kind_one, ports, first_alone, read_as, is_kept, kept, if_read, list_rule}
+use Rattle.attribute_tables_grammar.specs.Lists.{Context, nothing, Row, Grammar, row_of, row_at, same_kind, same_attribute, all_same, ListForm, non_empty, ports, first_alone, read_as, is_kept, kept, if_read}
 use Rattle.attribute_tables_grammar.specs.Tables.{info_row, info_next, names_grammar}
-use Rattle.attribute_tables_grammar.specs.Walks.{IsWalked, WantsAttribute}
-use Rattle.attribute_tables_grammar.specs.Sameness.{kept_of, same_kept, same_walk, goes_on, same_kinds}
+use Rattle.attribute_tables_grammar.specs.Sameness.{kept_of, same_kept, same_walk, same_kinds}
 use Rattle.attribute_tables_grammar.specs.Laws.{KeptBySteps, SamenessGoesBySteps, AttributesAreCompared}
 use Rattle.attribute_tables_grammar.proofs.Kept.{kept_more, kept_past, kept_none, bytes_not_empty, read_walked, read_none}
 

@@ -11,7 +11,7 @@ use Rattle.netlink_packet_core_grammar.specs.Truths.{truth_of, one_of}
 use Rattle.netlink_packet_core_grammar.specs.Bytes.{AreBytes}
 use Rattle.netlink_packet_core_grammar.proofs.Texts.{without_nul-end, without_nul-length, without_nul-bytes}
 use Rattle.netlink_packet_core_grammar.proofs.Bytes.{AreBytes-append, AreBytes-take, AreBytes-zeros, AreBytes-map}
-use Rattle.attribute_tables_grammar.specs.Shapes.{Shape, exact, either, at_most, nonzero_byte, one_byte, truth_of_four, presence, text, raw, never, fixed_record, id_and_truth, resized, number, number_truth, accepts, meaning, spelling, shape_bounded}
+use Rattle.attribute_tables_grammar.specs.Shapes.{Shape, nonzero_byte, one_byte, truth_of_four, presence, text, raw, fixed_record, id_and_truth, resized, number, number_truth, accepts, meaning, spelling, shape_bounded}
 use Rattle.attribute_tables_grammar.specs.Rules.{Lawful, shape_rule}
 
 truth_again : (n : ℕ) → truth_of (truth_of n) ≡ truth_of n

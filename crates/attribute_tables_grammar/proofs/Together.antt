@@ -1,5 +1,5 @@
 -- The laws that want more than one lemma, and what all laws go by.
-use Rattle.std.proofs.Common.{◌≡◌, subst, sym, true}
+use Rattle.std.proofs.Common.{subst, sym}
 use Rattle.attribute_tables_grammar.specs.Rules.{Rule, Lawful}
 use Rattle.attribute_tables_grammar.specs.Tables.{rule}
 use Rattle.attribute_tables_grammar.specs.Laws.{OneTextEach, TextsTellMeanings, KeepsMeaning, TextsKeepMeanings, TableRowsAreLawful}

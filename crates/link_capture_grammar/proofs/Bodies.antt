@@ -1,5 +1,5 @@
 -- What the type of a frame says of its body.
-use Rattle.std.proofs.Common.{◌≡◌, ℕ, eqb, Bool, true, false, cond, List, [], ◌∷◌, Result, Ok, sym, subst, inl, inr}
+use Rattle.std.proofs.Common.{ℕ, eqb, Bool, true, false, cond, List, [], Result, Ok, sym, subst, inl, inr}
 use Rattle.std.specs.Prelude.{bytes_eq}
 use Rattle.std.proofs.lemmas.Bool.{cases_Bool, eqb-true}
 use Rattle.attribute_tables_grammar.specs.Rules.{Rule}

@@ -1,12 +1,11 @@
 -- The numbers of a capture go frame by frame.
-use Rattle.std.proofs.Common.{◌≡◌, ℕ, zero, suc, ◌+◌, ◌-◌, ◌*◌, ◌≤◌, eqb, true, List, [], ◌∷◌, length, drop, Ok, Err, refl, sym, ap, subst, ◌∙◌, inl, inr, arith, length-drop}
-use Rattle.std.proofs.lemmas.Bool.{eqb-true}
+use Rattle.std.proofs.Common.{◌≡◌, ℕ, zero, suc, ◌+◌, ◌-◌, ◌*◌, ◌≤◌, List, [], ◌∷◌, length, drop, Ok, Err, refl, sym, ap, ◌∙◌, arith, length-drop}
 use Rattle.std.proofs.lemmas.List.{length-take}
 use Rattle.netlink_packet_core_grammar.specs.Attributes.{nla_align}
 use Rattle.netlink_packet_core_grammar.specs.Frames.{frame_length, frame_type, frame_body}
 use Rattle.attribute_tables_grammar.specs.Rules.{Rule, Lawful}
 use Rattle.link_capture_grammar.specs.declared.fault.FaultKind.{FaultKind}
-use Rattle.link_capture_grammar.specs.Bodies.{is_link_type, ruled_text, body_text_under}
+use Rattle.link_capture_grammar.specs.Bodies.{ruled_text, body_text_under}
 use Rattle.link_capture_grammar.specs.Captures.{first_frame_under, raised}
 use Rattle.link_capture_grammar.specs.Laws.{CapturesAreCounted}
 use Rattle.link_capture_grammar.specs.Numbers.{body_attributes_under, frame_attributes_under, attributes_under, next_sum, sum_after_under}

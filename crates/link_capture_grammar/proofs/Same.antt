@@ -1,5 +1,5 @@
 -- A legal capture and its normal text mean the same; captures that mean the same are legal.
-use Rattle.std.proofs.Common.{◌≡◌, ℕ, zero, suc, ◌-◌, ◌^◌, ◌<◌, ◌≤◌, eqb, ltb, true, false, cond, List, [], ◌∷◌, ◌++◌, length, drop, Option, None, Some, Ok, Err, refl, sym, ap, subst, ◌∙◌, inl, inr, arith}
+use Rattle.std.proofs.Common.{◌≡◌, ℕ, zero, suc, ◌^◌, ◌<◌, eqb, ltb, true, List, [], ◌∷◌, ◌++◌, length, drop, Option, None, Some, Ok, Err, refl, sym, ap, subst, ◌∙◌, inl, inr, arith}
 use Rattle.std.specs.Prelude.{bytes_eq}
 use Rattle.std.proofs.lemmas.Slice.Eq.{bytes_eq-Decides}
 use Rattle.netlink_packet_core_grammar.specs.Attributes.{nla_align}
@@ -9,7 +9,7 @@ use Rattle.attribute_tables_grammar.proofs.Attributes.{renews_itself}
 use Rattle.attribute_tables_grammar.proofs.Together.{keeps_meaning}
 use Rattle.link_capture_grammar.specs.declared.fault.CaptureFault.{CaptureFault}
 use Rattle.link_capture_grammar.specs.declared.fault.FaultKind.{FaultKind}
-use Rattle.link_capture_grammar.specs.Bodies.{error_text, done_text, ruled_text, is_link_type, body_text_under}
+use Rattle.link_capture_grammar.specs.Bodies.{error_text, done_text, ruled_text, body_text_under}
 use Rattle.link_capture_grammar.specs.Captures.{first_frame_under, raised, first_fault_under, texts_under, IsLegalUnder}
 use Rattle.link_capture_grammar.specs.Same.{done_body, same_body_under, SameFrameUnder, SameFramesUnder, SameCaptureUnder}
 use Rattle.link_capture_grammar.specs.Laws.{TextsMeanTheSame, SameAreLegal}

@@ -1,10 +1,10 @@
 -- Texts are at most 77 times as long.
-use Rattle.std.proofs.Common.{◌≡◌, ℕ, zero, suc, ◌+◌, ◌-◌, ◌*◌, ◌≤◌, ltb, eqb, List, [], ◌∷◌, length, drop, Ok, ap, subst, inl, inr, arith, length-append, length-drop}
+use Rattle.std.proofs.Common.{◌≡◌, ℕ, ◌+◌, ◌-◌, ◌*◌, ◌≤◌, ltb, eqb, List, [], ◌∷◌, length, drop, Ok, ap, subst, inl, inr, arith, length-append, length-drop}
 use Rattle.std.proofs.lemmas.List.{length-take-le}
 use Rattle.netlink_packet_core_grammar.specs.Attributes.{nla_align}
 use Rattle.netlink_packet_core_grammar.specs.Frames.{frame_length, frame_type, frame_body}
 use Rattle.attribute_tables_grammar.specs.Rules.{Rule, Lawful}
-use Rattle.link_capture_grammar.specs.Bodies.{error_text, done_text, is_link_type, ruled_text, body_text_under}
+use Rattle.link_capture_grammar.specs.Bodies.{error_text, done_text, ruled_text, body_text_under}
 use Rattle.link_capture_grammar.specs.Captures.{first_frame_under, texts_under}
 use Rattle.link_capture_grammar.proofs.Bodies.{by_type}
 use Rattle.link_capture_grammar.proofs.Frames.{guard, accepted, by_frames, texts_step, texts_stop}

@@ -1,5 +1,5 @@
 -- A small frame has a text that fits and is within the limit.
-use Rattle.std.proofs.Common.{◌≡◌, ℕ, ◌+◌, ◌-◌, ◌≤◌, Bool, true, false, cond, eqb, ltb, Result, Ok, Err, List, [], ◌∷◌, length, drop, refl, subst, arith, length-drop}
+use Rattle.std.proofs.Common.{◌≡◌, ℕ, ◌+◌, ◌-◌, ◌≤◌, true, eqb, ltb, Result, Ok, Err, List, [], ◌∷◌, length, drop, subst, arith, length-drop}
 use Rattle.std.proofs.lemmas.Bool.{cond_both, le-ltb}
 use Rattle.std.proofs.lemmas.List.{length-take}
 use Rattle.netlink_packet_core_grammar.specs.Frames.{frame_length, frame_type, frame_body, frame_text}
@@ -7,9 +7,9 @@ use Rattle.attribute_tables_grammar.specs.Rules.{Rule}
 use Rattle.attribute_tables_grammar.specs.Peers.{Peer, LawfulPeer}
 use Rattle.link_message_grammar.specs.Body.{body_rule}
 use Rattle.link_message_grammar.proofs.Sizes.{bodies_grow_by_attributes, short_bodies_fit}
-use Rattle.link_capture_grammar.specs.declared.fault.FaultKind.TheVariants.{Cut, ShortLength, OverLimit, Unfit, TextOverLimit}
-use Rattle.link_capture_grammar.specs.Bodies.{Refusal, refused, empty_ports, unfit, error_text, done_text, is_link_type, ruled_text, body_text_under}
-use Rattle.link_capture_grammar.specs.Captures.{Judged, judged_text, tested, first_frame_under}
+use Rattle.link_capture_grammar.specs.declared.fault.FaultKind.TheVariants.{Unfit, TextOverLimit}
+use Rattle.link_capture_grammar.specs.Bodies.{Refusal, refused, empty_ports, unfit, error_text, done_text, ruled_text, body_text_under}
+use Rattle.link_capture_grammar.specs.Captures.{Judged, judged_text, first_frame_under}
 use Rattle.link_capture_grammar.specs.Laws.{SmallFramesFit}
 use Rattle.link_capture_grammar.proofs.Bodies.{by_type}
 use Rattle.link_capture_grammar.proofs.Frames.{tested_by}

@@ -1,17 +1,17 @@
 -- The text of a list holds the attributes that no table lists as the list does.
-use Rattle.std.proofs.Common.{◌≡◌, ◌⊎◌, inl, inr, ℕ, zero, suc, true, false, List, [], ◌∷◌, ◌++◌, length, Ok, refl, sym, ap, subst, ◌∙◌}
+use Rattle.std.proofs.Common.{◌≡◌, inl, inr, ℕ, zero, suc, true, false, List, [], ◌∷◌, ◌++◌, length, Ok, refl, sym, ap, subst, ◌∙◌}
 use Rattle.std.specs.Prelude.{◌&&◌, not, nat_le}
 use Rattle.std.proofs.lemmas.Bool.{and_parts}
 use Rattle.netlink_packet_core_grammar.specs.Attributes.{Attribute, proper_kind, list_text}
 use Rattle.netlink_packet_core_grammar.specs.Frames.{frame_type, frame_body}
-use Rattle.attribute_tables_grammar.specs.Lists.{Context, nothing, Row, raw_row, Grammar, LawfulGrammar, row_of, context_after, all_accepted, rewrite, rewritten, written_kind, without_context, ListForm, any, non_empty, of_kind_one, ports, first_alone, read_as, kept, is_empty_ports, if_read, list_rule}
-use Rattle.attribute_tables_grammar.specs.Peers.{Peer, LawfulPeer, peer_rule}
+use Rattle.attribute_tables_grammar.specs.Lists.{Context, nothing, Row, raw_row, Grammar, LawfulGrammar, row_of, context_after, all_accepted, rewrite, rewritten, written_kind, without_context, ListForm, any, ports, read_as, kept, is_empty_ports, if_read, list_rule}
+use Rattle.attribute_tables_grammar.specs.Peers.{Peer, LawfulPeer}
 use Rattle.attribute_tables_grammar.specs.Rules.{Rule}
 use Rattle.attribute_tables_grammar.specs.Tables.{grammar}
 use Rattle.attribute_tables_grammar.proofs.Attributes.{next_again, proper_kind-written}
 use Rattle.attribute_tables_grammar.proofs.Lists.{read_again}
 use Rattle.attribute_tables_grammar.proofs.Tables.{table_lawful}
-use Rattle.link_message_grammar.specs.Body.{attribute_bytes, attribute_row, attribute_row_under, body_rule, family, header_text, link_peer, link_peer_under, list_rule_of}
+use Rattle.link_message_grammar.specs.Body.{attribute_bytes, attribute_row, attribute_row_under, body_rule, family, link_peer, link_peer_under, list_rule_of}
 use Rattle.link_message_grammar.specs.LinkMessage.{Family, link_table}
 use Rattle.link_message_grammar.proofs.Body.{family_again, link_peer_lawful, written_header}
 use Rattle.link_message_grammar.proofs.Lines.{attributes-grammar}

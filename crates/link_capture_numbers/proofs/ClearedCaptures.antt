@@ -1,14 +1,13 @@
 -- Captures whose numbers are cleared.
-use Rattle.std.proofs.Common.{◌≡◌, ℕ, zero, suc, ◌+◌, ◌^◌, ◌<◌, ◌≤◌, ◌⊎◌, inl, inr, Bool, true, false, List, [], ◌∷◌, ◌++◌, length, take, drop, Option, Some, None, Ok, Err, refl, sym, ap, subst, ◌∙◌, append-nil, zero-add, arith}
+use Rattle.std.proofs.Common.{◌≡◌, ℕ, ◌^◌, ◌<◌, Bool, true, false, List, [], ◌++◌, length, take, drop, Ok, Err, refl, sym, ap, subst, ◌∙◌, append-nil, arith}
 use Rattle.std.specs.Prelude.{◌&&◌, nat_le, nat_lt}
 use Rattle.std.proofs.lemmas.Bool.{and_from, le-leb, ltb-false, ltb-true}
-use Rattle.std.proofs.lemmas.List.{length-take, length-take-le, length-drop, drop_at, drop_all}
+use Rattle.std.proofs.lemmas.List.{length-take, length-take-le, drop_at, drop_all}
 use Rattle.netlink_packet_core_grammar.specs.Attributes.{nla_align}
 use Rattle.netlink_packet_core_grammar.specs.Frames.{frame_length}
 use Rattle.link_message_grammar.specs.Body.{link_body}
 use Rattle.link_capture_grammar.specs.declared.fault.FaultKind.{FaultKind}
-use Rattle.link_capture_grammar.specs.declared.fault.CaptureFault.{CaptureFault}
-use Rattle.link_capture_grammar.specs.Captures.{Judged, Accepted, raised, first_frame, first_fault, texts}
+use Rattle.link_capture_grammar.specs.Captures.{Accepted, raised, first_frame, first_fault, texts}
 use Rattle.link_capture_numbers.specs.Cleared.{is_frame, front_cleared, cleared_after, numbers_cleared}
 use Rattle.link_capture_numbers.specs.Laws.{ClearedCapturesHaveClearedTexts}
 use Rattle.link_capture_numbers.proofs.Steps.{length_of, whole, stopped}

@@ -1,15 +1,12 @@
 -- The text of an accepted frame, in front of others.
-use Rattle.std.proofs.Common.{◌≡◌, ℕ, ◌+◌, ◌^◌, ◌<◌, ◌≤◌, Bool, true, false, cond, List, [], ◌++◌, length, take, drop, Result, Ok, Err, refl, sym, ap, ◌∙◌, append-nil, arith}
-use Rattle.std.specs.Prelude.{nat_le, nat_lt, ◌&&◌}
-use Rattle.std.proofs.lemmas.Bool.{and_from, le-leb, ltb-false, ltb-true}
+use Rattle.std.proofs.Common.{◌≡◌, ℕ, ◌+◌, ◌^◌, ◌<◌, ◌≤◌, Bool, true, false, cond, List, [], ◌++◌, length, take, drop, Ok, refl, sym, ap, ◌∙◌, append-nil, arith}
+use Rattle.std.proofs.lemmas.Bool.{and_from, le-leb}
 use Rattle.std.proofs.lemmas.List.{length-append, take_at, drop_at}
 use Rattle.netlink_packet_core_grammar.specs.Attributes.{nla_align}
-use Rattle.netlink_packet_core_grammar.specs.Frames.{IsFrame, frame_length, frame_type, frame_body, frame_text}
+use Rattle.netlink_packet_core_grammar.specs.Frames.{frame_length, frame_type, frame_body, frame_text}
 use Rattle.link_message_grammar.specs.Body.{link_body}
-use Rattle.link_capture_grammar.specs.declared.fault.FaultKind.TheVariants.{TextOverLimit}
-use Rattle.link_capture_grammar.specs.Bodies.{Refusal, body_text}
-use Rattle.link_capture_grammar.specs.Captures.{Accepted, fault_of, faulty, first_frame}
-use Rattle.link_capture_grammar.specs.Laws.{FramesAreJudged}
+use Rattle.link_capture_grammar.specs.Bodies.{body_text}
+use Rattle.link_capture_grammar.specs.Captures.{Accepted, first_frame}
 use Rattle.link_capture_numbers.specs.Cleared.{is_frame, zeros_at, repeats_request, front_cleared, numbers_cleared}
 use Rattle.link_capture_numbers.proofs.Steps.{whole}
 use Rattle.link_capture_numbers.proofs.Zeros.{repeated, zeros_before, length-zeros, front}

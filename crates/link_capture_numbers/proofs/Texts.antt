@@ -1,12 +1,11 @@
 -- The text of a frame with its numbers cleared.
-use Rattle.std.proofs.Common.{◌≡◌, ℕ, ◌+◌, ◌-◌, ◌^◌, ◌<◌, ◌≤◌, Bool, true, false, cond, List, [], ◌++◌, length, take, drop, refl, sym, ap, ◌∙◌, append_assoc, append-nil, arith}
+use Rattle.std.proofs.Common.{◌≡◌, ℕ, ◌+◌, ◌-◌, ◌^◌, ◌<◌, ◌≤◌, Bool, true, false, cond, List, [], ◌++◌, length, take, drop, refl, sym, ap, ◌∙◌, append-nil, arith}
 use Rattle.std.specs.Prelude.{get_or, ◌&&◌, nat_eq, nat_le}
 use Rattle.std.proofs.lemmas.Bool.{eqb-true}
-use Rattle.std.proofs.lemmas.Nat.{from_le_bytes-to_le_bytes_4}
-use Rattle.std.proofs.lemmas.List.{length-append, length-take-le, length-drop, take-take, take_at, drop_at, drop_all, get_or-take, get_or-drop}
+use Rattle.std.proofs.lemmas.List.{length-append, length-take-le, length-drop, take-take, drop_all, get_or-take, get_or-drop}
 use Rattle.netlink_packet_core_grammar.specs.Attributes.{nla_align, zeros}
 use Rattle.netlink_packet_core_grammar.specs.Frames.{frame_length, frame_type, frame_text}
-use Rattle.netlink_packet_core_grammar.specs.Numbers.{u16_at, u32_at, le4}
+use Rattle.netlink_packet_core_grammar.specs.Numbers.{u16_at, le4}
 use Rattle.netlink_packet_core_grammar.proofs.Sizes.{length-le4}
 use Rattle.link_capture_numbers.specs.Cleared.{zeros_at, repeats_request, front_cleared}
 use Rattle.link_capture_numbers.proofs.Zeros.{length-zeros, zeros_behind, zeros_before}

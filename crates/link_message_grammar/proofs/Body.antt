@@ -33,10 +33,7 @@ pub record Header (b : List ℕ) : Type 0 where
 
 pub header_of : (b : List ℕ) → nat_le 16 (length b) ≡ true → Header b
 header_of (f ∷ x ∷ k ∷ l ∷ tail) h = record { f = f; x = x; k = k; l = l; tail = tail; is = refl; long = omega (arith, leb-true 16 (length (f ∷ x ∷ k ∷ l ∷ tail)) h) }
-header_of [] h = absurd cc
-header_of (f ∷ []) h = absurd cc
-header_of (f ∷ x ∷ []) h = absurd cc
-header_of (f ∷ x ∷ k ∷ []) h = absurd cc
+header_of b h = absurd cc
 
 -- a layer type that is written is listed
 pub record LayerType (k l : ℕ) : Type 0 where

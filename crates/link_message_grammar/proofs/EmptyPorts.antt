@@ -1,17 +1,17 @@
 -- A list of ports of which nothing is kept is told by what it is written as.
-use Rattle.std.proofs.Common.{◌≡◌, ℕ, zero, suc, ◌+◌, Bool, true, false, cond, List, [], ◌∷◌, length, Option, Some, None, refl, sym, ap, ap₂, subst, ◌∙◌, arith, inl, inr}
-use Rattle.std.specs.Prelude.{◌==◌, ◌&&◌, ◌||◌, ◌⊎◌, bytes_eq}
+use Rattle.std.proofs.Common.{◌≡◌, ℕ, ◌+◌, Bool, true, false, cond, List, [], ◌∷◌, length, Option, Some, None, refl, sym, ap, ap₂, subst, ◌∙◌, arith}
+use Rattle.std.specs.Prelude.{◌==◌, ◌&&◌, ◌||◌, bytes_eq}
 use Rattle.std.specs.List.{list_any}
 use Rattle.std.proofs.lemmas.Bool.{cond_both, and_left, and_parts, or_from, eqb-true, eqb-false, ne_eqb}
 use Rattle.std.proofs.lemmas.Option.{none-some}
 use Rattle.netlink_packet_core_grammar.specs.Attributes.{Attribute, proper_kind, attribute_text, list_text, if_some, attributes_of}
 use Rattle.netlink_packet_core_grammar.proofs.Attributes.{option_map-got}
 use Rattle.attribute_tables_grammar.specs.Rules.{Rule}
-use Rattle.attribute_tables_grammar.specs.Lists.{Context, nothing, Row, Grammar, row_of, written_kind, rewrite, rewritten, all_accepted, some_empty_ports, ListForm, any, non_empty, of_kind_one, ports, first_alone, read_as, kept, is_empty_ports, if_read, list_rule, without_context}
+use Rattle.attribute_tables_grammar.specs.Lists.{Context, nothing, Grammar, row_of, written_kind, rewrite, rewritten, all_accepted, some_empty_ports, ListForm, any, ports, read_as, kept, is_empty_ports, if_read, list_rule, without_context}
 use Rattle.attribute_tables_grammar.specs.LookUps.{Line, list_of, link_info_of, payload_rule, line_at, row_of_line, rows_rule}
 use Rattle.attribute_tables_grammar.specs.Peers.{Peer}
 use Rattle.attribute_tables_grammar.specs.Readings.{Written, written_list, reading_as}
-use Rattle.attribute_tables_grammar.specs.Tables.{Payload, Payload.plain, Payload.peer, Payload.list, Payload.link_info, Table, Table.end, Table.row, Names, Names.others, Names.name, row_in_force, info_row, names_grammar, rule, row_in, named, grammar}
+use Rattle.attribute_tables_grammar.specs.Tables.{Payload, Payload.plain, Payload.peer, Payload.list, Payload.link_info, Table, Table.end, Table.row, Names, Names.others, Names.name, names_grammar, rule, row_in, named, grammar}
 use Rattle.attribute_tables_grammar.proofs.Tables.{pick_row, pick_rule, info_rows}
 use Rattle.link_message_grammar.specs.Body.{attribute_row_under, is_emptied}
 use Rattle.link_message_grammar.specs.Laws.{EmptyPortsAreTold}

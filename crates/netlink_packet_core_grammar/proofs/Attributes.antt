@@ -1,13 +1,10 @@
 -- Lists of attributes are cut in one way only, and what is written is cut into what was written.
-use Rattle.std.proofs.Common.{◌≡◌, ℕ, zero, suc, ◌+◌, ◌-◌, ◌*◌, ◌/◌, ◌%◌, ◌≤◌, Bool, true, false, cond, List, [], ◌∷◌, ◌++◌, length, take, drop, Option, Some, None, refl, sym, ap, subst, ◌∙◌, append_assoc, arith, length-append, length-drop}
+use Rattle.std.proofs.Common.{◌≡◌, ℕ, zero, suc, ◌+◌, ◌-◌, ◌*◌, ◌/◌, ◌%◌, ◌≤◌, true, List, [], ◌∷◌, ◌++◌, length, take, drop, Option, Some, None, refl, sym, ap, subst, ◌∙◌, append_assoc, arith, length-append, length-drop}
 use Rattle.std.specs.Prelude.{◌&&◌, nat_le, option_map}
 use Rattle.std.proofs.lemmas.Bool.{and_parts, and_from, le-leb, leb-true}
+use Rattle.std.proofs.lemmas.Option.{cond_some}
 use Rattle.std.proofs.lemmas.List.{take_at, drop_at, length-replicate, take-append-le, drop-append-le, length-take-le}
 use Rattle.netlink_packet_core_grammar.specs.Attributes.{nla_align, Attribute, attribute_length, zeros, attribute_text, list_text, cut_attribute, first_attribute, if_some, IsAttributeList, attributes_within, attributes_of}
-
-pub guard_true : {A : Type 0} (b : Bool) (x y : A) → cond b (Some x) None ≡ Some y → (b ≡ true) × (x ≡ y)
-guard_true true x y e = (refl, cc)
-guard_true false x y e = absurd cc
 
 pub record IsCut (size kind : ℕ) (bytes : List ℕ) (e : Attribute) (rest : List ℕ) : Type 0 where
   pub small : 4 ≤ size
@@ -18,7 +15,7 @@ pub record IsCut (size kind : ℕ) (bytes : List ℕ) (e : Attribute) (rest : Li
 
 pub cut_is : (size kind : ℕ) (bytes : List ℕ) (e : Attribute) (rest : List ℕ) → cut_attribute size kind bytes ≡ Some (e, rest) → IsCut size kind bytes e rest
 cut_is size kind bytes e rest h =
-    let g = guard_true (nat_le 4 size && nat_le size (4 + length bytes)) (record { kind = kind; payload = take (size - 4) bytes }, drop (nla_align size - 4) bytes) (e, rest) h in
+    let g = cond_some (nat_le 4 size && nat_le size (4 + length bytes)) (record { kind = kind; payload = take (size - 4) bytes }, drop (nla_align size - 4) bytes) (e, rest) h in
     let b = and_parts (nat_le 4 size) (nat_le size (4 + length bytes)) g.0 in
     record {
       small = leb-true _ _ b.0;
@@ -46,10 +43,7 @@ pub record Headed (bytes : List ℕ) (e : Attribute) (rest : List ℕ) : Type 0 
 pub headed : (bytes : List ℕ) (e : Attribute) (rest : List ℕ) → first_attribute bytes ≡ Some (e, rest) → Headed bytes e rest
 unfolding first_attribute
 headed (a ∷ b ∷ c ∷ d ∷ tail) e rest h = record { a = a; b = b; c = c; d = d; tail = tail; is = refl; is_cut = cut_is (a + 256 * b) (c + 256 * d) tail e rest h }
-headed [] e rest h = absurd cc
-headed (a ∷ []) e rest h = absurd cc
-headed (a ∷ b ∷ []) e rest h = absurd cc
-headed (a ∷ b ∷ c ∷ []) e rest h = absurd cc
+headed bytes e rest h = absurd cc
 
 pub first_attribute_from : (a b c d : ℕ) (tail : List ℕ) (e : Attribute) (rest : List ℕ) → IsCut (a + 256 * b) (c + 256 * d) tail e rest → first_attribute (a ∷ b ∷ c ∷ d ∷ tail) ≡ Some (e, rest)
 unfolding first_attribute

@@ -25,11 +25,8 @@ kind_sum bytes = omega arith
 
 first_attribute_short : (bytes : List ℕ) → length bytes < 4 → first_attribute bytes ≡ None
 unfolding first_attribute
-first_attribute_short [] h = refl
-first_attribute_short (a ∷ []) h = refl
-first_attribute_short (a ∷ b ∷ []) h = refl
-first_attribute_short (a ∷ b ∷ c ∷ []) h = refl
 first_attribute_short (a ∷ b ∷ c ∷ d ∷ bytes) h = absurd (omega arith)
+first_attribute_short bytes h = refl
 
 cut_none : (size kind : ℕ) (bytes : List ℕ) → (nat_le 4 size && nat_le size (4 + length bytes)) ≡ false → cut_attribute size kind bytes ≡ None
 cut_none size kind bytes h = rw h refl
@@ -37,18 +34,12 @@ cut_none size kind bytes h = rw h refl
 first_attribute_small : (bytes : List ℕ) → 4 ≤ length bytes → length_at bytes < 4 → first_attribute bytes ≡ None
 unfolding first_attribute
 first_attribute_small (a ∷ b ∷ c ∷ d ∷ bytes) h s = cut_none (a + 256 * b) (c + 256 * d) bytes (and_left _ _ (lt-leb 4 (a + 256 * b) s))
-first_attribute_small [] h s = absurd (omega arith)
-first_attribute_small (a ∷ []) h s = absurd (omega arith)
-first_attribute_small (a ∷ b ∷ []) h s = absurd (omega arith)
-first_attribute_small (a ∷ b ∷ c ∷ []) h s = absurd (omega arith)
+first_attribute_small bytes h s = absurd (omega arith)
 
 first_attribute_large : (bytes : List ℕ) → 4 ≤ length bytes → length bytes < length_at bytes → first_attribute bytes ≡ None
 unfolding first_attribute
 first_attribute_large (a ∷ b ∷ c ∷ d ∷ bytes) h s = cut_none (a + 256 * b) (c + 256 * d) bytes (and_right _ _ (lt-leb (a + 256 * b) (4 + length bytes) (omega arith)))
-first_attribute_large [] h s = absurd (omega arith)
-first_attribute_large (a ∷ []) h s = absurd (omega arith)
-first_attribute_large (a ∷ b ∷ []) h s = absurd (omega arith)
-first_attribute_large (a ∷ b ∷ c ∷ []) h s = absurd (omega arith)
+first_attribute_large bytes h s = absurd (omega arith)
 
 drop_on : (n : ℕ) (a b c d : ℕ) (bytes : List ℕ) → 4 ≤ n → drop (n - 4) bytes ≡ drop n (a ∷ b ∷ c ∷ d ∷ bytes)
 drop_on n a b c d bytes h =
@@ -62,10 +53,7 @@ first_attribute_at (a ∷ b ∷ c ∷ d ∷ bytes) rest h s t r =
     let f : IsCut size (c + 256 * d) bytes (record { kind = c + 256 * d; payload = take (size - 4) bytes }) rest =
     record { small = s; large = omega arith; kind_is = refl; payload_is = refl; rest_is = drop_on (nla_align size) a b c d bytes (omega arith) ∙ sym r } in
     cut_from size (c + 256 * d) bytes (record { kind = c + 256 * d; payload = take (size - 4) bytes }) rest f
-first_attribute_at [] rest h s t r = absurd (omega arith)
-first_attribute_at (a ∷ []) rest h s t r = absurd (omega arith)
-first_attribute_at (a ∷ b ∷ []) rest h s t r = absurd (omega arith)
-first_attribute_at (a ∷ b ∷ c ∷ []) rest h s t r = absurd (omega arith)
+first_attribute_at bytes rest h s t r = absurd (omega arith)
 
 -- bytes that begin with a whole attribute begin with this one
 pub first_attribute_is : (bytes : List ℕ) → IsAttribute bytes → first_attribute bytes ≡ Some (viewed_attribute bytes, after_first bytes)

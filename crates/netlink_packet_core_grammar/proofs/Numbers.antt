@@ -1,5 +1,5 @@
 -- Numbers at places of longer byte strings.
-use Rattle.std.proofs.Common.{◌≡◌, ℕ, ◌+◌, ◌*◌, ◌^◌, ◌<◌, ◌≤◌, List, [], ◌∷◌, ◌++◌, length, drop, refl, arith}
+use Rattle.std.proofs.Common.{◌≡◌, ℕ, ◌+◌, ◌*◌, ◌^◌, ◌<◌, ◌≤◌, List, ◌∷◌, ◌++◌, length, drop, refl, arith}
 use Rattle.std.proofs.lemmas.Nat.{from_le_bytes-to_le_bytes_2, from_le_bytes-to_le_bytes_4}
 use Rattle.netlink_packet_core_grammar.specs.Numbers.{u16_at, u32_at, le2, le4}
 
@@ -11,26 +11,19 @@ u16_at-bytes a b c = omega arith
 -- a number does not hang on what follows it
 pub u16_at-append : (c d : List ℕ) → 2 ≤ length c → u16_at 0 (c ++ d) ≡ u16_at 0 c
 unfolding u16_at
-u16_at-append [] d h = absurd (omega arith)
-u16_at-append (a ∷ []) d h = absurd (omega arith)
 u16_at-append (a ∷ b ∷ c) d h = refl
+u16_at-append c d h = absurd (omega arith)
 
 pub u32_at-append : (c d : List ℕ) → 4 ≤ length c → u32_at 0 (c ++ d) ≡ u32_at 0 c
 unfolding u32_at
-u32_at-append [] d h = absurd (omega arith)
-u32_at-append (a ∷ []) d h = absurd (omega arith)
-u32_at-append (a ∷ b ∷ []) d h = absurd (omega arith)
-u32_at-append (a ∷ b ∷ c ∷ []) d h = absurd (omega arith)
 u32_at-append (a ∷ b ∷ c ∷ d' ∷ e) d h = refl
+u32_at-append c d h = absurd (omega arith)
 
 -- the number at place 4 is the first one of what stands from there on
 pub u16_at-drop_4 : (c : List ℕ) → u16_at 4 c ≡ u16_at 0 (drop 4 c)
 unfolding u16_at
-u16_at-drop_4 [] = refl
-u16_at-drop_4 (a ∷ []) = refl
-u16_at-drop_4 (a ∷ b ∷ []) = refl
-u16_at-drop_4 (a ∷ b ∷ c ∷ []) = refl
 u16_at-drop_4 (a ∷ b ∷ c ∷ d ∷ e) = refl
+u16_at-drop_4 c = refl
 
 -- what was written is read
 pub u16_at-le2 : (n : ℕ) (c : List ℕ) → n < 2 ^ 16 → u16_at 0 (le2 n ++ c) ≡ n

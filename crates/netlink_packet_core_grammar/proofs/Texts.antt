@@ -25,20 +25,16 @@ without_nul-bytes (b ∷ c ∷ p) h = (h.0, without_nul-bytes (c ∷ p) h.1)
 -- ---- by places: the last byte is a NUL, is another, or is not there
 
 pub without_nul-at : (p : List ℕ) (n : ℕ) → length p ≡ suc n → get_or p n 0 ≡ 0 → take n p ≡ without_nul p
-without_nul-at [] n l h = absurd (omega arith)
 without_nul-at (zero ∷ []) zero l h = refl
 without_nul-at (suc b ∷ []) zero l h = absurd (omega arith)
-without_nul-at (b ∷ []) (suc n) l h = absurd (omega arith)
-without_nul-at (b ∷ c ∷ p) zero l h = absurd (omega arith)
 without_nul-at (b ∷ c ∷ p) (suc n) l h = ap (λ x. b ∷ x) (without_nul-at (c ∷ p) n (omega arith) h)
+without_nul-at p n l h = absurd (omega arith)
 
 pub without_nul-same : (p : List ℕ) (n : ℕ) → length p ≡ suc n → (get_or p n 0 ≡ 0 → ⊥) → p ≡ without_nul p
-without_nul-same [] n l h = absurd (omega arith)
 without_nul-same (zero ∷ []) zero l h = absurd (h refl)
 without_nul-same (suc b ∷ []) zero l h = refl
-without_nul-same (b ∷ []) (suc n) l h = absurd (omega arith)
-without_nul-same (b ∷ c ∷ p) zero l h = absurd (omega arith)
 without_nul-same (b ∷ c ∷ p) (suc n) l h = ap (λ x. b ∷ x) (without_nul-same (c ∷ p) n (omega arith) h)
+without_nul-same p n l h = absurd (omega arith)
 
 pub without_nul-short : (p : List ℕ) → length p ≡ 0 → p ≡ without_nul p
 without_nul-short [] h = refl

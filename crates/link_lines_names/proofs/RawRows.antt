@@ -1,8 +1,7 @@
 -- Each name of a raw attribute is a word of its own, and what stands behind it tells the payload, by computation.
-use Rattle.std.proofs.Common.{◌≡◌, ℕ, Bool, true, false, cond, List, [], ◌∷◌, Some, refl}
+use Rattle.std.proofs.Common.{◌≡◌, ℕ, Bool, true, List, [], ◌∷◌, Some, refl}
 use Rattle.std.specs.Prelude.{◌&&◌}
 use Rattle.std.specs.List.{list_all}
-use Rattle.std.proofs.lemmas.Bool.{and_parts}
 use Rattle.attribute_checks.proofs.LookUps.{all_at}
 use Rattle.link_lines_values.specs.Values.{is_shown_on_a_line, tells_sized}
 use Rattle.link_lines_names.specs.declared.raw.RawBy.TheVariants as R

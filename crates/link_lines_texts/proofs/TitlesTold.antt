@@ -1,7 +1,6 @@
 -- Names tell the rows that have them.
 use Rattle.std.proofs.Common.{◌≡◌, ℕ, ◌-◌, ◌<◌, ◌≤◌, Bool, true, false, cond, List, [], ◌∷◌, length, Some, None, refl, sym, ap, subst, ◌∙◌, arith}
-use Rattle.std.specs.Prelude.{◌==◌, ◌&&◌, ◌||◌, not, nat_lt, get_or, bytes_eq}
-use Rattle.std.specs.List.{list_all}
+use Rattle.std.specs.Prelude.{◌==◌, ◌||◌, not, nat_lt, get_or, bytes_eq}
 use Rattle.std.proofs.lemmas.Bool.{and_parts, eqb-true, le-ltb, ltb-false, true≢false}
 use Rattle.std.proofs.lemmas.List.{get_or_past}
 use Rattle.std.proofs.lemmas.Slice.Eq.{bytes_eq-Decides}
@@ -10,7 +9,7 @@ use Rattle.link_lines_names.specs.Names.{Named, Titled, all_titles, has_name, na
 use Rattle.link_lines_names.specs.Raw.{Raw, geneve_titles, gre6_titles, gre_titles, link_titles as raw_link_titles, raw_lists, raw_name, raw_titles_of, table_titles, vf_titles, xfrm_titles}
 use Rattle.link_lines_names.proofs.Named.{apart_in, chosen, first_holds, found_in, name_of, others_hold}
 use Rattle.link_lines_texts.specs.Coverage.{are_apart, has_line, in_each, raw_apart}
-use Rattle.link_lines_texts.specs.Titles.{Name, Title, data_titles, link_titles, nested_titles, title_of, titles_of}
+use Rattle.link_lines_texts.specs.Titles.{Name, Title, data_titles, title_of, titles_of}
 use Rattle.link_lines_texts.proofs.LineCuts.{IsWord, Starts}
 use Rattle.link_lines_texts.proofs.ListsTold.{NamesTold}
 use Rattle.link_lines_texts.proofs.Told.{all_are_apart, all_are_named, all_on_lines, all_raw_apart}

@@ -1,5 +1,5 @@
 -- The numbers that bytes stand for, as std reads them.
-use Rattle.std.proofs.Common.{Bool, true, false, eq-eqb, lt-ltb, ◌+◌, ◌<◌, ◌/◌, ◌%◌, ◌++◌, codes, get_or, ◌≡◌, ◌∙◌, ap, Some, None, cond, length, ℕ, List, [], ◌∷◌, arith, w16, w32, w64}
+use Rattle.std.proofs.Common.{Bool, true, eq-eqb, lt-ltb, ◌+◌, ◌<◌, ◌/◌, ◌%◌, ◌++◌, codes, get_or, ◌≡◌, ◌∙◌, ap, Some, None, cond, length, ℕ, List, [], ◌∷◌, arith, w16, w32, w64}
 use Rattle.std.specs.Fmt.{decimal, digits}
 use Rattle.std.specs.Int.{from_le_bytes, from_be_bytes}
 use Rattle.attribute_tables_grammar.specs.Shapes.{number}

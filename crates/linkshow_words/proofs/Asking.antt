@@ -28,6 +28,11 @@ pub cut_words : {A : Type 0} (f : A → List ℕ) (ws : List A) (w : A) → 1 �
 cut_words f [] w m e = absurd (omega arith)
 cut_words f (x ∷ rest) w m e = ap (λ z. f z ∷ map f rest) (sym e) ∙ ap (λ t. f w ∷ map f t) (sym (take_rest (x ∷ rest) 1))
 
+-- the same of a word in front and those behind it
+pub word_gone : {A : Type 0} (f : A → List ℕ) (ws : List A) (w : A) → {b : Awaited} {o q : Options} {vs : List (List ℕ)} → 1 ≤ length ws → w ≡ get_or ws 0 w → Gone Nothing o (map f ws) b q vs →
+    Gone Nothing o (f w ∷ map f (take (length ws - 1) (drop 1 ws))) b q vs
+word_gone f ws w m e g = left_gone (cut_words f ws w m e) g
+
 pub no_words : {A : Type 0} (f : A → List ℕ) (ws : List A) → length ws < 1 → map f ws ≡ []
 no_words f [] m = refl
 no_words f (x ∷ rest) m = absurd (omega arith)

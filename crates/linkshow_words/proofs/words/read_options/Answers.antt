@@ -1,12 +1,8 @@
-use Rattle.std.proofs.Common.{◌≡◌, ◌≤◌, true, false, Some, map, rules, refl, sym, ap, subst, ◌∙◌, arith}
+use Rattle.std.proofs.Common.{◌≡◌, Some, refl, sym, ap, subst, ◌∙◌, arith}
 use Rattle.std.specs.Prelude.{string_bytes}
-use Rattle.std.specs.Prelude.{IfNone}
-use Rattle.std.specs.Str.Parse.{digits_value}
-use Rattle.link_capture_commands.specs.Commands.{IsLimitWord}
-use Rattle.linkshow_words.specs.Words.{Awaited.Nothing, Gives, defaults, word_of}
-use Rattle.linkshow_words.specs.declared.words.Options.{Options}
-use Rattle.linkshow_words.specs.declared.words.Word.TheVariants.{Kernels, WithoutNumbers, Only, Limit, Input, Name, Wrong}
-use Rattle.linkshow_words.proofs.Asking.{gone, gone_on, left_gone, word_gone, types_gone, only_gone, cut_words, no_words, number_gone, kernels_gone, numbers_gone, limit_gone, input_some, name_some, input_none, name_none, wrong_none, low_some}
+use Rattle.linkshow_words.specs.Words.{word_of}
+use Rattle.linkshow_words.specs.declared.words.Word.TheVariants.{Kernels, WithoutNumbers, Only, Input, Name, Wrong}
+use Rattle.linkshow_words.proofs.Asking.{gone, gone_on, left_gone, word_gone, types_gone, only_gone, cut_words, no_words, kernels_gone, numbers_gone, input_some, name_some, input_none, name_none, wrong_none, low_some}
 use Rattle.linkshow_words.specs.Types.{AreTypeWords, parts}
 use Rattle.linkshow_words.proofs.words.read_options.Goals as goal
 

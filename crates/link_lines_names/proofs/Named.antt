@@ -1,7 +1,7 @@
 -- What holds of all names in rows holds of one that is found, and no two kinds have one name.
 use Rattle.std.proofs.Common.{◌≡◌, ℕ, ◌<◌, ◌≤◌, Bool, true, false, cond, List, [], ◌∷◌, Option, Some, None, refl, sym, ap, ◌∙◌, arith}
 use Rattle.std.specs.Prelude.{◌==◌, ◌&&◌, not, nat_lt, nat_le, get_or, bytes_eq}
-use Rattle.std.proofs.lemmas.Bool.{and_parts, eqb-true, leb-true, ltb-true, not-true, true≢false}
+use Rattle.std.proofs.lemmas.Bool.{and_parts, cond_both, eqb-true, leb-true, ltb-true, not-true, true≢false}
 use Rattle.std.proofs.lemmas.Option.{same_Some}
 use Rattle.std.proofs.lemmas.Slice.Eq.{bytes_eq-Decides}
 use Rattle.link_lines_values.specs.Placed.{find}
@@ -41,6 +41,17 @@ apart_in k l t u [] h e f g = absurd cc
 apart_in k l t u (x ∷ ts) h e f g =
     let parts = and_parts (is_new x ts) (names_apart ts) h in
     apart_by k l x.0 x.1 t u ts (x.0 == k) (x.0 == l) refl refl parts.0 e (apart_in k l t u ts parts.1 e) f g
+
+-- ---- what holds of each of some lists
+
+pub chosen : {A : Type 0} (f : A → Bool) (b : Bool) (x y : A) → f x ≡ true → f y ≡ true → f (cond b x y) ≡ true
+chosen f b x y h k = cond_both b x y (λ z. f z ≡ true) (λ e. h) (λ e. k)
+
+pub first_holds : (x y : Bool) → (x && y) ≡ true → x ≡ true
+first_holds x y h = (and_parts x y h).0
+
+pub others_hold : (x y : Bool) → (x && y) ≡ true → y ≡ true
+others_hold x y h = (and_parts x y h).1
 
 -- ---- names of a table
 

@@ -1,14 +1,13 @@
 -- Each name of a raw attribute is a word of its own, and what stands behind it tells the payload, by computation.
-use Rattle.std.proofs.Common.{◌≡◌, ℕ, Bool, true, false, cond, List, [], ◌∷◌, Some, refl}
+use Rattle.std.proofs.Common.{◌≡◌, ℕ, Bool, true, List, [], ◌∷◌, Some, refl}
 use Rattle.std.specs.Prelude.{◌&&◌}
 use Rattle.std.specs.List.{list_all}
-use Rattle.std.proofs.lemmas.Bool.{and_parts}
 use Rattle.attribute_checks.proofs.LookUps.{all_at}
 use Rattle.link_lines_values.specs.Values.{is_shown_on_a_line, tells_sized}
 use Rattle.link_lines_names.specs.declared.raw.RawBy.TheVariants as R
 use Rattle.link_lines_names.specs.Names.{Named, Titled, all_titles, has_name, names_apart}
 use Rattle.link_lines_names.specs.Raw.{Raw, geneve_titles, gre6_titles, gre_titles, link_titles, raw_lists, raw_name, raw_titles_of, table_titles, vf_titles, xfrm_titles}
-use Rattle.link_lines_names.proofs.Named.{found_in}
+use Rattle.link_lines_names.proofs.Named.{chosen, first_holds, found_in, others_hold}
 
 -- what stands behind a name tells the payload, on one line
 abbrev pub raw_tells : Raw → Bool
@@ -36,16 +35,6 @@ all_are_told = refl
 all_are_apart : in_each names_apart ≡ true
 unfolding raw_lists
 all_are_apart = refl
-
-chosen : (f : List (Titled Raw) → Bool) (b : Bool) (x y : List (Titled Raw)) → f x ≡ true → f y ≡ true → f (cond b x y) ≡ true
-chosen f true x y h k = h
-chosen f false x y h k = k
-
-pub first_holds : (x y : Bool) → (x && y) ≡ true → x ≡ true
-first_holds x y h = (and_parts x y h).0
-
-pub others_hold : (x y : Bool) → (x && y) ≡ true → y ≡ true
-others_hold x y h = (and_parts x y h).1
 
 in_list : (f : List (Titled Raw) → Bool) (m : ℕ) → f [] ≡ true → in_each f ≡ true → f (raw_titles_of m) ≡ true
 unfolding raw_titles_of table_titles

@@ -1,33 +1,24 @@
 -- Names tell the rows that have them.
 use Rattle.std.proofs.Common.{◌≡◌, ℕ, ◌-◌, ◌<◌, ◌≤◌, Bool, true, false, cond, List, [], ◌∷◌, length, Some, None, refl, sym, ap, subst, ◌∙◌, arith}
-use Rattle.std.specs.Prelude.{◌==◌, ◌&&◌, ◌||◌, not, nat_lt, get_or, bytes_eq}
-use Rattle.std.specs.List.{list_all}
+use Rattle.std.specs.Prelude.{◌==◌, ◌||◌, not, nat_lt, get_or, bytes_eq}
 use Rattle.std.proofs.lemmas.Bool.{and_parts, eqb-true, le-ltb, ltb-false, true≢false}
 use Rattle.std.proofs.lemmas.List.{get_or_past}
 use Rattle.std.proofs.lemmas.Slice.Eq.{bytes_eq-Decides}
 use Rattle.attribute_checks.proofs.LookUps.{all_at}
 use Rattle.link_lines_names.specs.Names.{Named, Titled, all_titles, has_name, names_apart}
 use Rattle.link_lines_names.specs.Raw.{Raw, geneve_titles, gre6_titles, gre_titles, link_titles as raw_link_titles, raw_lists, raw_name, raw_titles_of, table_titles, vf_titles, xfrm_titles}
-use Rattle.link_lines_names.proofs.Named.{apart_in, found_in, name_of}
+use Rattle.link_lines_names.proofs.Named.{apart_in, chosen, first_holds, found_in, name_of, others_hold}
 use Rattle.link_lines_texts.specs.Coverage.{are_apart, has_line, in_each, raw_apart}
-use Rattle.link_lines_texts.specs.Titles.{Name, Title, data_titles, link_titles, nested_titles, title_of, titles_of}
+use Rattle.link_lines_texts.specs.Titles.{Name, Title, data_titles, title_of, titles_of}
 use Rattle.link_lines_texts.proofs.LineCuts.{IsWord, Starts}
 use Rattle.link_lines_texts.proofs.ListsTold.{NamesTold}
 use Rattle.link_lines_texts.proofs.Told.{all_are_apart, all_are_named, all_on_lines, all_raw_apart}
 
 -- ---- what holds in each table
 
-chosen : (f : List Title → Bool) (b : Bool) (x y : List Title) → f x ≡ true → f y ≡ true → f (cond b x y) ≡ true
-chosen f true x y h k = h
-chosen f false x y h k = k
-
 in_table : (f : List Title → Bool) (m : ℕ) → f [] ≡ true → in_each f ≡ true → f (titles_of m) ≡ true
 unfolding titles_of
-in_table f m e h =
-    let parts = and_parts (list_all f nested_titles) (list_all f link_titles && list_all f data_titles) h in
-    let more = and_parts (list_all f link_titles) (list_all f data_titles) parts.1 in
-    chosen f (nat_lt m 15) (get_or nested_titles m []) (cond (nat_lt m 20) (get_or link_titles (m - 15) []) (get_or data_titles (m - 20) [])) (all_at f nested_titles m [] parts.0 e)
-    (chosen f (nat_lt m 20) (get_or link_titles (m - 15) []) (get_or data_titles (m - 20) []) (all_at f link_titles (m - 15) [] more.0 e) (all_at f data_titles (m - 20) [] more.1 e))
+in_table f m e h = search (chosen f, all_at f, first_holds, others_hold) depth 12
 
 -- what holds of all names of a table holds of it
 pub found : (f : ℕ → Name → Bool) (m k : ℕ) (t : Name) → all_titles f (titles_of m) ≡ true → title_of m k ≡ Some t → f k t ≡ true
@@ -52,20 +43,9 @@ picked_or m n true c x y e h k = subst (λ z. are_apart (titles_of z) x ≡ true
 picked_or m n false c x y e h k = k
 
 -- of the nine tables that have such names
-record TablesApart : Type 0 where
-  vf : are_apart (titles_of 11) vf_titles ≡ true
-  unspec : are_apart (titles_of 15) raw_link_titles ≡ true
-  bridge : are_apart (titles_of 16) raw_link_titles ≡ true
-  inet6 : are_apart (titles_of 17) raw_link_titles ≡ true
-  other : are_apart (titles_of 18) raw_link_titles ≡ true
-  geneve : are_apart (titles_of 23) geneve_titles ≡ true
-  gre : are_apart (titles_of 24) gre_titles ≡ true
-  gre6 : are_apart (titles_of 25) gre6_titles ≡ true
-  xfrm : are_apart (titles_of 39) xfrm_titles ≡ true
-
-tables_apart : TablesApart
+in_tables : (m : ℕ) → are_apart (titles_of m) (table_titles m) ≡ true
 unfolding raw_titles_of table_titles
-tables_apart =
+in_tables m =
     let a = and_parts (raw_apart 11) _ all_raw_apart in
     let b = and_parts (raw_apart 15) _ a.1 in
     let c = and_parts (raw_apart 16) _ b.1 in
@@ -75,17 +55,11 @@ tables_apart =
     let g = and_parts (raw_apart 24) _ f.1 in
     let h = and_parts (raw_apart 25) _ g.1 in
     let i = and_parts (raw_apart 39) _ h.1 in
-    record { vf = a.0; unspec = b.0; bridge = c.0; inet6 = d.0; other = e.0; geneve = f.0; gre = g.0; gre6 = h.0; xfrm = i.0 }
-
-in_tables : (m : ℕ) → are_apart (titles_of m) (table_titles m) ≡ true
-unfolding table_titles
-in_tables m =
-    let t = tables_apart in
-    picked m 11 (m == 11) vf_titles _ refl t.vf
-    (picked_or m 15 (m == 15) _ raw_link_titles _ refl t.unspec (picked_or m 16 (m == 16) _ raw_link_titles _ refl t.bridge
-    (picked_or m 17 (m == 17) _ raw_link_titles _ refl t.inet6 (picked m 18 (m == 18) raw_link_titles _ refl t.other
-    (picked m 23 (m == 23) geneve_titles _ refl t.geneve (picked m 24 (m == 24) gre_titles _ refl t.gre
-    (picked m 25 (m == 25) gre6_titles _ refl t.gre6 (picked m 39 (m == 39) xfrm_titles [] refl t.xfrm refl))))))))
+    picked m 11 (m == 11) vf_titles _ refl a.0
+    (picked_or m 15 (m == 15) _ raw_link_titles _ refl b.0 (picked_or m 16 (m == 16) _ raw_link_titles _ refl c.0
+    (picked_or m 17 (m == 17) _ raw_link_titles _ refl d.0 (picked m 18 (m == 18) raw_link_titles _ refl e.0
+    (picked m 23 (m == 23) geneve_titles _ refl f.0 (picked m 24 (m == 24) gre_titles _ refl g.0
+    (picked m 25 (m == 25) gre6_titles _ refl h.0 (picked m 39 (m == 39) xfrm_titles [] refl i.0 refl))))))))
 
 -- behind the tables stand lists, which have no rows
 no_rows : length data_titles ≡ 23
@@ -94,10 +68,7 @@ no_rows = refl
 
 past_tables : (n : ℕ) → 44 ≤ n → titles_of n ≡ []
 unfolding titles_of
-past_tables n h =
-    ap (λ b. cond b (get_or nested_titles n []) (cond (nat_lt n 20) (get_or link_titles (n - 15) []) (get_or data_titles (n - 20) []))) (le-ltb n 15 (omega (arith, h)))
-    ∙ ap (λ b. cond b (get_or link_titles (n - 15) []) (get_or data_titles (n - 20) [])) (le-ltb n 20 (omega (arith, h)))
-    ∙ get_or_past data_titles (n - 20) [] (omega (arith, h, no_rows))
+past_tables n h = rw (le-ltb n 15 (omega (arith, h)), le-ltb n 20 (omega (arith, h))) (get_or_past data_titles (n - 20) [] (omega (arith, h, no_rows)))
 
 none_by : (u : Titled Raw) (us : List (Titled Raw)) → are_apart [] us ≡ true → are_apart [] (u ∷ us) ≡ true
 none_by (k, None) us h = h

@@ -32,33 +32,29 @@ hex_told p q a b e = absurd cc
 
 bytes : (p q : List ℕ) → AreBytes p → AreBytes q → bytes_text p ≡ bytes_text q → p ≡ q
 bytes [] [] a b e = refl
-bytes [] (y ∷ q) a b e = absurd cc
-bytes (x ∷ p) [] a b e = absurd cc
 bytes (x ∷ p) (y ∷ q) a b e = hex_told (x ∷ p) (y ∷ q) a b (ap (drop 1) e)
+bytes p q a b e = absurd cc
 
 colons_told : (p q : List ℕ) → AreBytes p → AreBytes q → flat_map colon_byte p ≡ flat_map colon_byte q → p ≡ q
 colons_told [] [] a b e = refl
-colons_told [] (y ∷ q) a b e = absurd cc
-colons_told (x ∷ p) [] a b e = absurd cc
 colons_told (x ∷ p) (y ∷ q) a b e =
     let first : x ≡ y = byte_told x y a.0 b.0 (ap (λ l. get_or l 1 0) e) (ap (λ l. get_or l 2 0) e) in
     let rest : p ≡ q = colons_told p q a.1 b.1 (ap (drop 3) e) in
-    λ t. first t ∷ rest t
+    cc
+colons_told p q a b e = absurd cc
 
 pub colons_are_told : (p q : List ℕ) → AreBytes p → AreBytes q → colons p ≡ colons q → p ≡ q
 colons_are_told [] [] a b e = refl
-colons_are_told [] (y ∷ q) a b e = absurd cc
-colons_are_told (x ∷ p) [] a b e = absurd cc
 colons_are_told (x ∷ p) (y ∷ q) a b e =
     let first : x ≡ y = byte_told x y a.0 b.0 (ap (λ l. get_or l 0 0) e) (ap (λ l. get_or l 1 0) e) in
     let rest : p ≡ q = colons_told p q a.1 b.1 (ap (drop 2) e) in
-    λ t. first t ∷ rest t
+    cc
+colons_are_told p q a b e = absurd cc
 
 hardware : (p q : List ℕ) → AreBytes p → AreBytes q → hardware_text p ≡ hardware_text q → p ≡ q
 hardware [] [] a b e = refl
-hardware [] (y ∷ q) a b e = absurd cc
-hardware (x ∷ p) [] a b e = absurd cc
 hardware (x ∷ p) (y ∷ q) a b e = colons_are_told (x ∷ p) (y ∷ q) a b (ap (drop 1) e)
+hardware p q a b e = absurd cc
 
 -- ---- bytes in quotes
 
@@ -87,13 +83,10 @@ step_by x y false false false false h k l m i j s t e = (byte_told x y i j (ap (
 no_quote : (n y : ℕ) → n ≡ 34 → n ≡ y → is_quote y ≡ false → ⊥
 no_quote n y is same l = grind (arith, nat_tests)
 
-no_backslash : (n : ℕ) → n ≡ 34 → n ≡ 92 → ⊥
-no_backslash n is same = omega arith
-
 open_by : (n y : ℕ) → n ≡ 34 → (c d : Bool) → is_quote y ≡ c → is_plain y ≡ d → (s t : List ℕ) → n ∷ s ≡ escaped_by c d y ++ t → ⊥
-open_by n y is true d l m s t e = no_backslash n is (ap (λ l. get_or l 0 0) e)
+open_by n y is true d l m s t e = let first : n ≡ 92 = ap (λ l. get_or l 0 0) e in omega arith
 open_by n y is false true l m s t e = no_quote n y is (ap (λ l. get_or l 0 0) e) l
-open_by n y is false false l m s t e = no_backslash n is (ap (λ l. get_or l 0 0) e)
+open_by n y is false false l m s t e = let first : n ≡ 92 = ap (λ l. get_or l 0 0) e in omega arith
 
 pub escaped_told : (p q s t : List ℕ) → AreBytes p → AreBytes q → flat_map escaped p ++ 34 ∷ s ≡ flat_map escaped q ++ 34 ∷ t → (p ≡ q) × (s ≡ t)
 escaped_told [] [] s t a b e = (refl, ap (drop 1) e)

@@ -1,5 +1,5 @@
 -- The numbers that bytes stand for, as std reads them.
-use Rattle.std.proofs.Common.{Bool, true, false, eq-eqb, lt-ltb, ◌+◌, ◌<◌, ◌/◌, ◌%◌, ◌++◌, codes, get_or, ◌≡◌, ◌∙◌, ap, Some, None, cond, length, ℕ, List, [], ◌∷◌, arith, w16, w32, w64}
+use Rattle.std.proofs.Common.{Bool, true, eq-eqb, lt-ltb, ◌+◌, ◌<◌, ◌/◌, ◌%◌, ◌++◌, codes, get_or, ◌≡◌, ◌∙◌, ap, Some, None, cond, length, ℕ, List, [], ◌∷◌, arith, w16, w32, w64}
 use Rattle.std.specs.Fmt.{decimal, digits}
 use Rattle.std.specs.Int.{from_le_bytes, from_be_bytes}
 use Rattle.attribute_tables_grammar.specs.Shapes.{number}
@@ -25,30 +25,14 @@ pub high_8 : (a b c d e f g h : ℕ) → from_be_bytes w64 (a ∷ b ∷ c ∷ d 
 high_8 a b c d e f g h = omega arith
 
 pub eight_bytes : (p : List ℕ) (n : ℕ) → length p ≡ 8 → n ≡ from_le_bytes w64 p → Some n ≡ cond (is_number p) (Some (number p)) None
-eight_bytes [] n len from = absurd (omega arith)
-eight_bytes (a ∷ []) n len from = absurd (omega arith)
-eight_bytes (a ∷ b ∷ []) n len from = absurd (omega arith)
-eight_bytes (a ∷ b ∷ c ∷ []) n len from = absurd (omega arith)
-eight_bytes (a ∷ b ∷ c ∷ d ∷ []) n len from = absurd (omega arith)
-eight_bytes (a ∷ b ∷ c ∷ d ∷ e ∷ []) n len from = absurd (omega arith)
-eight_bytes (a ∷ b ∷ c ∷ d ∷ e ∷ f ∷ []) n len from = absurd (omega arith)
-eight_bytes (a ∷ b ∷ c ∷ d ∷ e ∷ f ∷ g ∷ []) n len from = absurd (omega arith)
 eight_bytes (a ∷ b ∷ c ∷ d ∷ e ∷ f ∷ g ∷ h ∷ []) n len from = ap Some (from ∙ low_8 a b c d e f g h)
-eight_bytes (a ∷ b ∷ c ∷ d ∷ e ∷ f ∷ g ∷ h ∷ i ∷ p) n len from = absurd (omega arith)
+eight_bytes p n len from = absurd (omega arith)
 
 pub mask_bytes : (p : List ℕ) (flags mask : ℕ) → length p ≡ 8 → flags ≡ from_le_bytes w32 (get_or p 0 0 ∷ get_or p 1 0 ∷ get_or p 2 0 ∷ get_or p 3 0 ∷ []) → mask ≡ from_le_bytes w32 (get_or p 4 0 ∷ get_or p 5 0 ∷ get_or p 6 0 ∷ get_or p 7 0 ∷ []) → 32 ∷ (hex_number flags ++ (codes " mask " ++ hex_number mask)) ≡ flags_and_mask_value p
-mask_bytes [] flags mask len from into = absurd (omega arith)
-mask_bytes (a ∷ []) flags mask len from into = absurd (omega arith)
-mask_bytes (a ∷ b ∷ []) flags mask len from into = absurd (omega arith)
-mask_bytes (a ∷ b ∷ c ∷ []) flags mask len from into = absurd (omega arith)
-mask_bytes (a ∷ b ∷ c ∷ d ∷ []) flags mask len from into = absurd (omega arith)
-mask_bytes (a ∷ b ∷ c ∷ d ∷ e ∷ []) flags mask len from into = absurd (omega arith)
-mask_bytes (a ∷ b ∷ c ∷ d ∷ e ∷ f ∷ []) flags mask len from into = absurd (omega arith)
-mask_bytes (a ∷ b ∷ c ∷ d ∷ e ∷ f ∷ g ∷ []) flags mask len from into = absurd (omega arith)
 mask_bytes (a ∷ b ∷ c ∷ d ∷ e ∷ f ∷ g ∷ h ∷ []) flags mask len from into =
     ap (λ x. 32 ∷ (hex_number x ++ (codes " mask " ++ hex_number mask))) (from ∙ low_4 a b c d)
     ∙ ap (λ x. 32 ∷ (hex_number (number (a ∷ b ∷ c ∷ d ∷ [])) ++ (codes " mask " ++ hex_number x))) (into ∙ low_4 e f g h)
-mask_bytes (a ∷ b ∷ c ∷ d ∷ e ∷ f ∷ g ∷ h ∷ i ∷ p) flags mask len from into = absurd (omega arith)
+mask_bytes p flags mask len from into = absurd (omega arith)
 
 pub ruleset low_first = (low_2, low_4, low_8)
 
@@ -56,8 +40,7 @@ pub ruleset high_first = (high_2, high_4, high_8)
 
 digit_by : (b c : Bool) (n m : ℕ) (more : List ℕ) → b ≡ true → c ≡ true → m ≡ n → cond b (cond c (48 + m) (87 + m) ∷ []) more ≡ (48 + n) ∷ []
 digit_by true true n m more h k e = ap (λ z. (48 + z) ∷ []) e
-digit_by true false n m more h k e = absurd cc
-digit_by false c n m more h k e = absurd cc
+digit_by b c n m more h k e = absurd cc
 
 -- a number under 10 has one digit
 pub one_digit : (n : ℕ) → n < 10 → decimal n ≡ (48 + n) ∷ []

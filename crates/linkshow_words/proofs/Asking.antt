@@ -1,6 +1,6 @@
 -- Words, one after the other.
 use Rattle.std.specs.Prelude.{IfSome, IfNone}
-use Rattle.std.proofs.Common.{◌≡◌, ℕ, ◌-◌, ◌≤◌, ◌<◌, ◌↔◌, Bool, true, false, List, [], ◌∷◌, length, map, take, drop, get_or, Option, Some, None, refl, sym, ap, subst, ◌∙◌, arith}
+use Rattle.std.proofs.Common.{◌≡◌, ℕ, ◌-◌, ◌≤◌, ◌<◌, ◌↔◌, List, [], ◌∷◌, length, map, take, drop, get_or, Option, Some, None, refl, sym, ap, subst, ◌∙◌, arith}
 use Rattle.std.proofs.lemmas.List.{take_rest}
 use Rattle.std.specs.Str.Parse.{digits_value}
 use Rattle.link_capture_commands.specs.Commands.{IsLimitWord}
@@ -27,6 +27,11 @@ left_gone {a} {b} {o} {q} {ws} {vs} {us} d g = subst (λ x. Gone a o x b q vs) d
 pub cut_words : {A : Type 0} (f : A → List ℕ) (ws : List A) (w : A) → 1 ≤ length ws → w ≡ get_or ws 0 w → map f ws ≡ f w ∷ map f (take (length ws - 1) (drop 1 ws))
 cut_words f [] w m e = absurd (omega arith)
 cut_words f (x ∷ rest) w m e = ap (λ z. f z ∷ map f rest) (sym e) ∙ ap (λ t. f w ∷ map f t) (sym (take_rest (x ∷ rest) 1))
+
+-- the same of a word in front and those behind it
+pub word_gone : {A : Type 0} (f : A → List ℕ) (ws : List A) (w : A) → {b : Awaited} {o q : Options} {vs : List (List ℕ)} → 1 ≤ length ws → w ≡ get_or ws 0 w → Gone Nothing o (map f ws) b q vs →
+    Gone Nothing o (f w ∷ map f (take (length ws - 1) (drop 1 ws))) b q vs
+word_gone f ws w m e g = left_gone (cut_words f ws w m e) g
 
 pub no_words : {A : Type 0} (f : A → List ℕ) (ws : List A) → length ws < 1 → map f ws ≡ []
 no_words f [] m = refl
@@ -61,39 +66,30 @@ map_empty f (x ∷ rest) e = let bad : length (map f (x ∷ rest)) ≡ 0 = ap le
 
 -- these words are the last, where standard input or a file is named
 module _ {A : Type 0} (f : A → List ℕ) (w : List ℕ) (rest : List A) (o : Options) (b : Awaited) (q : Options) (vs : List (List ℕ)) (g : Gone Nothing o (w ∷ map f rest) b q vs) where
-  input_then : (p : Options) → word_of w ≡ Input → rest ≡ [] → p ≡ o → Gives Nothing o (w ∷ map f rest) p
-  input_then p e r a = rw (e, Gives) (ap (map f) r, a)
+  -- where nothing behind them and this of the options is all that the words give
+  last_some : (P : Options → Type 0) → ((p : Options) → map f rest ≡ [] → P p → Gives Nothing o (w ∷ map f rest) p) → (options : Options) (r : Option Options) → P options →
+      IfSome r (λ p. (rest ≡ []) × (p ≡ options)) → IfSome r (λ p. Gives b q vs p)
+  last_some P then options None a h = tt
+  last_some P then options (Some p) a h = (g.gives p).0 (then p (ap (map f) h.0) (subst P (sym h.1) a))
 
-  name_then : (p : Options) → word_of w ≡ Name → rest ≡ [] → AreOf w o p → Gives Nothing o (w ∷ map f rest) p
-  name_then p e r a = rw (e, Gives) (ap (map f) r, a)
-
-  input_last : (p : Options) → word_of w ≡ Input → Gives Nothing o (w ∷ map f rest) p → map f rest ≡ []
-  input_last p e = rw (e, Gives) (λ x. x.0)
-
-  name_last : (p : Options) → word_of w ≡ Name → Gives Nothing o (w ∷ map f rest) p → map f rest ≡ []
-  name_last p e = rw (e, Gives) (λ x. x.0)
-
-  wrong_then : (p : Options) → word_of w ≡ Wrong → Gives Nothing o (w ∷ map f rest) p → ⊥
-  wrong_then p e = rw (e, Gives) (λ x. x)
+  last_none : ((p : Options) → Gives Nothing o (w ∷ map f rest) p → map f rest ≡ []) → (r : Option Options) → IfNone r (rest ≡ [] → ⊥) → IfNone r ((p : Options) → Gives b q vs p → ⊥)
+  last_none last (Some p) h = tt
+  last_none last None h = λ p x. h (map_empty f rest (last p ((g.gives p).1 x)))
 
   pub input_some : (r : Option Options) → word_of w ≡ Input → IfSome r (λ p. (rest ≡ []) × (p ≡ o)) → IfSome r (λ p. Gives b q vs p)
-  input_some None e h = tt
-  input_some (Some p) e h = (g.gives p).0 (input_then p e h.0 h.1)
+  input_some r e h = last_some (λ p. p ≡ o) (λ p l a. rw (e, Gives) (l, a)) o r refl h
 
   pub name_some : (options : Options) (r : Option Options) → word_of w ≡ Name → AreOf w o options → IfSome r (λ p. (rest ≡ []) × (p ≡ options)) → IfSome r (λ p. Gives b q vs p)
-  name_some options None e a h = tt
-  name_some options (Some p) e a h = (g.gives p).0 (name_then p e h.0 (subst (AreOf w o) (sym h.1) a))
+  name_some options r e a h = last_some (AreOf w o) (λ p l k. rw (e, Gives) (l, k)) options r a h
 
   pub input_none : (r : Option Options) → word_of w ≡ Input → IfNone r (rest ≡ [] → ⊥) → IfNone r ((p : Options) → Gives b q vs p → ⊥)
-  input_none (Some p) e h = tt
-  input_none None e h = λ p x. h (map_empty f rest (input_last p e ((g.gives p).1 x)))
+  input_none r e h = last_none (λ p. rw (e, Gives) (λ x. x.0)) r h
 
   pub name_none : (r : Option Options) → word_of w ≡ Name → IfNone r (rest ≡ [] → ⊥) → IfNone r ((p : Options) → Gives b q vs p → ⊥)
-  name_none (Some p) e h = tt
-  name_none None e h = λ p x. h (map_empty f rest (name_last p e ((g.gives p).1 x)))
+  name_none r e h = last_none (λ p. rw (e, Gives) (λ x. x.0)) r h
 
   pub wrong_none : word_of w ≡ Wrong → (p : Options) → Gives b q vs p → ⊥
-  wrong_none e = λ p x. wrong_then p e ((g.gives p).1 x)
+  wrong_none e p x = (let none : Gives Nothing o (w ∷ map f rest) p → ⊥ = rw (e, Gives) (λ y. y) in none) ((g.gives p).1 x)
 
 -- the limit is that of the options
 pub low_some : (limit : ℕ) (A : Type 0) (options : Options) (r : Option Options) → 16 ≤ limit → options.limit ≡ limit → IfSome r (λ o. A × (o ≡ options)) → IfSome r (λ o. 16 ≤ o.limit)

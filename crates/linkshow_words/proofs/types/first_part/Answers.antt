@@ -1,4 +1,4 @@
-use Rattle.std.proofs.Common.{◌≡◌, ◌∷◌, ◌<◌, ◌+◌, [], length, Option, Some, None, Bor, List, ℕ, take, drop, sym, ap, ◌∙◌, subst, arith}
+use Rattle.std.proofs.Common.{◌≡◌, ◌∷◌, ◌<◌, ◌+◌, [], length, Option, Some, None, Bor, List, ℕ, sym, ap, ◌∙◌, arith}
 use Rattle.std.specs.Prelude.{IfSome, IfNone, MatchOption}
 use Rattle.std.specs.List.{position_or_len, before_first, after_first}
 use Rattle.std.proofs.lemmas.List.{length-drop}

@@ -1,4 +1,4 @@
-use Rattle.std.proofs.Common.{◌≡◌, ◌≤◌, ℕ, length, subst, sym, rules}
+use Rattle.std.proofs.Common.{◌≤◌, ℕ, length, subst, sym, rules}
 use Rattle.std.specs.Prelude.{IfNone}
 use Rattle.arrayvec.specs.ArrayVec.{ArrayVec as Items}
 use Rattle.linkshow_words.specs.Types.{AreTypeWords, parts}

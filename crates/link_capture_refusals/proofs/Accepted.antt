@@ -9,7 +9,7 @@ use Rattle.attribute_tables_grammar.specs.Rules.{Rule}
 use Rattle.attribute_tables_grammar.specs.Walks.{closed, dropped, IsWalked, Measure, measure, MeasuredSoFar, none_yet, plus, with_header}
 use Rattle.attribute_checks.specs.Rows.{form_of}
 use Rattle.attribute_checks.specs.declared.rows.Form.{Form}
-use Rattle.attribute_checks.specs.declared.rows.Form.TheVariants.{Any, NonEmpty, OfKindOne, Ports, FirstAlone}
+use Rattle.attribute_checks.specs.declared.rows.Form.TheVariants.{Any, OfKindOne, FirstAlone}
 use Rattle.link_message_grammar.specs.Body.{body_rule, family, list_rule_of}
 use Rattle.link_capture_refusal_rows.specs.declared.tables.Inside.{Inside}
 use Rattle.link_capture_refusal_rows.specs.declared.tables.Inside.TheVariants as I

@@ -12,7 +12,7 @@ use Rattle.link_capture_grammar.specs.Captures.{Judged, first_fault, first_frame
 use Rattle.link_capture_grammar.specs.Laws.{CapturesGoByFrames}
 use Rattle.link_capture_grammar.specs.declared.fault.CaptureFault.{CaptureFault}
 use Rattle.link_capture_grammar.specs.declared.fault.FaultKind.{FaultKind}
-use Rattle.link_capture_grammar.specs.declared.fault.FaultKind.TheVariants.{Cut, ShortLength, OverLimit, Refused, EmptyPorts, Unfit, TextOverLimit, Memory, Read, Write, TooLong, Failed}
+use Rattle.link_capture_grammar.specs.declared.fault.FaultKind.TheVariants.{Cut, ShortLength, OverLimit, Refused, TextOverLimit}
 use Rattle.link_capture_refusals.specs.RefusalLaws.{IsBetween, LinksAreAccepted, RefusedBodiesAreTold, RefusedFramesAreWhole, StandsIn}
 use Rattle.link_capture_refusals.specs.Refusals.{Found, code_refusal, fault_refusal, frame_refusal, link_refusal, list_refusal, refusal, told_refusal}
 use Rattle.link_capture_refusals.proofs.Places.{Placed, link_placed}

@@ -3,8 +3,7 @@ use Rattle.std.proofs.Common.{◌≡◌, ℕ, zero, suc, ◌+◌, ◌≤◌, Boo
 use Rattle.std.specs.Prelude.{nat_lt, option_map, slice_index}
 use Rattle.netlink_packet_core_grammar.specs.Attributes.{Attribute, nla_align, attribute_length, first_attribute, proper_kind}
 use Rattle.netlink_packet_core_grammar.specs.Laws.{FirstIsWithin}
-use Rattle.attribute_checks.specs.declared.rows.Form.{Form}
-use Rattle.attribute_checks.specs.declared.rows.Form.TheVariants.{Any, NonEmpty, OfKindOne, Ports, FirstAlone}
+use Rattle.attribute_checks.specs.declared.rows.Form.TheVariants.{Any}
 use Rattle.attribute_tables_grammar.specs.Peers.{bytes_peer}
 use Rattle.link_message_grammar.specs.Body.{body_rule}
 use Rattle.link_capture_refusal_rows.specs.declared.tables.Inside.{Inside}

@@ -11,9 +11,6 @@ use Rattle.link_lines_texts.specs.Lists.{inside_lines, inside_list, lines_within
 use Rattle.link_lines_texts.specs.Titles.{Name, title_of}
 use Rattle.link_lines_texts.specs.Laws.{ListsGoBySteps}
 
-aligned : (n : ℕ) → n ≤ nla_align n
-aligned n = omega arith
-
 -- so many steps are as good as so many
 abbrev Agree : ℕ → ℕ → Type 0
 Agree m n = (level : ℕ) (place : Place) (c : Context) (bytes : List ℕ) → length bytes ≤ m → length bytes ≤ n → lines_within m level place c bytes ≡ lines_within n level place c bytes
@@ -40,23 +37,13 @@ pub list_within : (place : Place) (c : Context) (e : Attribute) → Within (leng
 unfolding list_inside
 list_within place c e = titled_within place c (title_of place.table (proper_kind e.kind)) e
 
+-- a list in the first attribute is shorter than the bytes
+pub list_shorter : (place : Place) (c : Context) (bytes : List ℕ) (e : Attribute) (x : Place × List ℕ) → 4 + length e.payload ≤ length bytes → list_inside place c e ≡ Some x → 4 + length x.1 ≤ length bytes
+list_shorter place c bytes e x h i = let b : Within (length e.payload) (Some x) = subst (Within (length e.payload)) i (list_within place c e) in omega (arith, b)
+
 module _ (w : FirstIsWithin) where
-  pub payload_within : (bytes : List ℕ) (e : Attribute) (rest : List ℕ) → first_attribute bytes ≡ Some (e, rest) → 4 + length e.payload ≤ length bytes
-  payload_within bytes e rest h = w.within bytes e rest h
-
-  pub rest_shorter : (bytes : List ℕ) (e : Attribute) (rest : List ℕ) → first_attribute bytes ≡ Some (e, rest) → 4 + length rest ≤ length bytes
-  rest_shorter bytes e rest h =
-      let a = aligned (attribute_length e) in
-      let b = w.within bytes e rest h in
-      let d = w.rest_length bytes e rest h in
-      omega (arith, a, b, d)
-
-  -- a list in the first attribute is shorter than the bytes
-  pub list_shorter : (place : Place) (c : Context) (bytes : List ℕ) (e : Attribute) (rest : List ℕ) (x : Place × List ℕ) → first_attribute bytes ≡ Some (e, rest) → list_inside place c e ≡ Some x → 4 + length x.1 ≤ length bytes
-  list_shorter place c bytes e rest x h i =
-      let a = payload_within bytes e rest h in
-      let b : Within (length e.payload) (Some x) = subst (Within (length e.payload)) i (list_within place c e) in
-      omega (arith, a, b)
+  rest_shorter : (bytes : List ℕ) (e : Attribute) (rest : List ℕ) → first_attribute bytes ≡ Some (e, rest) → 4 + length rest ≤ length bytes
+  rest_shorter bytes e rest h = omega (arith, w.within bytes e rest h, w.rest_length bytes e rest h)
 
   same_inside : (m n level size : ℕ) (o : Option (Place × List ℕ)) → Agree m n → Within size o → size ≤ m → size ≤ n → inside_lines (λ l t d b. lines_within m l t d b) level o ≡ inside_lines (λ l t d b. lines_within n l t d b) level o
   same_inside m n level size None i w h k = refl
@@ -65,7 +52,7 @@ module _ (w : FirstIsWithin) where
   same_next : (m n level : ℕ) (place : Place) (c : Context) (bytes : List ℕ) → Agree m n → length bytes ≤ suc m → length bytes ≤ suc n → (o : Option (Attribute × List ℕ)) → first_attribute bytes ≡ o → next_lines (λ l t d b. lines_within m l t d b) level place c o ≡ next_lines (λ l t d b. lines_within n l t d b) level place c o
   same_next m n level place c bytes i p q None h = refl
   same_next m n level place c bytes i p q (Some x) h =
-      let a = payload_within bytes x.0 x.1 h in
+      let a = w.within bytes x.0 x.1 h in
       let r = rest_shorter bytes x.0 x.1 h in
       let size = length x.0.payload in
       ap (λ z. own_lines level place c x.0 ++ (z ++ lines_within m level place (next_in place.table c x.0) x.1))
@@ -88,9 +75,9 @@ module _ (w : FirstIsWithin) where
 
   pub next : (level : ℕ) (place : Place) (c : Context) (bytes : List ℕ) (e : Attribute) (after : List ℕ) → first_attribute bytes ≡ Some (e, after) → rest_lines level place c bytes ≡ own_lines level place c e ++ (nested_lines (level + 1) (list_inside place c e) ++ rest_lines level place (next_in place.table c e) after)
   unfolding rest_lines lines_within
-  next level place c [] e after h = absurd (let a = payload_within [] e after h in omega (arith, a))
+  next level place c [] e after h = absurd (let a = w.within [] e after h in omega (arith, a))
   next level place c (b ∷ bytes) e after h =
-      let a = payload_within (b ∷ bytes) e after h in
+      let a = w.within (b ∷ bytes) e after h in
       let r = rest_shorter (b ∷ bytes) e after h in
       ap (λ o. next_lines (λ l t d z. lines_within (length bytes) l t d z) level place c o) h
       ∙ ap (λ z. own_lines level place c e ++ (z ++ lines_within (length bytes) level place (next_in place.table c e) after))

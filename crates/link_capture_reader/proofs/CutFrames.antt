@@ -11,7 +11,7 @@ use Rattle.netlink_packet_core_grammar.specs.Attributes.{nla_align}
 use Rattle.netlink_packet_core_grammar.specs.Numbers.{u32_at}
 use Rattle.netlink_packet_core_grammar.specs.Laws.{NumbersStandAlone}
 use Rattle.netlink_packet_core_grammar.specs.Frames.{frame_length}
-use Rattle.link_capture_grammar.specs.Captures.{Judged, first_frame, HeaderStands}
+use Rattle.link_capture_grammar.specs.Captures.{first_frame, HeaderStands}
 use Rattle.link_capture_grammar.specs.Laws.{FramesStandAlone}
 
 -- bytes come in two steps
@@ -75,10 +75,7 @@ header_cut numbers frames limit c l h =
 
 pub header_refused : FramesStandAlone link_body → (limit : ℕ) (c : List ℕ) (kind : FaultKind) → kind ≢ Cut → first_frame limit (take 16 c) ≡ Err kind → first_frame limit c ≡ Err kind
 header_refused frames limit c kind n h =
-    ap (first_frame limit) (sym (take-append-drop 16 c)) ∙ frames.followed limit (take 16 c) (drop 16 c) (λ e. n (let q = sym h ∙ e in cc)) ∙ h
-
-not_cut : (j : Judged) (frame : ℕ × List ℕ) → j ≡ Ok frame → j ≢ Err Cut
-not_cut j frame h e = cc
+    ap (first_frame limit) (sym (take-append-drop 16 c)) ∙ frames.followed limit (take 16 c) (drop 16 c) (λ e. n cc) ∙ h
 
 -- what was moved and what was not
 pub whole : (old piece new : List ℕ) (m : ℕ) → new ≡ old ++ take m piece → old ++ piece ≡ new ++ drop m piece
@@ -100,7 +97,7 @@ completed frames limit old piece new m claimed text e l x h =
     let total : length (old ++ piece) ≡ claimed + (length piece - m) = ap length w ∙ length-append new (drop m piece) ∙ omega (arith, length-drop m piece) in
     let reach : nla_align claimed ≡ length new + (nla_align claimed - claimed) = omega arith in
     record {
-      front_is = ap (first_frame limit) w ∙ frames.followed limit new (drop m piece) (not_cut (first_frame limit new) (claimed, text) h) ∙ h;
+      front_is = ap (first_frame limit) w ∙ frames.followed limit new (drop m piece) (λ q. cc) ∙ h;
       size = size;
       total = total;
       left = ap (drop (nla_align claimed)) w ∙ ap (λ n. drop n (new ++ drop m piece)) reach ∙ drop-append-add new (drop m piece) (nla_align claimed - claimed) ∙ drop-drop (nla_align claimed - claimed) m piece;

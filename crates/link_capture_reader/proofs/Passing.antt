@@ -9,6 +9,7 @@ use Rattle.link_capture_grammar.specs.declared.fault.FaultKind.TheVariants.{Cut}
 use Rattle.netlink_packet_core_grammar.specs.Attributes.{nla_align}
 use Rattle.link_capture_grammar.specs.Captures.{first_frame, first_fault, fault_after_under, texts, texts_after_under, raised, reach, reach_by, HeaderStands, IsLegal, StopsAt}
 use Rattle.link_capture_grammar.specs.Laws.{CapturesGoByFrames, FramesStandAlone}
+use Rattle.link_capture_grammar.proofs.Frames.{raised_add}
 use Rattle.link_capture_reader.specs.Readers.{Resumes}
 use Rattle.link_capture_reader.specs.Walks.{Goes, Faults, Lacks, Passed}
 
@@ -20,10 +21,6 @@ fault_nil limit = refl
 pub texts_nil : (limit : ℕ) → texts limit [] ≡ []
 unfolding texts_after_under
 texts_nil limit = refl
-
-raised_add : (a b n : ℕ) (f : Option CaptureFault) → a + b ≡ n → raised a (raised b f) ≡ raised n f
-raised_add a b n None e = refl
-raised_add a b n (Some f) e = let k : a + (b + f.offset) ≡ n + f.offset = omega arith in ap (λ m. Some (record { kind = f.kind; offset = m })) k
 
 -- what is written grows by t
 pub grown : (old w t : List ℕ) {out new v : List ℕ} → out ≡ old ++ w → new ≡ out ++ t → v ≡ w ++ t → new ≡ old ++ v

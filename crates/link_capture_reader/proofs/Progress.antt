@@ -1,15 +1,16 @@
 -- How far the engine has come.
-use Rattle.std.proofs.Common.{◌≡◌, ℕ, ◌+◌, ◌-◌, ◌^◌, ◌<◌, ◌≤◌, min, Option, None, Some, Result, Ok, Err, IfErr, OnOk, List, [], ◌++◌, length, take, drop, refl, sym, ap, subst, ◌∙◌, arith, append_assoc, length-append}
+use Rattle.std.proofs.Common.{◌≡◌, ℕ, ◌+◌, ◌-◌, ◌^◌, ◌<◌, ◌≤◌, min, Option, None, Some, Result, Ok, Err, IfErr, OnOk, List, [], ◌++◌, length, take, drop, sym, ap, subst, ◌∙◌, arith, append_assoc, length-append}
 use Rattle.std.proofs.lemmas.List.{take_at, append-nil, take-append-drop, length-take}
 use Rattle.std.specs.Io.KnownBytes.{Appends, Consumes}
 use Rattle.link_capture_grammar.specs.Body.{link_body}
 use Rattle.link_capture_grammar.specs.declared.fault.CaptureFault.{CaptureFault}
 use Rattle.link_capture_grammar.specs.declared.fault.FaultKind.{FaultKind}
-use Rattle.link_capture_grammar.specs.declared.fault.FaultKind.TheVariants.{Cut, ShortLength, OverLimit, Refused, EmptyPorts, Unfit, TextOverLimit, Memory, Read, Write, TooLong, Failed}
-use Rattle.link_capture_grammar.specs.Captures.{first_fault, texts, texts_after_under}
+use Rattle.link_capture_grammar.specs.declared.fault.FaultKind.TheVariants.{Cut, Memory, Read, Write, TooLong, Failed}
+use Rattle.link_capture_grammar.specs.Captures.{first_fault, texts}
 use Rattle.link_capture_grammar.specs.Laws.{PrefixTexts}
 use Rattle.link_capture_reader.specs.Readers.{ReaderState, StandsFor, Resumes, Gains, FeedFault}
 use Rattle.link_capture_reader.specs.Outcomes.{IsOpen, IsPrefix, OutcomeAt}
+use Rattle.link_capture_reader.proofs.Passing.{texts_nil}
 use Rattle.std.proofs.KnownBytes.{Appends-nil, Consumes-nil}
 
 -- s was read and accepted, and its texts are written
@@ -19,11 +20,6 @@ pub record Came (limit : ℕ) (reader : ReaderState) (written : ℕ) (come_old c
   pub consumed : Consumes come_old come_new s
   pub wrote : Appends holds_old holds_new (texts limit s)
   pub count : written ≡ min (length (texts limit s)) (2 ^ 64 - 1)
-
--- nothing has no texts
-texts_nil : (limit : ℕ) → texts limit [] ≡ []
-unfolding texts_after_under
-texts_nil limit = refl
 
 pub nothing_came : (limit : ℕ) (reader : ReaderState) (come holds : Option (List ℕ)) → reader.limit ≡ limit → StandsFor reader [] → Came limit reader 0 come come holds holds []
 nothing_came limit reader come holds e h = record {
@@ -57,17 +53,12 @@ prefix_take stay limit n c = subst (λ x. IsPrefix (texts limit (take n c)) (tex
 
 fed_front_at : PrefixTexts link_body → (limit : ℕ) (s p out : List ℕ) (kind : FaultKind) (at : ℕ) → FeedFault limit s p [] out kind at → IsPrefix (texts limit s ++ out) (texts limit (s ++ p))
 fed_front_at stay limit s p out Cut at h = absurd h
-fed_front_at stay limit s p out ShortLength at h = front_is limit s (s ++ p) out (texts limit (s ++ p)) h.2 (whole_is limit (s ++ p))
-fed_front_at stay limit s p out OverLimit at h = front_is limit s (s ++ p) out (texts limit (s ++ p)) h.2 (whole_is limit (s ++ p))
-fed_front_at stay limit s p out Refused at h = front_is limit s (s ++ p) out (texts limit (s ++ p)) h.2 (whole_is limit (s ++ p))
-fed_front_at stay limit s p out EmptyPorts at h = front_is limit s (s ++ p) out (texts limit (s ++ p)) h.2 (whole_is limit (s ++ p))
-fed_front_at stay limit s p out Unfit at h = front_is limit s (s ++ p) out (texts limit (s ++ p)) h.2 (whole_is limit (s ++ p))
-fed_front_at stay limit s p out TextOverLimit at h = front_is limit s (s ++ p) out (texts limit (s ++ p)) h.2 (whole_is limit (s ++ p))
 fed_front_at stay limit s p out Memory at h = front_is limit s (take at (s ++ p)) out (texts limit (s ++ p)) h.2 (prefix_take stay limit at (s ++ p))
 fed_front_at stay limit s p out Read at h = absurd h
 fed_front_at stay limit s p out Write at h = absurd h
 fed_front_at stay limit s p out TooLong at h = nothing_more limit s out (texts limit (s ++ p)) h.2 (stay limit s p)
 fed_front_at stay limit s p out Failed at h = absurd h
+fed_front_at stay limit s p out kind at h = front_is limit s (s ++ p) out (texts limit (s ++ p)) h.2 (whole_is limit (s ++ p))
 
 -- what `feed` says, at a reader that stands for s
 abbrev pub FeedOk : ReaderState → ReaderState → List ℕ → List ℕ → List ℕ → Type 0
@@ -100,12 +91,6 @@ failed_write E R W limit s a out written n fault w p l c k o =
 -- a fault of `feed` is the engine's, once what it added is written
 pub fed_fault : (E R W : Type 0) (limit : ℕ) (s p out : List ℕ) (kind : FaultKind) (at : ℕ) → length p ≤ 65536 → IsOpen (first_fault limit s) → FeedFault limit s p [] out kind at → OutcomeAt E R W limit (s ++ p) (texts limit s ++ out) kind at
 fed_fault E R W limit s p out Cut at z o h = absurd h
-fed_fault E R W limit s p out ShortLength at z o h = (h.1, all_is limit s (s ++ p) out h.2)
-fed_fault E R W limit s p out OverLimit at z o h = (h.1, all_is limit s (s ++ p) out h.2)
-fed_fault E R W limit s p out Refused at z o h = (h.1, all_is limit s (s ++ p) out h.2)
-fed_fault E R W limit s p out EmptyPorts at z o h = (h.1, all_is limit s (s ++ p) out h.2)
-fed_fault E R W limit s p out Unfit at z o h = (h.1, all_is limit s (s ++ p) out h.2)
-fed_fault E R W limit s p out TextOverLimit at z o h = (h.1, all_is limit s (s ++ p) out h.2)
 fed_fault E R W limit s p out Memory at z o h = (h.1, all_is limit s (take at (s ++ p)) out h.2)
 fed_fault E R W limit s p out Read at z o h = absurd h
 fed_fault E R W limit s p out Write at z o h = absurd h
@@ -119,6 +104,7 @@ fed_fault E R W limit s p out TooLong at z o h =
       written = ap (λ x. texts limit s ++ x) h.2 ∙ append-nil (texts limit s) ∙ ap (texts limit) (sym e);
     }
 fed_fault E R W limit s p out Failed at z o h = absurd h
+fed_fault E R W limit s p out kind at z o h = (h.1, all_is limit s (s ++ p) out h.2)
 
 pub fed_outcome : (E R W : Type 0) (limit : ℕ) (reader : ReaderState) (s p old out : List ℕ) (fault : CaptureFault) → reader.limit ≡ limit → old ≡ [] → length p ≤ 65536 → StandsFor reader s → FeedErr reader p old out fault → OutcomeAt E R W limit (s ++ p) (texts limit s ++ out) fault.kind fault.offset
 fed_outcome E R W limit reader s p old out fault l e z h b =

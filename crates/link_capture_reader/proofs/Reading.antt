@@ -6,7 +6,7 @@ use Rattle.netlink_packet_core_grammar.specs.Attributes.{nla_align}
 use Rattle.link_capture_grammar.specs.Body.{link_body}
 use Rattle.link_capture_grammar.specs.declared.fault.CaptureFault.{CaptureFault}
 use Rattle.link_capture_grammar.specs.declared.fault.FaultKind.{FaultKind}
-use Rattle.link_capture_grammar.specs.declared.fault.FaultKind.TheVariants.{Cut, ShortLength, OverLimit, Refused, EmptyPorts, Unfit, TextOverLimit, Memory, Read, Write, TooLong, Failed}
+use Rattle.link_capture_grammar.specs.declared.fault.FaultKind.TheVariants.{Cut, Memory, Read, Write, TooLong, Failed}
 use Rattle.link_capture_grammar.specs.Captures.{first_frame, first_frame_under, first_fault, texts, raised, reach, reach_by, StopsAt, IsOfFrames}
 use Rattle.link_capture_grammar.specs.Laws.{FramesStandAlone, CapturesGoByFrames, FaultsStand}
 use Rattle.link_capture_reader.proofs.Passing.{fault_nil, texts_nil, left_fault, left_stop_texts, then_resumes, then_stop, resume_passed, resume_texts}
@@ -110,34 +110,19 @@ goes_on go limit s p kept owed start old new more then w h = (
 -- a fault of a frame, by its kind
 feed_fault : (limit : ℕ) (s p old new : List ℕ) (kind : FaultKind) (at : ℕ) → kind ≢ Cut → IsOfFrames kind → length s + length p < 2 ^ 64 → first_fault limit (s ++ p) ≡ Some (record { kind = kind; offset = at }) → Gains limit s (s ++ p) old new → FeedFault limit s p old new kind at
 feed_fault limit s p old new Cut at c k l f g = c refl
-feed_fault limit s p old new ShortLength at c k l f g = (l, f, g)
-feed_fault limit s p old new OverLimit at c k l f g = (l, f, g)
-feed_fault limit s p old new Refused at c k l f g = (l, f, g)
-feed_fault limit s p old new EmptyPorts at c k l f g = (l, f, g)
-feed_fault limit s p old new Unfit at c k l f g = (l, f, g)
-feed_fault limit s p old new TextOverLimit at c k l f g = (l, f, g)
 feed_fault limit s p old new Memory at c k l f g = absurd k
 feed_fault limit s p old new Read at c k l f g = k
 feed_fault limit s p old new Write at c k l f g = k
 feed_fault limit s p old new TooLong at c k l f g = absurd k
 feed_fault limit s p old new Failed at c k l f g = k
+feed_fault limit s p old new kind at c k l f g = (l, f, g)
 
 memory_fault : (limit : ℕ) (s p old new : List ℕ) (kind : FaultKind) (at : ℕ) → kind ≡ Memory → length s + length p < 2 ^ 64 → StopsAt limit (s ++ p) at → Gains limit s (take at (s ++ p)) old new → FeedFault limit s p old new kind at
 memory_fault limit s p old new kind at e l h g = subst (λ k. FeedFault limit s p old new k at) (sym e) (l, h, g)
 
 is_memory : (kind : FaultKind) → (kind ≡ Memory) ⊎ (kind ≢ Memory)
 is_memory Memory = inl refl
-is_memory Cut = inr (λ e. cc)
-is_memory ShortLength = inr (λ e. cc)
-is_memory OverLimit = inr (λ e. cc)
-is_memory Refused = inr (λ e. cc)
-is_memory EmptyPorts = inr (λ e. cc)
-is_memory Unfit = inr (λ e. cc)
-is_memory TextOverLimit = inr (λ e. cc)
-is_memory Read = inr (λ e. cc)
-is_memory Write = inr (λ e. cc)
-is_memory TooLong = inr (λ e. cc)
-is_memory Failed = inr (λ e. cc)
+is_memory kind = inr (λ e. cc)
 
 pub faults_on : CapturesGoByFrames link_body → FaultsStand link_body → (limit : ℕ) (s p kept : List ℕ) (owed start : ℕ) (old new : List ℕ) (fault : CaptureFault) → length s + length p < 2 ^ 64 → Resumed limit s p kept owed start → Faults limit start (kept ++ drop owed p) old new fault → Lacks limit start (kept ++ drop owed p) old new fault → FeedFault limit s p old new fault.kind fault.offset
 faults_on go stand limit s p kept owed start old new fault l w h k =

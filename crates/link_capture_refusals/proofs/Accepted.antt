@@ -1,5 +1,5 @@
 -- Nothing is refused of a list exactly where its rule accepts it.
-use Rattle.std.proofs.Common.{◌≡◌, ℕ, zero, suc, ◌+◌, ◌≤◌, Bool, true, false, cond, List, [], ◌∷◌, length, drop, Option, Some, None, refl, sym, ap, ◌∙◌, arith}
+use Rattle.std.proofs.Common.{◌≡◌, ℕ, zero, suc, ◌+◌, ◌≤◌, Bool, true, false, cond, List, [], ◌∷◌, length, drop, Option, Some, None, refl, sym, ap, ◌∙◌, arith, rules}
 use Rattle.std.specs.Prelude.{◌&&◌, nat_le, nat_lt, is_none, option_map, slice_index}
 use Rattle.netlink_packet_core_grammar.specs.Attributes.{Attribute, nla_align, attribute_length, first_attribute, proper_kind}
 use Rattle.netlink_packet_core_grammar.specs.Laws.{FirstIsWithin}
@@ -9,7 +9,7 @@ use Rattle.attribute_tables_grammar.specs.Rules.{Rule}
 use Rattle.attribute_tables_grammar.specs.Walks.{closed, dropped, IsWalked, Measure, measure, MeasuredSoFar, none_yet, plus, with_header}
 use Rattle.attribute_checks.specs.Rows.{form_of}
 use Rattle.attribute_checks.specs.declared.rows.Form.{Form}
-use Rattle.attribute_checks.specs.declared.rows.Form.TheVariants.{Any, NonEmpty, OfKindOne, Ports, FirstAlone}
+use Rattle.attribute_checks.specs.declared.rows.Form.TheVariants.{Any, OfKindOne, FirstAlone}
 use Rattle.link_message_grammar.specs.Body.{body_rule, family, list_rule_of}
 use Rattle.link_capture_refusal_rows.specs.declared.tables.Inside.{Inside}
 use Rattle.link_capture_refusal_rows.specs.declared.tables.Inside.TheVariants as I
@@ -20,10 +20,7 @@ use Rattle.link_capture_refusal_rows.specs.RowRules.{LinksAreTables, RowsAreTheT
 use Rattle.link_capture_refusals.specs.Refusals.{Found, ListRefusal, attribute_refusal, found_at, goes_on, inside_refusal, link_refusal, list_refusal, named, next_refusal, or_else, refusal_within, row_refusal, whole_refusal}
 use Rattle.link_capture_refusals.specs.RefusalLaws.{LinksAreAccepted, ListsAreAccepted}
 use Rattle.std.proofs.lemmas.Bool.{ltb-true, ltb-false, le-leb, lt-leb}
-use Rattle.link_capture_refusals.proofs.ListSteps.{payload_shorter, rest_shorter}
-
-apart : true ≡ false → ⊥
-apart h = absurd cc
+use Rattle.link_capture_refusals.proofs.ListSteps.{rest_shorter}
 
 -- ---- of what is found
 
@@ -36,12 +33,12 @@ none_mapped n None = refl
 none_mapped n (Some f) = refl
 
 none_before : (o q : Option Found) → is_none o ≡ false → is_none (or_else o q) ≡ false
-none_before None q h = absurd (apart h)
+none_before None q h = absurd cc
 none_before (Some f) q h = refl
 
 none_nothing : (o q : Option Found) → is_none o ≡ true → or_else o q ≡ q
 none_nothing None q h = refl
-none_nothing (Some f) q h = absurd (apart (sym h))
+none_nothing (Some f) q h = absurd cc
 
 -- ---- measures
 
@@ -75,14 +72,10 @@ module _ (w : FirstIsWithin) (steps : MeasuresGoBySteps) (tells : MeasuresTellRu
     unfolding first_attribute
     listed judged Any t own [] h = done any (grammar_at judged t) [] nothing none_yet tt (steps.start any (grammar_at judged t) [])
     listed judged OfKindOne t own [] h = done (form_of OfKindOne) (grammar_at judged t) [] nothing none_yet tt (steps.start (form_of OfKindOne) (grammar_at judged t) [])
-    listed judged NonEmpty t own [] h = tells.denies (list_rule (form_of NonEmpty) (grammar_at judged t)) [] (tells.no_bytes (form_of NonEmpty) (grammar_at judged t) [] refl tt)
-    listed judged Ports t own [] h = tells.denies (list_rule (form_of Ports) (grammar_at judged t)) [] (tells.no_bytes (form_of Ports) (grammar_at judged t) [] refl tt)
     listed judged FirstAlone t own [] h = tells.denies (list_rule first_alone (grammar_at judged t)) [] (tells.first_none (grammar_at judged t) [] refl)
-    listed judged Any t own (b ∷ p) h = k.walked judged Any t nothing (own + 4) (b ∷ p) (b ∷ p) none_yet tt h (steps.start any (grammar_at judged t) (b ∷ p))
-    listed judged OfKindOne t own (b ∷ p) h = k.walked judged OfKindOne t nothing (own + 4) (b ∷ p) (b ∷ p) none_yet tt h (steps.start (form_of OfKindOne) (grammar_at judged t) (b ∷ p))
-    listed judged NonEmpty t own (b ∷ p) h = k.walked judged NonEmpty t nothing (own + 4) (b ∷ p) (b ∷ p) none_yet (omega arith) h (steps.start (form_of NonEmpty) (grammar_at judged t) (b ∷ p))
-    listed judged Ports t own (b ∷ p) h = k.walked judged Ports t nothing (own + 4) (b ∷ p) (b ∷ p) none_yet (omega arith) h (steps.start (form_of Ports) (grammar_at judged t) (b ∷ p))
+    listed judged f t own [] h = tells.denies (list_rule (form_of f) (grammar_at judged t)) [] (tells.no_bytes (form_of f) (grammar_at judged t) [] refl tt)
     listed judged FirstAlone t own (b ∷ p) h = k.first judged t (own + 4) b p h
+    listed judged f t own (b ∷ p) h = k.walked judged f t nothing (own + 4) (b ∷ p) (b ∷ p) none_yet (search (rules, arith)) h (steps.start (form_of f) (grammar_at judged t) (b ∷ p))
 
     inside_some : (judged : Bool) (i : Inside) (own : ℕ) (p : List ℕ) → length p ≤ n → (row_rule judged (Some ([], i))).accepted p ≡ false → is_none (inside_refusal (within n) judged i own p) ≡ false
     inside_some judged (I.Value s) own p l h = refl
@@ -91,7 +84,7 @@ module _ (w : FirstIsWithin) (steps : MeasuresGoBySteps) (tells : MeasuresTellRu
     inside_some judged (I.Refused r) own p l h = refl
 
     row_some : (judged : Bool) (o : Option (List ℕ × Inside)) (own : ℕ) (p : List ℕ) → length p ≤ n → (row_rule judged o).accepted p ≡ false → is_none (row_refusal (within n) judged o own p) ≡ false
-    row_some judged None own p l h = absurd (apart h)
+    row_some judged None own p l h = absurd cc
     row_some judged (Some x) own p l h = none_mapped x.0 (inside_refusal (within n) judged x.1 own p) ∙ inside_some judged x.1 own p l h
 
     attribute_some : (l : Listing) (place : ℕ) (e : Attribute) → length e.payload ≤ n → is_accepted l e ≡ false → is_none (attribute_refusal (within n) l place e) ≡ false
@@ -102,14 +95,11 @@ module _ (w : FirstIsWithin) (steps : MeasuresGoBySteps) (tells : MeasuresTellRu
       where
         by_kept : (b a : Bool) → cond b a true ≡ false → a ≡ false
         by_kept true a h = h
-        by_kept false a h = absurd (apart h)
+        by_kept false a h = absurd cc
 
     goes : (f : Form) (bytes after : List ℕ) → IsWalked (form_of f) bytes → goes_on f after ≡ after
-    goes Any bytes after h = refl
-    goes NonEmpty bytes after h = refl
-    goes OfKindOne bytes after h = refl
-    goes Ports bytes after h = refl
     goes FirstAlone bytes after h = absurd h
+    goes f bytes after h = refl
 
     no_bytes : (l : Listing) (place : ℕ) → refusal_within n l place [] ≡ None
     unfolding refusal_within
@@ -145,7 +135,7 @@ module _ (w : FirstIsWithin) (steps : MeasuresGoBySteps) (tells : MeasuresTellRu
           ∙ ap (λ z. is_none (refusal_within n (behind (at f c) e) next z)) (sym (goes f bytes after v))
           ∙ ap is_none (sym (nothing_here f c place e (refusal_within n (behind (at f c) e) next (goes_on f after)) (ap (λ b. cond b ((here c e).accepted e.payload) true) i ∙ j)))
       walked_more f c place bytes rest m e after v h l s true false i j =
-          let p = payload_shorter w rest e after h in
+          let p = w.within rest e after h in
           tells.denies (list_rule (form_of f) g) bytes (steps.refused (form_of f) g bytes rest c e after m v h i (refused (here c e) e.payload j) s)
           ∙ sym (none_before _ _ (attribute_some (at f c) place e (omega (arith, p, l)) (ap (λ b. cond b ((here c e).accepted e.payload) true) i ∙ j)))
       walked_more f c place bytes rest m e after v h l s false a i j =
@@ -176,7 +166,7 @@ module _ (w : FirstIsWithin) (steps : MeasuresGoBySteps) (tells : MeasuresTellRu
           ∙ ap is_none (sym (no_bytes (behind (whole FirstAlone t judged) e) next))
           ∙ ap is_none (sym (nothing_here FirstAlone nothing place e (refusal_within n (behind (whole FirstAlone t judged) e) next []) j))
       first_more place bytes e after h l false j =
-          let p = payload_shorter w bytes e after h in
+          let p = w.within bytes e after h in
           tells.denies (list_rule first_alone g) bytes (tells.first_some g bytes e after None h (refused (here nothing e) e.payload j))
           ∙ sym (none_before _ _ (attribute_some (whole FirstAlone t judged) place e (omega (arith, p, l)) j))
 

@@ -1,7 +1,7 @@
 -- Something is refused of a capture exactly where its first fault is a refused body.
 use Rattle.std.proofs.Common.{◌≡◌, ℕ, ◌+◌, ◌-◌, Bool, true, false, cond, List, [], drop, take, length, Option, Some, None, Ok, Err, Result, refl, sym, ap, subst, ◌∙◌, arith}
 use Rattle.std.specs.Prelude.{min, IsSome, is_none, nat_eq, nat_le, nat_lt}
-use Rattle.std.proofs.lemmas.Bool.{and_parts, leb-true, ltb-false, ne_eqb}
+use Rattle.std.proofs.lemmas.Bool.{and_parts, cond_both, leb-true, ltb-false, ne_eqb}
 use Rattle.std.proofs.lemmas.List.{length-take}
 use Rattle.netlink_packet_core_grammar.specs.Frames.{IsFrame, frame_body, frame_length, frame_type}
 use Rattle.netlink_packet_core_grammar.specs.Laws.{FirstIsWithin}
@@ -12,7 +12,7 @@ use Rattle.link_capture_grammar.specs.Captures.{Judged, first_fault, first_frame
 use Rattle.link_capture_grammar.specs.Laws.{CapturesGoByFrames}
 use Rattle.link_capture_grammar.specs.declared.fault.CaptureFault.{CaptureFault}
 use Rattle.link_capture_grammar.specs.declared.fault.FaultKind.{FaultKind}
-use Rattle.link_capture_grammar.specs.declared.fault.FaultKind.TheVariants.{Cut, ShortLength, OverLimit, Refused, EmptyPorts, Unfit, TextOverLimit, Memory, Read, Write, TooLong, Failed}
+use Rattle.link_capture_grammar.specs.declared.fault.FaultKind.TheVariants.{Cut, ShortLength, OverLimit, Refused, TextOverLimit}
 use Rattle.link_capture_refusals.specs.RefusalLaws.{IsBetween, LinksAreAccepted, RefusedBodiesAreTold, RefusedFramesAreWhole, StandsIn}
 use Rattle.link_capture_refusals.specs.Refusals.{Found, code_refusal, fault_refusal, frame_refusal, link_refusal, list_refusal, refusal, told_refusal}
 use Rattle.link_capture_refusals.proofs.Places.{Placed, link_placed}
@@ -25,21 +25,13 @@ record RefusedFrame (c : List ℕ) : Type 0 where
 
 -- which tests it passed
 tests : (a b d e : Bool) (j : Judged) → cond a (Err Cut) (cond b (Err ShortLength) (cond d (Err OverLimit) (cond e (Err Cut) j))) ≡ Err Refused → (a ≡ false) × (b ≡ false) × (e ≡ false) × (j ≡ Err Refused)
-tests true b d e j h = absurd cc
-tests false true d e j h = absurd cc
-tests false false true e j h = absurd cc
-tests false false false true j h = absurd cc
 tests false false false false j h = (refl, refl, refl, h)
-
-over : (b : Bool) (x : ℕ × List ℕ) → cond b (Err TextOverLimit) (Ok x) ≡ Err Refused → ⊥
-over true x h = absurd cc
-over false x h = absurd cc
+tests a b d e j h = absurd cc
 
 judged_refused : (limit : ℕ) (c : List ℕ) (o : Result (List ℕ) Refusal) → judged_text limit c o ≡ Err Refused → o ≡ Err refused
-judged_refused limit c (Ok text) h = absurd (over (nat_lt limit (16 + length text)) _ h)
+judged_refused limit c (Ok text) h = cond_both (nat_lt limit (16 + length text)) (Err TextOverLimit) (Ok _) (λ j. j ≡ Err Refused → Ok text ≡ Err refused) (λ _ e. absurd cc) (λ _ e. absurd cc) h
 judged_refused limit c (Err refused) h = refl
-judged_refused limit c (Err empty_ports) h = absurd cc
-judged_refused limit c (Err unfit) h = absurd cc
+judged_refused limit c (Err r) h = absurd cc
 
 frame_refused : (limit : ℕ) (c : List ℕ) → first_frame limit c ≡ Err Refused → RefusedFrame c
 unfolding first_frame_under
@@ -56,10 +48,10 @@ frames law limit place c h = (frame_refused limit (drop place c) (law.fault_ther
 -- ---- the body of a link
 
 ruled_refused : (r : Rule) (b : List ℕ) (a e f : Bool) → r.accepted b ≡ a → cond a (cond e (Err empty_ports) (cond f (Ok (r.canonical b)) (Err unfit))) (Err refused) ≡ Err refused → r.accepted b ≡ false
+ruled_refused r b false e f i h = i
 ruled_refused r b true true f i h = absurd cc
 ruled_refused r b true false true i h = absurd cc
 ruled_refused r b true false false i h = absurd cc
-ruled_refused r b false e f i h = i
 
 link_refused : (t : ℕ) (b : List ℕ) → is_link_type t ≡ true → body_text t b ≡ Err refused → link_body.accepted b ≡ false
 unfolding body_text_under
@@ -76,7 +68,7 @@ link_refused t b l h =
 -- ---- what is told of it
 
 some_of : (o : Option Found) → is_none o ≡ false → IsSome o
-some_of None h = absurd (let e : true ≡ false = h in cc)
+some_of None h = absurd cc
 some_of (Some f) h = refl
 
 module _ (law : CapturesGoByFrames link_body) (w : FirstIsWithin) (links : LinksAreAccepted) where
@@ -113,17 +105,7 @@ module _ (law : CapturesGoByFrames link_body) (w : FirstIsWithin) (links : Links
   by_kind limit place c f Refused h e =
       let r = frame_refused limit (drop place c) (law.fault_there limit c (record { kind = Refused; offset = place }) h) in
       (place, h, in_frame place (drop place c) f (is_link_type (frame_type (drop place c))) r.frame refl e)
-  by_kind limit place c f Cut h e = absurd cc
-  by_kind limit place c f ShortLength h e = absurd cc
-  by_kind limit place c f OverLimit h e = absurd cc
-  by_kind limit place c f EmptyPorts h e = absurd cc
-  by_kind limit place c f Unfit h e = absurd cc
-  by_kind limit place c f TextOverLimit h e = absurd cc
-  by_kind limit place c f Memory h e = absurd cc
-  by_kind limit place c f Read h e = absurd cc
-  by_kind limit place c f Write h e = absurd cc
-  by_kind limit place c f TooLong h e = absurd cc
-  by_kind limit place c f Failed h e = absurd cc
+  by_kind limit place c f kind h e = absurd cc
 
   by_fault : (limit : ℕ) (c : List ℕ) (f : Found) (o : Option CaptureFault) → first_fault limit c ≡ o → told_refusal c o ≡ Some f →
       (at : ℕ) × (first_fault limit c ≡ Some (record { kind = Refused; offset = at })) × StandsIn at (drop at c) f

@@ -1,19 +1,15 @@
 -- A walk goes on behind an attribute of which nothing is refused.
-use Rattle.std.proofs.Common.{◌≡◌, ℕ, ◌+◌, ◌<◌, ◌≤◌, Bool, true, false, eqb, List, [], ◌∷◌, length, Option, Some, None, refl, sym, ap, ◌∙◌, arith}
+use Rattle.std.proofs.Common.{◌≡◌, ℕ, ◌+◌, ◌<◌, ◌≤◌, true, false, List, [], ◌∷◌, length, Option, Some, None, refl, sym, ap, ◌∙◌, arith}
 use Rattle.std.specs.Prelude.{is_some}
 use Rattle.netlink_packet_core_grammar.specs.Attributes.{Attribute, attribute_length, first_attribute, nla_align}
 use Rattle.attribute_checks.specs.declared.rows.Form.{Form}
-use Rattle.attribute_checks.specs.declared.rows.Form.TheVariants.{Any, NonEmpty, OfKindOne, Ports, FirstAlone}
+use Rattle.attribute_checks.specs.declared.rows.Form.TheVariants.{FirstAlone}
 use Rattle.link_capture_refusal_rows.specs.RefusalTables.{Listing}
 use Rattle.link_capture_refusal_rows.specs.RowRules.{behind}
 use Rattle.link_capture_refusals.specs.declared.refusal.Refusal.{Refusal}
 use Rattle.link_capture_refusals.specs.RefusalLaws.{ListsGoBySteps}
 use Rattle.link_capture_refusals.specs.RefusalViews.{all_found}
 use Rattle.link_capture_refusals.specs.Refusals.{Found, attribute_refusal, found_at, goes_on, list_refusal, next_refusal, no_attribute, or_else}
-
-pub some_bytes : (xs : List ℕ) (b : Bool) → b ≡ false → b ≡ eqb (length xs) 0 → 0 < length xs
-some_bytes [] b p q = absurd (let e : true ≡ false = sym q ∙ p in cc)
-some_bytes (x ∷ xs) b p q = omega arith
 
 going : ListsGoBySteps → (l : Listing) (place : ℕ) (rest : List ℕ) → 0 < length rest → list_refusal l place rest ≡ next_refusal list_refusal l place rest (first_attribute rest)
 going s l place [] h = absurd (omega (arith, h))
@@ -24,12 +20,12 @@ pub stopped : ListsGoBySteps → (l : Listing) (place : ℕ) (rest : List ℕ) �
 stopped s l place rest h n = going s l place rest h ∙ ap (next_refusal list_refusal l place rest) n
 
 some_taken : (o : Option Refusal) (q : Option Found) → is_some o ≡ true → or_else (all_found o) q ≡ all_found o
-some_taken None q h = absurd (let e : true ≡ false = sym h in cc)
+some_taken None q h = absurd cc
 some_taken (Some r) q h = refl
 
 none_taken : (o : Option Refusal) (q : Option Found) → is_some o ≡ false → or_else (all_found o) q ≡ q
 none_taken None q h = refl
-none_taken (Some r) q h = absurd (let e : true ≡ false = h in cc)
+none_taken (Some r) q h = absurd cc
 
 module _ (s : ListsGoBySteps) (l : Listing) (place : ℕ) (rest : List ℕ) (e : Attribute) (after : List ℕ) (o : Option Refusal) (h : 0 < length rest) (f : first_attribute rest ≡ Some (e, after))
     (a : all_found o ≡ attribute_refusal list_refusal l place e) where
@@ -47,8 +43,5 @@ module _ (s : ListsGoBySteps) (l : Listing) (place : ℕ) (rest : List ℕ) (e :
   passed i = sym (none_taken o more i) ∙ sym by_first
 
 pub goes_shorter : (f : Form) (after : List ℕ) → length (goes_on f after) ≤ length after
-goes_shorter Any after = omega arith
-goes_shorter NonEmpty after = omega arith
-goes_shorter OfKindOne after = omega arith
-goes_shorter Ports after = omega arith
 goes_shorter FirstAlone after = omega arith
+goes_shorter f after = omega arith

@@ -3,8 +3,7 @@ use Rattle.std.proofs.Common.{◌≡◌, ℕ, zero, suc, ◌+◌, ◌≤◌, Boo
 use Rattle.std.specs.Prelude.{nat_lt, option_map, slice_index}
 use Rattle.netlink_packet_core_grammar.specs.Attributes.{Attribute, nla_align, attribute_length, first_attribute, proper_kind}
 use Rattle.netlink_packet_core_grammar.specs.Laws.{FirstIsWithin}
-use Rattle.attribute_checks.specs.declared.rows.Form.{Form}
-use Rattle.attribute_checks.specs.declared.rows.Form.TheVariants.{Any, NonEmpty, OfKindOne, Ports, FirstAlone}
+use Rattle.attribute_checks.specs.declared.rows.Form.TheVariants.{Any}
 use Rattle.attribute_tables_grammar.specs.Peers.{bytes_peer}
 use Rattle.link_message_grammar.specs.Body.{body_rule}
 use Rattle.link_capture_refusal_rows.specs.declared.tables.Inside.{Inside}
@@ -14,6 +13,7 @@ use Rattle.link_capture_refusal_rows.specs.RefusalTables.{Listing, family_table,
 use Rattle.link_capture_refusal_rows.specs.RowRules.{behind, is_accepted}
 use Rattle.link_capture_refusals.specs.Refusals.{ListRefusal, attribute_refusal, found_at, goes_on, inside_refusal, link_refusal, list_refusal, named, next_refusal, or_else, refusal_within, row_refusal, whole_refusal}
 use Rattle.link_capture_refusals.specs.RefusalLaws.{ListsGoBySteps}
+use Rattle.link_capture_refusals.proofs.Going.{goes_shorter}
 
 -- two ways agree on lists of so many bytes
 abbrev Same : ListRefusal → ListRefusal → ℕ → Type 0
@@ -42,36 +42,19 @@ module _ (f g : ListRefusal) (k : ℕ) (i : Same f g k) where
   same_attribute : (l : Listing) (place : ℕ) (e : Attribute) → length e.payload ≤ k → attribute_refusal f l place e ≡ attribute_refusal g l place e
   same_attribute l place e h = ap (cond (is_accepted l e) None) (same_row l.judged (row_in l.table l.context (proper_kind e.kind)) place e.payload h)
 
-  goes_within : (form : Form) (after : List ℕ) → length after ≤ k → length (goes_on form after) ≤ k
-  goes_within Any after h = h
-  goes_within NonEmpty after h = h
-  goes_within OfKindOne after h = h
-  goes_within Ports after h = h
-  goes_within FirstAlone after h = omega arith
-
-aligned : (n : ℕ) → n ≤ nla_align n
-aligned n = omega arith
-
 module _ (w : FirstIsWithin) where
-  pub payload_shorter : (bytes : List ℕ) (e : Attribute) (rest : List ℕ) → first_attribute bytes ≡ Some (e, rest) → 4 + length e.payload ≤ length bytes
-  payload_shorter bytes e rest h = w.within bytes e rest h
-
   pub rest_shorter : (bytes : List ℕ) (e : Attribute) (rest : List ℕ) → first_attribute bytes ≡ Some (e, rest) → 4 + length rest ≤ length bytes
-  rest_shorter bytes e rest h =
-      let a = aligned (attribute_length e) in
-      let b = w.within bytes e rest h in
-      let d = w.rest_length bytes e rest h in
-      omega (arith, a, b, d)
+  rest_shorter bytes e rest h = omega (arith, w.within bytes e rest h, w.rest_length bytes e rest h)
 
   same_next : (f g : ListRefusal) (k : ℕ) → Same f g k → (l : Listing) (place : ℕ) (bytes : List ℕ) → length bytes ≤ suc k → (o : Option (Attribute × List ℕ)) → first_attribute bytes ≡ o →
       next_refusal f l place bytes o ≡ next_refusal g l place bytes o
   same_next f g k i l place bytes p None h = refl
   same_next f g k i l place bytes p (Some x) h =
-      let a = payload_shorter bytes x.0 x.1 h in
+      let a = w.within bytes x.0 x.1 h in
       let r = rest_shorter bytes x.0 x.1 h in
       let behind_it = place + nla_align (attribute_length x.0) in
       ap (λ o. or_else o (f (behind l x.0) behind_it (goes_on l.form x.1))) (same_attribute f g k i l place x.0 (omega (arith, a, p)))
-      ∙ ap (or_else (attribute_refusal g l place x.0)) (i (behind l x.0) behind_it (goes_on l.form x.1) (goes_within f g k i l.form x.1 (omega (arith, r, p))))
+      ∙ ap (or_else (attribute_refusal g l place x.0)) (i (behind l x.0) behind_it (goes_on l.form x.1) (omega (arith, goes_shorter l.form x.1, r, p)))
 
   pub enough : (m n : ℕ) (l : Listing) (place : ℕ) (bytes : List ℕ) → length bytes ≤ m → length bytes ≤ n → refusal_within m l place bytes ≡ refusal_within n l place bytes
   unfolding refusal_within

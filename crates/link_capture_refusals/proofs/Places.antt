@@ -5,7 +5,7 @@ use Rattle.std.proofs.lemmas.Bool.{ltb-false}
 use Rattle.netlink_packet_core_grammar.specs.Attributes.{Attribute, nla_align, attribute_length, first_attribute, proper_kind}
 use Rattle.netlink_packet_core_grammar.specs.Laws.{FirstIsWithin}
 use Rattle.attribute_checks.specs.declared.rows.Form.{Form}
-use Rattle.attribute_checks.specs.declared.rows.Form.TheVariants.{Any, NonEmpty, OfKindOne, Ports, FirstAlone}
+use Rattle.attribute_checks.specs.declared.rows.Form.TheVariants.{Any, OfKindOne}
 use Rattle.link_capture_refusal_rows.specs.declared.tables.Inside.{Inside}
 use Rattle.link_capture_refusal_rows.specs.declared.tables.Inside.TheVariants as I
 use Rattle.link_capture_refusal_rows.specs.declared.reason.Reason.TheVariants as R
@@ -14,7 +14,7 @@ use Rattle.link_capture_refusal_rows.specs.RowRules.{behind, is_accepted}
 use Rattle.link_capture_refusals.specs.RefusalLaws.{IsBetween}
 use Rattle.link_capture_refusals.specs.Refusals.{Found, ListRefusal, attribute_refusal, found_at, goes_on, inside_refusal, link_refusal, list_refusal, named, next_refusal, or_else, refusal_within, row_refusal, whole_refusal}
 use Rattle.link_capture_refusals.proofs.Going.{goes_shorter}
-use Rattle.link_capture_refusals.proofs.ListSteps.{payload_shorter, rest_shorter}
+use Rattle.link_capture_refusals.proofs.ListSteps.{rest_shorter}
 
 -- what is found, if anything is, stands between two places
 abbrev pub Placed : ℕ → ℕ → Option Found → Type 0
@@ -51,10 +51,8 @@ module _ (f : ListRefusal) (k : ℕ) (i : Within f k) where
     where
       by_form : (form : Form) → Placed own (own + 4 + 0) (whole_refusal f (record l { form = form }) own [])
       by_form Any = tt
-      by_form NonEmpty = (omega arith, omega arith)
       by_form OfKindOne = tt
-      by_form Ports = (omega arith, omega arith)
-      by_form FirstAlone = (omega arith, omega arith)
+      by_form form = (omega arith, omega arith)
   placed_whole l own (b ∷ p) h = wider (own + 4) (own + 4 + length (b ∷ p)) own (own + 4 + length (b ∷ p)) (f l (own + 4) (b ∷ p)) (omega arith) (omega arith) (i l (own + 4) (b ∷ p) h)
 
   pub placed_link : (judged : Bool) (own place : ℕ) (b : List ℕ) → own ≤ place → length b ≤ k → Placed own (place + length b) (link_refusal f judged own place b)
@@ -94,7 +92,7 @@ module _ (w : FirstIsWithin) (f : ListRefusal) (k : ℕ) (i : Within f k) (none 
   placed_next : (l : Listing) (place : ℕ) (bytes : List ℕ) → length bytes ≤ suc k → (o : Option (Attribute × List ℕ)) → first_attribute bytes ≡ o → Placed place (place + length bytes) (next_refusal f l place bytes o)
   placed_next l place bytes p None h = (omega arith, omega arith)
   placed_next l place bytes p (Some x) h =
-      let a = payload_shorter w bytes x.0 x.1 h in
+      let a = w.within bytes x.0 x.1 h in
       let r = rest_shorter w bytes x.0 x.1 h in
       let d = w.rest_length bytes x.0 x.1 h in
       let g = goes_shorter l.form x.1 in

@@ -2,19 +2,21 @@
 
 ghost use Rattle.std.specs.Prelude.{◌≡◌, ◌≤◌, ◌<◌, ◌+◌, ◌^◌, cond, length, None, Some, IfSome};
 ghost use Rattle.attribute_checks.specs.Rows.{shape_of};
+ghost use Rattle.attribute_checks.specs.Sameness.{attribute_of};
 ghost use Rattle.attribute_tables_grammar.specs.Shapes.{accepts};
 ghost use Rattle.link_capture_refusal_rows.specs.ReasonWords.{shape_reason};
 ghost use Rattle.link_capture_refusal_rows.specs.RefusalTables.{IsInside, IsTable, depth, inside_depth, listing};
 ghost use Rattle.link_capture_refusal_rows.specs.RowRules.{inside_rule, peer_of};
 ghost use Rattle.link_capture_refusals.specs.Refusals.{attribute_refusal, found_at, goes_on, inside_refusal, link_refusal};
 ghost use Rattle.link_capture_refusals.specs.Refusals.{list_refusal, no_attribute, peer_refusal, whole_refusal};
-ghost use Rattle.link_capture_refusals.specs.RefusalViews.{all_found, attribute_of};
+ghost use Rattle.link_capture_refusals.specs.RefusalViews.{all_found};
 
 use crate::laws::{links_are_accepted, lists_are_accepted, lists_go_by_steps};
 use crate::refusal::Refusal;
-use attribute_checks::{Form, PeerSet, Shape, measure_shape};
+use attribute_checks::{
+    Attribute, Form, KIND_BOUND, PeerSet, Shape, first_attribute, measure_shape,
+};
 use attribute_tables_grammar::laws::measures_tell_rules;
-use link_capture_checks::{Attribute, first_attribute};
 use link_capture_refusal_rows::laws::rows_are_the_tables;
 use link_capture_refusal_rows::{
     Inside, Listed, Reason, family_table, has_empty_ports, is_kept, next_list, row_in, shape_reason,
@@ -22,7 +24,6 @@ use link_capture_refusal_rows::{
 use link_message_checks::LinkPeer;
 use netlink_packet_core::nla_align;
 use netlink_packet_core_attributes::view::read_u16;
-use netlink_packet_core_grammar::laws::first_attributes_are_within;
 
 /// The bytes of the header of a link (rtnetlink.h, `struct ifinfomsg`).
 const LINK_HEADER_LEN: usize = 16;
@@ -140,7 +141,7 @@ fn attribute_refusal(list: Listed<'_>, place: u64, attribute: Attribute<'_>) -> 
     if !is_kept(list.form, attribute.kind) {
         return None;
     }
-    let Some((name, inside)) = row_in(list, attribute.kind % 0x4000) else {
+    let Some((name, inside)) = row_in(list, attribute.kind % KIND_BOUND) else {
         return None;
     };
     match inside_refusal(list.judged, inside, place, attribute.payload) {
@@ -168,7 +169,6 @@ fn list_refusal(list: Listed<'_>, place: u64, bytes: &[u8]) -> Option<Refusal>
     ensures room { IfSome result
         (λ r. length r.path.items ≤ depth list.entry.judged list.entry.table) }
 {
-    first_attributes_are_within();
     lists_go_by_steps();
     let mut list = list;
     let mut place = place;

@@ -29,18 +29,12 @@ family-list n = by (eqb n 0) (eqb n 7) (eqb n 10)
     by false false false = refl
 
 first-byte : (b more : List ℕ) → nat_le 16 (length b) ≡ true → slice_index (header_text b ++ more) 0 ≡ slice_index b 0
-first-byte [] more h = absurd cc
-first-byte (f ∷ []) more h = absurd cc
-first-byte (f ∷ x ∷ []) more h = absurd cc
-first-byte (f ∷ x ∷ k ∷ []) more h = absurd cc
 first-byte (f ∷ x ∷ k ∷ l ∷ tail) more h = refl
+first-byte b more h = absurd cc
 
 second-byte : (b more : List ℕ) → nat_le 16 (length b) ≡ true → slice_index (header_text b ++ more) 1 ≡ 0
-second-byte [] more h = absurd cc
-second-byte (f ∷ []) more h = absurd cc
-second-byte (f ∷ x ∷ []) more h = absurd cc
-second-byte (f ∷ x ∷ k ∷ []) more h = absurd cc
 second-byte (f ∷ x ∷ k ∷ l ∷ tail) more h = refl
+second-byte b more h = absurd cc
 
 header-none : (t : ℕ) (b more : List ℕ) → nat_le 16 (length b) ≡ true → (place : ℕ) → told_at place (header_spelling t (header_text b ++ more)) ≡ []
 header-none t b more h place =

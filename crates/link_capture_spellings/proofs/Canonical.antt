@@ -2,7 +2,7 @@
 use Rattle.std.proofs.Common.{◌≡◌, ℕ, zero, suc, ◌+◌, ◌-◌, ◌≤◌, Bool, true, false, cond, eqb, ltb, leb, List, [], ◌∷◌, ◌++◌, length, take, map, Option, option_map, Some, None, refl, sym, ap, subst, ◌∙◌, arith, length-append}
 use Rattle.std.specs.Prelude.{◌&&◌, ◌||◌, not, slice_index}
 use Rattle.std.proofs.Math.Seq.{get_or-append_right}
-use Rattle.std.proofs.lemmas.Bool.{eqb-true, eqb-false, leb-true, ne_eqb, false≢true}
+use Rattle.std.proofs.lemmas.Bool.{and_parts, eqb-true, eqb-false, leb-true, ne_eqb, false≢true}
 use Rattle.std.proofs.lemmas.Bool.Decides.{nat_tests}
 use Rattle.std.proofs.lemmas.List.{length-take-le}
 use Rattle.std.proofs.lemmas.List.Folds.{list_any-append}
@@ -19,7 +19,7 @@ use Rattle.attribute_tables_grammar.specs.Tables.{Table as Rows, grammar}
 use Rattle.attribute_tables_grammar.proofs.Attributes.{proper_kind-written}
 use Rattle.link_info_grammar.specs.Families.{vxlan, geneve, gre, gre6, ip_tunnel, bareudp, batadv, netkit, pair}
 use Rattle.link_message_grammar.specs.Body.{attribute_row_under, header_text}
-use Rattle.link_message_grammar.specs.LinkMessage.{Family, unspec, bridge, inet_6, other}
+use Rattle.link_message_grammar.specs.LinkMessage.{Family, unspec, bridge}
 use Rattle.link_message_grammar.specs.NestedTables.{inet, xdp, settings, vf_infos}
 use Rattle.link_capture_spelling_rows.specs.declared.placed.Spelling.{Spelling}
 use Rattle.link_capture_spelling_rows.specs.declared.placed.Spelling.TheVariants.{NestedPortSettings, PathDiscoveryOverOne, LongAlias, NameWithoutNul, FlagWithPayload, TruthOverOne, StrayNestedBit, ShortMap}
@@ -30,12 +30,8 @@ use Rattle.link_capture_spelling_rows.specs.declared.tables.Listed.{Listed}
 use Rattle.link_capture_spelling_rows.specs.SpellingRows.{told_if, over_one_byte, over_one_word, has_nul, is_long_alias, link_spelling, data_spelling, is_flag, is_strict, bit_spelling, payload_spelling, header_spelling}
 use Rattle.link_capture_spellings.specs.SpellingLists.{told_at, own_told, inside_of, list_behind, inside_told, list_told}
 use Rattle.link_capture_spelling_rows.specs.SpellingTables.{family_table, inside}
+use Rattle.link_capture_spellings.proofs.Inside.{at_kind, either, split}
 use Rattle.link_capture_spellings.specs.SpellingLaws.{ListsGoBySteps, link_list, IsDataTable, WrittenAttributesHaveNone}
-
--- a choice that holds in both ways
-pub split : (P : Option Spelling → Type 0) (b : Bool) (x y : Option Spelling) → (b ≡ true → P x) → P y → P (cond b x y)
-split P true x y f h = f refl
-split P false x y f h = h
 
 abbrev pub Untold : Option Spelling → Type 0
 Untold o = o ≡ None
@@ -111,9 +107,6 @@ cleared s r k c f =
 
 -- ---- the attributes of a link
 
-at_kind : (P : ℕ → Type 0) (k n : ℕ) → eqb k n ≡ true → P n → P k
-at_kind P k n e h = subst P (sym (eqb-true k n e)) h
-
 map-size : (p : List ℕ) → leb 28 (length p) ≡ true → ltb (length (take 28 p ++ zeros 4)) 32 ≡ false
 map-size p h =
     let s : length (take 28 p ++ zeros 4) ≡ length (take 28 p) + 4 = length-append (take 28 p) (zeros 4) in
@@ -129,20 +122,14 @@ link-payload p f k b h =
     (split Untold (eqb k 56) _ _ (λ e. at_kind (λ n. Untold (told_if (not (has_nul ((attribute_row_under p f n).rule.canonical b))) NameWithoutNul)) k 56 e (no _ _ (ended-nul (without_nul b)))) refl)))
 
 link-bit : (p : Peer) (f : Family) (k : ℕ) → Untold (bit_spelling (link_list f) (written_kind (attribute_row_under p f (proper_kind k)) k))
-link-bit p unspec k = both-none _
-link-bit p inet_6 k = both-none _
-link-bit p other k = both-none _
 link-bit p bridge k =
     let r = attribute_row_under p bridge (proper_kind k) in
     cleared NestedPortSettings r k _ (λ h.
     at_kind (λ n. ((attribute_row_under p bridge n).is_typed ≡ true) × ((attribute_row_under p bridge n).is_nested ≡ false)) (proper_kind k) 12
     (subst (λ n. eqb n 12 ≡ true) (proper_kind-written r k) h) (refl, refl))
+link-bit p f k = both-none _
 
 -- ---- data of kinds of links
-
-either : {P : Type 0} (a b : Bool) → (a || b) ≡ true → (a ≡ true → P) → (b ≡ true → P) → P
-either true b h f g = f refl
-either false b h f g = g h
 
 flag-at : (p : Peer) (t : Rows) (b : List ℕ) (k n : ℕ) → (table_row p t n).rule.canonical b ≡ [] → eqb k n ≡ true → Untold (told_if (not (eqb (length ((table_row p t k).rule.canonical b)) 0)) FlagWithPayload)
 flag-at p t b k n h e = at_kind (λ m. Untold (told_if (not (eqb (length ((table_row p t m).rule.canonical b)) 0)) FlagWithPayload)) k n e (ap (λ x. told_if (not (eqb (length x) 0)) FlagWithPayload) h)
@@ -179,13 +166,9 @@ data-payload p d t k b i = absurd i
 next : (P : ℕ → Type 0) (k n : ℕ) → n ≤ k → P n → (suc n ≤ k → P k) → P k
 next P k n l a f = elim (eqb k n) as (λ b. eqb k n ≡ b → P k) [ true ↦ λ e. at_kind P k n e a | false ↦ λ e. f (let d = eqb-false k n e in grind (arith, nat_tests)) ] refl
 
-both : (a b : Bool) → (a && b) ≡ true → (a ≡ true) × (b ≡ true)
-both true b h = (refl, h)
-both false b h = absurd (false≢true h)
-
 from_31_to_34 : (P : ℕ → Type 0) (k : ℕ) → (leb 31 k && leb k 34) ≡ true → P 31 → P 32 → P 33 → P 34 → P k
 from_31_to_34 P k h a b c d =
-    let g = both _ _ h in
+    let g = and_parts (leb 31 k) (leb k 34) h in
     let low' : 31 ≤ k = leb-true 31 k g.0 in
     let high : k ≤ 34 = leb-true k 34 g.1 in
     next P k 31 low' a (λ l. next P k 32 l b (λ l. next P k 33 l c (λ l. next P k 34 l d (λ l. absurd (omega (arith, l, high))))))
@@ -202,13 +185,7 @@ data-bit p Geneve t k i =
     subst (λ t. Untold (bit_spelling (OfKind Geneve) (written_kind (table_row p t (proper_kind k)) k))) (sym i)
     (let r = table_row p geneve (proper_kind k) in
     cleared StrayNestedBit r k _ (λ h. at_kind (λ n. IsPlain (table_row p geneve n)) (proper_kind k) 14 (subst (λ n. eqb n 14 ≡ true) (proper_kind-written r k) h) (refl, refl)))
-data-bit p Gre t k i = both-none _
-data-bit p Gre6 t k i = both-none _
-data-bit p IpTunnel t k i = both-none _
-data-bit p BareUdp t k i = both-none _
-data-bit p Batadv t k i = both-none _
-data-bit p Netkit t k i = both-none _
-data-bit p d t k i = absurd i
+data-bit p d t k i = both-none _
 
 -- ---- settings of IPv4, and programs
 
@@ -237,16 +214,11 @@ own-none l place r e b q =
 
 link-own : (p : Peer) (f : Family) (k : ℕ) (b : List ℕ) → (attribute_row_under p f k).rule.accepted b ≡ true → Untold (payload_spelling (link_list f) k ((attribute_row_under p f k).rule.canonical b))
 link-own p unspec k b h = link-payload p unspec k b h
-link-own p bridge k b h = link-payload p bridge k b h
-link-own p inet_6 k b h = link-payload p inet_6 k b h
-link-own p other k b h = link-payload p other k b h
+link-own p f k b h = link-payload p f k b h
 
 header-none : (t : ℕ) (b : List ℕ) → Untold (header_spelling t (header_text b))
-header-none t [] = no _ _ (and-no _ _ (λ h. refl))
-header-none t (f ∷ []) = no _ _ (and-no _ _ (λ h. refl))
-header-none t (f ∷ x ∷ []) = no _ _ (and-no _ _ (λ h. refl))
-header-none t (f ∷ x ∷ a ∷ []) = no _ _ (and-no _ _ (λ h. refl))
 header-none t (f ∷ x ∷ a ∷ b ∷ rest) = no _ _ (and-no _ _ (λ h. refl))
+header-none t b = no _ _ (and-no _ _ (λ h. refl))
 
 functions-own : (p : Peer) (judged : Bool) (place : ℕ) (e : Attribute) → eqb (proper_kind e.kind) 1 ≡ true → own_told (record { table = Functions; judged = judged }) place (rewrite (table_row p vf_infos (proper_kind e.kind)) e) ≡ []
 functions-own p judged place e h = own-none (record { table = Functions; judged = judged }) place (table_row p vf_infos (proper_kind e.kind)) e (both-none _) (no _ _ (ap not h))

@@ -1,7 +1,6 @@
 -- A walk goes on by an attribute of its innermost list.
-use Rattle.std.proofs.Common.{◌≡◌, ℕ, ◌+◌, ◌-◌, ◌^◌, ◌≤◌, ◌<◌, List, [], ◌∷◌, ◌++◌, length, Option, Some, None, sym, ap, subst, ◌∙◌, append_assoc, length-append, arith}
+use Rattle.std.proofs.Common.{◌≡◌, ℕ, ◌+◌, ◌-◌, ◌^◌, ◌≤◌, ◌<◌, List, [], ◌∷◌, ◌++◌, length, Option, Some, None, sym, ap, ◌∙◌, append_assoc, length-append, arith}
 use Rattle.netlink_packet_core_grammar.specs.Attributes.{Attribute, nla_align, attribute_length, proper_kind, first_attribute}
-use Rattle.netlink_packet_core_grammar.specs.Laws.{FirstIsWithin}
 use Rattle.link_capture_spelling_rows.specs.declared.placed.PlacedSpelling.{PlacedSpelling}
 use Rattle.link_capture_spellings.specs.declared.walk.Level.{Level}
 use Rattle.link_capture_spelling_rows.specs.SpellingTables.{depth}
@@ -17,6 +16,8 @@ glue a b i n t = append_assoc (a ++ b) (i ++ n) t ∙ append_assoc a b ((i ++ n)
 -- an attribute of the list l, which stands last: what follows it is the list m
 pub record Next (l m : Level) (e : Attribute) : Type 0 where
   pub first : first_attribute l.rest.now ≡ Some (e, m.rest.now)
+  pub within : 4 + length e.payload ≤ length l.rest.now
+  pub left : length m.rest.now ≡ length l.rest.now - nla_align (4 + length e.payload)
   pub list : m.list ≡ list_behind l.list e
   pub deep : depth m.list ≡ depth l.list
   pub place : m.place ≡ l.place + nla_align (attribute_length e)
@@ -34,75 +35,25 @@ pub record Found (l : Level) (e : Attribute) (first second : Option PlacedSpelli
   pub bit : one_told first ≡ told_at l.place (bit_spelling l.list.table e.kind)
   pub payload : one_told second ≡ told_at l.place (payload_spelling l.list.table (proper_kind e.kind) e.payload)
 
-module _ (w : FirstIsWithin) (ls : List Level) (l m : Level) (e : Attribute) (h : AreWithin 0 (ls ++ l ∷ [])) (n : Next l m e) where
-  last : IsWithin (length ls) l
-  last = let p : 0 + length ls ≡ length ls = omega arith in subst (λ k. IsWithin k l) p (within-last 0 ls l h)
+module _ (ls : List Level) (l m : Level) (e : Attribute) (h : AreWithin 0 (ls ++ l ∷ [])) (n : Next l m e) where
+  last : IsWithin (0 + length ls) l
+  last = within-last 0 ls l h
 
-  pub fits : l.place + length l.rest.now < 2 ^ 63
-  fits = let a = w.within l.rest.now e m.rest.now n.first in last.near (omega (arith, a))
-
-  pub holds : 4 + length e.payload ≤ length l.rest.now
-  holds = w.within l.rest.now e m.rest.now n.first
-
-  left : length m.rest.now ≡ length l.rest.now - nla_align (attribute_length e)
-  left = w.rest_length l.rest.now e m.rest.now n.first
-
-  behind : IsWithin (0 + length ls) m
-  behind =
-      let a = holds in
-      let b = left in
-      let f = fits in
-      let p = n.place in
-      let d = n.deep in
-      let r = last.room in
-      record { room = omega (arith, r, d); near = λ some. omega (arith, a, b, f, p, some) }
+  fits : l.place + length l.rest.now < 2 ^ 63
+  fits = last.near (omega arith)
 
   pub within-next : AreWithin 0 (ls ++ m ∷ [])
-  within-next = within-push 0 ls m (within-front 0 ls l h) behind
-
-  pub room : length ls ≤ 5
-  room = let r = last.room in omega (arith, r)
+  within-next = within-push 0 ls m (within-front 0 ls l h) (record { room = omega (arith, last.room); near = λ some. omega (arith, fits) })
 
   pub less-next : weight (ls ++ m ∷ []) < weight (ls ++ l ∷ [])
-  less-next =
-      let a = holds in
-      let b = left in
-      let p = weight-push ls l in
-      let q = weight-push ls m in
-      omega (arith, a, b, p, q)
+  less-next = omega (arith, weight-push ls l, weight-push ls m)
 
   module _ (k : Level) (front : ℕ) (i : Inner l k e front) where
-    pub room-inside : length (ls ++ m ∷ []) ≤ 5
-    room-inside =
-        let r = last.room in
-        let d = i.deep in
-        let s : length (ls ++ m ∷ []) ≡ length ls + 1 = length-append ls (m ∷ []) in
-        omega (arith, r, d, s)
-
-    inner : IsWithin (0 + length (ls ++ m ∷ [])) k
-    inner =
-        let a = holds in
-        let f = fits in
-        let p = i.place in
-        let q = i.inside in
-        let t = i.size in
-        let d = i.deep in
-        let r = last.room in
-        let s : length (ls ++ m ∷ []) ≡ length ls + 1 = length-append ls (m ∷ []) in
-        record { room = omega (arith, r, d, s); near = λ some. omega (arith, a, f, p, q, t) }
-
     pub within-inside : AreWithin 0 ((ls ++ m ∷ []) ++ k ∷ [])
-    within-inside = within-push 0 (ls ++ m ∷ []) k within-next inner
+    within-inside = within-push 0 (ls ++ m ∷ []) k within-next (record { room = omega (arith, last.room, length-append ls (m ∷ [])); near = λ some. omega (arith, fits) })
 
     pub less-inside : weight ((ls ++ m ∷ []) ++ k ∷ []) < weight (ls ++ l ∷ [])
-    less-inside =
-        let a = holds in
-        let b = left in
-        let t = i.size in
-        let p = weight-push ls l in
-        let q = weight-push ls m in
-        let r = weight-push (ls ++ m ∷ []) k in
-        omega (arith, a, b, t, p, q, r)
+    less-inside = omega (arith, weight-push ls l, weight-push ls m, weight-push (ls ++ m ∷ []) k)
 
 module _ (s : ListsGoBySteps) (ls : List Level) (l m : Level) (e : Attribute) (n : Next l m e) (first second : Option PlacedSpelling) (f : Found l e first second) where
   own : own_told l.list l.place e ≡ one_told first ++ one_told second
@@ -138,4 +89,4 @@ pub told-end : ListsGoBySteps → (ls : List Level) (l : Level) → first_attrib
 told-end s ls l none = ap (λ z. z ++ levels_told ls) (sym (s.none l.list l.place l.rest.now none)) ∙ sym (told-push ls l)
 
 pub less-end : (ls : List Level) (l : Level) → weight ls < weight (ls ++ l ∷ [])
-less-end ls l = let p = weight-push ls l in omega (arith, p)
+less-end ls l = omega (arith, weight-push ls l)

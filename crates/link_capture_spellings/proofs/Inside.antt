@@ -2,7 +2,7 @@
 use Rattle.std.proofs.Common.{◌≡◌, ℕ, zero, suc, ◌+◌, Bool, true, false, cond, eqb, leb, List, [], ◌++◌, length, Option, Some, None, refl, sym, ap, subst, ◌∙◌}
 use Rattle.std.specs.Prelude.{◌&&◌, ◌||◌, slice_index}
 use Rattle.std.proofs.Math.Bool.{and-false}
-use Rattle.std.proofs.lemmas.Bool.{eqb-true, and_right}
+use Rattle.std.proofs.lemmas.Bool.{eqb-true, and_right, cond_both}
 use Rattle.netlink_packet_core_grammar.specs.Attributes.{Attribute, proper_kind, nla_align, attribute_length, first_attribute}
 use Rattle.attribute_tables_grammar.specs.Rules.{Rule}
 use Rattle.attribute_tables_grammar.specs.Lists.{Row, rewrite}
@@ -25,16 +25,11 @@ pub either : {P : Type 0} (a b : Bool) → (a || b) ≡ true → (a ≡ true →
 either true b h f g = f refl
 either false b h f g = g h
 
--- what is inside, by its kind
-pub pick : (l : Listed) (q : List ℕ) (b : Bool) (t u : Option Table) → (b ≡ true → Silent (in_front l t) q) → Silent (in_front l u) q → Silent (in_front l (cond b t u)) q
-pick l q true t u f h = f refl
-pick l q false t u f h = h
-
-none-inside : (l : Listed) (q : List ℕ) → Silent (in_front l None) q
-none-inside l q place = refl
+pub split : {A : Type 0} (P : A → Type 0) (b : Bool) (x y : A) → (b ≡ true → P x) → P y → P (cond b x y)
+split P b x y f h = cond_both b x y P f (λ _. h)
 
 pub nothing-inside : (l : Listed) (q : List ℕ) (o : Option Table) → o ≡ None → Silent (in_front l o) q
-nothing-inside l q o h = subst (λ x. Silent (in_front l x) q) (sym h) (none-inside l q)
+nothing-inside l q o h = subst (λ x. Silent (in_front l x) q) (sym h) (λ place. refl)
 
 -- a list that is all of the payload
 pub whole-list : (t : Table) (j : Bool) (r : Rule) (b : List ℕ) → HasNone (record { table = t; judged = j }) r → r.accepted b ≡ true → (l : Listed) → l.judged ≡ j → Silent (in_front l (Some t)) (r.canonical b)

@@ -21,8 +21,8 @@ use Rattle.link_capture_spelling_rows.specs.declared.tables.Listed.{Listed}
 use Rattle.link_capture_spelling_rows.specs.SpellingTables.{data_named, is_gre, is_gre6, is_ip_tunnel, is_pair, family_table, inside, next_data, has_peer}
 use Rattle.link_capture_spellings.specs.SpellingLists.{inside_of, list_behind, inside_told, list_told}
 use Rattle.link_capture_spellings.specs.SpellingLaws.{ListsGoBySteps, IsDataTable, WrittenAttributesHaveNone}
-use Rattle.link_capture_spellings.proofs.Lists.{HasNone, Silent, Quiet, list-none}
-use Rattle.link_capture_spellings.proofs.Inside.{at_kind, either, nothing-inside, without-peer, written-inside, IsDull, dull-own, none-at-all}
+use Rattle.link_capture_spellings.proofs.Lists.{HasNone, Silent, rows-none}
+use Rattle.link_capture_spellings.proofs.Inside.{at_kind, either, split, nothing-inside, without-peer, written-inside, IsDull, dull-own, none-at-all}
 
 -- what stands inside a peer's payload, where peers are judged
 abbrev pub in_peer : Bool → List ℕ → Option (Listed × ℕ)
@@ -42,19 +42,14 @@ other-dull = record { bit = λ k. refl; payload = λ k p. refl }
 module _ (s : ListsGoBySteps) (w : WrittenAttributesHaveNone) (p : Peer) (j : Bool) (peers : PeerHasNone p j) where
   -- ---- without a peer
 
-  plain-quiet : (d : Data) (t : Rows) → IsDataTable d t → has_peer (OfKind d) ≡ false → next_data d ≡ d → Quiet (without_context (table_row p t)) any (λ c. data_list j d)
-  plain-quiet d t i h n = record {
+  plain-none : (d : Data) (t : Rows) → IsDataTable d t → has_peer (OfKind d) ≡ false → next_data d ≡ d → HasNone (data_list j d) (list_of p any t)
+  plain-none d t i h n = rows-none s p any t (data_list j d) (record {
     own = λ c e place k a. w.of_kind p d t j place e i;
     inner = λ c e a.
         let r = table_row p t (proper_kind e.kind) in
         written-inside (data_list j d) r e h (nothing-inside (data_list j d) (r.rule.canonical e.payload) None refl);
     behind = λ c e. ap (data_list j) n;
-  }
-
-  plain-none : (d : Data) (t : Rows) → IsDataTable d t → has_peer (OfKind d) ≡ false → next_data d ≡ d → HasNone (data_list j d) (list_of p any t)
-  unfolding rows_rule
-  plain-none d t i h n =
-      subst (HasNone (data_list j d)) (sym (list-rows p any t)) (list-none s (without_context (table_row p t)) any (λ c. data_list j d) (plain-quiet d t i h n))
+  })
 
   -- ---- with one
 
@@ -87,16 +82,12 @@ module _ (s : ListsGoBySteps) (w : WrittenAttributesHaveNone) (p : Peer) (j : Bo
   unfolding inside
   pair-peers b a = peers b a
 
-  netkit-quiet : Quiet (without_context (table_row p netkit)) any (λ c. data_list j Netkit)
-  netkit-quiet = record {
+  netkit-none : HasNone (data_list j Netkit) (list_of p any netkit)
+  netkit-none = rows-none s p any netkit (data_list j Netkit) (record {
     own = λ c e place k a. w.of_kind p Netkit netkit j place e refl;
     inner = λ c e a. written-peer Netkit netkit netkit-peers e a;
     behind = λ c e. refl;
-  }
-
-  netkit-none : HasNone (data_list j Netkit) (list_of p any netkit)
-  unfolding rows_rule
-  netkit-none = subst (HasNone (data_list j Netkit)) (sym (list-rows p any netkit)) (list-none s (without_context (table_row p netkit)) any (λ c. data_list j Netkit) netkit-quiet)
+  })
 
   -- ---- a pair, whose list has one attribute
 
@@ -134,10 +125,6 @@ module _ (s : ListsGoBySteps) (w : WrittenAttributesHaveNone) (p : Peer) (j : Bo
   at_name : (l : Listed) (n m : List ℕ) (t : Payload) → payload_at kinds m ≡ Some t → HasNone l (payload_rule p t) → bytes_eq n m ≡ true → HasNone l (named p kinds n)
   at_name l n m t h q e = subst (HasNone l) (sym (ap (named p kinds) ((bytes_eq-Decides n m).0 e) ∙ named-payload p kinds m ∙ ap (rule_or_raw p) h)) q
 
-  choose : (r : Rule) (b : Bool) (d e : Data) → (b ≡ true → HasNone (data_list j d) r) → HasNone (data_list j e) r → HasNone (data_list j (cond b d e)) r
-  choose r true d e f h = f refl
-  choose r false d e f h = h
-
   gre-named : (n : List ℕ) → is_gre n ≡ true → HasNone (data_list j Gre) (named p kinds n)
   gre-named n e =
       let l = data_list j Gre in
@@ -167,13 +154,13 @@ module _ (s : ListsGoBySteps) (w : WrittenAttributesHaveNone) (p : Peer) (j : Bo
   pub named-none : (n : List ℕ) → HasNone (data_list j (data_named n)) (named p kinds n)
   unfolding data_named
   named-none n =
-      let r = named p kinds n in
-      choose r (is_gre n) Gre _ (gre-named n)
-      (choose r (is_gre6 n) Gre6 _ (gre6-named n)
-      (choose r (is_ip_tunnel n) IpTunnel _ (ip_tunnel-named n)
-      (choose r (is_pair n) Pair _ (pair-named n)
-      (choose r (bytes_eq n (codes "vxlan")) Vxlan _ (at_name (data_list j Vxlan) n (codes "vxlan") (list any vxlan) refl (plain-none Vxlan vxlan refl refl refl))
-      (choose r (bytes_eq n (codes "geneve")) Geneve _ (at_name (data_list j Geneve) n (codes "geneve") (list any geneve) refl (plain-none Geneve geneve refl refl refl))
-      (choose r (bytes_eq n (codes "bareudp")) BareUdp _ (at_name (data_list j BareUdp) n (codes "bareudp") (list any bareudp) refl (plain-none BareUdp bareudp refl refl refl))
-      (choose r (bytes_eq n (codes "batadv")) Batadv _ (at_name (data_list j Batadv) n (codes "batadv") (list any batadv) refl (plain-none Batadv batadv refl refl refl))
-      (choose r (bytes_eq n (codes "netkit")) Netkit Other (at_name (data_list j Netkit) n (codes "netkit") (list any netkit) refl netkit-none) (other-none r)))))))))
+      let choose = split (λ d. HasNone (data_list j d) (named p kinds n)) in
+      choose (is_gre n) Gre _ (gre-named n)
+      (choose (is_gre6 n) Gre6 _ (gre6-named n)
+      (choose (is_ip_tunnel n) IpTunnel _ (ip_tunnel-named n)
+      (choose (is_pair n) Pair _ (pair-named n)
+      (choose (bytes_eq n (codes "vxlan")) Vxlan _ (at_name (data_list j Vxlan) n (codes "vxlan") (list any vxlan) refl (plain-none Vxlan vxlan refl refl refl))
+      (choose (bytes_eq n (codes "geneve")) Geneve _ (at_name (data_list j Geneve) n (codes "geneve") (list any geneve) refl (plain-none Geneve geneve refl refl refl))
+      (choose (bytes_eq n (codes "bareudp")) BareUdp _ (at_name (data_list j BareUdp) n (codes "bareudp") (list any bareudp) refl (plain-none BareUdp bareudp refl refl refl))
+      (choose (bytes_eq n (codes "batadv")) Batadv _ (at_name (data_list j Batadv) n (codes "batadv") (list any batadv) refl (plain-none Batadv batadv refl refl refl))
+      (choose (bytes_eq n (codes "netkit")) Netkit Other (at_name (data_list j Netkit) n (codes "netkit") (list any netkit) refl netkit-none) (other-none (named p kinds n))))))))))

@@ -5,26 +5,25 @@ use Rattle.netlink_packet_core_grammar.specs.Attributes.{proper_kind}
 use Rattle.netlink_packet_core_grammar.specs.Texts.{without_nul}
 use Rattle.netlink_packet_core_grammar.proofs.Texts.{without_nul-end}
 use Rattle.attribute_tables_grammar.specs.Rules.{Rule}
-use Rattle.attribute_tables_grammar.specs.Lists.{Context, Row, Grammar, row_of, rewrite, without_context, ListForm, any, non_empty, of_kind_one}
+use Rattle.attribute_tables_grammar.specs.Lists.{Context, Row, Grammar, row_of, rewrite, without_context, any, non_empty, of_kind_one}
 use Rattle.attribute_tables_grammar.specs.LookUps.{list_of, link_info_of, table_row, rows_rule}
 use Rattle.attribute_tables_grammar.specs.Peers.{Peer}
-use Rattle.attribute_tables_grammar.specs.Tables.{Table as Rows, named, names_grammar, info_row, info_next, row_in_force}
+use Rattle.attribute_tables_grammar.specs.Tables.{named, names_grammar, info_row, info_next, row_in_force}
 use Rattle.attribute_tables_grammar.proofs.Attributes.{proper_kind-written}
-use Rattle.attribute_tables_grammar.proofs.LookUps.{list-rows}
 use Rattle.link_info_grammar.specs.Families.{kinds, port_kinds}
 use Rattle.link_message_grammar.specs.Body.{attribute_row_under, list_rule_of}
-use Rattle.link_message_grammar.specs.LinkMessage.{Family, unspec, bridge, inet_6, other}
+use Rattle.link_message_grammar.specs.LinkMessage.{Family, unspec}
 use Rattle.link_message_grammar.specs.NestedTables.{inet, specific, xdp, vf_infos}
 use Rattle.link_message_grammar.proofs.Parts.{attributes_are_looked_up}
 use Rattle.link_capture_spelling_rows.specs.declared.tables.Data.{Data}
 use Rattle.link_capture_spelling_rows.specs.declared.tables.Data.TheVariants.{Other}
 use Rattle.link_capture_spelling_rows.specs.declared.tables.Table.{Table}
-use Rattle.link_capture_spelling_rows.specs.declared.tables.Table.TheVariants.{Unspec, Bridge, Link, Info, Families, Inet, Programs, Functions, OfKind}
+use Rattle.link_capture_spelling_rows.specs.declared.tables.Table.TheVariants.{Unspec, Info, Families, Inet, Programs, Functions, OfKind}
 use Rattle.link_capture_spelling_rows.specs.declared.tables.Listed.{Listed}
 use Rattle.link_capture_spelling_rows.specs.SpellingTables.{data_named, in_front, inside_link, inside_table, has_peer, next_table}
 use Rattle.link_capture_spellings.specs.SpellingLaws.{ListsGoBySteps, link_list, WrittenAttributesHaveNone}
-use Rattle.link_capture_spellings.proofs.Lists.{HasNone, Silent, Quiet, list-none}
-use Rattle.link_capture_spellings.proofs.Inside.{at_kind, pick, nothing-inside, whole-list, written-inside, IsDull, dull-own}
+use Rattle.link_capture_spellings.proofs.Lists.{HasNone, Silent, Quiet, list-none, rows-none}
+use Rattle.link_capture_spellings.proofs.Inside.{at_kind, split, nothing-inside, whole-list, written-inside, IsDull, dull-own}
 use Rattle.link_capture_spellings.proofs.KindData.{PeerHasNone, named-none, other-none}
 
 -- the data of the kind in force
@@ -40,15 +39,11 @@ families-dull = record { bit = λ k. refl; payload = λ k p. refl }
 
 link-peerless : (f : Family) → has_peer (link_list f) ≡ false
 link-peerless unspec = refl
-link-peerless bridge = refl
-link-peerless inet_6 = refl
-link-peerless other = refl
+link-peerless f = refl
 
 link-stays : (f : Family) (k : ℕ) (q : List ℕ) → next_table (link_list f) k q ≡ link_list f
 link-stays unspec k q = refl
-link-stays bridge k q = refl
-link-stays inet_6 k q = refl
-link-stays other k q = refl
+link-stays f k q = refl
 
 module _ (s : ListsGoBySteps) (w : WrittenAttributesHaveNone) (p : Peer) (j : Bool) (peers : PeerHasNone p j) where
   abbrev list_in : Table → Listed
@@ -69,19 +64,15 @@ module _ (s : ListsGoBySteps) (w : WrittenAttributesHaveNone) (p : Peer) (j : Bo
   info-inside : (c : Context) (k : ℕ) (b : List ℕ) → (info_rows c k).rule.accepted b ≡ true → Silent (in_front (list_in (Info (in_force c.kind))) (inside_table (Info (in_force c.kind)) k)) ((info_rows c k).rule.canonical b)
   info-inside c k b a =
       let l = list_in (Info (in_force c.kind)) in
-      pick l ((info_rows c k).rule.canonical b) (eqb k 2) (Some (OfKind (in_force c.kind))) None
+      split (λ o. Silent (in_front l o) ((info_rows c k).rule.canonical b)) (eqb k 2) (Some (OfKind (in_force c.kind))) None
       (λ e. at_kind (λ n. (info_rows c n).rule.accepted b ≡ true → Silent (in_front l (Some (OfKind (in_force c.kind)))) ((info_rows c n).rule.canonical b)) k 2 e
       (λ a. whole-list (OfKind (in_force c.kind)) j (info_rows c 2).rule b (data-none c.kind) a l refl) a)
       (nothing-inside l ((info_rows c k).rule.canonical b) None refl)
 
   info-behind : (c : Context) (k : ℕ) (b : List ℕ) → next_table (Info (in_force c.kind)) k ((info_rows c k).rule.canonical b) ≡ Info (in_force (info_next c k b).kind)
-  info-behind c zero b = refl
   info-behind c (suc zero) b = ap (λ n. Info (data_named n)) (without_nul-end (without_nul b))
-  info-behind c (suc (suc zero)) b = refl
-  info-behind c (suc (suc (suc zero))) b = refl
-  info-behind c (suc (suc (suc (suc zero)))) b = refl
-  info-behind c (suc (suc (suc (suc (suc zero))))) b = refl
   info-behind c (suc (suc (suc (suc (suc (suc k)))))) b = ap (λ x. cond x (Info (data_named (without_nul b))) (Info (in_force c.kind))) (ne_eqb (suc (suc (suc (suc (suc (suc k)))))) 1 (λ e. absurd (omega (arith, e))))
+  info-behind c k b = refl
 
   info-quiet : Quiet info_rules non_empty (λ c. list_in (Info (in_force c.kind)))
   info-quiet = record {
@@ -96,28 +87,22 @@ module _ (s : ListsGoBySteps) (w : WrittenAttributesHaveNone) (p : Peer) (j : Bo
   unfolding link_info_of
   info-none = list-none s info_rules non_empty (λ c. list_in (Info (in_force c.kind))) info-quiet
 
-  -- ---- lists whose rows are the same wherever an attribute stands
-
-  rows-none : (t : Table) (form : ListForm) (rows : Rows) → Quiet (without_context (table_row p rows)) form (λ c. list_in t) → HasNone (list_in t) (list_of p form rows)
-  unfolding rows_rule
-  rows-none t form rows q = subst (HasNone (list_in t)) (sym (list-rows p form rows)) (list-none s (without_context (table_row p rows)) form (λ c. list_in t) q)
-
   inet-none : HasNone (list_in Inet) (list_of p any inet)
-  inet-none = rows-none Inet any inet (record {
+  inet-none = rows-none s p any inet (list_in Inet) (record {
     own = λ c e place k a. w.settings p j place e;
     inner = λ c e a. let r = table_row p inet (proper_kind e.kind) in written-inside (list_in Inet) r e refl (nothing-inside (list_in Inet) (r.rule.canonical e.payload) None refl);
     behind = λ c e. refl;
   })
 
   programs-none : HasNone (list_in Programs) (list_of p any xdp)
-  programs-none = rows-none Programs any xdp (record {
+  programs-none = rows-none s p any xdp (list_in Programs) (record {
     own = λ c e place k a. w.programs p j place e;
     inner = λ c e a. let r = table_row p xdp (proper_kind e.kind) in written-inside (list_in Programs) r e refl (nothing-inside (list_in Programs) (r.rule.canonical e.payload) None refl);
     behind = λ c e. refl;
   })
 
   functions-none : HasNone (list_in Functions) (list_of p of_kind_one vf_infos)
-  functions-none = rows-none Functions of_kind_one vf_infos (record {
+  functions-none = rows-none s p of_kind_one vf_infos (list_in Functions) (record {
     own = λ c e place k a. w.functions p j place e k;
     inner = λ c e a. let r = table_row p vf_infos (proper_kind e.kind) in written-inside (list_in Functions) r e refl (nothing-inside (list_in Functions) (r.rule.canonical e.payload) None refl);
     behind = λ c e. refl;
@@ -126,13 +111,13 @@ module _ (s : ListsGoBySteps) (w : WrittenAttributesHaveNone) (p : Peer) (j : Bo
   families-inside : (k : ℕ) (b : List ℕ) → (table_row p specific k).rule.accepted b ≡ true → Silent (in_front (list_in Families) (inside_table Families k)) ((table_row p specific k).rule.canonical b)
   families-inside k b a =
       let l = list_in Families in
-      pick l ((table_row p specific k).rule.canonical b) (eqb k 2) (Some Inet) None
+      split (λ o. Silent (in_front l o) ((table_row p specific k).rule.canonical b)) (eqb k 2) (Some Inet) None
       (λ e. at_kind (λ n. (table_row p specific n).rule.accepted b ≡ true → Silent (in_front l (Some Inet)) ((table_row p specific n).rule.canonical b)) k 2 e
       (λ a. whole-list Inet j (list_of p any inet) b inet-none a l refl) a)
       (nothing-inside l ((table_row p specific k).rule.canonical b) None refl)
 
   families-none : HasNone (list_in Families) (list_of p any specific)
-  families-none = rows-none Families any specific (record {
+  families-none = rows-none s p any specific (list_in Families) (record {
     own = λ c e place k a. dull-own (list_in Families) place (rewrite (table_row p specific (proper_kind e.kind)) e) families-dull;
     inner = λ c e a. written-inside (list_in Families) (table_row p specific (proper_kind e.kind)) e refl (families-inside (proper_kind e.kind) e.payload a);
     behind = λ c e. refl;
@@ -150,18 +135,17 @@ module _ (s : ListsGoBySteps) (w : WrittenAttributesHaveNone) (p : Peer) (j : Bo
   each-inside : (f : Family) (l : Listed) (k : ℕ) (b : List ℕ) → l.judged ≡ j → (attribute_row_under p f k).rule.accepted b ≡ true → Silent (in_front l (inside_link k)) ((attribute_row_under p f k).rule.canonical b)
   each-inside f l k b i a =
       let q = (attribute_row_under p f k).rule.canonical b in
-      pick l q (eqb k 18) (Some (Info Other)) _ (at_list f l (Info Other) (link_info_of p non_empty kinds port_kinds) k 18 b i refl info-none a)
-      (pick l q (eqb k 22) (Some Functions) _ (at_list f l Functions (list_of p of_kind_one vf_infos) k 22 b i refl functions-none a)
-      (pick l q (eqb k 43) (Some Programs) None (at_list f l Programs (list_of p any xdp) k 43 b i refl programs-none a)
+      let pick = split (λ o. Silent (in_front l o) q) in
+      pick (eqb k 18) (Some (Info Other)) _ (at_list f l (Info Other) (link_info_of p non_empty kinds port_kinds) k 18 b i refl info-none a)
+      (pick (eqb k 22) (Some Functions) _ (at_list f l Functions (list_of p of_kind_one vf_infos) k 22 b i refl functions-none a)
+      (pick (eqb k 43) (Some Programs) None (at_list f l Programs (list_of p any xdp) k 43 b i refl programs-none a)
       (nothing-inside l q None refl)))
 
   link-inside : (f : Family) (k : ℕ) (b : List ℕ) → (attribute_row_under p f k).rule.accepted b ≡ true → Silent (in_front (list_in (link_list f)) (inside_table (link_list f) k)) ((attribute_row_under p f k).rule.canonical b)
   link-inside unspec k b a =
       let l = list_in Unspec in
-      pick l ((attribute_row_under p unspec k).rule.canonical b) (eqb k 26) (Some Families) (inside_link k) (at_list unspec l Families (list_of p any specific) k 26 b refl refl families-none a) (each-inside unspec l k b refl a)
-  link-inside bridge k b a = each-inside bridge (list_in Bridge) k b refl a
-  link-inside inet_6 k b a = each-inside inet_6 (list_in Link) k b refl a
-  link-inside other k b a = each-inside other (list_in Link) k b refl a
+      split (λ o. Silent (in_front l o) ((attribute_row_under p unspec k).rule.canonical b)) (eqb k 26) (Some Families) (inside_link k) (at_list unspec l Families (list_of p any specific) k 26 b refl refl families-none a) (each-inside unspec l k b refl a)
+  link-inside f k b a = each-inside f (list_in (link_list f)) k b refl a
 
   link-quiet : (f : Family) → Quiet (without_context (attribute_row_under p f)) any (λ c. list_in (link_list f))
   link-quiet f = record {

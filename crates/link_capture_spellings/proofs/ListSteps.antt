@@ -6,26 +6,16 @@ use Rattle.link_capture_spelling_rows.specs.declared.tables.Listed.{Listed}
 use Rattle.link_capture_spellings.specs.SpellingLists.{own_told, inside_of, list_behind, inside_told, next_told, told_within, list_told}
 use Rattle.link_capture_spellings.specs.SpellingLaws.{ListsGoBySteps}
 
-aligned : (n : ℕ) → n ≤ nla_align n
-aligned n = omega arith
-
 -- so many steps are as good as so many
 abbrev Agree : ℕ → ℕ → Type 0
 Agree m n = (l : Listed) (place : ℕ) (bytes : List ℕ) → length bytes ≤ m → length bytes ≤ n → told_within m l place bytes ≡ told_within n l place bytes
 
 shorter : (k m : ℕ) (p : List ℕ) → length p ≤ m → length (drop k p) ≤ m
-shorter k m p h = let e = length-drop k p in omega (arith, e, h)
+shorter k m p h = omega (arith, length-drop k p)
 
 module _ (w : FirstIsWithin) where
-  payload_within : (bytes : List ℕ) (e : Attribute) (rest : List ℕ) → first_attribute bytes ≡ Some (e, rest) → 4 + length e.payload ≤ length bytes
-  payload_within bytes e rest h = w.within bytes e rest h
-
-  pub rest_shorter : (bytes : List ℕ) (e : Attribute) (rest : List ℕ) → first_attribute bytes ≡ Some (e, rest) → 4 + length rest ≤ length bytes
-  rest_shorter bytes e rest h =
-      let a = aligned (attribute_length e) in
-      let b = w.within bytes e rest h in
-      let d = w.rest_length bytes e rest h in
-      omega (arith, a, b, d)
+  rest_shorter : (bytes : List ℕ) (e : Attribute) (rest : List ℕ) → first_attribute bytes ≡ Some (e, rest) → 4 + length rest ≤ length bytes
+  rest_shorter bytes e rest h = omega (arith, w.within bytes e rest h, w.rest_length bytes e rest h)
 
   same_inside : (m n place : ℕ) (o : Option (Listed × ℕ)) (p : List ℕ) → Agree m n → length p ≤ m → length p ≤ n → inside_told (λ l q b. told_within m l q b) place o p ≡ inside_told (λ l q b. told_within n l q b) place o p
   same_inside m n place None p i h k = refl
@@ -34,7 +24,7 @@ module _ (w : FirstIsWithin) where
   same_next : (m n : ℕ) (l : Listed) (place : ℕ) (bytes : List ℕ) → Agree m n → length bytes ≤ suc m → length bytes ≤ suc n → (o : Option (Attribute × List ℕ)) → first_attribute bytes ≡ o → next_told (λ l q b. told_within m l q b) l place o ≡ next_told (λ l q b. told_within n l q b) l place o
   same_next m n l place bytes i p q None h = refl
   same_next m n l place bytes i p q (Some x) h =
-      let a = payload_within bytes x.0 x.1 h in
+      let a = w.within bytes x.0 x.1 h in
       let r = rest_shorter bytes x.0 x.1 h in
       ap (λ z. own_told l place x.0 ++ (z ++ told_within m (list_behind l x.0) (place + nla_align (attribute_length x.0)) x.1)) (same_inside m n (place + 4) (inside_of l x.0) x.0.payload i (omega (arith, a, p)) (omega (arith, a, q)))
       ∙ ap (λ z. own_told l place x.0 ++ (inside_told (λ l q b. told_within n l q b) (place + 4) (inside_of l x.0) x.0.payload ++ z)) (i (list_behind l x.0) (place + nla_align (attribute_length x.0)) x.1 (omega (arith, r, p)) (omega (arith, r, q)))
@@ -55,9 +45,9 @@ module _ (w : FirstIsWithin) where
 
   pub next : (l : Listed) (place : ℕ) (bytes : List ℕ) (e : Attribute) (after : List ℕ) → first_attribute bytes ≡ Some (e, after) → list_told l place bytes ≡ own_told l place e ++ (inside_told list_told (place + 4) (inside_of l e) e.payload ++ list_told (list_behind l e) (place + nla_align (attribute_length e)) after)
   unfolding list_told told_within
-  next l place [] e after h = absurd (let a = payload_within [] e after h in omega (arith, a))
+  next l place [] e after h = absurd (let a = w.within [] e after h in omega (arith, a))
   next l place (b ∷ bytes) e after h =
-      let a = payload_within (b ∷ bytes) e after h in
+      let a = w.within (b ∷ bytes) e after h in
       let r = rest_shorter (b ∷ bytes) e after h in
       let behind = place + nla_align (attribute_length e) in
       ap (λ o. next_told (λ m q d. told_within (length bytes) m q d) l place o) h

@@ -1,11 +1,15 @@
 -- The text of a list has no spelling where no attribute of it has one.
-use Rattle.std.proofs.Common.{◌≡◌, ℕ, ◌+◌, Bool, true, false, cond, List, [], ◌∷◌, ◌++◌, Option, refl, ap, ◌∙◌}
+use Rattle.std.proofs.Common.{◌≡◌, ℕ, ◌+◌, Bool, true, false, cond, List, [], ◌∷◌, ◌++◌, Option, refl, sym, ap, subst, ◌∙◌}
 use Rattle.std.specs.Prelude.{filter}
 use Rattle.std.proofs.lemmas.Bool.{and_parts}
 use Rattle.netlink_packet_core_grammar.specs.Attributes.{Attribute, nla_align, attribute_length, attribute_text, list_text, first_attribute}
 use Rattle.netlink_packet_core_grammar.proofs.Attributes.{first_attribute_text}
 use Rattle.attribute_tables_grammar.specs.Rules.{Rule}
-use Rattle.attribute_tables_grammar.specs.Lists.{Context, nothing, Grammar, row_of, all_accepted, rewrite, rewritten, ListForm, any, non_empty, of_kind_one, ports, first_alone, is_of_kind_one, is_kept, kept, list_rule}
+use Rattle.attribute_tables_grammar.specs.Lists.{Context, nothing, Grammar, row_of, all_accepted, rewrite, rewritten, ListForm, of_kind_one, ports, is_of_kind_one, is_kept, kept, list_rule, without_context}
+use Rattle.attribute_tables_grammar.specs.LookUps.{list_of, table_row, rows_rule}
+use Rattle.attribute_tables_grammar.specs.Peers.{Peer}
+use Rattle.attribute_tables_grammar.specs.Tables.{Table}
+use Rattle.attribute_tables_grammar.proofs.LookUps.{list-rows}
 use Rattle.attribute_tables_grammar.proofs.Lists.{accepted_list}
 use Rattle.link_capture_spelling_rows.specs.declared.tables.Listed.{Listed}
 use Rattle.link_capture_spellings.specs.SpellingLists.{own_told, inside_of, list_behind, inside_told, list_told}
@@ -42,11 +46,9 @@ filtered form h (e ∷ es) = go (is_of_kind_one e) refl (filtered form h es)
     go false is more = more
 
 all-kept : (form : ListForm) (es : List Attribute) → AllKept form (kept form es)
-all-kept any es = every any (λ e. refl) es
-all-kept non_empty es = every non_empty (λ e. refl) es
 all-kept of_kind_one es = filtered of_kind_one (λ e h. h) es
 all-kept ports es = filtered ports (λ e h. h) es
-all-kept first_alone es = every first_alone (λ e. refl) es
+all-kept form es = every form (λ e. refl) es
 
 module _ (s : ListsGoBySteps) where
   module _ (g : Grammar) (form : ListForm) (listed : Context → Listed) (q : Quiet g form listed) where
@@ -69,3 +71,8 @@ module _ (s : ListsGoBySteps) where
     list-none place b a =
         let k = accepted_list form g b a in
         ap (λ t. list_told (listed nothing) place t) k.canonical ∙ text-none nothing place (kept form k.es) (all-kept form k.es) k.accepted
+
+  -- a list whose rows are the same wherever an attribute stands
+  pub rows-none : (p : Peer) (form : ListForm) (t : Table) (l : Listed) → Quiet (without_context (table_row p t)) form (λ c. l) → HasNone l (list_of p form t)
+  unfolding rows_rule
+  rows-none p form t l q = subst (HasNone l) (sym (list-rows p form t)) (list-none (without_context (table_row p t)) form (λ c. l) q)

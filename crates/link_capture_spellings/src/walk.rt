@@ -9,13 +9,12 @@ ghost use Rattle.link_capture_spellings.specs.SpellingWalks.{one_told, levels_to
 
 use crate::laws::lists_go_by_steps;
 use arrayvec::ArrayVec;
-use link_capture_checks::{first_attribute, frame_body, is_link_type};
+use link_capture_checks::{KIND_BOUND, first_attribute, frame_body, is_link_type};
 use link_capture_spelling_rows::{
     Listed, PlacedSpelling, Spelling, Table, attribute_spellings, family_table, header_spelling,
     inside, next_list,
 };
 use netlink_packet_core::{NETLINK_HEADER_LEN, NetlinkBuffer, nla_align};
-use netlink_packet_core_grammar::laws::first_attributes_are_within;
 use std::default::Default;
 
 /// As many lists stand inside one another as this: a link's attributes, its link info, the data, and the same of a peer.
@@ -126,13 +125,12 @@ impl<'a> Walk<'a> {
             < weight (self.old.levels.items ++ level.entry ∷ []) }
     {
         lists_go_by_steps();
-        first_attributes_are_within();
         let Some((attribute, after)) = first_attribute(level.rest) else {
             self.first = None;
             self.second = None;
             return;
         };
-        let kind = attribute.kind % 0x4000;
+        let kind = attribute.kind % KIND_BOUND;
         let (nested, held) = attribute_spellings(
             level.list.table,
             attribute.kind,

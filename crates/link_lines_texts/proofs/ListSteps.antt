@@ -40,18 +40,15 @@ pub list_within : (place : Place) (c : Context) (e : Attribute) → Within (leng
 unfolding list_inside
 list_within place c e = titled_within place c (title_of place.table (proper_kind e.kind)) e
 
-pub rest_shorter : (bytes : List ℕ) (e : Attribute) (rest : List ℕ) → first_attribute bytes ≡ Some (e, rest) → 4 + length rest ≤ length bytes
+rest_shorter : (bytes : List ℕ) (e : Attribute) (rest : List ℕ) → first_attribute bytes ≡ Some (e, rest) → 4 + length rest ≤ length bytes
 rest_shorter bytes e rest h =
     let a = aligned (attribute_length e) in
     let b = sized bytes e rest h in
     omega (arith, a, b.within, b.rest_length)
 
 -- a list in the first attribute is shorter than the bytes
-pub list_shorter : (place : Place) (c : Context) (bytes : List ℕ) (e : Attribute) (rest : List ℕ) (x : Place × List ℕ) → first_attribute bytes ≡ Some (e, rest) → list_inside place c e ≡ Some x → 4 + length x.1 ≤ length bytes
-list_shorter place c bytes e rest x h i =
-    let a = (sized bytes e rest h).within in
-    let b : Within (length e.payload) (Some x) = subst (Within (length e.payload)) i (list_within place c e) in
-    omega (arith, a, b)
+pub list_shorter : (place : Place) (c : Context) (bytes : List ℕ) (e : Attribute) (x : Place × List ℕ) → 4 + length e.payload ≤ length bytes → list_inside place c e ≡ Some x → 4 + length x.1 ≤ length bytes
+list_shorter place c bytes e x h i = let b : Within (length e.payload) (Some x) = subst (Within (length e.payload)) i (list_within place c e) in omega (arith, b)
 
 same_inside : (m n level size : ℕ) (o : Option (Place × List ℕ)) → Agree m n → Within size o → size ≤ m → size ≤ n → inside_lines (λ l t d b. lines_within m l t d b) level o ≡ inside_lines (λ l t d b. lines_within n l t d b) level o
 same_inside m n level size None i w h k = refl

@@ -1,7 +1,7 @@
 //! The lines of attributes.
 
 ghost use Rattle.std.specs.Prelude.{◌≡◌, ◌<◌, ◌≤◌, ◌+◌, ◌^◌, ◌++◌, ◌∷◌, [], true, length, replicate, option_map, IfOk, OnOk};
-ghost use Rattle.netlink_packet_core_grammar.specs.Attributes.{first_attribute, proper_kind};
+ghost use Rattle.netlink_packet_core_grammar.specs.Attributes.{proper_kind};
 ghost use Rattle.attribute_tables_grammar.specs.Tables.{info_next};
 ghost use Rattle.link_lines_values.specs.Indents.{indent};
 ghost use Rattle.link_lines_names.specs.Behind.{Inside, Inside.Peer, inside_of, known_inside};
@@ -12,43 +12,19 @@ ghost use Rattle.link_lines_texts.specs.Lists.{list_lines, next_in, own_lines, p
 use crate::laws::lists_go_by_steps;
 use crate::links::{LINK_HEADER_LEN, family_table, push_link_header};
 use crate::titles::title_of;
+use attribute_checks::{Attribute, KIND_BOUND, first_attribute};
 use link_lines_names::{
     Behind, BehindBy, DATA, InForce, LINK_INFO, RAW_LISTS, known_behind, push_raw,
 };
 use link_lines_values::{push_bytes, push_indent, push_value};
-use netlink_packet_core::{NlaBuffer, skip_first};
-use netlink_packet_core_grammar::laws::first_attributes_are_viewed;
 use netlink_packet_core_numbers::without_nul;
 use std::alloc::AllocError;
-
-/// An attribute's kind with its flag bits, and its payload.
-#[derive(Clone, Copy)]
-pub(crate) struct Attribute<'a> {
-    kind: u16,
-    payload: &'a [u8],
-}
 
 /// Where attributes stand: the table of their kinds, and whether they are a peer's.
 #[derive(Clone, Copy)]
 pub(crate) struct Place {
     pub(crate) table: usize,
     pub(crate) is_in_peer: bool,
-}
-
-/// The attribute that begins the bytes, and what comes after its padding.
-fn first_attribute(bytes: &[u8]) -> Option<(Attribute<'_>, &[u8])>
-    ensures { first_attribute bytes.now
-        ≡ option_map (λ r. (record { kind = r.0.kind; payload = r.0.payload.now }, r.1.now)) result }
-{
-    first_attributes_are_viewed();
-    let Ok(view) = NlaBuffer::new_checked(bytes) else {
-        return None;
-    };
-    let attribute = Attribute {
-        kind: view.raw_kind(),
-        payload: view.value(),
-    };
-    Some((attribute, skip_first(bytes)))
 }
 
 /// What is in force after an attribute of link info.
@@ -80,7 +56,7 @@ fn next_force<'a>(table: usize, force: InForce<'a>, attribute: Attribute<'a>) ->
         (attribute_of attribute.entry.kind attribute.entry.payload) }
 {
     if table == LINK_INFO {
-        next_names(force, attribute.kind % 0x4000, attribute.payload)
+        next_names(force, attribute.kind % KIND_BOUND, attribute.payload)
     } else {
         force
     }
@@ -196,7 +172,7 @@ fn push_attribute<'a>(
         (attribute_of attribute.entry.kind attribute.entry.payload)) }
 {
     push_indent(level, out)?;
-    let Some((name, behind)) = title_of(place.table, attribute.kind % 0x4000) else {
+    let Some((name, behind)) = title_of(place.table, attribute.kind % KIND_BOUND) else {
         push_raw(place.table, attribute.kind, attribute.payload, out)?;
         out.extend_from_slice(b"\n")?;
         return Ok(None);

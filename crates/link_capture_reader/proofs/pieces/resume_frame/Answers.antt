@@ -1,5 +1,5 @@
 -- the cut frame, and what comes after it
-use Rattle.std.proofs.Common.{true, false, ◌≡◌, ◌≢◌, ◌+◌, ◌-◌, ◌<◌, ◌≤◌, inl, inr, ◌++◌, Err, length, drop, sym, ap, subst, ◌∙◌, arith, length-append}
+use Rattle.std.proofs.Common.{◌≡◌, ◌≢◌, ◌+◌, ◌-◌, ◌<◌, ◌≤◌, inl, inr, ◌++◌, Err, length, drop, sym, ap, subst, ◌∙◌, arith, rules, length-append}
 use Rattle.std.proofs.lemmas.List.{take_rest, take_all}
 use Rattle.std.proofs.lemmas.Bool.{eq-eqb}
 use Rattle.std.proofs.lemmas.Result.{IfOk-weaker, IfErr-weaker}
@@ -43,56 +43,37 @@ returns-then-left-owed-clause-ok c =
       ok.2 ∙ ap (λ t. c.args.out.now.items ++ t) (sym (only_one_texts c.captures_go_by_frames.ensures c.args.limit (old ++ bytes) (c.in-Ok-push_frame.size, ok.0) d.front_is le)),
     )
 
-pub returns-else-left-owed-clause-ok : goal.returns-else-left-owed-clause-ok
-returns-else-left-owed-clause-ok c =
+pub returns-else-left-owed : goal.returns-else-left-owed
+returns-else-left-owed c =
+    let go = c.captures_go_by_frames.ensures in
     let old = c.args.kept.now.items in
     let bytes = c.args.bytes.now in
+    let joined = old ++ bytes in
     let ok = c.in-Ok-push_frame.ensures.ok in
+    let out = c.read_frames-in-Ok-push_frame.new.out.items in
+    let kept = c.read_frames-in-Ok-push_frame.new.kept.items in
     let fr = ap (first_frame c.args.limit) (sym c.as_slice-2.ensures.value) ∙ ok.1 in
     let d = completed c.frames_stand_alone.ensures c.args.limit old bytes c.complete_frame.new.kept.items c.in-Ok.moved c.in-Ok-push_frame.size ok.0 c.in-Ok.ensures.moved c.in-Ok.ensures.within c.in-Ok.ensures.exact fr in
     let pad = c.padding-owed.ensures in
-    let w = passed_one c.captures_go_by_frames.ensures c.args.limit (old ++ bytes) (c.in-Ok-push_frame.size, ok.0) d.front_is (omega (arith, d.total)) in
+    let w = passed_one go c.args.limit joined (c.in-Ok-push_frame.size, ok.0) d.front_is (omega (arith, d.total)) in
     let left = take_rest bytes (c.in-Ok.moved + c.padding-owed.result) ∙ ap (λ n. drop (c.in-Ok.moved + n) bytes) pad ∙ sym d.left in
-    let one = c.captures_go_by_frames.ensures.one_text c.args.limit (old ++ bytes) (c.in-Ok-push_frame.size, ok.0) d.front_is in
-    IfOk-weaker c.read_frames-in-Ok-push_frame.result
-    (λ owed. Goes c.args.limit _ c.push_frame.new.out.items c.read_frames-in-Ok-push_frame.new.out.items c.read_frames-in-Ok-push_frame.new.kept.items owed)
-    (λ owed. Goes c.args.limit (old ++ bytes) c.args.out.now.items c.read_frames-in-Ok-push_frame.new.out.items c.read_frames-in-Ok-push_frame.new.kept.items owed)
-    (λ owed. then_goes c.captures_go_by_frames.ensures c.args.limit (old ++ bytes) (nla_align c.in-Ok-push_frame.size) _ ok.0 c.args.out.now.items _ _ _ owed w left one ok.2)
-    c.read_frames-in-Ok-push_frame.ensures.ok
-
-pub returns-else-left-owed-clause-fault : goal.returns-else-left-owed-clause-fault
-returns-else-left-owed-clause-fault c =
-    let old = c.args.kept.now.items in
-    let bytes = c.args.bytes.now in
-    let ok = c.in-Ok-push_frame.ensures.ok in
-    let fr = ap (first_frame c.args.limit) (sym c.as_slice-2.ensures.value) ∙ ok.1 in
-    let d = completed c.frames_stand_alone.ensures c.args.limit old bytes c.complete_frame.new.kept.items c.in-Ok.moved c.in-Ok-push_frame.size ok.0 c.in-Ok.ensures.moved c.in-Ok.ensures.within c.in-Ok.ensures.exact fr in
-    let pad = c.padding-owed.ensures in
-    let w = passed_one c.captures_go_by_frames.ensures c.args.limit (old ++ bytes) (c.in-Ok-push_frame.size, ok.0) d.front_is (omega (arith, d.total)) in
-    let left = take_rest bytes (c.in-Ok.moved + c.padding-owed.result) ∙ ap (λ n. drop (c.in-Ok.moved + n) bytes) pad ∙ sym d.left in
-    let one = c.captures_go_by_frames.ensures.one_text c.args.limit (old ++ bytes) (c.in-Ok-push_frame.size, ok.0) d.front_is in
-    IfErr-weaker c.read_frames-in-Ok-push_frame.result
-    (λ fault. Faults c.args.limit _ _ c.push_frame.new.out.items c.read_frames-in-Ok-push_frame.new.out.items fault)
-    (λ fault. Faults c.args.limit c.args.start (old ++ bytes) c.args.out.now.items c.read_frames-in-Ok-push_frame.new.out.items fault)
-    (λ fault. then_faults c.captures_go_by_frames.ensures c.args.limit (old ++ bytes) (nla_align c.in-Ok-push_frame.size) c.args.start _ _ ok.0 c.args.out.now.items _ _ fault w left (omega arith) one ok.2)
-    c.read_frames-in-Ok-push_frame.ensures.fault
-
-pub returns-else-left-owed-clause-memory : goal.returns-else-left-owed-clause-memory
-returns-else-left-owed-clause-memory c =
-    let old = c.args.kept.now.items in
-    let bytes = c.args.bytes.now in
-    let ok = c.in-Ok-push_frame.ensures.ok in
-    let fr = ap (first_frame c.args.limit) (sym c.as_slice-2.ensures.value) ∙ ok.1 in
-    let d = completed c.frames_stand_alone.ensures c.args.limit old bytes c.complete_frame.new.kept.items c.in-Ok.moved c.in-Ok-push_frame.size ok.0 c.in-Ok.ensures.moved c.in-Ok.ensures.within c.in-Ok.ensures.exact fr in
-    let pad = c.padding-owed.ensures in
-    let w = passed_one c.captures_go_by_frames.ensures c.args.limit (old ++ bytes) (c.in-Ok-push_frame.size, ok.0) d.front_is (omega (arith, d.total)) in
-    let left = take_rest bytes (c.in-Ok.moved + c.padding-owed.result) ∙ ap (λ n. drop (c.in-Ok.moved + n) bytes) pad ∙ sym d.left in
-    let one = c.captures_go_by_frames.ensures.one_text c.args.limit (old ++ bytes) (c.in-Ok-push_frame.size, ok.0) d.front_is in
-    IfErr-weaker c.read_frames-in-Ok-push_frame.result
-    (λ fault. Lacks c.args.limit _ _ c.push_frame.new.out.items c.read_frames-in-Ok-push_frame.new.out.items fault)
-    (λ fault. Lacks c.args.limit c.args.start (old ++ bytes) c.args.out.now.items c.read_frames-in-Ok-push_frame.new.out.items fault)
-    (λ fault. then_lacks c.captures_go_by_frames.ensures c.args.limit (old ++ bytes) (nla_align c.in-Ok-push_frame.size) c.args.start _ _ ok.0 c.args.out.now.items _ _ fault w left (omega arith) one ok.2)
-    c.read_frames-in-Ok-push_frame.ensures.memory
+    let one = go.one_text c.args.limit joined (c.in-Ok-push_frame.size, ok.0) d.front_is in
+    let passed = nla_align c.in-Ok-push_frame.size in
+    record {
+      ok = IfOk-weaker c.read_frames-in-Ok-push_frame.result
+          (λ owed. Goes c.args.limit _ c.push_frame.new.out.items out kept owed) (λ owed. Goes c.args.limit joined c.args.out.now.items out kept owed)
+          (λ owed. then_goes go c.args.limit joined passed _ ok.0 c.args.out.now.items _ _ _ owed w left one ok.2)
+          c.read_frames-in-Ok-push_frame.ensures.ok;
+      fault = IfErr-weaker c.read_frames-in-Ok-push_frame.result
+          (λ fault. Faults c.args.limit _ _ c.push_frame.new.out.items out fault) (λ fault. Faults c.args.limit c.args.start joined c.args.out.now.items out fault)
+          (λ fault. then_faults go c.args.limit joined passed c.args.start _ _ ok.0 c.args.out.now.items _ _ fault w left (omega arith) one ok.2)
+          c.read_frames-in-Ok-push_frame.ensures.fault;
+      memory = IfErr-weaker c.read_frames-in-Ok-push_frame.result
+          (λ fault. Lacks c.args.limit _ _ c.push_frame.new.out.items out fault) (λ fault. Lacks c.args.limit c.args.start joined c.args.out.now.items out fault)
+          (λ fault. then_lacks go c.args.limit joined passed c.args.start _ _ ok.0 c.args.out.now.items _ _ fault w left (omega arith) one ok.2)
+          c.read_frames-in-Ok-push_frame.ensures.memory;
+      room = search rules;
+    }
 
 pub returns-in-Cut-clause-ok : goal.returns-in-Cut-clause-ok
 returns-in-Cut-clause-ok c =
@@ -119,7 +100,7 @@ returns-in_default-kind c =
       ok = tt;
       fault = λ n.
           let fr : first_frame c.args.limit new ≡ Err c.in-Err-push_frame.kind = ap (first_frame c.args.limit) (sym c.as_slice-2.ensures.value) ∙ c.in-Err-push_frame.ensures.refused n in
-          let not_cut : first_frame c.args.limit new ≢ Err Cut = λ e. c.in_default-kind.not-Cut (let q = sym fr ∙ e in cc) in
+          let not_cut : first_frame c.args.limit new ≢ Err Cut = λ e. c.in_default-kind.not-Cut cc in
           let all : first_frame c.args.limit (old ++ bytes) ≡ Err c.in-Err-push_frame.kind = ap (first_frame c.args.limit) w ∙ c.frames_stand_alone.ensures.followed c.args.limit new (drop c.in-Ok.moved bytes) not_cut ∙ fr in (
             c.in_default-kind.not-Cut,
             start_fault c.captures_go_by_frames.ensures c.args.limit c.args.start (old ++ bytes) c.in-Err-push_frame.kind some all,
@@ -128,5 +109,5 @@ returns-in_default-kind c =
       memory = λ _. (0, omega arith, stop_zero c.args.limit (old ++ bytes) some stands, c.in-Err-push_frame.ensures.err ∙ no_texts c.args.limit c.args.out.now.items);
       room = λ k _.
           let none : c.args.kept.now.len ≡ 0 = omega (arith, ap length k, c.args.kept.now.ok.0) in
-          absurd (let f : true ≡ false = sym (eq-eqb c.args.kept.now.len 0 none) ∙ sym c.is_empty.ensures ∙ c.if-is_empty.false in cc);
+          absurd (cc (eq-eqb c.args.kept.now.len 0 none));
     }

@@ -3,7 +3,7 @@ use Rattle.netlink_packet_core_grammar.specs.Attributes.{Attribute}
 use Rattle.link_lines_names.specs.Views.{in_force}
 use Rattle.link_lines_texts.specs.declared.attributes.Place.{Place}
 use Rattle.link_lines_texts.specs.Lists.{list_inside, list_lines, nested_lines, own_lines, rest_lines}
-use Rattle.link_lines_texts.proofs.ListSteps.{going, list_shorter, rest_shorter}
+use Rattle.link_lines_texts.proofs.ListSteps.{going, list_shorter}
 use Rattle.link_lines_texts.proofs.attributes.+push_list.Goals as goal
 
 -- a list that was found, and where it stands
@@ -15,14 +15,8 @@ push_list-requires t c =
     let e : Attribute = record { kind = c.in-Some.attribute.kind; payload = c.in-Some.attribute.payload.now } in
     let now = in_force c.loop-attribute.force.kind c.loop-attribute.force.port_kind in
     let tells : list_inside c.args.place now e ≡ Some (c.in-Some-found.inside, c.in-Some-found.list.now) = sym c.in_ok-found.ensures.list ∙ ap viewed c.in-Some-found.is in
-    let s = list_shorter c.args.place now c.loop-attribute.rest.now e c.in-Some.after.now (c.in-Some-found.inside, c.in-Some-found.list.now) c.in-Some.ensures tells in
+    let s = list_shorter c.args.place now c.loop-attribute.rest.now e (c.in-Some-found.inside, c.in-Some-found.list.now) c.in-Some.ensures.within tells in
     (omega (arith, s, c.loop-attribute.invariant.within), omega (arith, s, c.loop-attribute.invariant.within, c.requires))
-
-pub loop-attribute-smaller-in-Continue-branch-2 : goal.loop-attribute-smaller-in-Continue-branch-2
-loop-attribute-smaller-in-Continue-branch-2 t c =
-    let e : Attribute = record { kind = c.in-Some.attribute.kind; payload = c.in-Some.attribute.payload.now } in
-    let s = rest_shorter c.loop-attribute.rest.now e c.in-Some.after.now c.in-Some.ensures in
-    omega (arith, s)
 
 pub loop-attribute-preserved-in-Continue-branch-2 : goal.loop-attribute-preserved-in-Continue-branch-2
 loop-attribute-preserved-in-Continue-branch-2 t c =
@@ -33,20 +27,13 @@ loop-attribute-preserved-in-Continue-branch-2 t c =
     let own : c.push_attribute.new.out.items ≡ before ++ own_lines c.args.level c.args.place now e = c.in_ok-found.ensures.ok in
     let tells : list_inside c.args.place now e ≡ Some (c.in-Some-found.inside, c.in-Some-found.list.now) = sym c.in_ok-found.ensures.list ∙ ap viewed c.in-Some-found.is in
     let inside : c.push_list.new.out.items ≡ c.push_attribute.new.out.items ++ lines = c.in_ok-push_list.ensures.ok in
-    let s = rest_shorter c.loop-attribute.rest.now e c.in-Some.after.now c.in-Some.ensures in
     record {
-      within = omega (arith, s, c.loop-attribute.invariant.within);
+      within = omega (arith, c.in-Some.ensures.within, c.in-Some.ensures.behind);
       so_far =
           ap (λ d. c.push_list.new.out.items ++ rest_lines c.args.level c.args.place d c.in-Some.after.now) c.next_force-force.ensures
-          ∙ going c.args.level c.args.place now c.loop-attribute.rest.now e c.in-Some.after.now before c.push_list.new.out.items _ c.in-Some.ensures c.loop-attribute.invariant.so_far
+          ∙ going c.args.level c.args.place now c.loop-attribute.rest.now e c.in-Some.after.now before c.push_list.new.out.items _ c.in-Some.ensures.first c.loop-attribute.invariant.so_far
           (inside ∙ ap (λ z. z ++ lines) own ∙ ap (λ o. (before ++ own_lines c.args.level c.args.place now e) ++ nested_lines (c.args.level + 1) o) (sym tells));
     }
-
-pub loop-attribute-smaller : goal.loop-attribute-smaller
-loop-attribute-smaller t c =
-    let e : Attribute = record { kind = c.in-Some.attribute.kind; payload = c.in-Some.attribute.payload.now } in
-    let s = rest_shorter c.loop-attribute.rest.now e c.in-Some.after.now c.in-Some.ensures in
-    omega (arith, s)
 
 pub loop-attribute-preserved : goal.loop-attribute-preserved
 loop-attribute-preserved t c =
@@ -56,12 +43,11 @@ loop-attribute-preserved t c =
     let own : c.push_attribute.new.out.items ≡ before ++ own_lines c.args.level c.args.place now e = c.in_ok-found.ensures.ok in
     let nothing : c.in_ok-found.found ≡ None = search rules in
     let tells : list_inside c.args.place now e ≡ None = sym c.in_ok-found.ensures.list ∙ ap viewed nothing in
-    let s = rest_shorter c.loop-attribute.rest.now e c.in-Some.after.now c.in-Some.ensures in
     record {
-      within = omega (arith, s, c.loop-attribute.invariant.within);
+      within = omega (arith, c.in-Some.ensures.within, c.in-Some.ensures.behind);
       so_far =
           ap (λ d. c.push_attribute.new.out.items ++ rest_lines c.args.level c.args.place d c.in-Some.after.now) c.next_force-force.ensures
-          ∙ going c.args.level c.args.place now c.loop-attribute.rest.now e c.in-Some.after.now before c.push_attribute.new.out.items _ c.in-Some.ensures c.loop-attribute.invariant.so_far
+          ∙ going c.args.level c.args.place now c.loop-attribute.rest.now e c.in-Some.after.now before c.push_attribute.new.out.items _ c.in-Some.ensures.first c.loop-attribute.invariant.so_far
           (own ∙ sym (append-nil (before ++ own_lines c.args.level c.args.place now e))
           ∙ ap (λ o. (before ++ own_lines c.args.level c.args.place now e) ++ nested_lines (c.args.level + 1) o) (sym tells));
     }

@@ -5,9 +5,9 @@ pub use link_capture_checks::{Measure, SideFault, check, measure, normal_len, sa
 pub use link_capture_commands::{Command, DEFAULT_LIMIT, read_words, status_norm, status_same};
 pub use link_capture_grammar::fault::{CaptureFault, FaultKind};
 pub use link_capture_grammar::laws;
+pub use link_capture_grammar::link_types::{RTM_DELLINK, RTM_GETLINK, RTM_NEWLINK, RTM_SETLINK};
 pub use link_capture_messages::{
-    Messages, NotReadable, OtherMessage, RTM_DELLINK, RTM_GETLINK, RTM_NEWLINK, RTM_SETLINK,
-    ReadableLink, RouteFault, RouteLink, read_message,
+    Messages, NotReadable, OtherMessage, ReadableLink, RouteFault, RouteLink, read_message,
 };
 pub use link_capture_numbers::clear_numbers;
 pub use link_capture_numbers::laws::cleared_captures_have_cleared_texts;

@@ -13,12 +13,12 @@ ghost use Rattle.link_capture_checks.specs.Sides.{side_text};
 use crate::bodies::with_code;
 use crate::capture::check;
 use crate::frames::{frame_body, measure_frame};
-use crate::link_types::{RTM_NEWLINK, RTM_SETLINK};
 use arrayvec::ArrayString;
 use link_capture_grammar::fault::CaptureFault;
 use link_capture_grammar::laws::{
     captures_are_counted, faults_stand_at_frames, sameness_goes_by_frames, texts_tell_meanings,
 };
+use link_capture_grammar::link_types::{RTM_NEWLINK, RTM_SETLINK};
 use link_message_checks::same as same_link;
 use netlink_packet_core::{NETLINK_HEADER_LEN, NLMSG_DONE, NLMSG_NOOP, NetlinkBuffer, nla_align};
 use std::fmt;

@@ -3,3 +3,4 @@
 
 pub mod fault;
 pub mod laws;
+pub mod link_types;

@@ -12,7 +12,6 @@ mod types;
 
 pub use fault::RouteFault;
 pub use frames::read_message;
-pub use link_capture_checks::{RTM_DELLINK, RTM_GETLINK, RTM_NEWLINK, RTM_SETLINK};
 pub use messages::Messages;
 pub use readable::NotReadable;
 pub use route::RouteLink;

@@ -5,7 +5,8 @@ ghost use Rattle.link_capture_messages.specs.KeptTypes.{IsKeptType};
 ghost use Rattle.link_capture_messages.specs.Views.{other_type, other_bytes};
 
 use super::types::OtherMessage;
-use netlink_packet_core::ByteVec;
+use link_capture_grammar::link_types::{RTM_NEWLINK, RTM_SETLINK};
+use netlink_packet_core::{ByteVec, NLMSG_NOOP, NLMSG_OVERRUN};
 use std::alloc::{AllocError, Global};
 
 impl OtherMessage {
@@ -14,7 +15,7 @@ impl OtherMessage {
     pub fn is_kept_type(message_type: u16) -> bool
         ensures { IsTrue result ↔ IsKeptType message_type }
     {
-        !matches!(message_type, 1..=4 | 16..=19)
+        !matches!(message_type, NLMSG_NOOP..=NLMSG_OVERRUN | RTM_NEWLINK..=RTM_SETLINK)
     }
 
     /// A message of a type, see `is_kept_type`, and the bytes of its body.

@@ -7,7 +7,7 @@ ghost use Rattle.link_capture_messages.specs.RoundTrips.{round_trip, route_inner
 
 use super::fault::RouteFault;
 use super::types::{OtherMessage, ReadableLink};
-use link_capture_checks::{RTM_DELLINK, RTM_GETLINK, RTM_NEWLINK, RTM_SETLINK};
+use link_capture_grammar::link_types::{RTM_DELLINK, RTM_GETLINK, RTM_NEWLINK, RTM_SETLINK};
 use netlink_packet_core::{
     Emitable, NetlinkDeserializable, NetlinkHeader, NetlinkProtocol, NetlinkSerializable,
 };

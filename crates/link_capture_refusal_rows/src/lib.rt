@@ -7,6 +7,5 @@ mod reason;
 mod rows;
 mod tables;
 
-pub use link_message_checks::has_empty_ports;
 pub use reason::{Reason, shape_reason};
 pub use tables::{Inside, Listed, Table, family_table, is_kept, next_list, row_in};

@@ -14,7 +14,7 @@ ghost use Rattle.link_capture_refusal_rows.specs.RowRules.{behind};
 use crate::names::{find, rows_at, text_of};
 use crate::reason::Reason;
 use crate::rows::{DATA_ROWS, MESSAGE_ROWS};
-use attribute_checks::{Form, Held, Shape, held_by_name};
+use attribute_checks::{Form, Held, KIND_BOUND, Shape, held_by_name};
 use link_info_checks::{KINDS, PORT_KINDS};
 use netlink_packet_core_numbers::without_nul;
 
@@ -215,7 +215,7 @@ pub fn is_kept(form: Form, kind: u16) -> bool
     ensures { (p : List ℕ) → result ≡ Lists.is_kept (form_of form) (record { kind = kind; payload = p }) }
 {
     match form {
-        Form::OfKindOne | Form::Ports => kind % 0x4000 == 1,
+        Form::OfKindOne | Form::Ports => kind % KIND_BOUND == 1,
         Form::Any | Form::NonEmpty | Form::FirstAlone => true,
     }
 }
@@ -252,7 +252,7 @@ pub fn next_list<'a>(list: Listed<'a>, kind: u16, payload: &'a [u8]) -> Listed<'
         return list;
     }
     match list.table {
-        Table::Info => next_info(list, kind % 0x4000, payload),
+        Table::Info => next_info(list, kind % KIND_BOUND, payload),
         Table::Message(_) | Table::Data(_) => list,
     }
 }

@@ -9,9 +9,10 @@ use crate::laws::refused_frames_are_whole;
 use crate::refusal::Refusal;
 use crate::walk::link_refusal;
 use arrayvec::ArrayVec;
-use link_capture_checks::{check, frame_body, is_link_type};
+use link_capture_checks::{check, frame_body};
 use link_capture_grammar::fault::{CaptureFault, FaultKind};
 use link_capture_grammar::laws::faults_stand_at_frames;
+use link_capture_grammar::link_types::is_link_type;
 use link_capture_refusal_rows::Reason;
 use netlink_packet_core::{NETLINK_HEADER_LEN, NetlinkBuffer};
 

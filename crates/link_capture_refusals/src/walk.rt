@@ -19,9 +19,9 @@ use attribute_checks::{
 use attribute_tables_grammar::laws::measures_tell_rules;
 use link_capture_refusal_rows::laws::rows_are_the_tables;
 use link_capture_refusal_rows::{
-    Inside, Listed, Reason, family_table, has_empty_ports, is_kept, next_list, row_in, shape_reason,
+    Inside, Listed, Reason, family_table, is_kept, next_list, row_in, shape_reason,
 };
-use link_message_checks::LinkPeer;
+use link_message_checks::{LinkPeer, has_empty_ports};
 use netlink_packet_core::nla_align;
 use netlink_packet_core_attributes::view::read_u16;
 

@@ -9,7 +9,9 @@ ghost use Rattle.link_capture_spellings.specs.SpellingWalks.{one_told, levels_to
 
 use crate::laws::lists_go_by_steps;
 use arrayvec::ArrayVec;
-use link_capture_checks::{KIND_BOUND, first_attribute, frame_body, is_link_type};
+use attribute_checks::{KIND_BOUND, first_attribute};
+use link_capture_checks::frame_body;
+use link_capture_grammar::link_types::is_link_type;
 use link_capture_spelling_rows::{
     Listed, PlacedSpelling, Spelling, Table, attribute_spellings, family_table, header_spelling,
     inside, next_list,

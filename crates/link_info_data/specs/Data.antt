@@ -1,5 +1,5 @@
 -- The data of a kind of links: the rule of each kind, and what each value is written as.
-use Rattle.std.specs.Prelude.{◌≡◌, ℕ, Bool, true, false, ⊤, List, Option, None}
+use Rattle.std.specs.Prelude.{◌≡◌, ℕ, Bool, true, false, ◌⊎◌, List, Option, None}
 use Rattle.std.specs.Option.{is_none}
 use Rattle.std.specs.List.{All}
 use Rattle.netlink_packet_core.specs.Attributes.{Attribute, attribute_text}
@@ -142,43 +142,39 @@ info_data_entry d = record { kind = 2; payload = info_data_payload d }
 
 -- the variant that a kind names, of values that their rows name
 abbrev pub info_data_names_row : InfoKind → InfoData → Type 0
-info_data_names_row Kind.Bridge (Data.Bridge vs) = ⊤
-info_data_names_row Kind.Can (Data.Can vs) = ⊤
-info_data_names_row Kind.Tun (Data.Tun vs) = ⊤
-info_data_names_row Kind.Vlan (Data.Vlan vs) = ⊤
-info_data_names_row Kind.Veth (Data.Veth v) = pair_names_row v
-info_data_names_row Kind.Vxlan (Data.Vxlan vs) = All vxlan_names_row vs.items
-info_data_names_row Kind.Bond (Data.Bond vs) = ⊤
-info_data_names_row Kind.IpVlan (Data.IpVlan vs) = All ipvlan_names_row vs.items
-info_data_names_row Kind.IpVtap (Data.IpVtap vs) = All ipvlan_names_row vs.items
-info_data_names_row Kind.MacVlan (Data.MacVlan vs) = All mac_vlan_names_row vs.items
-info_data_names_row Kind.MacVtap (Data.MacVtap vs) = All mac_vlan_names_row vs.items
-info_data_names_row Kind.GreTap (Data.GreTap vs) = All gre_names_row vs.items
-info_data_names_row Kind.GreTap6 (Data.GreTap6 vs) = All gre6_names_row vs.items
-info_data_names_row Kind.GreTun (Data.GreTun vs) = All gre_names_row vs.items
-info_data_names_row Kind.GreTun6 (Data.GreTun6 vs) = All gre6_names_row vs.items
-info_data_names_row Kind.Vti (Data.Vti vs) = All vti_names_row vs.items
-info_data_names_row Kind.Vti6 (Data.Vti vs) = All vti_names_row vs.items
-info_data_names_row Kind.Vrf (Data.Vrf vs) = All vrf_names_row vs.items
-info_data_names_row Kind.Gtp (Data.Gtp vs) = All gtp_names_row vs.items
-info_data_names_row Kind.Ipoib (Data.Ipoib vs) = All ipoib_names_row vs.items
-info_data_names_row Kind.Xfrm (Data.Xfrm vs) = All xfrm_names_row vs.items
-info_data_names_row Kind.MacSec (Data.MacSec vs) = All macsec_names_row vs.items
-info_data_names_row Kind.Hsr (Data.Hsr vs) = ⊤
-info_data_names_row Kind.Geneve (Data.Geneve vs) = All geneve_names_row vs.items
-info_data_names_row Kind.IpIp (Data.IpTunnel vs) = All (ip_tunnel_names_row Kind.IpIp) vs.items
-info_data_names_row Kind.Ip6Tnl (Data.IpTunnel vs) = All (ip_tunnel_names_row Kind.Ip6Tnl) vs.items
-info_data_names_row Kind.SitTun (Data.IpTunnel vs) = All (ip_tunnel_names_row Kind.SitTun) vs.items
-info_data_names_row Kind.Netkit (Data.Netkit vs) = All netkit_names_row vs.items
-info_data_names_row Kind.Vxcan (Data.Vxcan v) = pair_names_row v
-info_data_names_row Kind.Amt (Data.Amt vs) = All amt_names_row vs.items
-info_data_names_row Kind.BatAdv (Data.BatAdv vs) = All batadv_names_row vs.items
-info_data_names_row Kind.BareUdp (Data.BareUdp vs) = All bareudp_names_row vs.items
-info_data_names_row Kind.Dsa (Data.Dsa vs) = ⊤
-info_data_names_row Kind.Wwan (Data.Wwan vs) = All wwan_names_row vs.items
-info_data_names_row Kind.RmNet (Data.RmNet vs) = All rmnet_names_row vs.items
-info_data_names_row Kind.ErSpan (Data.ErSpan vs) = All gre_names_row vs.items
-info_data_names_row Kind.Ip6ErSpan (Data.Ip6ErSpan vs) = All gre6_names_row vs.items
-info_data_names_row Kind.Wireguard (Data.Wireguard vs) = ⊤
+info_data_names_row k (Data.Bridge vs) = k ≡ Kind.Bridge
+info_data_names_row k (Data.Can vs) = k ≡ Kind.Can
+info_data_names_row k (Data.Tun vs) = k ≡ Kind.Tun
+info_data_names_row k (Data.Vlan vs) = k ≡ Kind.Vlan
+info_data_names_row k (Data.Veth v) = (k ≡ Kind.Veth) × pair_names_row v
+info_data_names_row k (Data.Vxlan vs) = (k ≡ Kind.Vxlan) × All vxlan_names_row vs.items
+info_data_names_row k (Data.Bond vs) = k ≡ Kind.Bond
+info_data_names_row k (Data.IpVlan vs) = (k ≡ Kind.IpVlan) × All ipvlan_names_row vs.items
+info_data_names_row k (Data.IpVtap vs) = (k ≡ Kind.IpVtap) × All ipvlan_names_row vs.items
+info_data_names_row k (Data.MacVlan vs) = (k ≡ Kind.MacVlan) × All mac_vlan_names_row vs.items
+info_data_names_row k (Data.MacVtap vs) = (k ≡ Kind.MacVtap) × All mac_vlan_names_row vs.items
+info_data_names_row k (Data.GreTap vs) = (k ≡ Kind.GreTap) × All gre_names_row vs.items
+info_data_names_row k (Data.GreTap6 vs) = (k ≡ Kind.GreTap6) × All gre6_names_row vs.items
+info_data_names_row k (Data.GreTun vs) = (k ≡ Kind.GreTun) × All gre_names_row vs.items
+info_data_names_row k (Data.GreTun6 vs) = (k ≡ Kind.GreTun6) × All gre6_names_row vs.items
+info_data_names_row k (Data.Vti vs) = ((k ≡ Kind.Vti) ⊎ (k ≡ Kind.Vti6)) × All vti_names_row vs.items
+info_data_names_row k (Data.Vrf vs) = (k ≡ Kind.Vrf) × All vrf_names_row vs.items
+info_data_names_row k (Data.Gtp vs) = (k ≡ Kind.Gtp) × All gtp_names_row vs.items
+info_data_names_row k (Data.Ipoib vs) = (k ≡ Kind.Ipoib) × All ipoib_names_row vs.items
+info_data_names_row k (Data.Xfrm vs) = (k ≡ Kind.Xfrm) × All xfrm_names_row vs.items
+info_data_names_row k (Data.MacSec vs) = (k ≡ Kind.MacSec) × All macsec_names_row vs.items
+info_data_names_row k (Data.Hsr vs) = k ≡ Kind.Hsr
+info_data_names_row k (Data.Geneve vs) = (k ≡ Kind.Geneve) × All geneve_names_row vs.items
+info_data_names_row k (Data.IpTunnel vs) = ((k ≡ Kind.IpIp) ⊎ (k ≡ Kind.Ip6Tnl) ⊎ (k ≡ Kind.SitTun)) × All (ip_tunnel_names_row k) vs.items
+info_data_names_row k (Data.Netkit vs) = (k ≡ Kind.Netkit) × All netkit_names_row vs.items
+info_data_names_row k (Data.Vxcan v) = (k ≡ Kind.Vxcan) × pair_names_row v
+info_data_names_row k (Data.Amt vs) = (k ≡ Kind.Amt) × All amt_names_row vs.items
+info_data_names_row k (Data.BatAdv vs) = (k ≡ Kind.BatAdv) × All batadv_names_row vs.items
+info_data_names_row k (Data.BareUdp vs) = (k ≡ Kind.BareUdp) × All bareudp_names_row vs.items
+info_data_names_row k (Data.Dsa vs) = k ≡ Kind.Dsa
+info_data_names_row k (Data.Wwan vs) = (k ≡ Kind.Wwan) × All wwan_names_row vs.items
+info_data_names_row k (Data.RmNet vs) = (k ≡ Kind.RmNet) × All rmnet_names_row vs.items
+info_data_names_row k (Data.ErSpan vs) = (k ≡ Kind.ErSpan) × All gre_names_row vs.items
+info_data_names_row k (Data.Ip6ErSpan vs) = (k ≡ Kind.Ip6ErSpan) × All gre6_names_row vs.items
+info_data_names_row k (Data.Wireguard vs) = k ≡ Kind.Wireguard
 info_data_names_row k (Data.Other b) = keeps_bytes k ≡ true
-info_data_names_row _ _ = ⊥

@@ -7,6 +7,7 @@ ghost use Rattle.link_info_data.specs.Data.{data_rule_of, data_rule_of_under};
 ghost use Rattle.attribute_tables.specs.Outcomes.{IfMemory, IsRefusedUnless, IsWrittenBy, SucceedsWhere};
 
 use super::laws::{data_without_peers_have_one_rule, names_tell_rules};
+use crate::payloads::{emit_list, emit_one, list_len, one_len};
 use attribute_checks::PeerRule;
 use attribute_tables::{parse_bytes, parse_family, parse_first};
 use link_info_checks::{BytesPeer, PeerSet, Ruled, data_error};
@@ -21,7 +22,7 @@ use link_info_tunnels::{
     InfoAmt, InfoBareUdp, InfoGeneve, InfoGre, InfoGre6, InfoGtp, InfoIpTunnel, InfoVti, InfoVxlan,
     InfoXfrm, parse_ip_tunnel,
 };
-use netlink_packet_core::{DecodeError, Nla, emit_all, fits_all, len_all};
+use netlink_packet_core::{DecodeError, Nla, fits_all};
 use std::alloc::Global;
 
 const IFLA_INFO_DATA: u16 = 2;
@@ -313,21 +314,19 @@ impl Nla for InfoData {
 
     ghost inside_fits = { info_data_fits };
 
-    #[tactic(auto, using(attribute_tables::proofs::Lists::lists))]
     fn value_len(&self) -> usize {
-        of_variants!(self, list => len_all(list), one => one.buffer_len(), bytes => bytes.len())
+        of_variants!(self, list => list_len(list), one => one_len(one), bytes => bytes.len())
     }
 
     fn kind(&self) -> u16 {
         IFLA_INFO_DATA
     }
 
-    #[tactic(auto, using(attribute_tables::proofs::Lists::lists))]
     fn emit_value(&self, buffer: &mut [u8]) {
         of_variants!(
             self,
-            list => emit_all(list, buffer),
-            one => one.emit(buffer),
+            list => emit_list(list, buffer),
+            one => emit_one(one, buffer),
             bytes => buffer.copy_from_slice(bytes)
         )
     }

@@ -6,11 +6,12 @@ ghost use Rattle.link_info_data.specs.PortData.{info_port_data_names_row, port_d
 ghost use Rattle.attribute_tables.specs.Outcomes.{IfMemory, IsRefusedUnless, IsWrittenBy, SucceedsWhere};
 
 use super::laws::port_names_tell_rules;
+use crate::payloads::{emit_list, list_len};
 use attribute_tables::{parse_bytes, parse_family};
 use link_info_checks::{BytesPeer, accepts_port_data};
 use link_info_devices::{InfoBondPort, InfoBridgePort, InfoTeamPort, InfoVrf};
 use link_info_kinds::InfoPortKind;
-use netlink_packet_core::{DecodeError, Nla, emit_all, fits_all, len_all};
+use netlink_packet_core::{DecodeError, Nla, fits_all};
 use std::alloc::Global;
 
 const IFLA_INFO_PORT_DATA: u16 = 5;
@@ -95,13 +96,12 @@ impl Nla for InfoPortData {
 
     ghost inside_fits = { info_port_data_fits };
 
-    #[tactic(auto, using(attribute_tables::proofs::Lists::lists))]
     fn value_len(&self) -> usize {
         match self {
-            Self::BondPort(list) => len_all(list),
-            Self::BridgePort(list) => len_all(list),
-            Self::VrfPort(list) => len_all(list),
-            Self::TeamPort(list) => len_all(list),
+            Self::BondPort(list) => list_len(list),
+            Self::BridgePort(list) => list_len(list),
+            Self::VrfPort(list) => list_len(list),
+            Self::TeamPort(list) => list_len(list),
             Self::Other(bytes) => bytes.len(),
         }
     }
@@ -110,13 +110,12 @@ impl Nla for InfoPortData {
         IFLA_INFO_PORT_DATA
     }
 
-    #[tactic(auto, using(attribute_tables::proofs::Lists::lists))]
     fn emit_value(&self, buffer: &mut [u8]) {
         match self {
-            Self::BondPort(list) => emit_all(list, buffer),
-            Self::BridgePort(list) => emit_all(list, buffer),
-            Self::VrfPort(list) => emit_all(list, buffer),
-            Self::TeamPort(list) => emit_all(list, buffer),
+            Self::BondPort(list) => emit_list(list, buffer),
+            Self::BridgePort(list) => emit_list(list, buffer),
+            Self::VrfPort(list) => emit_list(list, buffer),
+            Self::TeamPort(list) => emit_list(list, buffer),
             Self::Other(bytes) => buffer.copy_from_slice(bytes),
         }
     }

@@ -4,6 +4,7 @@
 mod info_data;
 mod info_port;
 pub mod laws;
+mod payloads;
 mod xstats;
 
 pub use info_data::InfoData;

@@ -12,6 +12,7 @@ use crate::attributes::{Place, push_list};
 use crate::links::{
     LINK_HEADER_LEN, family_table, push_labelled_decimal, push_labelled_flags, push_link_header,
 };
+use link_capture_grammar::link_types::{RTM_DELLINK, RTM_GETLINK, RTM_NEWLINK, RTM_SETLINK};
 use link_lines_values::{
     FlagNames, MESSAGE_ACK_FLAGS, MESSAGE_CREATE_FLAGS, MESSAGE_DELETE_FLAGS, MESSAGE_FLAGS,
     MESSAGE_GET_FLAGS, MESSAGE_TYPE, ShownBy, push_bytes, push_decimal, push_name, push_value,
@@ -27,12 +28,12 @@ const CODE_LEN: usize = 4;
 fn flag_names(message_type: u16) -> FlagNames
     ensures { texts_of (λ b. b.now) result.now ≡ flag_names message_type }
 {
-    // rtnetlink.h: RTM_NEWLINK, RTM_SETLINK, RTM_NEWADDR, RTM_NEWROUTE, .., RTM_DELLINK, .., RTM_GETLINK, ..
+    // rtnetlink.h: RTM_NEWADDR 20, RTM_DELADDR 21, RTM_GETADDR 22, RTM_NEWROUTE 24, ..
     match message_type {
         NLMSG_ERROR => MESSAGE_ACK_FLAGS,
-        16 | 19 | 20 | 24 | 28 | 32 => MESSAGE_CREATE_FLAGS,
-        17 | 21 | 25 | 29 | 33 => MESSAGE_DELETE_FLAGS,
-        18 | 22 | 26 | 30 | 34 => MESSAGE_GET_FLAGS,
+        RTM_NEWLINK | RTM_SETLINK | 20 | 24 | 28 | 32 => MESSAGE_CREATE_FLAGS,
+        RTM_DELLINK | 21 | 25 | 29 | 33 => MESSAGE_DELETE_FLAGS,
+        RTM_GETLINK | 22 | 26 | 30 | 34 => MESSAGE_GET_FLAGS,
         _ => MESSAGE_FLAGS,
     }
 }
@@ -178,8 +179,7 @@ fn push_body(
 {
     match message_type {
         NLMSG_ERROR | NLMSG_DONE => push_code(numbers, message_type, body, out),
-        // RTM_NEWLINK, RTM_DELLINK, RTM_GETLINK and RTM_SETLINK (rtnetlink.h)
-        16..=19 => push_link(body, out),
+        RTM_NEWLINK..=RTM_SETLINK => push_link(body, out),
         _ => push_bytes_line(b"body", body, out),
     }
 }

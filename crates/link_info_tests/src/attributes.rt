@@ -2,7 +2,6 @@
 
 use netlink_packet_core::{DefaultNla, Family, Nla, NlaBuffer, Parseable};
 use std::alloc::Global;
-use std::test::Fail;
 
 // An attribute of kind 70, with both flags of a kind. No family names it.
 const UNNAMED: &[u8] = &[5, 0, 0x46, 0xc0, 1, 0, 0, 0];
@@ -19,38 +18,38 @@ pub fn is_written_as<T: Nla>(value: &T, bytes: &[u8]) -> bool {
 }
 
 /// Whether an attribute is read as this value.
-pub fn is_read_as<F>(alloc: Global, bytes: &[u8], value: &F) -> Result<bool, Fail>
+pub fn is_read_as<F>(alloc: Global, bytes: &[u8], value: &F) -> bool
 where
     F: Family + PartialEq + Drop,
 {
-    let Ok(buf) = NlaBuffer::new_checked(bytes) else {
-        return Err(Fail::from("cut"));
-    };
-    Ok(F::parse(alloc, &buf)? == *value)
+    match NlaBuffer::new_checked(bytes) {
+        Ok(buf) => matches!(F::parse(alloc, &buf), Ok(read) if read == *value),
+        Err(_) => false,
+    }
 }
 
 /// Whether an attribute is refused, and not for want of memory.
-pub fn is_refused<F: Family + Drop>(alloc: Global, bytes: &[u8]) -> Result<bool, Fail> {
-    let Ok(buf) = NlaBuffer::new_checked(bytes) else {
-        return Err(Fail::from("cut"));
-    };
-    match F::parse(alloc, &buf) {
-        Ok(_) => Ok(false),
-        Err(error) => Ok(!error.is_memory()),
+pub fn is_refused<F: Family + Drop>(alloc: Global, bytes: &[u8]) -> bool {
+    match NlaBuffer::new_checked(bytes) {
+        Ok(buf) => matches!(F::parse(alloc, &buf), Err(error) if !error.is_memory()),
+        Err(_) => false,
     }
 }
 
 /// Whether each attribute is read as its value and written from it, and one that the family does
 /// not name is kept as it is.
-pub fn are_read_as<F>(alloc: Global, cases: &[(&[u8], F)]) -> Result<bool, Fail>
+pub fn are_read_as<F>(alloc: Global, cases: &[(&[u8], F)]) -> bool
 where
     F: Family + PartialEq + Drop,
 {
     for (bytes, value) in cases {
-        if !is_read_as(alloc, bytes, value)? || !is_written_as(value, bytes) {
-            return Ok(false);
+        if !is_read_as(alloc, bytes, value) || !is_written_as(value, bytes) {
+            return false;
         }
     }
-    let unnamed = F::other(DefaultNla::new(0xc046, [1u8].to_vec(alloc)?));
-    Ok(is_read_as(alloc, UNNAMED, &unnamed)? && is_written_as(&unnamed, UNNAMED))
+    let Ok(payload) = [1u8].to_vec(alloc) else {
+        return false;
+    };
+    let unnamed = F::other(DefaultNla::new(0xc046, payload));
+    is_read_as(alloc, UNNAMED, &unnamed) && is_written_as(&unnamed, UNNAMED)
 }

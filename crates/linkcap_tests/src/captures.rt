@@ -199,12 +199,11 @@ const WORKED: [Case; 18] = [
 fn worked_captures(rt: HostRuntime) -> Result<(), Fail> {
     for case in &WORKED {
         let text = normalized(rt.alloc(), case.capture, case.limit)?;
-        assert_eq!(rt; text.as_str(), case.wanted, "{}", case.name);
+        assert!(rt; text.as_str() == case.wanted, "{}", case.name);
         for size in [1, 7, 100, 65536] {
             let text = normalized_in_pieces(rt.alloc(), case.capture, case.limit, size)?;
-            assert_eq!(rt;
-                text.as_str(),
-                case.wanted,
+            assert!(rt;
+                text.as_str() == case.wanted,
                 "{} in pieces of {size}",
                 case.name
             );

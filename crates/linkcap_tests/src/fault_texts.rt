@@ -1,6 +1,8 @@
 //! How faults are displayed.
 
 use link_capture::{CaptureFault, FaultKind};
+use std::alloc::Global;
+use std::fmt::Display;
 use std::test::Fail;
 
 /// Each kind with its words, and a fault of that kind with its display.
@@ -54,12 +56,25 @@ const TEXTS: [(FaultKind, &str, u64, &str); 12] = [
     ),
 ];
 
+/// Whether a value is displayed as this text.
+pub(crate) fn is_displayed<T: Display>(alloc: Global, value: &T, text: &str) -> Result<bool, Fail> {
+    Ok(format!(in alloc; "{value}")?.as_str() == text)
+}
+
+/// An answer: `ok`, or the display of its fault.
+pub(crate) fn shown(alloc: Global, answer: &Result<(), CaptureFault>) -> Result<String, Fail> {
+    Ok(match answer {
+        Ok(()) => "ok".to_string(alloc)?,
+        Err(fault) => format!(in alloc; "{fault}")?,
+    })
+}
+
 #[test]
 fn faults_are_displayed(rt: HostRuntime) -> Result<(), Fail> {
     for (kind, words, offset, text) in TEXTS {
         let fault = CaptureFault { kind, offset };
-        assert!(rt; format!(in rt.alloc(); "{kind}")?.as_str() == words);
-        assert!(rt; format!(in rt.alloc(); "{fault}")?.as_str() == text);
+        assert!(rt; is_displayed(rt.alloc(), &kind, words)?);
+        assert!(rt; is_displayed(rt.alloc(), &fault, text)?);
     }
     Ok(())
 }

@@ -1,12 +1,14 @@
 //! Messages of captures: which are read back as they are written, and how they come one after the other.
 
+use super::fault_texts::is_displayed;
+use super::requests::name_of;
 use hex::decode;
-use link_capture::{Messages, NotReadable, ReadableLink, RouteFault};
+use link_capture::{CaptureFault, Messages, NotReadable, ReadableLink, RouteFault, RouteLink};
 use link_info::{InfoData, InfoKind, InfoVeth, LinkInfo};
 use link_message::{
     AfSpecInet, AfSpecUnspec, LinkAttribute, LinkExtentMask, LinkHeader, LinkMessage, Values,
 };
-use netlink_packet_core::DefaultNla;
+use netlink_packet_core::{DefaultNla, NetlinkMessage};
 use std::alloc::Global;
 use std::test::Fail;
 
@@ -19,8 +21,8 @@ const PEER_SHORTER: &[u8] = b"\0\0\0\0\0\0\0\0\0\0\0\0\0\0\0\0\x06\0\x03\0lo";
 /// An attribute of each case, made anew.
 fn attribute(alloc: Global, case: usize) -> Result<LinkAttribute, Fail> {
     match case {
-        0 => Ok(LinkAttribute::IfName(long_name(alloc, 65531)?)),
-        1 => Ok(LinkAttribute::IfName(long_name(alloc, 65530)?)),
+        0 => Ok(LinkAttribute::IfName(name_of(alloc, 65531)?)),
+        1 => Ok(LinkAttribute::IfName(name_of(alloc, 65530)?)),
         2 => Ok(LinkAttribute::LinkInfo(Vec::new(alloc))),
         3 => {
             let mut masks = Vec::new(alloc);
@@ -44,13 +46,6 @@ fn attribute(alloc: Global, case: usize) -> Result<LinkAttribute, Fail> {
             let bytes = Vec::from_slice(alloc, &[0x6c, 0x6f, 0])?;
             Ok(LinkAttribute::Other(DefaultNla::new(3, bytes)))
         }
-    }
-}
-
-fn long_name(alloc: Global, size: usize) -> Result<String, Fail> {
-    match String::from_utf8(Vec::from_elem(alloc, b'a', size)?) {
-        Ok(name) => Ok(name),
-        Err(_) => Err(Fail::from("a name of ASCII")),
     }
 }
 
@@ -104,7 +99,7 @@ fn refusals_have_their_words(rt: HostRuntime) -> Result<(), Fail> {
         (RouteFault::Memory, "no memory"),
     ];
     for (fault, words) in &cases {
-        assert!(rt; format!(in rt.alloc(); "{fault}")?.as_str() == *words);
+        assert!(rt; is_displayed(rt.alloc(), fault, words)?);
     }
     let cases = [
         (NotReadable::Unfit, "attribute over 65535"),
@@ -115,7 +110,7 @@ fn refusals_have_their_words(rt: HostRuntime) -> Result<(), Fail> {
         (NotReadable::Memory, "no memory"),
     ];
     for (why, words) in &cases {
-        assert!(rt; format!(in rt.alloc(); "{why}")?.as_str() == *words);
+        assert!(rt; is_displayed(rt.alloc(), why, words)?);
     }
     Ok(())
 }
@@ -135,6 +130,33 @@ const CAPTURES: [(&str, &str); 4] = [
     ),
 ];
 
+/// The type of a message, or the fault in its place.
+fn word_of(
+    alloc: Global,
+    message: Result<NetlinkMessage<RouteLink>, CaptureFault>,
+) -> Result<String, Fail> {
+    match message {
+        Ok(message) => {
+            let message_type = message.header.message_type;
+            Ok(format!(in alloc; "{message_type} ")?)
+        }
+        Err(fault) => Ok(format!(in alloc; "{fault}")?),
+    }
+}
+
+/// The types of the messages of a capture, with the fault.
+fn words_of(alloc: Global, capture: &[u8]) -> Result<String, Fail> {
+    let mut messages = Messages::new(alloc, capture, 1000);
+    let mut told = String::new(alloc);
+    while let Some(message) = messages.next() {
+        told.push_str(word_of(alloc, message)?.as_str())?;
+    }
+    match messages.next() {
+        None => Ok(told),
+        Some(_) => Err(Fail::from("a message behind the last")),
+    }
+}
+
 #[test]
 fn messages_come_one_after_another(rt: HostRuntime) -> Result<(), Fail> {
     let alloc = rt.alloc();
@@ -144,19 +166,7 @@ fn messages_come_one_after_another(rt: HostRuntime) -> Result<(), Fail> {
             00000000000008001d0009000000070003806c6f00ff1100000014000000000000000000000061{rest}"
         )?;
         let bytes = decode(alloc, capture.as_str()).map_err(|_| Fail::from("not hex"))?;
-        let mut messages = Messages::new(alloc, bytes.as_slice(), 1000);
-        let mut told = String::new(alloc);
-        while let Some(message) = messages.next() {
-            match message {
-                Ok(message) => {
-                    let message_type = message.header.message_type;
-                    told.push_str(format!(in alloc; "{message_type} ")?.as_str())?;
-                }
-                Err(fault) => told.push_str(format!(in alloc; "{fault}")?.as_str())?,
-            }
-        }
-        assert!(rt; told.as_str() == *wanted);
-        assert!(rt; messages.next().is_none());
+        assert!(rt; words_of(alloc, bytes.as_slice())?.as_str() == *wanted);
     }
     Ok(())
 }

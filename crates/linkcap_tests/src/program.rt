@@ -3,6 +3,7 @@
 ghost use Rattle.std.specs.Prelude.{None};
 
 use super::devices::{Giver, Plan, Taker};
+use super::program_words::strings;
 use super::runs::{CAPTURE, TEXT};
 use link_capture::{DeviceFailed, ReadSource, WriteSink};
 use linkcap_program::{FileSystem, answer, answer_same};
@@ -84,34 +85,33 @@ const WORDS: [(&[&str], &[u8], &str); 15] = [
     (&["same", "text"], b"", USAGE_LINE),
 ];
 
-/// The words as the program has them.
-fn strings(alloc: Global, words: &[&str]) -> Result<Vec<String>, Fail> {
-    let mut strings = Vec::new(alloc);
-    for word in words {
-        strings.push(word.to_string(alloc)?)?;
-    }
-    Ok(strings)
+/// What is written of the capture and of such files, and what is told.
+fn answers(alloc: Global, words: &[String]) -> (Vec<u8>, Vec<u8>) {
+    let mut source = ReadSource::new(CAPTURE.as_slice());
+    let mut text = Vec::new(alloc);
+    let mut sink = WriteSink::new(&mut text);
+    let mut told = Vec::new(alloc);
+    let mut errors = WriteSink::new(&mut told);
+    answer(
+        alloc,
+        words,
+        &mut FILES,
+        &mut source,
+        &mut sink,
+        &mut errors,
+    );
+    (text, told)
 }
 
 #[test]
 fn words_are_followed(rt: HostRuntime) -> Result<(), Fail> {
     for (words, written, line) in WORDS {
         let strings = strings(rt.alloc(), words)?;
-        let mut source = ReadSource::new(CAPTURE.as_slice());
-        let mut text = Vec::new(rt.alloc());
-        let mut sink = WriteSink::new(&mut text);
-        let mut told = Vec::new(rt.alloc());
-        let mut errors = WriteSink::new(&mut told);
-        answer(
-            rt.alloc(),
-            strings.as_slice(),
-            &mut FILES,
-            &mut source,
-            &mut sink,
-            &mut errors,
+        let (text, told) = answers(rt.alloc(), strings.as_slice());
+        assert!(rt;
+            text.as_slice() == written && told.as_slice() == line.as_bytes(),
+            "{words:?}"
         );
-        assert_eq!(rt; text.as_slice(), written, "{words:?}");
-        assert_eq!(rt; told.as_slice(), line.as_bytes(), "{words:?}");
     }
     Ok(())
 }

@@ -1,8 +1,8 @@
 //! Captures that come in pieces: what each piece adds, and what is kept of it.
 
+use super::fault_texts::shown;
 use hex::{decode, encode};
-use link_capture::{CaptureFault, CaptureReader};
-use std::alloc::Global;
+use link_capture::CaptureReader;
 use std::test::Fail;
 
 /// A piece in hex; what its feed answers; and how many bytes are then written, and kept.
@@ -101,14 +101,6 @@ const CASES: [Case; 4] = [
     },
 ];
 
-/// An answer: `ok`, or the display of its fault.
-fn shown(alloc: Global, answer: Result<(), CaptureFault>) -> Result<String, Fail> {
-    Ok(match answer {
-        Ok(()) => "ok".to_string(alloc)?,
-        Err(fault) => format!(in alloc; "{fault}")?,
-    })
-}
-
 #[test]
 fn pieces_are_read(rt: HostRuntime) -> Result<(), Fail> {
     for case in &CASES {
@@ -116,23 +108,21 @@ fn pieces_are_read(rt: HostRuntime) -> Result<(), Fail> {
         let mut out = Vec::new(rt.alloc());
         for step in case.steps {
             let piece = decode(rt.alloc(), step.piece).map_err(|_| Fail::from("not hex"))?;
-            let answer = shown(rt.alloc(), reader.feed(piece.as_slice(), &mut out))?;
-            assert_eq!(rt; answer.as_str(), step.answer, "{}", case.name);
-            assert_eq!(rt;
-                (out.len(), reader.kept()),
-                (step.written, step.kept),
+            let answer = shown(rt.alloc(), &reader.feed(piece.as_slice(), &mut out))?;
+            assert!(rt;
+                answer.as_str() == step.answer
+                    && (out.len(), reader.kept()) == (step.written, step.kept),
                 "{}",
                 case.name
             );
         }
-        assert_eq!(rt;
-            encode(rt.alloc(), out.as_slice())?.as_str(),
-            case.text,
+        let text = encode(rt.alloc(), out.as_slice())?;
+        let end = shown(rt.alloc(), &reader.finish())?;
+        assert!(rt;
+            text.as_str() == case.text && end.as_str() == case.end,
             "{}",
             case.name
         );
-        let end = shown(rt.alloc(), reader.finish())?;
-        assert_eq!(rt; end.as_str(), case.end, "{}", case.name);
     }
     Ok(())
 }

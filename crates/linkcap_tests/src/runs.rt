@@ -2,6 +2,7 @@
 //! does, and then neither reads nor writes.
 
 use super::devices::{Giver, Plan, Taker};
+use super::fault_texts::shown;
 use link_capture::{
     CaptureFault, FaultKind, ReadSource, WriteSink, normalize, read_all, write_all,
 };
@@ -66,7 +67,7 @@ fn norm_between(alloc: Global, capture: &[u8], reads: Plan, writes: Plan) -> Run
     }
 }
 
-/// A run, and what is wanted of it: the display of its fault, if there is one, and the bytes written.
+/// A run, and what is wanted of it: `ok` or the display of its fault, and the bytes written.
 struct Case {
     name: &'static str,
     capture: &'static [u8],
@@ -88,7 +89,7 @@ const CASES: [Case; 9] = [
         capture: &TEXT,
         reads: STEADY,
         writes: Plan { size: 5, ..STEADY },
-        answer: "",
+        answer: "ok",
         written: &TEXT,
     },
     Case {
@@ -194,12 +195,12 @@ const CASES: [Case; 9] = [
 fn devices_are_followed(rt: HostRuntime) -> Result<(), Fail> {
     for case in &CASES {
         let run = norm_between(rt.alloc(), case.capture, case.reads, case.writes);
-        let answer = match run.outcome {
-            Ok(()) => String::new(rt.alloc()),
-            Err(fault) => format!(in rt.alloc(); "{fault}")?,
-        };
-        assert_eq!(rt; answer.as_str(), case.answer, "{}", case.name);
-        assert_eq!(rt; run.taken.as_slice(), case.written, "{}", case.name);
+        let answer = shown(rt.alloc(), &run.outcome)?;
+        assert!(rt;
+            answer.as_str() == case.answer && run.taken.as_slice() == case.written,
+            "{}",
+            case.name
+        );
     }
     Ok(())
 }
@@ -256,6 +257,31 @@ fn text_of(read: usize) -> &'static [u8] {
     }
 }
 
+/// Whether a run of the capture ends so behind so many bytes, with the texts of the frames there.
+fn is_run_behind(
+    alloc: Global,
+    reads: Plan,
+    read: usize,
+    outcome: Result<(), CaptureFault>,
+) -> bool {
+    let run = norm_between(alloc, &CAPTURE, reads, Plan::steady(100));
+    run.outcome == outcome
+        && run.taken.as_slice() == text_of(read)
+        && Some(run.unread) == CAPTURE.len().checked_sub(read)
+}
+
+/// Whether `read_all` gives so many bytes of the capture, or the fault of a source that fails there.
+fn is_all_behind(alloc: Global, reads: Plan, read: usize, fails: bool) -> bool {
+    let mut source = ReadSource::new(Giver {
+        rest: &CAPTURE,
+        plan: reads,
+    });
+    match read_all(alloc, &mut source) {
+        Ok(bytes) => !fails && Some(bytes.as_slice()) == CAPTURE.get(..read),
+        fault => fault.err() == answer_behind(read, fails).err(),
+    }
+}
+
 /// The source fails or tells its end at each call in turn, and would go on after it.
 #[test]
 fn a_run_ends_with_its_source(rt: HostRuntime) {
@@ -266,22 +292,15 @@ fn a_run_ends_with_its_source(rt: HostRuntime) {
                 // The call behind the last byte may be another one, which tells the end.
                 let fails_there = fails && size.saturating_mul(calls.saturating_sub(1)) < 64;
                 let plan = Plan { size, calls, fails };
-                let run = norm_between(rt.alloc(), &CAPTURE, plan, Plan::steady(100));
+                let wanted = answer_behind(read, fails_there);
                 assert!(rt;
-                    run.outcome == answer_behind(read, fails_there)
-                        && run.taken.as_slice() == text_of(read)
-                        && run.unread == 64 - read,
+                    is_run_behind(rt.alloc(), plan, read, wanted),
                     "{calls} reads of {size} bytes"
                 );
-                let mut source = ReadSource::new(Giver {
-                    rest: &CAPTURE,
-                    plan,
-                });
-                let is_wanted = match read_all(rt.alloc(), &mut source) {
-                    Ok(bytes) => !fails_there && bytes.as_slice() == &CAPTURE[..read],
-                    fault => fault.err() == answer_behind(read, fails_there).err(),
-                };
-                assert!(rt; is_wanted, "all of {calls} reads of {size} bytes");
+                assert!(rt;
+                    is_all_behind(rt.alloc(), plan, read, fails_there),
+                    "all of {calls} reads of {size} bytes"
+                );
             }
         }
     }

@@ -43,6 +43,9 @@ fn set_first_of_body(bytes: &mut [u8])
     body[0] = 7;
 }
 
+/// The body of an ERROR message: a code of -2, and three bytes.
+const ERROR: [u8; 7] = [0xfe, 0xff, 0xff, 0xff, 1, 2, 3];
+
 /// A frame of 18 bytes, in a buffer of 20.
 #[tactic(auto, unfolding(netlink_packet_core_grammar::specs::Numbers::u32_at))]
 fn frame() -> [u8; 20]
@@ -114,11 +117,17 @@ fn done_bodies_are_read_and_written(rt: HostRuntime) -> Result<(), Fail> {
 }
 
 #[test]
-fn error_bodies_are_read_and_written(rt: HostRuntime) -> Result<(), Fail> {
-    let mut view = ErrorBuffer::new([0xfeu8, 0xff, 0xff, 0xff, 1, 2, 3].to_vec(rt.alloc())?);
-    let before = view.code();
+fn error_bodies_are_read(rt: HostRuntime) -> Result<(), Fail> {
+    let view = ErrorBuffer::new(ERROR.to_vec(rt.alloc())?);
+    assert!(rt; view.code() == ErrorCode::new(-2));
+    Ok(())
+}
+
+#[test]
+fn error_bodies_are_written(rt: HostRuntime) -> Result<(), Fail> {
+    let mut view = ErrorBuffer::new(ERROR.to_vec(rt.alloc())?);
     view.set_code(0);
-    assert!(rt; before == ErrorCode::new(-2) && view.code().is_none());
+    assert!(rt; view.code().is_none());
     view.payload_mut().fill(4);
     assert!(rt; view.into_inner().as_slice() == [0u8, 0, 0, 0, 4, 4, 4].as_slice());
     Ok(())

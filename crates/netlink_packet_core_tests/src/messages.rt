@@ -77,11 +77,15 @@ impl NetlinkProtocol for KeptMessage {
     ghost one_text = { λ m n e. e };
 }
 
-fn read(alloc: Global, bytes: &[u8]) -> Result<NetlinkMessage<KeptMessage>, Fail> {
-    match NetlinkMessage::deserialize(alloc, bytes) {
-        Ok(message) => Ok(message),
-        Err(_) => Err(Fail::from("refused")),
-    }
+fn read(alloc: Global, bytes: &[u8]) -> Option<NetlinkMessage<KeptMessage>> {
+    NetlinkMessage::deserialize(alloc, bytes).ok()
+}
+
+/// The parts of the message in a view of a frame.
+fn parts_of(alloc: Global, frame: &[u8]) -> Option<(NetlinkHeader, NetlinkPayload<KeptMessage>)> {
+    let view = NetlinkBuffer::new_checked(frame).ok()?;
+    let message = NetlinkMessage::parse(alloc, &view).ok()?;
+    Some(message.into_parts())
 }
 
 fn is_refused(alloc: Global, bytes: &[u8]) -> bool {
@@ -114,15 +118,8 @@ fn canonical_frame(alloc: Global, frame: &[u8]) -> Result<Vec<u8>, FrameError<Al
     Ok(out)
 }
 
-fn written_again(alloc: Global, frame: &[u8]) -> Result<Vec<u8>, Fail> {
-    match canonical_frame(alloc, frame) {
-        Ok(out) => Ok(out),
-        Err(_) => Err(Fail::from("refused")),
-    }
-}
-
 #[test]
-fn headers_are_written_and_read(rt: HostRuntime) -> Result<(), Fail> {
+fn headers_are_written_and_read(rt: HostRuntime) {
     let header = NetlinkHeader {
         length: 40,
         message_type: 18,
@@ -137,11 +134,8 @@ fn headers_are_written_and_read(rt: HostRuntime) -> Result<(), Fail> {
         0x28u8, 0, 0, 0, 0x12, 0, 1, 3, 0x34, 0x0e, 0xf9, 0x5a, 0, 0, 0, 0, 9,
     ];
     assert!(rt; bytes == expected);
-    let Ok(back) = NetlinkHeader::parse(rt.alloc(), &NetlinkBuffer::new(bytes.as_slice())) else {
-        return Err(Fail::from("refused"));
-    };
-    assert!(rt; back == header);
-    Ok(())
+    let back = NetlinkHeader::parse(rt.alloc(), &NetlinkBuffer::new(bytes.as_slice()));
+    assert!(rt; back == Ok(header));
 }
 
 #[test]
@@ -162,14 +156,9 @@ fn done_messages_are_written_and_read(rt: HostRuntime) -> Result<(), Fail> {
     assert!(rt; done.buffer_len() == 7);
     let mut bytes = [9u8; 7];
     done.emit(&mut bytes);
-    let Ok(back) = DoneMessage::parse(rt.alloc(), &DoneBuffer::new(bytes.as_slice())) else {
-        return Err(Fail::from("refused"));
-    };
-    assert!(rt; back == done);
-    let Ok(empty) = DoneMessage::parse_body(rt.alloc(), &[]) else {
-        return Err(Fail::from("refused"));
-    };
-    assert!(rt; empty.code == 0);
+    assert!(rt; DoneMessage::parse(rt.alloc(), &DoneBuffer::new(bytes.as_slice())) == Ok(done));
+    let empty = DoneMessage::parse_body(rt.alloc(), &[]);
+    assert!(rt; matches!(empty, Ok(DoneMessage { code: 0, .. })));
     Ok(())
 }
 
@@ -179,18 +168,12 @@ fn error_messages_are_written_and_read(rt: HostRuntime) -> Result<(), Fail> {
         code: ErrorCode::new(-2),
         header: ByteVec::from_slice(rt.alloc(), &[7])?,
     };
-    assert!(rt; error.errno() == 2);
-    assert!(rt; error.buffer_len() == 5);
+    assert!(rt; error.errno() == 2 && error.buffer_len() == 5);
     let mut bytes = [9u8; 5];
     error.emit(&mut bytes);
-    let Ok(back) = ErrorMessage::parse(rt.alloc(), &ErrorBuffer::new(bytes.as_slice())) else {
-        return Err(Fail::from("refused"));
-    };
-    assert!(rt; back == error);
-    let Ok(acknowledgement) = ErrorMessage::parse_body(rt.alloc(), &[0, 0, 0, 0, 7]) else {
-        return Err(Fail::from("refused"));
-    };
-    assert!(rt; acknowledgement.errno() == 0);
+    assert!(rt; ErrorMessage::parse(rt.alloc(), &ErrorBuffer::new(bytes.as_slice())) == Ok(error));
+    let acknowledgement = ErrorMessage::parse_body(rt.alloc(), &[0, 0, 0, 0, 7]);
+    assert!(rt; matches!(&acknowledgement, Ok(message) if message.errno() == 0));
     Ok(())
 }
 
@@ -212,7 +195,7 @@ fn finalized_messages_are_written_and_read(rt: HostRuntime) -> Result<(), Fail> 
         0x17u8, 0, 0, 0, 3, 0, 0, 0, 0, 0, 0, 0, 0, 0, 0, 0, 5, 0, 0, 0, 1, 2, 3, 9,
     ];
     assert!(rt; buffer == expected);
-    assert!(rt; read(rt.alloc(), &buffer)? == message);
+    assert!(rt; read(rt.alloc(), &buffer) == Some(message));
     Ok(())
 }
 
@@ -230,18 +213,12 @@ fn inner_messages_are_written_and_read(rt: HostRuntime) -> Result<(), Fail> {
         0x11u8, 0, 0, 0, 0x14, 0, 0, 0, 0, 0, 0, 0, 0, 0, 0, 0, 0x61, 0, 0, 0,
     ];
     assert!(rt; buffer == expected);
-    let Ok(view) = NetlinkBuffer::new_checked(buffer.as_slice()) else {
-        return Err(Fail::from("no frame"));
-    };
-    match NetlinkMessage::<KeptMessage>::parse(rt.alloc(), &view) {
-        Ok(back) => assert!(rt; back.into_parts() == message.into_parts()),
-        Err(_) => return Err(Fail::from("refused")),
-    }
+    assert!(rt; parts_of(rt.alloc(), &buffer) == Some(message.into_parts()));
     Ok(())
 }
 
 #[test]
-fn frames_are_written_again(rt: HostRuntime) -> Result<(), Fail> {
+fn frames_are_written_again(rt: HostRuntime) {
     let noop: &[u8] = &[
         0x14, 0, 0, 0, 1, 0, 0, 0, 1, 0, 0, 0, 0, 0, 0, 0, 0xaa, 0xbb, 0xcc, 0xdd,
     ];
@@ -263,16 +240,13 @@ fn frames_are_written_again(rt: HostRuntime) -> Result<(), Fail> {
         (error, error),
         (overrun, overrun),
     ] {
-        match canonical_frame(rt.alloc(), frame) {
-            Ok(written) => assert!(rt; written.as_slice() == text),
-            Err(_) => return Err(Fail::from("refused")),
-        }
+        let written = canonical_frame(rt.alloc(), frame);
+        assert!(rt; matches!(&written, Ok(written) if written.as_slice() == text));
     }
-    Ok(())
 }
 
 #[test]
-fn frames_are_refused(rt: HostRuntime) -> Result<(), Fail> {
+fn frames_are_refused(rt: HostRuntime) {
     let cut_header: &[u8] = &[0x28, 0, 0, 0];
     let short_length: &[u8] = &[15, 0, 0, 0, 20, 0, 0, 0, 0, 0, 0, 0, 0, 0, 0, 0];
     let cut_body: &[u8] = &[17, 0, 0, 0, 20, 0, 0, 0, 0, 0, 0, 0, 0, 0, 0, 0];
@@ -291,28 +265,34 @@ fn frames_are_refused(rt: HostRuntime) -> Result<(), Fail> {
     ] {
         assert!(rt; is_refused(rt.alloc(), bytes));
     }
-    Ok(())
 }
 
+/// A frame of 17 bytes, and what follows it.
+const FRAME: [u8; 20] = [
+    0x11, 0, 0, 0, 0x14, 0, 0, 0, 0, 0, 0, 0, 0, 0, 0, 0, 0x61, 0, 0, 0,
+];
+
 #[test]
-fn laws_are_seen_on_a_frame(rt: HostRuntime) -> Result<(), Fail> {
-    let bytes: &[u8] = &[
-        0x11, 0, 0, 0, 0x14, 0, 0, 0, 0, 0, 0, 0, 0, 0, 0, 0, 0x61, 0, 0, 0,
-    ];
-    let Ok(_view) = NetlinkBuffer::new_checked(bytes) else {
-        return Err(Fail::from("no frame"));
-    };
+fn laws_are_seen_on_a_frame(rt: HostRuntime) {
+    let bytes: &[u8] = &FRAME;
+    assert!(rt; NetlinkBuffer::new_checked(bytes).is_ok());
     laws::bytes_past_a_frame_change_nothing::<KeptMessage>(bytes, &[]);
     laws::cut_frames_are_refused::<KeptMessage>(bytes, 0);
     laws::bodies_end_with_their_frame(bytes, &[]);
-    let mut message = read(rt.alloc(), bytes)?;
+}
+
+#[test]
+fn laws_are_seen_on_a_message(rt: HostRuntime) -> Result<(), Fail> {
+    let Some(mut message) = read(rt.alloc(), &FRAME) else {
+        return Err(Fail::from("refused"));
+    };
     assert!(rt; message.buffer_len() == 17);
     message.finalize();
-    laws::messages_read_back(&message, bytes);
-    laws::messages_are_frames(&message, bytes);
-    laws::canonical_frames_are_stable(&message, &message, bytes);
+    laws::messages_read_back(&message, &FRAME);
+    laws::messages_are_frames(&message, &FRAME);
+    laws::canonical_frames_are_stable(&message, &message, &FRAME);
     laws::texts_have_one_message(&message, &message);
-    assert!(rt; read(rt.alloc(), &bytes[..17])? == message);
+    assert!(rt; read(rt.alloc(), &FRAME[..17]) == Some(message));
     Ok(())
 }
 
@@ -330,7 +310,7 @@ fn a_short_length_is_refused_whatever_follows(rt: HostRuntime) {
 }
 
 #[test]
-fn constants_are_those_of_the_kernel(rt: HostRuntime) -> Result<(), Fail> {
+fn constants_are_those_of_the_kernel(rt: HostRuntime) {
     for (constant, number) in [
         (NLM_F_REQUEST, 1),
         (NLM_F_MULTIPART, 2),
@@ -357,5 +337,4 @@ fn constants_are_those_of_the_kernel(rt: HostRuntime) -> Result<(), Fail> {
     ] {
         assert!(rt; constant == number);
     }
-    Ok(())
 }

@@ -2,7 +2,7 @@ use netlink_packet_core::{
     DecodeError, DoneBuffer, ErrorBuffer, ErrorContext, NetlinkBuffer, NlaBuffer, emit_u32,
     parse_ip, parse_mac, parse_str, parse_u8, parse_u16_be,
 };
-use std::alloc::AllocError;
+use std::alloc::{AllocError, Global};
 use std::test::Fail;
 
 /// Why these bytes begin with no whole attribute.
@@ -13,6 +13,11 @@ fn of_attribute(bytes: &[u8]) -> Option<DecodeError> {
 /// Why these bytes begin with no whole frame.
 fn of_frame(bytes: &[u8]) -> Option<DecodeError> {
     NetlinkBuffer::new_checked(bytes).err()
+}
+
+/// What is shown of a refusal.
+fn shown(alloc: Global, error: &DecodeError) -> Result<String, Fail> {
+    Ok(format!(in alloc; "{error}")?)
 }
 
 #[test]
@@ -67,14 +72,13 @@ fn causes_are_shown(rt: HostRuntime) -> Result<(), Fail> {
         let Some(error) = refusal else {
             return Err(Fail::from("accepted"));
         };
-        assert!(rt; format!(in rt.alloc(); "{error}")?.as_str() == want);
+        assert!(rt; shown(rt.alloc(), &error)?.as_str() == want);
     }
     let Err(error) = emit_u32(&mut three, 42) else {
         return Err(Fail::from("accepted"));
     };
     assert!(rt;
-        format!(in rt.alloc(); "{error}")?.as_str()
-            == "buffer of 3 bytes is too small for a value of 4"
+        shown(rt.alloc(), &error)?.as_str() == "buffer of 3 bytes is too small for a value of 4"
     );
     assert!(rt; three == [1, 2, 3]);
     Ok(())
@@ -86,12 +90,12 @@ fn four_contexts_are_shown(rt: HostRuntime) -> Result<(), Fail> {
         return Err(Fail::from("accepted"));
     };
     assert!(rt;
-        format!(in rt.alloc(); "{error}")?.as_str()
+        shown(rt.alloc(), &error)?.as_str()
             == "b caused by a caused by invalid number: 0 bytes, not 1"
     );
     let five = error.context("c").with_context(|| "d").context("e");
     assert!(rt;
-        format!(in rt.alloc(); "{five}")?.as_str()
+        shown(rt.alloc(), &five)?.as_str()
             == "d caused by c caused by b caused by a caused by invalid number: 0 bytes, not 1"
     );
     Ok(())

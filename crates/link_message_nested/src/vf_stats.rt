@@ -1,6 +1,9 @@
 //! Statistics of virtual functions (if_link.h, IFLA_VF_STATS_*). Numbers are little-endian.
 
-ghost use Rattle.std.specs.Prelude.{refl};
+ghost use Rattle.std.specs.Prelude.{refl, IfNone, IfSome, ◌≡◌};
+ghost use Rattle.netlink_packet_core.specs.Families.{attribute};
+ghost use Rattle.netlink_packet_core.specs.Numbers.{le8};
+ghost use Rattle.attribute_tables_grammar.specs.LookUps.{has_no_row};
 ghost use Rattle.link_message_grammar.specs.NestedTables.{vf_stats};
 ghost use Rattle.link_message_nested.specs.VfStatistics.{vf_stats_entry, vf_stats_names_row};
 
@@ -65,6 +68,27 @@ impl FieldNla for VfStats {
     }
 }
 
+impl VfStats {
+    // The statistic of a kind.
+    fn of_u64(kind: u16, number: u64) -> Option<Self>
+        ensures value { IfSome result (λ v. vf_stats_entry v ≡ attribute kind (le8 number)) }
+        ensures names_row { IfSome result (λ v. vf_stats_names_row v) }
+        ensures none { IfNone result (has_no_row vf_stats kind) }
+    {
+        match kind {
+            IFLA_VF_STATS_RX_PACKETS => Some(Self::RxPackets(number)),
+            IFLA_VF_STATS_TX_PACKETS => Some(Self::TxPackets(number)),
+            IFLA_VF_STATS_RX_BYTES => Some(Self::RxBytes(number)),
+            IFLA_VF_STATS_TX_BYTES => Some(Self::TxBytes(number)),
+            IFLA_VF_STATS_BROADCAST => Some(Self::Broadcast(number)),
+            IFLA_VF_STATS_MULTICAST => Some(Self::Multicast(number)),
+            IFLA_VF_STATS_RX_DROPPED => Some(Self::RxDropped(number)),
+            IFLA_VF_STATS_TX_DROPPED => Some(Self::TxDropped(number)),
+            _ => None,
+        }
+    }
+}
+
 impl Family for VfStats {
     ghost rows = { vf_stats };
 
@@ -72,14 +96,14 @@ impl Family for VfStats {
 
     fn read_row(_alloc: Global, kind: u16, payload: &[u8]) -> Result<Option<Self>, DecodeError> {
         match kind {
-            IFLA_VF_STATS_RX_PACKETS => typed!(RxPackets, parse_u64(payload)),
-            IFLA_VF_STATS_TX_PACKETS => typed!(TxPackets, parse_u64(payload)),
-            IFLA_VF_STATS_RX_BYTES => typed!(RxBytes, parse_u64(payload)),
-            IFLA_VF_STATS_TX_BYTES => typed!(TxBytes, parse_u64(payload)),
-            IFLA_VF_STATS_BROADCAST => typed!(Broadcast, parse_u64(payload)),
-            IFLA_VF_STATS_MULTICAST => typed!(Multicast, parse_u64(payload)),
-            IFLA_VF_STATS_RX_DROPPED => typed!(RxDropped, parse_u64(payload)),
-            IFLA_VF_STATS_TX_DROPPED => typed!(TxDropped, parse_u64(payload)),
+            IFLA_VF_STATS_RX_PACKETS
+            | IFLA_VF_STATS_TX_PACKETS
+            | IFLA_VF_STATS_RX_BYTES
+            | IFLA_VF_STATS_TX_BYTES
+            | IFLA_VF_STATS_BROADCAST
+            | IFLA_VF_STATS_MULTICAST
+            | IFLA_VF_STATS_RX_DROPPED
+            | IFLA_VF_STATS_TX_DROPPED => typed!(of_u64(kind), parse_u64(payload)),
             _ => Ok(None),
         }
     }

@@ -1,6 +1,8 @@
 //! Programs of the express data path (if_link.h, IFLA_XDP_*). Numbers are little-endian.
 
-ghost use Rattle.std.specs.Prelude.{refl};
+ghost use Rattle.std.specs.Prelude.{refl, IfNone, IfSome, ◌≡◌, ◌≢◌};
+ghost use Rattle.netlink_packet_core.specs.Families.{attribute};
+ghost use Rattle.netlink_packet_core.specs.Numbers.{le4};
 ghost use Rattle.link_message_grammar.specs.NestedTables.{xdp};
 ghost use Rattle.link_message_nested.specs.Xdp.{link_xdp_entry, link_xdp_names_row};
 
@@ -68,6 +70,26 @@ impl FieldNla for LinkXdp {
     }
 }
 
+impl LinkXdp {
+    // The attribute of a kind that holds 4 bytes without a sign.
+    fn of_u32(kind: u16, number: u32) -> Option<Self>
+        ensures value { IfSome result (λ v. link_xdp_entry v ≡ attribute kind (le4 number)) }
+        ensures names_row { IfSome result (λ v. link_xdp_names_row v) }
+        ensures none { IfNone result
+            (kind ≢ 3 × kind ≢ 4 × kind ≢ 5 × kind ≢ 6 × kind ≢ 7 × kind ≢ 8) }
+    {
+        match kind {
+            IFLA_XDP_FLAGS => Some(Self::Flags(number)),
+            IFLA_XDP_PROG_ID => Some(Self::ProgId(number)),
+            IFLA_XDP_DRV_PROG_ID => Some(Self::DrvProgId(number)),
+            IFLA_XDP_SKB_PROG_ID => Some(Self::SkbProgId(number)),
+            IFLA_XDP_HW_PROG_ID => Some(Self::HwProgId(number)),
+            IFLA_XDP_EXPECTED_FD => Some(Self::ExpectedFd(number)),
+            _ => None,
+        }
+    }
+}
+
 impl Family for LinkXdp {
     ghost rows = { xdp };
 
@@ -80,12 +102,12 @@ impl Family for LinkXdp {
                 Ok(number) => Ok(Some(Self::Attached(XdpAttached::try_from(number)?))),
                 Err(error) => Err(error),
             },
-            IFLA_XDP_FLAGS => typed!(Flags, parse_u32(payload)),
-            IFLA_XDP_PROG_ID => typed!(ProgId, parse_u32(payload)),
-            IFLA_XDP_DRV_PROG_ID => typed!(DrvProgId, parse_u32(payload)),
-            IFLA_XDP_SKB_PROG_ID => typed!(SkbProgId, parse_u32(payload)),
-            IFLA_XDP_HW_PROG_ID => typed!(HwProgId, parse_u32(payload)),
-            IFLA_XDP_EXPECTED_FD => typed!(ExpectedFd, parse_u32(payload)),
+            IFLA_XDP_FLAGS
+            | IFLA_XDP_PROG_ID
+            | IFLA_XDP_DRV_PROG_ID
+            | IFLA_XDP_SKB_PROG_ID
+            | IFLA_XDP_HW_PROG_ID
+            | IFLA_XDP_EXPECTED_FD => typed!(of_u32(kind), parse_u32(payload)),
             _ => Ok(None),
         }
     }

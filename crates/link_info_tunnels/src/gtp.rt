@@ -1,6 +1,8 @@
 //! Data of the kind `gtp` (if_link.h, IFLA_GTP_*). Numbers are little-endian.
 
-ghost use Rattle.std.specs.Prelude.{refl};
+ghost use Rattle.std.specs.Prelude.{refl, IfNone, IfSome, ◌≡◌, ◌≢◌};
+ghost use Rattle.netlink_packet_core.specs.Families.{attribute};
+ghost use Rattle.netlink_packet_core.specs.Numbers.{le4};
 ghost use Rattle.link_info_grammar.specs.Families.{gtp};
 ghost use Rattle.link_info_tunnels.specs.Gtp.{gtp_entry, gtp_names_row};
 
@@ -70,6 +72,23 @@ impl FieldNla for InfoGtp {
     }
 }
 
+impl InfoGtp {
+    // The attribute of a kind that holds a number of 4 bytes.
+    fn of_u32(kind: u16, number: u32) -> Option<Self>
+        ensures value { IfSome result (λ v. gtp_entry v ≡ attribute kind (le4 number)) }
+        ensures names_row { IfSome result (λ v. gtp_names_row v) }
+        ensures none { IfNone result (kind ≢ 1 × kind ≢ 2 × kind ≢ 3 × kind ≢ 4) }
+    {
+        match kind {
+            IFLA_GTP_FD0 => Some(Self::Fd0(number)),
+            IFLA_GTP_FD1 => Some(Self::Fd1(number)),
+            IFLA_GTP_PDP_HASHSIZE => Some(Self::PdpHashsize(number)),
+            IFLA_GTP_ROLE => Some(Self::Role(GtpRole::from(number))),
+            _ => None,
+        }
+    }
+}
+
 impl Family for InfoGtp {
     ghost rows = { gtp };
 
@@ -77,10 +96,10 @@ impl Family for InfoGtp {
 
     fn read_row(_alloc: Global, kind: u16, payload: &[u8]) -> Result<Option<Self>, DecodeError> {
         match kind {
-            IFLA_GTP_FD0 => typed!(Fd0, parse_u32(payload)),
-            IFLA_GTP_FD1 => typed!(Fd1, parse_u32(payload)),
-            IFLA_GTP_PDP_HASHSIZE => typed!(PdpHashsize, parse_u32(payload)),
-            IFLA_GTP_ROLE => typed!(Role, parse_u32(payload), GtpRole),
+            IFLA_GTP_FD0 | IFLA_GTP_FD1 | IFLA_GTP_PDP_HASHSIZE | IFLA_GTP_ROLE => typed!(
+                of_u32(kind),
+                parse_u32(payload)
+            ),
             IFLA_GTP_CREATE_SOCKETS => typed!(CreateSockets, parse_bool(payload)),
             IFLA_GTP_RESTART_COUNT => typed!(RestartCount, parse_u8(payload)),
             IFLA_GTP_LOCAL => typed!(Local, parse_ipv4_addr(payload)),

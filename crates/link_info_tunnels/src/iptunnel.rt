@@ -13,9 +13,10 @@ ghost use Rattle.netlink_packet_core.specs.NlaBuffers.{storage};
 ghost use Rattle.attribute_tables_grammar.specs.Lists.{any, without_context};
 ghost use Rattle.attribute_tables_grammar.specs.LookUps.{has_no_row};
 ghost use Rattle.attribute_tables_grammar.specs.Readings.{reading_as};
+ghost use Rattle.attribute_tables_grammar.specs.Rules.{shape_rule};
 ghost use Rattle.link_info_kinds.specs.declared.info_kind.InfoKind.{InfoKind};
 ghost use Rattle.link_info_tunnels.specs.IpTunnel.{ip_tunnel_entry, ip_tunnel_names_row, ip_tunnel_of};
-ghost use Rattle.link_info_tunnels.specs.IpTunnel.{ip_tunnel_begins_accepted, ip_tunnel_rule};
+ghost use Rattle.link_info_tunnels.specs.IpTunnel.{ip_tunnel_begins_accepted, ip_tunnel_rule, tunnel_flags};
 ghost use Rattle.attribute_tables.specs.Outcomes.{IfMemory, IfRead, ListIsReadAs, ListIsWrittenBy, SucceedsExactlyWhere, SucceedsWhere};
 
 use attribute_tables::{Reader, parse_list, typed};
@@ -243,6 +244,26 @@ impl InfoIpTunnel {
         }
     }
 
+    // Reads the payload of `IFLA_IPTUN_FLAGS` under a kind of links.
+    fn read_flags(payload: &[u8], link: &InfoKind) -> Result<Self, DecodeError>
+        ensures judged { SucceedsExactlyWhere result
+            ((shape_rule (tunnel_flags link.now)).accepted payload.now) }
+        ensures value { IfOk result
+            (λ v. ip_tunnel_entry v
+            ≡ attribute 8 ((shape_rule (tunnel_flags link.now)).canonical payload.now)) }
+        ensures names_row { IfOk result (λ v. ip_tunnel_names_row link.now v) }
+        ensures memory { IfErr result (λ e. is_memory e ≡ false) }
+    {
+        match link {
+            InfoKind::IpIp => Ok(Self::Ipv4Flags(parse_u16_be(payload)?)),
+            InfoKind::SitTun => Ok(Self::Ipv6SitFlags(parse_u16_be(payload)?)),
+            InfoKind::Ip6Tnl => Ok(Self::Ipv6Flags(Ip6TunnelFlags::from_bits_retain(parse_u32(
+                payload,
+            )?))),
+            _ => Err(DecodeError::from("flags of a tunnel under a kind that has none")),
+        }
+    }
+
     // Reads one attribute under a kind of links; `None` where its kind has no row.
     #[tactic(auto, unfolding(crate::specs::IpTunnel::ip_tunnel_of))]
     fn read_row(buf: &NlaBuffer<&[u8]>, link: &InfoKind) -> Result<Option<Self>, DecodeError>
@@ -268,18 +289,7 @@ impl InfoIpTunnel {
                 parse_u8(payload)
             ),
             IFLA_IPTUN_FLOWINFO => typed!(FlowInfo, parse_u32_be(payload)),
-            IFLA_IPTUN_FLAGS => match link {
-                InfoKind::IpIp => typed!(Ipv4Flags, parse_u16_be(payload)),
-                InfoKind::SitTun => typed!(Ipv6SitFlags, parse_u16_be(payload)),
-                InfoKind::Ip6Tnl => {
-                    typed!(
-                        Ipv6Flags,
-                        parse_u32(payload),
-                        Ip6TunnelFlags::from_bits_retain
-                    )
-                }
-                _ => Err(DecodeError::from("flags of a tunnel under a kind that has none")),
-            },
+            IFLA_IPTUN_FLAGS => Ok(Some(Self::read_flags(payload, link)?)),
             IFLA_IPTUN_PMTUDISC => typed!(PMtuDisc, parse_bool(payload)),
             IFLA_IPTUN_6RD_PREFIX => typed!(Ipv6RdPrefix, parse_ipv6_addr(payload)),
             IFLA_IPTUN_6RD_RELAY_PREFIX => typed!(Ipv6RdRelayPrefix, parse_ipv4_addr(payload)),

@@ -101,6 +101,14 @@ fn kept(alloc: Global) -> Result<Vec<DefaultNla>, Fail> {
     Ok(vec![in alloc; nla]?)
 }
 
+/// Whether a list is read as what these families tell, and written from it again.
+fn are_families(alloc: Global, bytes: &[u8], values: &[AfSpecUnspec]) -> bool {
+    match parse_families(alloc, bytes) {
+        Ok(list) => list.as_slice() == values && are_written_as(&list, bytes),
+        Err(_) => false,
+    }
+}
+
 #[test]
 fn what_families_tell(rt: HostRuntime) -> Result<(), Fail> {
     let bytes = &[
@@ -117,9 +125,7 @@ fn what_families_tell(rt: HostRuntime) -> Result<(), Fail> {
         AfSpecInet6::AddrGenMode(In6AddrGenMode::StablePrivacy),
     ]?;
     let values = &[mctp, AfSpecUnspec::Inet6(inet6)];
-    let list = parse_families(rt.alloc(), bytes)?;
-    assert!(rt; list.as_slice() == values.as_slice());
-    assert!(rt; are_written_as(&list, bytes));
+    assert!(rt; are_families(rt.alloc(), bytes, values));
     Ok(())
 }
 

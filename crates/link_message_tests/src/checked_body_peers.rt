@@ -1,6 +1,7 @@
 //! Bodies of link messages whose link info holds the other end of a pair.
 
-use link_message::{BodyMeasure, check, same, write_canonical};
+use super::messages::canonical;
+use link_message::{BodyMeasure, check, same};
 use std::test::Fail;
 
 // A pair whose peer has a name without a NUL, and as it is written.
@@ -59,18 +60,14 @@ fn peers_in_bodies_are_judged_as_bodies(rt: HostRuntime) -> Result<(), Fail> {
         (CUT_INSIDE, CUT_INSIDE_WRITTEN, 8),
         (INSIDE_WRITTEN, INSIDE_WRITTEN, 8),
     ] {
-        let measure = check(bytes)?;
-        let wanted = BodyMeasure {
+        let measure = BodyMeasure {
             text_len: text.len() as u128,
             attributes,
             fits: true,
             empty_ports: false,
         };
-        assert!(rt; measure == wanted);
-        assert!(rt; measure.fits && !measure.empty_ports);
-        let mut out = Vec::new(rt.alloc());
-        write_canonical(bytes, &mut out)?;
-        assert!(rt; out.as_slice() == text);
+        assert!(rt; check(bytes)? == measure);
+        assert!(rt; canonical(rt.alloc(), bytes)?.as_slice() == text);
     }
     for bytes in [CUT_PEER, EMPTY_PORTS] {
         assert!(rt; check(bytes).is_err());

@@ -1,6 +1,7 @@
 //! Link info whose peers are bodies of link messages.
 
-use link_info::{ListMeasure, PeerRule, check_list, check_list_with, same_list, same_list_with};
+use super::values::{counts, is_refused};
+use link_info::{PeerRule, check_list, check_list_with, same_list, same_list_with};
 use link_message::LinkPeer;
 use std::test::Fail;
 
@@ -35,29 +36,20 @@ const VETH_EMPTY_PORTS: &[u8] = b"\x09\0\x01\0veth\0\0\0\0\x20\0\x02\0\x1c\0\x01
 const VETH_THREE: &[u8] = b"\x09\0\x01\0veth\0\0\0\0\x0c\0\x02\0\x07\0\x01\0abc\0";
 
 #[test]
-fn attributes_of_peers_count(rt: HostRuntime) -> Result<(), Fail> {
-    for (bytes, text_len, attributes) in [
-        (VETH, 48, 3),
-        (VETH_SHORTER, 44, 3),
-        (VETH_PADDED, 48, 3),
+fn attributes_of_peers_count(rt: HostRuntime) {
+    for (bytes, by_bytes, by_body) in [
+        (VETH, (48, 3, true), Some((48, 4, true))),
+        (VETH_SHORTER, (44, 3, true), Some((48, 4, true))),
+        (VETH_PADDED, (48, 3, true), Some((48, 4, true))),
+        (VETH_EMPTY_PORTS, (44, 3, true), None),
+        (VETH_THREE, (24, 3, true), None),
     ] {
-        let by_bytes = ListMeasure {
-            text_len,
-            attributes,
-            fits: true,
-        };
-        let by_body = ListMeasure {
-            text_len: 48,
-            attributes: 4,
-            fits: true,
-        };
-        let told = [check_list(bytes)?, check_list_with(bytes, &LinkPeer)?];
-        assert!(rt; told == [by_bytes, by_body]);
+        let told = [
+            counts(check_list(bytes)),
+            counts(check_list_with(bytes, &LinkPeer)),
+        ];
+        assert!(rt; told == [Some(by_bytes), by_body]);
     }
-    for bytes in [VETH_EMPTY_PORTS, VETH_THREE] {
-        assert!(rt; check_list(bytes).is_ok() && check_list_with(bytes, &LinkPeer).is_err());
-    }
-    Ok(())
 }
 
 #[test]
@@ -103,10 +95,7 @@ fn peers_are_written_as_bodies(rt: HostRuntime) -> Result<(), Fail> {
         assert!(rt; LinkPeer.canonical(rt.alloc(), payload)?.as_slice() == BODY);
     }
     for payload in [EMPTY_PORTS, b"abc".as_slice()] {
-        match LinkPeer.canonical(rt.alloc(), payload) {
-            Ok(_) => return Err(Fail::from("accepted")),
-            Err(error) => assert!(rt; !error.is_memory()),
-        }
+        assert!(rt; is_refused(LinkPeer.canonical(rt.alloc(), payload)));
     }
     Ok(())
 }

@@ -1,7 +1,7 @@
 //! Lists of link info, measured and compared on their bytes.
 
-use link_info::{ListMeasure, check_list, same_list};
-use std::test::Fail;
+use super::values::counts;
+use link_info::{check_list, same_list};
 
 // A link of IPsec, with its data.
 const XFRM: &[u8] = b"\x09\0\x01\0xfrm\0\0\0\0\
@@ -11,24 +11,18 @@ const XFRM: &[u8] = b"\x09\0\x01\0xfrm\0\0\0\0\
 const NO_KIND: &[u8] = b"\x04\0\x02\0";
 
 #[test]
-fn lists_are_counted(rt: HostRuntime) -> Result<(), Fail> {
+fn lists_are_counted(rt: HostRuntime) {
     // The longest name, which is written with a NUL more than fits.
     let mut name = [0x61u8; 65535];
     name[..4].copy_from_slice(b"\xff\xff\x01\0");
-    for (bytes, text_len, attributes, fits) in [
-        (b"".as_slice(), 0, 0, true),
-        (XFRM, 32, 4, true),
-        (name.as_slice(), 65536, 1, false),
+    for (bytes, told) in [
+        (b"".as_slice(), Some((0, 0, true))),
+        (XFRM, Some((32, 4, true))),
+        (name.as_slice(), Some((65536, 1, false))),
+        (NO_KIND, None),
     ] {
-        let measure = ListMeasure {
-            text_len,
-            attributes,
-            fits,
-        };
-        assert!(rt; check_list(bytes)? == measure);
+        assert!(rt; counts(check_list(bytes)) == told);
     }
-    assert!(rt; check_list(NO_KIND).is_err());
-    Ok(())
 }
 
 // The same link without the NUL behind its name, and with flag bits.
@@ -50,7 +44,7 @@ const TTL_FLAG: &[u8] = b"\x0a\0\x01\0vxlan\0\0\0\x08\0\x02\0\x04\0\x1c\0";
 const TTL_BYTE: &[u8] = b"\x0a\0\x01\0vxlan\0\0\0\x0c\0\x02\0\x05\0\x1c\0\0\0\0\0";
 
 #[test]
-fn lists_are_compared(rt: HostRuntime) -> Result<(), Fail> {
+fn lists_are_compared(rt: HostRuntime) {
     for (left, right, is_same) in [
         (b"".as_slice(), b"".as_slice(), true),
         (b"".as_slice(), XFRM, false),
@@ -60,8 +54,6 @@ fn lists_are_compared(rt: HostRuntime) -> Result<(), Fail> {
         (UNLISTED, UNLISTED_NESTED, false),
         (TTL_FLAG, TTL_BYTE, false),
     ] {
-        assert!(rt; same_list(left, right) == is_same);
-        assert!(rt; same_list(right, left) == is_same);
+        assert!(rt; [same_list(left, right), same_list(right, left)] == [is_same; 2]);
     }
-    Ok(())
 }

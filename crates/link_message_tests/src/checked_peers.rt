@@ -2,9 +2,9 @@
 
 ghost use Rattle.link_message_tests.specs.FrontPeers.{front_peer};
 
+use super::values::{counts, is_refused};
 use link_info::{
-    BytesPeer, ListMeasure, PeerMeasure, PeerRule, check_list, check_list_with, same_list,
-    same_list_with,
+    BytesPeer, PeerMeasure, PeerRule, check_list, check_list_with, same_list, same_list_with,
 };
 use netlink_packet_core::DecodeError;
 use std::alloc::Global;
@@ -54,34 +54,20 @@ const NETKIT: &[u8] =
 const NETKIT_SHORT: &[u8] = b"\x0b\0\x01\0netkit\0\0\x0c\0\x02\0\x07\0\x01\0abc\0";
 
 #[test]
-fn peers_are_counted_by_the_rule(rt: HostRuntime) -> Result<(), Fail> {
+fn peers_are_counted_by_the_rule(rt: HostRuntime) {
     for (bytes, by_rule, by_bytes) in [
-        (VETH, Some((24, 4)), (28, 3)),
-        (VETH_SHORT, None, (24, 3)),
-        (NETKIT, Some((32, 5)), (36, 4)),
-        (NETKIT_SHORT, None, (24, 3)),
+        (VETH, Some((24, 4, true)), (28, 3, true)),
+        (VETH_SHORT, None, (24, 3, true)),
+        (NETKIT, Some((32, 5, true)), (36, 4, true)),
+        (NETKIT_SHORT, None, (24, 3, true)),
     ] {
-        let (text_len, attributes) = by_bytes;
-        let measure = ListMeasure {
-            text_len,
-            attributes,
-            fits: true,
-        };
-        let told = [check_list(bytes)?, check_list_with(bytes, &BytesPeer)?];
-        assert!(rt; told == [measure, measure]);
-        match by_rule {
-            Some((text_len, attributes)) => {
-                let measure = ListMeasure {
-                    text_len,
-                    attributes,
-                    fits: true,
-                };
-                assert!(rt; check_list_with(bytes, &FrontPeer)? == measure);
-            }
-            None => assert!(rt; check_list_with(bytes, &FrontPeer).is_err()),
-        }
+        let told = [
+            counts(check_list_with(bytes, &FrontPeer)),
+            counts(check_list_with(bytes, &BytesPeer)),
+            counts(check_list(bytes)),
+        ];
+        assert!(rt; told == [by_rule, Some(by_bytes), Some(by_bytes)]);
     }
-    Ok(())
 }
 
 // The first pair with other bytes behind the four, and with others among them.
@@ -110,11 +96,6 @@ fn peers_are_written(rt: HostRuntime) -> Result<(), Fail> {
     let payload = b"abcdef".as_slice();
     assert!(rt; BytesPeer.canonical(rt.alloc(), payload)?.as_slice() == payload);
     assert!(rt; FrontPeer.canonical(rt.alloc(), payload)?.as_slice() == &payload[..FRONT]);
-    match FrontPeer.canonical(rt.alloc(), &payload[..3]) {
-        Ok(_) => Err(Fail::from("accepted")),
-        Err(error) => {
-            assert!(rt; !error.is_memory());
-            Ok(())
-        }
-    }
+    assert!(rt; is_refused(FrontPeer.canonical(rt.alloc(), &payload[..3])));
+    Ok(())
 }

@@ -26,4 +26,6 @@ mod single_attributes;
 #[cfg(test)]
 mod types;
 #[cfg(test)]
+mod values;
+#[cfg(test)]
 mod virtual_functions;

@@ -1,5 +1,6 @@
 //! Bodies of link messages: what they are read as, and written as.
 
+use super::values::{is_refused, is_value};
 use crate::callers::{request_by_name, with_mtu, written};
 use link_info::{InfoData, InfoKind, InfoVeth, InfoVxlan, LinkInfo};
 use link_message::{
@@ -167,7 +168,7 @@ fn rewritten(alloc: Global, bytes: &[u8]) -> Result<Vec<u8>, Fail> {
 }
 
 /// The canonical text of a body, straight from its bytes.
-fn canonical(alloc: Global, bytes: &[u8]) -> Result<Vec<u8>, Fail> {
+pub(crate) fn canonical(alloc: Global, bytes: &[u8]) -> Result<Vec<u8>, Fail> {
     let Ok(found) = check(bytes) else {
         return Err(Fail::from("refused"));
     };
@@ -182,27 +183,102 @@ fn canonical(alloc: Global, bytes: &[u8]) -> Result<Vec<u8>, Fail> {
     Ok(out)
 }
 
-/// Whether a body is refused, and not for want of memory.
-fn is_refused(alloc: Global, bytes: &[u8]) -> bool {
-    match LinkMessage::parse(alloc, bytes) {
-        Ok(_) => false,
-        Err(error) => !error.is_memory(),
-    }
+/// Whether a body is written as this text, by its message and straight from its bytes.
+fn has_text(alloc: Global, bytes: &[u8], text: &[u8]) -> Result<bool, Fail> {
+    Ok(rewritten(alloc, bytes)?.as_slice() == text && canonical(alloc, bytes)?.as_slice() == text)
 }
 
-/// A message about all links, with this attribute.
-fn message_with(alloc: Global, attribute: LinkAttribute) -> Result<LinkMessage, Fail> {
+/// Whether attributes of a body have a list of ports without a port.
+fn have_empty_ports(alloc: Global, attributes: &[u8]) -> Result<bool, Fail> {
+    Ok(LinkMessage::parse(alloc, &body(alloc, attributes)?)?.has_empty_ports())
+}
+
+/// A message of this family about all links, with this attribute.
+fn message_with(
+    alloc: Global,
+    family: AddressFamily,
+    attribute: LinkAttribute,
+) -> Result<LinkMessage, Fail> {
+    let mut header = LinkHeader::parse(&[0; LINK_HEADER_LEN])?;
+    header.interface_family = family;
     Ok(LinkMessage {
-        header: LinkHeader::parse(&[0; LINK_HEADER_LEN])?,
+        header,
         attributes: vec![in alloc; attribute]?,
     })
 }
 
-/// A name of so many bytes.
-fn name(alloc: Global, size: usize) -> Result<LinkAttribute, Fail> {
-    match String::from_utf8(Vec::from_elem(alloc, b'a', size)?) {
-        Ok(name) => Ok(LinkAttribute::IfName(name)),
-        Err(_) => Err(Fail::from("a name of ASCII")),
+/// What a message of this family is written as, with an MTU of 1500.
+fn written_under(alloc: Global, family: AddressFamily) -> Result<Vec<u8>, Fail> {
+    let message = message_with(alloc, family, LinkAttribute::Mtu(1500))?;
+    Ok(written(alloc, &message)?)
+}
+
+/// How many bytes a message with a name of so many bytes has; none, if it doesn't fit.
+fn size_with_name(alloc: Global, size: usize) -> Result<Option<usize>, Fail> {
+    let Ok(name) = String::from_utf8(Vec::from_elem(alloc, b'a', size)?) else {
+        return Err(Fail::from("a name of ASCII"));
+    };
+    let message = message_with(alloc, AddressFamily::Unspec, LinkAttribute::IfName(name))?;
+    Ok(message.fits().then_some(message.buffer_len()))
+}
+
+/// Whether link info is that of a VXLAN with these data.
+fn are_vxlan(infos: &[LinkInfo], data: &[InfoVxlan]) -> bool {
+    match infos {
+        [
+            LinkInfo::Kind(InfoKind::Vxlan),
+            LinkInfo::Data(InfoData::Vxlan(found)),
+        ] => { found.as_slice() == data }
+        _ => false,
+    }
+}
+
+/// Whether the data of a link are this peer of a veth.
+fn is_peer(data: &InfoData, peer: &[u8]) -> bool {
+    match data {
+        InfoData::Veth(InfoVeth::Peer(found)) => found.as_slice() == peer,
+        _ => false,
+    }
+}
+
+/// Whether link info is that of a veth with this peer.
+fn is_veth(infos: &[LinkInfo], peer: &[u8]) -> bool {
+    match infos {
+        [LinkInfo::Kind(InfoKind::Veth), LinkInfo::Data(data)] => is_peer(data, peer),
+        _ => false,
+    }
+}
+
+/// Whether attributes are read as such link info.
+fn are_veth(alloc: Global, attributes: &[u8], peer: &[u8]) -> Result<bool, Fail> {
+    let message = LinkMessage::parse(alloc, &body(alloc, attributes)?)?;
+    match message.attributes.as_slice() {
+        [LinkAttribute::LinkInfo(infos)] => Ok(is_veth(infos, peer)),
+        _ => Ok(false),
+    }
+}
+
+/// Whether a list is read as such link info by itself, under the rule of peers.
+fn is_list_of_veth(alloc: Global, list: &[u8], peer: &[u8]) -> bool {
+    match LinkInfo::parse_list_with(alloc, list, &LinkPeer) {
+        Ok(infos) => is_veth(&infos, peer),
+        Err(_) => false,
+    }
+}
+
+/// Whether a payload is read as the data in it by themselves, under the rule of peers.
+fn are_data_of_veth(alloc: Global, payload: &[u8], peer: &[u8]) -> Result<bool, Fail> {
+    let wanted = InfoData::Veth(InfoVeth::Peer(Vec::from_slice(alloc, peer)?));
+    let data = InfoData::parse_with_peers(alloc, payload, &InfoKind::Veth, &LinkPeer);
+    Ok(is_value(data, wanted))
+}
+
+/// Whether a body is read as a message with this name alone.
+fn is_named(alloc: Global, bytes: &[u8], name: &str) -> Result<bool, Fail> {
+    let message = LinkMessage::parse(alloc, bytes)?;
+    match message.attributes.as_slice() {
+        [LinkAttribute::IfName(found)] => Ok(found.as_str() == name),
+        _ => Ok(false),
     }
 }
 
@@ -238,14 +314,7 @@ fn link_info_is_typed(rt: HostRuntime) -> Result<(), Fail> {
     let [LinkAttribute::LinkInfo(infos)] = message.attributes.as_slice() else {
         return Err(Fail::from("other attributes"));
     };
-    let [
-        LinkInfo::Kind(InfoKind::Vxlan),
-        LinkInfo::Data(InfoData::Vxlan(data)),
-    ] = infos.as_slice()
-    else {
-        return Err(Fail::from("other link info"));
-    };
-    assert!(rt; data.as_slice() == [InfoVxlan::Learning(true), InfoVxlan::Gbp].as_slice());
+    assert!(rt; are_vxlan(infos, &[InfoVxlan::Learning(true), InfoVxlan::Gbp]));
     Ok(())
 }
 
@@ -253,33 +322,15 @@ fn link_info_is_typed(rt: HostRuntime) -> Result<(), Fail> {
 /// message, it is judged as one, with the peers in it.
 #[test]
 fn peers_are_messages(rt: HostRuntime) -> Result<(), Fail> {
-    for (attributes, wanted, is_message) in PEERS {
-        let message = LinkMessage::parse(rt.alloc(), &body(rt.alloc(), attributes)?)?;
-        let [LinkAttribute::LinkInfo(infos)] = message.attributes.as_slice() else {
-            return Err(Fail::from("other attributes"));
-        };
-        let [
-            LinkInfo::Kind(InfoKind::Veth),
-            LinkInfo::Data(InfoData::Veth(InfoVeth::Peer(peer))),
-        ] = infos.as_slice()
-        else {
-            return Err(Fail::from("other link info"));
-        };
-        assert!(rt; peer.as_slice() == wanted);
-        assert!(rt; is_refused(rt.alloc(), peer) == !is_message);
-        // link info by itself, and its data, under the rule of peers
+    for (attributes, peer, is_message) in PEERS {
+        assert!(rt; are_veth(rt.alloc(), attributes, peer)?);
+        assert!(rt; is_refused(LinkMessage::parse(rt.alloc(), peer)) == !is_message);
         let list = attributes.get(4..).unwrap_or(b"");
-        let alone = LinkInfo::parse_list_with(rt.alloc(), list, &LinkPeer)?;
-        assert!(rt; alone.as_slice() == infos.as_slice());
+        assert!(rt; is_list_of_veth(rt.alloc(), list, peer));
         let payload = list.get(16..).unwrap_or(b"");
-        let data = InfoData::parse_with_peers(rt.alloc(), payload, &InfoKind::Veth, &LinkPeer)?;
-        assert!(rt; data == InfoData::Veth(InfoVeth::Peer(Vec::from_slice(rt.alloc(), wanted)?)));
+        assert!(rt; are_data_of_veth(rt.alloc(), payload, peer)?);
     }
-    let peer = LinkMessage::parse(rt.alloc(), PEER)?;
-    let [LinkAttribute::IfName(name)] = peer.attributes.as_slice() else {
-        return Err(Fail::from("other attributes of the peer"));
-    };
-    assert!(rt; name.as_str() == "lo");
+    assert!(rt; is_named(rt.alloc(), PEER, "lo")?);
     Ok(())
 }
 
@@ -288,8 +339,7 @@ fn attributes_are_rewritten(rt: HostRuntime) -> Result<(), Fail> {
     for (attributes, wanted) in REWRITTEN {
         let bytes = body(rt.alloc(), attributes)?;
         let wanted = body(rt.alloc(), wanted)?;
-        assert!(rt; rewritten(rt.alloc(), &bytes)? == wanted);
-        assert!(rt; canonical(rt.alloc(), &bytes)? == wanted);
+        assert!(rt; has_text(rt.alloc(), &bytes, &wanted)?);
     }
     Ok(())
 }
@@ -297,8 +347,7 @@ fn attributes_are_rewritten(rt: HostRuntime) -> Result<(), Fail> {
 #[test]
 fn headers_are_rewritten(rt: HostRuntime) -> Result<(), Fail> {
     for (header, wanted) in HEADERS {
-        assert!(rt; rewritten(rt.alloc(), header)?.as_slice() == wanted);
-        assert!(rt; canonical(rt.alloc(), header)?.as_slice() == wanted);
+        assert!(rt; has_text(rt.alloc(), header, wanted)?);
     }
     Ok(())
 }
@@ -306,10 +355,11 @@ fn headers_are_rewritten(rt: HostRuntime) -> Result<(), Fail> {
 #[test]
 fn other_bodies_are_refused(rt: HostRuntime) -> Result<(), Fail> {
     for bytes in SHORT {
-        assert!(rt; is_refused(rt.alloc(), bytes));
+        assert!(rt; is_refused(LinkMessage::parse(rt.alloc(), bytes)));
     }
     for attributes in REFUSED {
-        assert!(rt; is_refused(rt.alloc(), &body(rt.alloc(), attributes)?));
+        let bytes = body(rt.alloc(), attributes)?;
+        assert!(rt; is_refused(LinkMessage::parse(rt.alloc(), &bytes)));
     }
     Ok(())
 }
@@ -317,8 +367,7 @@ fn other_bodies_are_refused(rt: HostRuntime) -> Result<(), Fail> {
 #[test]
 fn lists_without_a_port_are_told(rt: HostRuntime) -> Result<(), Fail> {
     for (attributes, is_emptied) in PORTS {
-        let message = LinkMessage::parse(rt.alloc(), &body(rt.alloc(), attributes)?)?;
-        assert!(rt; message.has_empty_ports() == is_emptied);
+        assert!(rt; have_empty_ports(rt.alloc(), attributes)? == is_emptied);
     }
     Ok(())
 }
@@ -326,22 +375,17 @@ fn lists_without_a_port_are_told(rt: HostRuntime) -> Result<(), Fail> {
 /// With its NUL and its header the longer name has 65536 bytes.
 #[test]
 fn a_name_of_65530_bytes_fits(rt: HostRuntime) -> Result<(), Fail> {
-    let longest = message_with(rt.alloc(), name(rt.alloc(), 65530)?)?;
-    assert!(rt; longest.fits());
-    assert!(rt; longest.buffer_len() == 65552);
-    let longer = message_with(rt.alloc(), name(rt.alloc(), 65531)?)?;
-    assert!(rt; !longer.fits());
+    assert!(rt; size_with_name(rt.alloc(), 65530)? == Some(65552));
+    assert!(rt; size_with_name(rt.alloc(), 65531)? == None);
     Ok(())
 }
 
 /// The number of a bridge in `Other` is written as that number, which names a bridge.
 #[test]
 fn a_family_is_written_as_its_number(rt: HostRuntime) -> Result<(), Fail> {
-    let mut message = message_with(rt.alloc(), LinkAttribute::Mtu(1500))?;
-    message.header.interface_family = AddressFamily::Other(7);
-    let bytes = written(rt.alloc(), &message)?;
+    let bytes = written_under(rt.alloc(), AddressFamily::Other(7))?;
     let again = LinkMessage::parse(rt.alloc(), &bytes)?;
     assert!(rt; again.header.interface_family == AddressFamily::Bridge);
-    assert!(rt; again.attributes == message.attributes);
+    assert!(rt; again.attributes.as_slice() == [LinkAttribute::Mtu(1500)].as_slice());
     Ok(())
 }

@@ -1,21 +1,19 @@
+use super::values::{is_value, mctp, virtual_function};
 use attribute_tables::parse_family;
 use link_message::{AddressFamily, LinkAttribute};
 use link_message_nested::{
-    AfSpecInet, AfSpecInet6, AfSpecMctp, AfSpecUnspec, DevlinkPort, DpllPin, LinkProtoInfoInet6,
-    LinkProtocolDownReason, LinkVfInfo, LinkVfPort, LinkXdp, Prop, VfInfo, VfPort, VfVlan,
-    parse_families, parse_raw,
+    AfSpecInet, AfSpecInet6, AfSpecUnspec, DevlinkPort, DpllPin, LinkProtoInfoInet6,
+    LinkProtocolDownReason, LinkVfPort, LinkXdp, Prop, VfPort, parse_families, parse_raw,
 };
-use link_message_records::{Map, Values, VfVlanInfo};
-use link_message_types::{
-    Flags, In6AddrGenMode, Inet6IfaceFlags, MctpPhysBinding, VlanProtocol, XdpAttached,
-};
-use netlink_packet_core::{DefaultNla, Family, Nla, emit_all, fits_all, len_all};
+use link_message_records::{Map, Values};
+use link_message_types::{Flags, In6AddrGenMode, Inet6IfaceFlags, XdpAttached};
+use netlink_packet_core::{DecodeError, DefaultNla, Family, Nla, emit_all, fits_all, len_all};
 use std::alloc::Global;
 use std::net::Ipv6Addr;
 use std::test::Fail;
 
 /// Whether values are written as these bytes, 64 at most.
-fn are_written_as<N: Nla>(values: &[N], bytes: &[u8]) -> bool {
+pub(crate) fn are_written_as<N: Nla>(values: &[N], bytes: &[u8]) -> bool {
     let mut text = [0xffu8; 64];
     let size = len_all(values);
     if !fits_all(values) || size > text.len() {
@@ -26,19 +24,22 @@ fn are_written_as<N: Nla>(values: &[N], bytes: &[u8]) -> bool {
 }
 
 /// Whether a list is read as these values, and written from them again.
-fn is_list_of<F>(alloc: Global, bytes: &[u8], values: &[F]) -> Result<bool, Fail>
+fn is_list_of<F>(alloc: Global, bytes: &[u8], values: &[F]) -> bool
 where
     F: Family + PartialEq + Drop,
 {
-    let list: Vec<F> = parse_family(alloc, bytes)?;
-    Ok(list.as_slice() == values && are_written_as(&list, bytes))
+    let read: Result<Vec<F>, DecodeError> = parse_family(alloc, bytes);
+    match read {
+        Ok(list) => list.as_slice() == values && are_written_as(&list, bytes),
+        Err(_) => false,
+    }
 }
 
 #[test]
 fn other_names(rt: HostRuntime) -> Result<(), Fail> {
     let name = String::from_str(rt.alloc(), "lo")?;
     let bytes = &[7, 0, 53, 0, b'l', b'o', 0, 0];
-    assert!(rt; is_list_of(rt.alloc(), bytes, &[Prop::AltIfName(name)])?);
+    assert!(rt; is_list_of(rt.alloc(), bytes, &[Prop::AltIfName(name)]));
     Ok(())
 }
 
@@ -52,7 +53,7 @@ fn ports_of_devlink(rt: HostRuntime) -> Result<(), Fail> {
         DevlinkPort::PortIndex(5),
     ];
     let bytes = b"\x08\0\x01\0pci\0\x08\0\x02\x000:1\0\x08\0\x03\0\x05\0\0\0";
-    assert!(rt; is_list_of(rt.alloc(), bytes, values)?);
+    assert!(rt; is_list_of(rt.alloc(), bytes, values));
     Ok(())
 }
 
@@ -63,9 +64,9 @@ fn reasons_pins_and_programs(rt: HostRuntime) -> Result<(), Fail> {
         LinkProtocolDownReason::Value(1),
     ];
     let bytes = &[8, 0, 1, 0, 3, 0, 0, 0, 8, 0, 2, 0, 1, 0, 0, 0];
-    assert!(rt; is_list_of(rt.alloc(), bytes, reasons)?);
+    assert!(rt; is_list_of(rt.alloc(), bytes, reasons));
     let pins = &[DpllPin::PinId(42)];
-    assert!(rt; is_list_of(rt.alloc(), &[8, 0, 1, 0, 42, 0, 0, 0], pins)?);
+    assert!(rt; is_list_of(rt.alloc(), &[8, 0, 1, 0, 42, 0, 0, 0], pins));
     let programs = &[
         LinkXdp::Fd(-1),
         LinkXdp::Attached(XdpAttached::Driver),
@@ -74,21 +75,38 @@ fn reasons_pins_and_programs(rt: HostRuntime) -> Result<(), Fail> {
     let bytes = &[
         8, 0, 1, 0, 255, 255, 255, 255, 5, 0, 2, 0, 1, 0, 0, 0, 8, 0, 8, 0, 7, 0, 0, 0,
     ];
-    assert!(rt; is_list_of(rt.alloc(), bytes, programs)?);
+    assert!(rt; is_list_of(rt.alloc(), bytes, programs));
     Ok(())
 }
 
 #[test]
 fn raw_lists(rt: HostRuntime) -> Result<(), Fail> {
     let bytes = &[5, 0, 1, 0x80, 7, 0, 0, 0];
-    let kept = DefaultNla::new(0x8001, [7u8].to_vec(rt.alloc())?);
-    let list = parse_raw(rt.alloc(), bytes)?;
-    assert!(rt; list.as_slice() == [kept].as_slice());
-    let kept = DefaultNla::new(0x8001, [7u8].to_vec(rt.alloc())?);
-    let values = &[LinkProtoInfoInet6::Other(kept)];
-    assert!(rt; is_list_of(rt.alloc(), bytes, values)?);
+    assert!(rt; is_value(parse_raw(rt.alloc(), bytes), kept(rt.alloc())?));
     assert!(rt; parse_raw(rt.alloc(), &[3]).is_err());
     Ok(())
+}
+
+#[test]
+fn what_inet6_tells_is_kept(rt: HostRuntime) -> Result<(), Fail> {
+    let bytes = &[5, 0, 1, 0x80, 7, 0, 0, 0];
+    let kept = DefaultNla::new(0x8001, [7u8].to_vec(rt.alloc())?);
+    assert!(rt; is_list_of(rt.alloc(), bytes, &[LinkProtoInfoInet6::Other(kept)]));
+    Ok(())
+}
+
+/// A list of one attribute that is kept as it is: kind 0x8001, and a byte 7.
+fn kept(alloc: Global) -> Result<Vec<DefaultNla>, Fail> {
+    let nla = DefaultNla::new(0x8001, [7u8].to_vec(alloc)?);
+    Ok(vec![in alloc; nla]?)
+}
+
+/// Whether a list is read as what these families tell, and written from it again.
+fn are_families(alloc: Global, bytes: &[u8], values: &[AfSpecUnspec]) -> bool {
+    match parse_families(alloc, bytes) {
+        Ok(list) => list.as_slice() == values && are_written_as(&list, bytes),
+        Err(_) => false,
+    }
 }
 
 #[test]
@@ -99,17 +117,15 @@ fn what_families_tell(rt: HostRuntime) -> Result<(), Fail> {
         2, 0, 0, 0,
     ];
     let flags = Inet6IfaceFlags::RsSent.union(Inet6IfaceFlags::Ready);
-    let protocol = vec![in rt.alloc(); AfSpecMctp::PhysBinding(MctpPhysBinding::Usb)]?;
+    let mctp = mctp(rt.alloc())?;
     let inet6 = vec![in rt.alloc();
         AfSpecInet6::Flags(flags),
         AfSpecInet6::Token(Ipv6Addr::LOCALHOST),
         AfSpecInet6::RaMtu(1500),
         AfSpecInet6::AddrGenMode(In6AddrGenMode::StablePrivacy),
     ]?;
-    let values = &[AfSpecUnspec::Mctp(protocol), AfSpecUnspec::Inet6(inet6)];
-    let list = parse_families(rt.alloc(), bytes)?;
-    assert!(rt; list.as_slice() == values.as_slice());
-    assert!(rt; are_written_as(&list, bytes));
+    let values = &[mctp, AfSpecUnspec::Inet6(inet6)];
+    assert!(rt; are_families(rt.alloc(), bytes, values));
     Ok(())
 }
 
@@ -125,45 +141,45 @@ fn settings_are_requested(rt: HostRuntime) {
     assert!(rt; are_written_as(request, bytes));
 }
 
-/// Whether each attribute is read under its family as this value, and written from it again.
-fn are_attributes(
-    alloc: Global,
-    cases: &[(AddressFamily, &[u8], LinkAttribute)],
-) -> Result<bool, Fail> {
-    for (family, bytes, value) in cases {
-        let list = LinkAttribute::parse_list(alloc, bytes, *family)?;
-        let [read] = list.as_slice() else {
-            return Ok(false);
-        };
-        if read != value || !are_written_as(&list, bytes) {
-            return Ok(false);
-        }
+/// Whether an attribute is read in a list under a family as this value, and written from it again.
+fn is_attribute(alloc: Global, family: AddressFamily, bytes: &[u8], value: &LinkAttribute) -> bool {
+    let Ok(list) = LinkAttribute::parse_list(alloc, bytes, family) else {
+        return false;
+    };
+    match list.as_slice() {
+        [read] => read == value && are_written_as(&list, bytes),
+        _ => false,
     }
-    Ok(true)
 }
 
-/// A list of one attribute that is kept as it is: kind 0x8001, and a byte 7.
-fn kept(alloc: Global) -> Result<Vec<DefaultNla>, Fail> {
-    let nla = DefaultNla::new(0x8001, [7u8].to_vec(alloc)?);
-    Ok(vec![in alloc; nla]?)
+/// Whether each attribute is read so under its family.
+fn are_attributes(alloc: Global, cases: &[(AddressFamily, &[u8], LinkAttribute)]) -> bool {
+    for (family, bytes, value) in cases {
+        if !is_attribute(alloc, *family, bytes, value) {
+            return false;
+        }
+    }
+    true
 }
 
 #[test]
 fn rows_go_by_the_family(rt: HostRuntime) -> Result<(), Fail> {
-    let protocol = vec![in rt.alloc(); AfSpecMctp::PhysBinding(MctpPhysBinding::Usb)]?;
-    let families = vec![in rt.alloc(); AfSpecUnspec::Mctp(protocol)]?;
-    let bridge = LinkAttribute::ProtoInfoBridge(kept(rt.alloc())?);
-    let inet6 = LinkAttribute::ProtoInfoInet6(Vec::new(rt.alloc()));
-    let unknown = DefaultNla::new(0xc00c, Vec::new(rt.alloc()));
+    let families = vec![in rt.alloc(); mctp(rt.alloc())?]?;
     let bytes = [255u8].to_vec(rt.alloc())?;
-    let specific = LinkAttribute::AfSpecBridge(kept(rt.alloc())?);
+    let info = kept(rt.alloc())?;
+    let specific = kept(rt.alloc())?;
+    let unknown = DefaultNla::new(0xc00c, Vec::new(rt.alloc()));
     let cases: &[(AddressFamily, &[u8], LinkAttribute)] = &[
         (
             AddressFamily::Bridge,
             &[12, 0, 12, 0, 5, 0, 1, 0x80, 7, 0, 0, 0],
-            bridge,
+            LinkAttribute::ProtoInfoBridge(info),
         ),
-        (AddressFamily::Inet6, &[4, 0, 12, 0], inet6),
+        (
+            AddressFamily::Inet6,
+            &[4, 0, 12, 0],
+            LinkAttribute::ProtoInfoInet6(Vec::new(rt.alloc())),
+        ),
         (
             AddressFamily::Inet,
             &[4, 0, 12, 0xc0],
@@ -177,7 +193,7 @@ fn rows_go_by_the_family(rt: HostRuntime) -> Result<(), Fail> {
         (
             AddressFamily::Bridge,
             &[12, 0, 26, 0, 5, 0, 1, 0x80, 7, 0, 0, 0],
-            specific,
+            LinkAttribute::AfSpecBridge(specific),
         ),
         (
             AddressFamily::Inet6,
@@ -185,20 +201,21 @@ fn rows_go_by_the_family(rt: HostRuntime) -> Result<(), Fail> {
             LinkAttribute::AfSpecUnknown(bytes),
         ),
     ];
-    assert!(rt; are_attributes(rt.alloc(), cases)?);
+    assert!(rt; are_attributes(rt.alloc(), cases));
     Ok(())
+}
+
+/// A port with an attribute that is kept as it is, of the kind 7 and without a byte.
+fn port(alloc: Global) -> Result<LinkVfPort, Fail> {
+    let nla = DefaultNla::new(7, Vec::new(alloc));
+    Ok(LinkVfPort(vec![in alloc; VfPort::Other(nla)]?))
 }
 
 #[test]
 fn records_and_lists_of_links(rt: HostRuntime) -> Result<(), Fail> {
-    let vlan = VfVlanInfo::new(0, 100, 0, VlanProtocol::Ieee8021Q);
-    let vlans = vec![in rt.alloc(); VfVlan::Info(vlan)]?;
-    let function = LinkVfInfo(vec![in rt.alloc(); VfInfo::VlanList(vlans)]?);
-    let functions = vec![in rt.alloc(); function]?;
-    let nla = DefaultNla::new(7, Vec::new(rt.alloc()));
-    let ports = vec![in rt.alloc(); LinkVfPort(vec![in rt.alloc(); VfPort::Other(nla)]?)]?;
-    let nla = DefaultNla::new(7, Vec::new(rt.alloc()));
-    let port = LinkVfPort(vec![in rt.alloc(); VfPort::Other(nla)]?);
+    let functions = vec![in rt.alloc(); virtual_function(rt.alloc())?]?;
+    let ports = vec![in rt.alloc(); port(rt.alloc())?]?;
+    let port = port(rt.alloc())?;
     let pins = vec![in rt.alloc(); DpllPin::PinId(42)]?;
     let map = Map {
         memory_start: 1,
@@ -241,6 +258,6 @@ fn records_and_lists_of_links(rt: HostRuntime) -> Result<(), Fail> {
             LinkAttribute::Map(map),
         ),
     ];
-    assert!(rt; are_attributes(rt.alloc(), cases)?);
+    assert!(rt; are_attributes(rt.alloc(), cases));
     Ok(())
 }

@@ -1,13 +1,11 @@
 //! Single attributes by their own readers, which stand beside those of lists. The bytes are written by hand from
 //! if_link.h and mctp.h.
 
+use super::values::{is_value, mctp, virtual_function, vlan_list};
 use link_message_nested::{
-    AfSpecInet, AfSpecInet6, AfSpecMctp, AfSpecUnspec, LinkVfInfo, LinkVfPort, VfInfo, VfPort,
-    VfVlan,
+    AfSpecInet, AfSpecInet6, AfSpecUnspec, LinkVfInfo, LinkVfPort, VfInfo, VfPort, VfVlan,
 };
-use link_message_records::VfVlanInfo;
-use link_message_types::{MctpPhysBinding, VlanProtocol};
-use netlink_packet_core::{DefaultNla, NlaBuffer, Parseable};
+use netlink_packet_core::{DecodeError, DefaultNla, NlaBuffer, Parseable};
 use std::alloc::Global;
 use std::test::Fail;
 
@@ -25,21 +23,18 @@ const FUNCTION: [u8; 28] = [
     28, 0, 1, 0, 24, 0, 12, 0, 20, 0, 1, 0, 0, 0, 0, 0, 100, 0, 0, 0, 0, 0, 0, 0, 129, 0, 0, 0,
 ];
 
-/// The list of VLANs in it.
-fn vlan_list(alloc: Global) -> Result<VfInfo, Fail> {
-    let vlan = VfVlanInfo::new(0, 100, 0, VlanProtocol::Ieee8021Q);
-    Ok(VfInfo::VlanList(vec![in alloc; VfVlan::Info(vlan)]?))
-}
-
 #[test]
 fn virtual_functions_are_read(rt: HostRuntime) -> Result<(), Fail> {
     let alloc = rt.alloc();
-    let vlan = VfVlan::parse(alloc, &NlaBuffer::new_checked(UNLISTED.as_slice())?)?;
-    assert!(rt; vlan == VfVlan::Other(unlisted(alloc)?));
-    let info = VfInfo::parse(alloc, &NlaBuffer::new_checked(&FUNCTION[4..])?)?;
-    assert!(rt; info == vlan_list(alloc)?);
-    let function = LinkVfInfo::parse(alloc, &NlaBuffer::new_checked(FUNCTION.as_slice())?)?;
-    assert!(rt; function == LinkVfInfo(vec![in alloc; vlan_list(alloc)?]?));
+    let vlan = &NlaBuffer::new_checked(UNLISTED.as_slice())?;
+    let wanted = VfVlan::Other(unlisted(alloc)?);
+    assert!(rt; is_value(VfVlan::parse(alloc, vlan), wanted));
+    let info = &NlaBuffer::new_checked(&FUNCTION[4..])?;
+    let wanted = vlan_list(alloc)?;
+    assert!(rt; is_value(VfInfo::parse(alloc, info), wanted));
+    let function = &NlaBuffer::new_checked(FUNCTION.as_slice())?;
+    let wanted = virtual_function(alloc)?;
+    assert!(rt; is_value(LinkVfInfo::parse(alloc, function), wanted));
     Ok(())
 }
 
@@ -47,41 +42,43 @@ fn virtual_functions_are_read(rt: HostRuntime) -> Result<(), Fail> {
 fn ports_are_read(rt: HostRuntime) -> Result<(), Fail> {
     let alloc = rt.alloc();
     let bytes = [12, 0, 1, 0, 5, 0, 99, 0, 7, 0, 0, 0];
-    let port = LinkVfPort::parse(alloc, &NlaBuffer::new_checked(bytes.as_slice())?)?;
-    assert!(rt; port == LinkVfPort(vec![in alloc; VfPort::Other(unlisted(alloc)?)]?));
+    let port = &NlaBuffer::new_checked(bytes.as_slice())?;
+    let wanted = LinkVfPort(vec![in alloc; VfPort::Other(unlisted(alloc)?)]?);
+    assert!(rt; is_value(LinkVfPort::parse(alloc, port), wanted));
     Ok(())
+}
+
+/// Whether an attribute is a virtual function, and whether it is a port.
+fn are_read(alloc: Global, bytes: &[u8]) -> Result<[bool; 2], DecodeError> {
+    let buffer = NlaBuffer::new_checked(bytes)?;
+    Ok([
+        LinkVfInfo::parse(alloc, &buffer).is_ok(),
+        LinkVfPort::parse(alloc, &buffer).is_ok(),
+    ])
 }
 
 #[test]
 fn other_kinds_than_one_are_refused(rt: HostRuntime) -> Result<(), Fail> {
-    let alloc = rt.alloc();
-    // The same attributes, of the kinds 0, 2 and 257.
-    for kind in &[[0, 0], [2, 0], [1, 1]] {
-        let function = [8, 0, kind[0], kind[1], 4, 0, 99, 0];
-        let buffer = NlaBuffer::new_checked(function.as_slice())?;
-        assert!(rt;
-            LinkVfInfo::parse(alloc, &buffer).is_err() && LinkVfPort::parse(alloc, &buffer).is_err()
-        );
+    // The same attributes, of the kinds 1, 0, 2 and 257.
+    for (low, high, is_read) in [(1, 0, true), (0, 0, false), (2, 0, false), (1, 1, false)] {
+        let told = are_read(rt.alloc(), &[8, 0, low, high, 4, 0, 99, 0])?;
+        assert!(rt; told == [is_read; 2]);
     }
-    let buffer = NlaBuffer::new_checked([8, 0, 1, 0, 4, 0, 99, 0].as_slice())?;
-    assert!(rt;
-        LinkVfInfo::parse(alloc, &buffer).is_ok() && LinkVfPort::parse(alloc, &buffer).is_ok()
-    );
     Ok(())
 }
 
 #[test]
 fn what_families_tell_is_read(rt: HostRuntime) -> Result<(), Fail> {
     let alloc = rt.alloc();
-    let buffer = NlaBuffer::new_checked(UNLISTED.as_slice())?;
-    let inet = AfSpecInet::parse(alloc, &buffer)?;
-    assert!(rt; inet == AfSpecInet::Other(unlisted(alloc)?));
-    let inet6 = AfSpecInet6::parse(alloc, &buffer)?;
-    assert!(rt; inet6 == AfSpecInet6::Other(unlisted(alloc)?));
+    let buffer = &NlaBuffer::new_checked(UNLISTED.as_slice())?;
+    let wanted = AfSpecInet::Other(unlisted(alloc)?);
+    assert!(rt; is_value(AfSpecInet::parse(alloc, buffer), wanted));
+    let wanted = AfSpecInet6::Other(unlisted(alloc)?);
+    assert!(rt; is_value(AfSpecInet6::parse(alloc, buffer), wanted));
     // `AF_MCTP` with `IFLA_MCTP_PHYS_BINDING`, which is USB.
     let bytes = [12, 0, 45, 0, 5, 0, 2, 0, 3, 0, 0, 0];
-    let family = AfSpecUnspec::parse(alloc, &NlaBuffer::new_checked(bytes.as_slice())?)?;
-    let binding = AfSpecMctp::PhysBinding(MctpPhysBinding::Usb);
-    assert!(rt; family == AfSpecUnspec::Mctp(vec![in alloc; binding]?));
+    let buffer = &NlaBuffer::new_checked(bytes.as_slice())?;
+    let wanted = mctp(alloc)?;
+    assert!(rt; is_value(AfSpecUnspec::parse(alloc, buffer), wanted));
     Ok(())
 }

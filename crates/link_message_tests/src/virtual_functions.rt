@@ -1,62 +1,76 @@
+use super::nested::are_written_as;
+use super::values::{is_value, virtual_function};
 use attribute_tables::{parse_entries, parse_ports};
-use link_message_nested::{LinkVfInfo, LinkVfInfoReader, LinkVfPortReader, VfInfo, VfVlan};
-use link_message_records::{VfInfoMac, VfVlanInfo};
-use link_message_types::VlanProtocol;
-use netlink_packet_core::{emit_all, fits_all, len_all};
+use link_message_nested::{LinkVfInfoReader, LinkVfPortReader};
+use link_message_records::VfInfoMac;
+use std::alloc::Global;
 use std::test::Fail;
 
-#[test]
-fn lists_are_rewritten(rt: HostRuntime) -> Result<(), Fail> {
-    let cases: &[(&[u8], &[u8])] = &[
-        (
-            &[
-                26, 0, 1, 0, 22, 0, 12, 0, 18, 0, 1, 0, 0, 0, 0, 0, 100, 0, 0, 0, 0, 0, 0, 0, 129,
-                0,
-            ],
-            &[
-                28, 0, 1, 0, 24, 0, 12, 0, 20, 0, 1, 0, 0, 0, 0, 0, 100, 0, 0, 0, 0, 0, 0, 0, 129,
-                0, 0, 0,
-            ],
-        ),
-        (
-            &[16, 0, 1, 0, 12, 0, 4, 0, 1, 0, 0, 0, 5, 0, 0, 0],
-            &[16, 0, 1, 0, 12, 0, 4, 0, 1, 0, 0, 0, 1, 0, 0, 0],
-        ),
-        (&[4, 0, 5, 0], &[]),
-        (&[4, 0, 5, 0, 4, 0, 1, 0], &[4, 0, 1, 0]),
-    ];
-    for (bytes, wanted) in cases {
-        let list = parse_entries(rt.alloc(), &LinkVfInfoReader, bytes)?;
-        let mut text = [0; 28];
-        let size = len_all(&list);
-        assert!(rt; size == wanted.len());
-        assert!(rt; size <= text.len());
-        assert!(rt; fits_all(&list));
-        emit_all(&list, &mut text);
-        assert!(rt; &text[..size] == *wanted);
+/// Virtual functions, and what they are written as.
+const REWRITTEN: [(&[u8], &[u8]); 4] = [
+    (&FUNCTION, &FUNCTION_TEXT),
+    (
+        &[16, 0, 1, 0, 12, 0, 4, 0, 1, 0, 0, 0, 5, 0, 0, 0],
+        &[16, 0, 1, 0, 12, 0, 4, 0, 1, 0, 0, 0, 1, 0, 0, 0],
+    ),
+    (&[4, 0, 5, 0], &[]),
+    (&[4, 0, 5, 0, 4, 0, 1, 0], &[4, 0, 1, 0]),
+];
+
+/// A function with a list of one VLAN, without the padding at its end.
+const FUNCTION: [u8; 26] = [
+    26, 0, 1, 0, 22, 0, 12, 0, 18, 0, 1, 0, 0, 0, 0, 0, 100, 0, 0, 0, 0, 0, 0, 0, 129, 0,
+];
+
+/// The same as it is written.
+const FUNCTION_TEXT: [u8; 28] = [
+    28, 0, 1, 0, 24, 0, 12, 0, 20, 0, 1, 0, 0, 0, 0, 0, 100, 0, 0, 0, 0, 0, 0, 0, 129, 0, 0, 0,
+];
+
+/// Whether virtual functions are written as these bytes.
+fn are_rewritten(alloc: Global, bytes: &[u8], text: &[u8]) -> bool {
+    match parse_entries(alloc, &LinkVfInfoReader, bytes) {
+        Ok(functions) => are_written_as(&functions, text),
+        Err(_) => false,
     }
-    Ok(())
+}
+
+#[test]
+fn lists_are_rewritten(rt: HostRuntime) {
+    for (bytes, text) in REWRITTEN {
+        assert!(rt; are_rewritten(rt.alloc(), bytes, text));
+    }
 }
 
 #[test]
 fn a_list_of_vlans_is_read(rt: HostRuntime) -> Result<(), Fail> {
-    let bytes = &[
-        26, 0, 1, 0, 22, 0, 12, 0, 18, 0, 1, 0, 0, 0, 0, 0, 100, 0, 0, 0, 0, 0, 0, 0, 129, 0,
-    ];
-    let list = parse_entries(rt.alloc(), &LinkVfInfoReader, bytes)?;
-    let vlan = VfVlanInfo::new(0, 100, 0, VlanProtocol::Ieee8021Q);
-    let vlans = vec![in rt.alloc(); VfVlan::Info(vlan)]?;
-    let wanted = LinkVfInfo(vec![in rt.alloc(); VfInfo::VlanList(vlans)]?);
-    assert!(rt; list.as_slice() == [wanted].as_slice());
+    let wanted = vec![in rt.alloc(); virtual_function(rt.alloc())?]?;
+    assert!(rt;
+        is_value(
+            parse_entries(rt.alloc(), &LinkVfInfoReader, &FUNCTION),
+            wanted
+        )
+    );
     Ok(())
 }
 
+/// How many ports a list holds; none, where it is refused.
+fn ports(alloc: Global, bytes: &[u8]) -> Option<usize> {
+    match parse_ports(alloc, &LinkVfPortReader, bytes) {
+        Ok(list) => Some(list.len()),
+        Err(_) => None,
+    }
+}
+
 #[test]
-fn ports_have_an_attribute(rt: HostRuntime) -> Result<(), Fail> {
-    assert!(rt; parse_ports(rt.alloc(), &LinkVfPortReader, &[]).is_err());
-    assert!(rt; parse_ports(rt.alloc(), &LinkVfPortReader, &[4, 0, 7, 0])?.len() == 0);
-    assert!(rt; parse_ports(rt.alloc(), &LinkVfPortReader, &[4, 0, 1, 0])?.len() == 1);
-    Ok(())
+fn ports_have_an_attribute(rt: HostRuntime) {
+    for (bytes, count) in [
+        (b"".as_slice(), None),
+        (b"\x04\0\x07\0".as_slice(), Some(0)),
+        (b"\x04\0\x01\0".as_slice(), Some(1)),
+    ] {
+        assert!(rt; ports(rt.alloc(), bytes) == count);
+    }
 }
 
 #[test]

@@ -1,6 +1,6 @@
 //! Captures: want of memory is told at a frame, and whole texts alone are written.
 
-use super::requests::last_request;
+use super::requests::tell_fault;
 use link_capture::{
     CaptureFault, CaptureReader, FaultKind, SliceSource, VecSink, normalize, normalize_bytes,
     read_all,
@@ -15,23 +15,23 @@ const CAPTURE: [u8; 96] = [
     7, 0, 3, 0, 108, 111, 0, 0,
 ];
 
+/// Whether texts are all of the capture's, or those of the frames before a fault of one of these kinds.
+fn are_texts(out: &[u8], answer: Result<(), CaptureFault>, kinds: &[FaultKind]) -> bool {
+    let Err(CaptureFault { kind, offset }) = answer else {
+        return out == CAPTURE.as_slice();
+    };
+    kinds.contains(&kind)
+        && (offset == 0 || offset == 48)
+        && out == &CAPTURE[..offset.min(96) as usize]
+}
+
 /// `out` has the texts of the frames before the fault.
 #[test]
 fn a_whole_capture(rt: HostRuntime) -> Result<(), Fail> {
     let mut out = Vec::new(rt.alloc());
-    match normalize_bytes(&CAPTURE, 1000, &mut out) {
-        Ok(()) => {
-            assert!(rt; out.as_slice() == CAPTURE.as_slice());
-            println!(rt; "normalize_bytes: ok")?;
-        }
-        Err(fault) => {
-            assert!(rt; fault.kind == FaultKind::Memory);
-            assert!(rt; fault.offset == 0 || fault.offset == 48);
-            assert!(rt; out.as_slice() == &CAPTURE[..fault.offset.min(96) as usize]);
-            println!(rt; "normalize_bytes: {fault}")?;
-        }
-    }
-    println!(rt; "last request: {}", last_request(rt.alloc()))?;
+    let answer = normalize_bytes(&CAPTURE, 1000, &mut out);
+    assert!(rt; are_texts(&out, answer, &[FaultKind::Memory]));
+    tell_fault(&rt, rt.alloc(), "normalize_bytes", answer)?;
     Ok(())
 }
 
@@ -40,30 +40,19 @@ fn a_whole_capture(rt: HostRuntime) -> Result<(), Fail> {
 fn a_capture_in_pieces(rt: HostRuntime) -> Result<(), Fail> {
     let mut reader = CaptureReader::new(rt.alloc(), 1000);
     let mut out = Vec::new(rt.alloc());
-    let mut first = None;
+    let mut first = Ok(());
     for piece in CAPTURE.chunks(40) {
         let answer = reader.feed(piece, &mut out);
-        if let Some(CaptureFault { offset, .. }) = first {
+        if let Err(CaptureFault { offset, .. }) = first {
             let kind = FaultKind::Failed;
             assert!(rt; answer == Err(CaptureFault { kind, offset }));
-        } else if let Err(fault) = answer {
-            assert!(rt; fault.kind == FaultKind::Memory);
-            assert!(rt; fault.offset == 0 || fault.offset == 48);
-            first = Some(fault);
+        } else {
+            first = answer;
         }
     }
-    match first {
-        None => {
-            assert!(rt; reader.finish().is_ok());
-            assert!(rt; out.as_slice() == CAPTURE.as_slice());
-            println!(rt; "feed: ok")?;
-        }
-        Some(fault) => {
-            assert!(rt; out.as_slice() == &CAPTURE[..fault.offset.min(96) as usize]);
-            println!(rt; "feed: {fault}")?;
-        }
-    }
-    println!(rt; "last request: {}", last_request(rt.alloc()))?;
+    assert!(rt; first.is_err() || reader.finish().is_ok());
+    assert!(rt; are_texts(&out, first, &[FaultKind::Memory]));
+    tell_fault(&rt, rt.alloc(), "feed", first)?;
     Ok(())
 }
 
@@ -72,36 +61,26 @@ fn a_capture_in_pieces(rt: HostRuntime) -> Result<(), Fail> {
 fn a_source_and_a_sink(rt: HostRuntime) -> Result<(), Fail> {
     let mut sink = VecSink::new(rt.alloc());
     let mut source = SliceSource::new(&CAPTURE);
-    match normalize(rt.alloc(), &mut source, &mut sink, 1000) {
-        Ok(()) => {
-            assert!(rt; sink.bytes() == CAPTURE.as_slice());
-            println!(rt; "normalize: ok")?;
-        }
-        Err(fault) => {
-            assert!(rt; fault.kind == FaultKind::Memory || fault.kind == FaultKind::Write);
-            assert!(rt; fault.offset == 0 || fault.offset == 48);
-            assert!(rt; sink.bytes() == &CAPTURE[..fault.offset.min(96) as usize]);
-            println!(rt; "normalize: {fault}")?;
-        }
-    }
-    println!(rt; "last request: {}", last_request(rt.alloc()))?;
+    let answer = normalize(rt.alloc(), &mut source, &mut sink, 1000);
+    let kinds = &[FaultKind::Memory, FaultKind::Write];
+    assert!(rt; are_texts(sink.bytes(), answer, kinds));
+    tell_fault(&rt, rt.alloc(), "normalize", answer)?;
     Ok(())
 }
 
 /// It is told at the number of bytes read.
 #[test]
 fn all_of_a_source(rt: HostRuntime) -> Result<(), Fail> {
-    match read_all(rt.alloc(), &mut SliceSource::new(&CAPTURE)) {
+    let answer = match read_all(rt.alloc(), &mut SliceSource::new(&CAPTURE)) {
         Ok(bytes) => {
             assert!(rt; bytes.as_slice() == CAPTURE.as_slice());
-            println!(rt; "read_all: ok")?;
+            Ok(())
         }
         Err(fault) => {
-            assert!(rt; fault.kind == FaultKind::Memory);
-            assert!(rt; fault.offset == 96);
-            println!(rt; "read_all: {fault}")?;
+            assert!(rt; fault.kind == FaultKind::Memory && fault.offset == 96);
+            Err(fault)
         }
-    }
-    println!(rt; "last request: {}", last_request(rt.alloc()))?;
+    };
+    tell_fault(&rt, rt.alloc(), "read_all", answer)?;
     Ok(())
 }

@@ -1,10 +1,10 @@
 //! Link messages and link info: want of memory is told as such, and never of an input that is refused.
 
-use super::requests::last_request;
+use super::requests::{is_refused, tell, tell_last};
 use link_capture::{NotReadable, ReadableLink};
 use link_info::{InfoKind, LinkInfo};
 use link_message::LinkMessage;
-use netlink_packet_core::{Emitable, emit_all, fits_all, len_all};
+use netlink_packet_core::{DecodeError, Emitable, emit_all, fits_all, len_all};
 use std::alloc::Global;
 use std::test::Fail;
 
@@ -61,16 +61,11 @@ fn is_written_as(message: &LinkMessage, text: &[u8]) -> bool {
     &buffer[..size] == text
 }
 
-/// What reading a body answers, where it is written as this text.
-fn reading(alloc: Global, bytes: &[u8], text: &[u8]) -> Result<&'static str, Fail> {
-    match LinkMessage::parse(alloc, bytes) {
-        Ok(message) => {
-            if is_written_as(&message, text) {
-                Ok("ok")
-            } else {
-                Err(Fail::from("another text"))
-            }
-        }
+/// What reading answers, where what is read is written as it should be.
+fn answer(is_written: Result<bool, DecodeError>) -> Result<&'static str, Fail> {
+    match is_written {
+        Ok(true) => Ok("ok"),
+        Ok(false) => Err(Fail::from("another text")),
         Err(error) => {
             if error.is_memory() {
                 Ok("no memory")
@@ -81,37 +76,49 @@ fn reading(alloc: Global, bytes: &[u8], text: &[u8]) -> Result<&'static str, Fai
     }
 }
 
+/// Whether the list of IPsec is written as it is read.
+fn keeps_xfrm(alloc: Global) -> Result<bool, DecodeError> {
+    Ok(is_xfrm(&LinkInfo::parse_list(alloc, &XFRM)?))
+}
+
+/// Whether a body is written as this text.
+fn has_text(alloc: Global, bytes: &[u8], text: &[u8]) -> Result<bool, DecodeError> {
+    Ok(is_written_as(&LinkMessage::parse(alloc, bytes)?, text))
+}
+
+/// Why a message isn't made readable, where it is or comes back unchanged.
+fn making_readable(alloc: Global, message: LinkMessage) -> Result<Option<NotReadable>, Fail> {
+    let (is_unchanged, why) = match ReadableLink::new(alloc, message) {
+        Ok(link) => (is_written_as(link.message(), &VXLAN), None),
+        Err((message, why)) => (is_written_as(&message, &VXLAN), Some(why)),
+    };
+    if is_unchanged {
+        Ok(why)
+    } else {
+        Err(Fail::from("another text"))
+    }
+}
+
 #[test]
 fn a_list_of_link_info(rt: HostRuntime) -> Result<(), Fail> {
     // The first request may be refused: a listed name asks for none.
     assert!(rt; InfoKind::from_name(rt.alloc(), "xfrm").is_ok());
-    match LinkInfo::parse_list(rt.alloc(), &XFRM) {
-        Ok(list) => {
-            assert!(rt; is_xfrm(&list));
-            println!(rt; "parse_list: ok")?;
-        }
-        Err(error) => {
-            assert!(rt; error.is_memory());
-            println!(rt; "parse_list: no memory")?;
-        }
-    }
-    println!(rt; "last request: {}", last_request(rt.alloc()))?;
+    let answer = answer(keeps_xfrm(rt.alloc()))?;
+    tell(&rt, rt.alloc(), "parse_list", answer)?;
     Ok(())
 }
 
 #[test]
 fn a_link_message(rt: HostRuntime) -> Result<(), Fail> {
-    let answer = reading(rt.alloc(), &VXLAN, &VXLAN)?;
-    println!(rt; "LinkMessage::parse: {answer}")?;
-    println!(rt; "last request: {}", last_request(rt.alloc()))?;
+    let answer = answer(has_text(rt.alloc(), &VXLAN, &VXLAN))?;
+    tell(&rt, rt.alloc(), "LinkMessage::parse", answer)?;
     Ok(())
 }
 
 #[test]
 fn a_link_message_with_a_peer(rt: HostRuntime) -> Result<(), Fail> {
-    let answer = reading(rt.alloc(), &VETH, &VETH_TEXT)?;
-    println!(rt; "LinkMessage::parse: {answer}")?;
-    println!(rt; "last request: {}", last_request(rt.alloc()))?;
+    let answer = answer(has_text(rt.alloc(), &VETH, &VETH_TEXT))?;
+    tell(&rt, rt.alloc(), "LinkMessage::parse", answer)?;
     Ok(())
 }
 
@@ -119,35 +126,25 @@ fn a_link_message_with_a_peer(rt: HostRuntime) -> Result<(), Fail> {
 #[test]
 fn a_readable_link(rt: HostRuntime) -> Result<(), Fail> {
     if let Ok(message) = LinkMessage::parse(rt.alloc(), &VXLAN) {
-        match ReadableLink::new(rt.alloc(), message) {
-            Ok(link) => {
-                assert!(rt; is_written_as(link.message(), &VXLAN));
-                println!(rt; "ReadableLink::new: ok")?;
-            }
-            Err((message, why)) => {
-                assert!(rt; why == NotReadable::Memory && is_written_as(&message, &VXLAN));
+        match making_readable(rt.alloc(), message)? {
+            None => println!(rt; "ReadableLink::new: ok")?,
+            Some(why) => {
+                assert!(rt; why == NotReadable::Memory);
                 println!(rt; "ReadableLink::new: {why}")?;
             }
         }
     }
-    println!(rt; "last request: {}", last_request(rt.alloc()))?;
+    tell_last(&rt, rt.alloc())?;
     Ok(())
 }
 
 /// What is refused behind an attribute that takes memory is refused where that is wanting, too.
 #[test]
 fn a_refused_input(rt: HostRuntime) -> Result<(), Fail> {
-    match LinkInfo::parse_list(rt.alloc(), &REFUSED_LIST) {
-        Ok(_) => return Err(Fail::from("accepted")),
-        Err(error) => assert!(rt; !error.is_memory()),
-    }
+    assert!(rt; is_refused(LinkInfo::parse_list(rt.alloc(), &REFUSED_LIST)));
     for body in [REFUSED_BODY.as_slice(), REFUSED_PEER.as_slice()] {
-        match LinkMessage::parse(rt.alloc(), body) {
-            Ok(_) => return Err(Fail::from("accepted")),
-            Err(error) => assert!(rt; !error.is_memory()),
-        }
+        assert!(rt; is_refused(LinkMessage::parse(rt.alloc(), body)));
     }
-    println!(rt; "refused input: refused")?;
-    println!(rt; "last request: {}", last_request(rt.alloc()))?;
+    tell(&rt, rt.alloc(), "refused input", "refused")?;
     Ok(())
 }

@@ -1,7 +1,7 @@
 //! Measures and comparisons: none asks for memory, so with each request refused they answer as ever.
 
 use super::links::{VXLAN, XFRM};
-use super::requests::last_request;
+use super::requests::tell;
 use link_capture::{CaptureFault, FaultKind, Measure, check, measure, normal_len, same};
 use link_info::{BytesPeer, ListMeasure, check_list, check_list_with, same_list, same_list_with};
 use link_message::BodyMeasure;
@@ -155,8 +155,7 @@ fn captures_are_measured(rt: HostRuntime) -> Result<(), Fail> {
     for (capture, kind, offset) in FAULTY {
         assert!(rt; measure(capture, 1000) == Err(CaptureFault { kind, offset }));
     }
-    println!(rt; "measure: as ever")?;
-    println!(rt; "last request: {}", last_request(rt.alloc()))?;
+    tell(&rt, rt.alloc(), "measure", "as ever")?;
     Ok(())
 }
 
@@ -170,8 +169,7 @@ fn a_body_is_measured(rt: HostRuntime) -> Result<(), Fail> {
         empty_ports: false,
     };
     assert!(rt; link_message::check(&VXLAN)? == wanted && link_message::same(&VXLAN, &VXLAN));
-    println!(rt; "link_message::check: as ever")?;
-    println!(rt; "last request: {}", last_request(rt.alloc()))?;
+    tell(&rt, rt.alloc(), "link_message::check", "as ever")?;
     Ok(())
 }
 
@@ -192,7 +190,6 @@ fn lists_are_measured(rt: HostRuntime) -> Result<(), Fail> {
         assert!(rt; check_list(list)? == wanted && check_list_with(list, &BytesPeer)? == wanted);
         assert!(rt; same_list(list, list) && same_list_with(list, list, &BytesPeer));
     }
-    println!(rt; "check_list: as ever")?;
-    println!(rt; "last request: {}", last_request(rt.alloc()))?;
+    tell(&rt, rt.alloc(), "check_list", "as ever")?;
     Ok(())
 }

@@ -83,7 +83,7 @@ frame_text_size c body h =
 
 pub text_length : (c body r : List ℕ) → 16 + length body < 2 ^ 32 → frame_length (frame_text c body ++ r) ≡ 16 + length body
 unfolding frame_text
-text_length c body r h = ap (u32_at 0) (append_assoc (le4 (16 + length body)) _ r) ∙ u32_at-le4 (16 + length body) _ h
+text_length c body r h = ap (u32_at 0) (append_assoc (le4 (16 + length body)) _ r) ∙ u32_at-le4 (16 + length body) _
 
 -- what stands behind the first four bytes
 after_length : (c body r : List ℕ) → drop 4 (frame_text c body ++ r) ≡ take 12 (drop 4 c) ++ (body ++ zeros (nla_align (16 + length body) - (16 + length body)) ++ r)

@@ -1,3 +1,5 @@
 pub mod ReadAgain
 pub mod Others
 pub mod WrittenBodies
+pub mod Exact
+pub mod Told

@@ -32,15 +32,17 @@ ruled_unfit b a p f = rw (a, p, f) refl
 pub record Own (t : List ℕ) : Type 0 where
   pub accepted : link_body.accepted t ≡ true
   pub canonical : link_body.canonical t ≡ t
+  pub no_empty_ports : link_body.empty_ports t ≡ false
+  pub fits : link_body.fits t ≡ true
 
-own_by : (t : List ℕ) (a p f : Bool) → link_body.accepted t ≡ a → cond a (cond p (Err empty_ports) (cond f (Ok (link_body.canonical t)) (Err unfit))) (Err refused) ≡ Ok t → Own t
-own_by t false p f h e = absurd cc
-own_by t true true f h e = absurd cc
-own_by t true false false h e = absurd cc
-own_by t true false true h e = record { accepted = h; canonical = cc }
+own_by : (t : List ℕ) (a p f : Bool) → link_body.accepted t ≡ a → link_body.empty_ports t ≡ p → link_body.fits t ≡ f → cond a (cond p (Err empty_ports) (cond f (Ok (link_body.canonical t)) (Err unfit))) (Err refused) ≡ Ok t → Own t
+own_by t false p f h k l e = absurd cc
+own_by t true true f h k l e = absurd cc
+own_by t true false false h k l e = absurd cc
+own_by t true false true h k l e = record { accepted = h; canonical = cc; no_empty_ports = k; fits = l }
 
-own : (t : List ℕ) → ruled_text link_body t ≡ Ok t → Own t
-own t h = own_by t (link_body.accepted t) (link_body.empty_ports t) (link_body.fits t) refl h
+pub own : (t : List ℕ) → ruled_text link_body t ≡ Ok t → Own t
+own t h = own_by t (link_body.accepted t) (link_body.empty_ports t) (link_body.fits t) refl refl refl h
 
 -- the first byte is kept
 first_byte : (b c : List ℕ) → 16 ≤ length b → slice_index (header_text b ++ c) 0 ≡ slice_index b 0
@@ -77,6 +79,7 @@ readable_from law parts b m r ports s f =
           family = r.family ∙ ap address_family_of (sym (ap (λ x. slice_index x 0) (r.text ∙ p.canonical) ∙ first_byte b _ long));
           text = sym o.canonical;
           names_row = r.names_row;
+          fits = f ∙ sym o.fits;
         },
         says_itself m f,
       );
@@ -85,8 +88,8 @@ readable_from law parts b m r ports s f =
 -- ---- a message that is read again
 
 -- what a reader says of some bytes, of the bytes that they are
-pub read_from : (b t : List ℕ) (n : LinkMessage) → b ≡ t → link_body.accepted b ≡ true → n.header.interface_family ≡ address_family_of (slice_index b 0) → link_message_text n ≡ link_body.canonical b → link_message_names_row n → IsReadFrom t n
-read_from b t n e a f x r = subst (λ (y : List ℕ). IsReadFrom y n) e (record { accepted = a; family = f; text = x; names_row = r })
+pub read_from : (b t : List ℕ) (n : LinkMessage) → b ≡ t → link_body.accepted b ≡ true → n.header.interface_family ≡ address_family_of (slice_index b 0) → link_message_text n ≡ link_body.canonical b → link_message_names_row n → link_message_fits n ≡ link_body.fits b → IsReadFrom t n
+read_from b t n e a f x r s = subst (λ (y : List ℕ). IsReadFrom y n) e (record { accepted = a; family = f; text = x; names_row = r; fits = s })
 
 pub readable_again : (m n : LinkMessage) → link_message_fits m ≡ true → IsReadFrom (link_message_text m) n → link_body.empty_ports (link_message_text m) ≡ false → link_message_fits n ≡ link_body.fits (link_message_text m) → says_the_same m n ≡ true → IsReadable m
 readable_again m n f r ports s e =

@@ -5,3 +5,4 @@ pub mod Routes
 pub mod RoundTrips
 pub mod Texts
 pub mod Messages
+pub mod Told

@@ -13,6 +13,7 @@ pub record IsReadFrom (bytes : List ℕ) (m : LinkMessage) : Type 0 where
   pub family : m.header.interface_family ≡ address_family_of (slice_index bytes 0)
   pub text : link_message_text m ≡ link_body.canonical bytes
   pub names_row : link_message_names_row m
+  pub fits : link_message_fits m ≡ link_body.fits bytes
 
 -- two messages are equal, by `==`
 abbrev pub equal_messages : LinkMessage → LinkMessage → Bool

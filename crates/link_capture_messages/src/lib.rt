@@ -4,6 +4,7 @@
 
 mod fault;
 mod frames;
+pub mod laws;
 mod messages;
 mod other;
 mod readable;

@@ -4,6 +4,7 @@ ghost use Rattle.std.specs.Prelude.{◌≡◌, ◌≢◌, ◌↔◌, Ok, true, f
 ghost use Rattle.link_capture_grammar.specs.Bodies.{ruled_text};
 ghost use Rattle.link_message_grammar.specs.Body.{link_body};
 ghost use Rattle.link_message.specs.LinkMessages.{link_message_text, link_message_fits};
+ghost use Rattle.values_told.specs.Messages.{InnerAreTold};
 ghost use Rattle.link_capture_messages.specs.Readable.{IsReadFrom, IsReadable, ReadsAsAnother, says_the_same};
 ghost use Rattle.link_capture_messages.specs.Views.{readable_message, readable_text};
 ghost use Rattle.link_capture_messages.specs.Routes.{TellsOf};
@@ -17,6 +18,7 @@ use link_message_grammar::laws::bodies_are_headers_and_attributes;
 use netlink_packet_core::Emitable;
 use std::alloc::Global;
 use thiserror::Error;
+use values_told::laws::messages_are_told;
 
 /// Why a message isn't readable.
 #[derive(Clone, Copy, Debug, PartialEq, Eq, Drop, Error)]
@@ -50,7 +52,10 @@ impl ReadableLink {
             (λ e. (e.1 ≡ NotReadable.Unfit) ↔ (link_message_fits message ≡ false)) }
         ensures otherwise { IfErr result
             (λ e. e.1 ≡ NotReadable.ReadsOtherwise → ReadsAsAnother message) }
+        ensures exact { IfErr result
+            (λ e. e.1 ≡ NotReadable.ReadsOtherwise → InnerAreTold → IsReadable message → ⊥) }
     {
+        messages_are_told();
         match reads_back(alloc, &message) {
             Ok(()) => Ok(ReadableLink { message }),
             Err(why) => Err((message, why)),

@@ -1,10 +1,9 @@
 -- The data of macvlan and of macvtap: the kind and the payload of each value.
 use Rattle.std.specs.Prelude.{◌≡◌, ◌++◌, ◌&&◌, ◌==◌, cond, ℕ, Bool, true, List, []}
 use Rattle.std.specs.List.{All}
-use Rattle.std.specs.Int.{w32, cast_unsigned}
 use Rattle.netlink_packet_core.specs.Attributes.{Attribute, proper_kind, attribute_text}
 use Rattle.netlink_packet_core.specs.Fits.{attribute_fits}
-use Rattle.netlink_packet_core.specs.Numbers.{le2, le4}
+use Rattle.netlink_packet_core.specs.Numbers.{le2, le4, signed_bits}
 use Rattle.link_info_types.specs.MacVlanTypes.{mac_vlan_mode_number, mac_vlan_mode_of, mac_vlan_flags_bits, mac_vlan_mac_address_mode_number, mac_vlan_mac_address_mode_of}
 use Rattle.link_info_grammar.specs.Families.{macvlan, macvlan_address}
 use Rattle.attribute_tables_grammar.specs.Lists.{row_at}
@@ -26,7 +25,7 @@ abbrev mutual
   mac_vlan_entry (MacAddrCount m) = attribute 6 (le4 m)
   mac_vlan_entry (BcQueueLen m) = attribute 7 (le4 m)
   mac_vlan_entry (BcQueueLenUsed m) = attribute 8 (le4 m)
-  mac_vlan_entry (BcCutoff z) = attribute 9 (le4 (cast_unsigned w32 z))
+  mac_vlan_entry (BcCutoff z) = attribute 9 (le4 (signed_bits z))
   mac_vlan_entry (Other a) = a
 
   pub mac_vlan_texts : {m : _} → Row_of-InfoMacVlan m → List ℕ

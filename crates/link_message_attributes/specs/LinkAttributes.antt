@@ -1,12 +1,11 @@
 -- The attributes of a link: the kind and the payload of each value, and the variant that its row names.
 use Rattle.std.specs.Prelude.{◌≡◌, ◌==◌, ◌&&◌, ◌||◌, ◌++◌, cond, ℕ, Bool, true, false, Option, Some, None, List, [], ◌∷◌, string_bytes}
-use Rattle.std.specs.Int.{w32, cast_unsigned}
 use Rattle.std.specs.List.{All}
 use Rattle.netlink_packet_core.specs.Attributes.{Attribute, proper_kind}
 use Rattle.netlink_packet_core.specs.AttributeViews.{viewed_kind, viewed_payload}
 use Rattle.netlink_packet_core.specs.Families.{attribute, family_row}
 use Rattle.netlink_packet_core.specs.Lists.{text_by, all_fit_by}
-use Rattle.netlink_packet_core.specs.Numbers.{le4}
+use Rattle.netlink_packet_core.specs.Numbers.{le4, signed_bits}
 use Rattle.attribute_tables_grammar.specs.Lists.{nothing, Row}
 use Rattle.attribute_tables_grammar.specs.LookUps.{Line, line_holds_bytes}
 use Rattle.attribute_tables_grammar.specs.Peers.{bytes_peer}
@@ -74,7 +73,7 @@ link_attribute_entry (Link.TxQueueLen n) = attribute 13 (le4 n)
 link_attribute_entry (Link.NetNsPid n) = attribute 19 (le4 n)
 link_attribute_entry (Link.NumVf n) = attribute 21 (le4 n)
 link_attribute_entry (Link.Group n) = attribute 27 (le4 n)
-link_attribute_entry (Link.NetNsFd z) = attribute 28 (le4 (cast_unsigned w32 z))
+link_attribute_entry (Link.NetNsFd z) = attribute 28 (le4 (signed_bits z))
 link_attribute_entry (Link.ExtMask ms) = attribute 29 (le4 (joined_extent_masks ms.items))
 link_attribute_entry (Link.Promiscuity n) = attribute 30 (le4 n)
 link_attribute_entry (Link.NumTxQueues n) = attribute 31 (le4 n)

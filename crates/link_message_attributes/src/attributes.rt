@@ -279,6 +279,7 @@ macro_rules! field {
 
 impl LinkAttribute {
     // The kind and the payload.
+    #[tactic(auto, using(netlink_packet_core_grammar::proofs::Numbers::signs))]
     fn payload(&self) -> (u16, LinkPayload<'_>)
         ensures kind { result.0 ≡ (link_attribute_entry self.now).kind }
         ensures payload { link_payload_bytes result.1 ≡ (link_attribute_entry self.now).payload }

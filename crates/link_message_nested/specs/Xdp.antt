@@ -1,9 +1,8 @@
 -- Programs of the express data path: the kind and the payload of each value.
 use Rattle.std.specs.Prelude.{[], ◌∷◌, ◌≡◌}
-use Rattle.std.specs.Int.{w32, cast_unsigned}
 use Rattle.netlink_packet_core.specs.Attributes.{Attribute, proper_kind}
 use Rattle.netlink_packet_core.specs.Families.{attribute}
-use Rattle.netlink_packet_core.specs.Numbers.{le4}
+use Rattle.netlink_packet_core.specs.Numbers.{le4, signed_bits}
 use Rattle.attribute_tables_grammar.specs.LookUps.{has_no_row}
 use Rattle.link_message_grammar.specs.NestedTables.{xdp}
 use Rattle.link_message_types.specs.XdpTypes.{xdp_attached_number, xdp_attached_of}
@@ -11,7 +10,7 @@ use Rattle.link_message_nested.specs.declared.xdp.LinkXdp.{LinkXdp}
 use Rattle.link_message_nested.specs.declared.xdp.LinkXdp.TheVariants.{Fd, Attached, Flags, ProgId, DrvProgId, SkbProgId, HwProgId, ExpectedFd, Other}
 
 abbrev pub link_xdp_entry : LinkXdp → Attribute
-link_xdp_entry (Fd z) = attribute 1 (le4 (cast_unsigned w32 z))
+link_xdp_entry (Fd z) = attribute 1 (le4 (signed_bits z))
 link_xdp_entry (Attached v) = attribute 2 (xdp_attached_number v ∷ [])
 link_xdp_entry (Flags n) = attribute 3 (le4 n)
 link_xdp_entry (ProgId n) = attribute 4 (le4 n)

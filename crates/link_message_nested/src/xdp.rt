@@ -55,6 +55,7 @@ pub enum LinkXdp {
 impl FieldNla for LinkXdp {
     ghost field_entry = { link_xdp_entry };
 
+    #[tactic(auto, using(netlink_packet_core_grammar::proofs::Numbers::signs))]
     fn field(&self) -> (u16, Field<'_>) {
         match self {
             Self::Fd(number) => (IFLA_XDP_FD, Field::U32(number.cast_unsigned())),

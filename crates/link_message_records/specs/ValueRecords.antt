@@ -1,8 +1,7 @@
 -- Records of many numbers of one size, one after another.
 use Rattle.std.specs.Prelude.{ℕ, ℤ, List}
-use Rattle.std.specs.Int.{w32, cast_unsigned}
 use Rattle.std.specs.List.{flat_map}
-use Rattle.netlink_packet_core.specs.Numbers.{le4, le8}
+use Rattle.netlink_packet_core.specs.Numbers.{le4, le8, signed_bits}
 use Rattle.attribute_tables_grammar.specs.LookUps.{payload_rule}
 use Rattle.attribute_tables_grammar.specs.Peers.{bytes_peer}
 use Rattle.attribute_tables_grammar.specs.Rules.{Rule}
@@ -18,7 +17,7 @@ u64_values_bytes v = flat_map le8 v.values
 
 -- signed numbers of 4 bytes
 abbrev pub i32_values_bytes : {n : ℕ} → Values ℤ n → List ℕ
-i32_values_bytes v = flat_map (λ z. le4 (cast_unsigned w32 z)) v.values
+i32_values_bytes v = flat_map (λ z. le4 (signed_bits z)) v.values
 
 -- the rule of a row of settings, of so many bytes
 abbrev pub settings_rule : ℕ → Rule

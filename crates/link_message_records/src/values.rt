@@ -1,11 +1,10 @@
 //! Records of many numbers of one size.
 
 ghost use Rattle.std.specs.Prelude.{◌≡◌, ◌*◌, ◌≤◌, ◌++◌, ⊤, ℕ, length, take, drop, true, false, IsOk, IfOk, IfErr};
-ghost use Rattle.std.specs.Int.{w32, cast_unsigned};
 ghost use Rattle.std.specs.List.{flat_map};
 ghost use Rattle.netlink_packet_core.specs.Attributes.{zeros};
 ghost use Rattle.netlink_packet_core.specs.Errors.{is_memory};
-ghost use Rattle.netlink_packet_core.specs.Numbers.{le4, le8, as_usize};
+ghost use Rattle.netlink_packet_core.specs.Numbers.{le4, le8, as_usize, signed_bits};
 ghost use Rattle.attribute_tables_grammar.specs.Shapes.{meaning, spelling, resized};
 ghost use Rattle.link_message_records.specs.Numbers.{le4_size, le8_size};
 ghost use Rattle.link_message_records.specs.ValueRecords.{settings_rule};
@@ -69,15 +68,17 @@ impl Number for u64 {
 
 /// 4 bytes, the lowest first.
 impl Fields for i32 {
-    ghost bytes = { λ z. le4 (cast_unsigned w32 z) };
+    ghost bytes = { λ z. le4 (signed_bits z) };
 
     ghost size = { 4 };
 
+    #[tactic(auto, using(netlink_packet_core_grammar::proofs::Numbers::signs))]
     fn read_front(front: &[u8]) -> Option<(Self, &[u8])> {
         let (number, rest) = u32::read_front(front)?;
         Some((number.cast_signed(), rest))
     }
 
+    #[tactic(auto, using(netlink_packet_core_grammar::proofs::Numbers::signs))]
     fn write_front(&self, buffer: &mut [u8]) -> usize {
         self.cast_unsigned().write_front(buffer)
     }
@@ -88,12 +89,13 @@ impl Number for i32 {
         4
     }
 
+    #[tactic(auto, using(netlink_packet_core_grammar::proofs::Numbers::signs))]
     fn read_filled(front: &[u8]) -> (Self, &[u8]) {
         let (number, rest) = u32::read_filled(front);
         (number.cast_signed(), rest)
     }
 
-    ghost has_size = { λ z. le4_size (cast_unsigned w32 z) };
+    ghost has_size = { λ z. le4_size (signed_bits z) };
 }
 
 /// Numbers in the order of the bytes, as many as the record has. Newer kernels may send more, which

@@ -521,7 +521,7 @@ impl FieldRecord<16> for VfVlanInfo {
 
     ghost is_named = { λ v. v.protocol ≡ vlan_protocol_of (vlan_protocol_number v.protocol) };
 
-    #[tactic(auto, using(std::proofs::lemmas::Nat::be_bytes_2), unfolding(netlink_packet_core_grammar::specs::Numbers::be2))]
+    #[tactic(auto, using(netlink_packet_core_grammar::proofs::Numbers::be2_read))]
     fn from_fields((vf_id, (vlan_id, (qos, protocol))): Self::Fields) -> Self {
         Self {
             vf_id,
@@ -531,7 +531,7 @@ impl FieldRecord<16> for VfVlanInfo {
         }
     }
 
-    #[tactic(auto, unfolding(netlink_packet_core_grammar::specs::Numbers::be2))]
+    #[tactic(auto, using(netlink_packet_core_grammar::proofs::Numbers::digits))]
     fn fields(&self) -> Self::Fields {
         (
             self.vf_id,

@@ -30,7 +30,7 @@ header_is x h = absurd (omega arith)
 
 -- the number of two bytes
 pub number_of : (n : ℕ) (p : List ℕ) → n < 2 ^ 16 → le2 n ≡ p → n ≡ u16_at 0 p
-number_of n p h e = sym (u16_at-le2 n [] h) ∙ ap (λ x. u16_at 0 x) (append-nil (le2 n) ∙ e)
+number_of n p h e = sym (u16_at-le2 n []) ∙ ap (λ x. u16_at 0 x) (append-nil (le2 n) ∙ e)
 
 layer_by : (n k l : ℕ) (t : Bool) → is_listed n ≡ t → n ≡ k + 256 * l → le2 n ≡ k ∷ l ∷ [] → le2 (cond (is_listed n) n 65535) ≡ layer_type_text k l
 unfolding le2

@@ -139,7 +139,7 @@ pub fn read_u32(bytes: &[u8], at: usize) -> u32
 }
 
 /// Writes a number as 2 little-endian bytes over those from place `at` on.
-#[tactic(auto, unfolding(netlink_packet_core_grammar::specs::Numbers::le2))]
+#[tactic(auto, using(netlink_packet_core_grammar::proofs::Numbers::digits))]
 pub fn write_u16<T: ByteViewMut>(buffer: &mut T, at: usize, value: u16)
     requires { at + 2 ≤ length (T.bytes buffer.old) }
     ensures bytes { T.bytes buffer.new ≡ put_at at (le2 value) (T.bytes buffer.old) }
@@ -149,7 +149,7 @@ pub fn write_u16<T: ByteViewMut>(buffer: &mut T, at: usize, value: u16)
 }
 
 /// Writes a number as 4 little-endian bytes over those from place `at` on.
-#[tactic(auto, unfolding(netlink_packet_core_grammar::specs::Numbers::le4))]
+#[tactic(auto, using(netlink_packet_core_grammar::proofs::Numbers::digits))]
 pub fn write_u32<T: ByteViewMut>(buffer: &mut T, at: usize, value: u32)
     requires { at + 4 ≤ length (T.bytes buffer.old) }
     ensures bytes { T.bytes buffer.new ≡ put_at at (le4 value) (T.bytes buffer.old) }

@@ -1,29 +1,29 @@
 -- A header's bytes are read as the header.
 use Rattle.std.proofs.Common.{◌≡◌, ℕ, List, ◌++◌, length, refl}
-use Rattle.std.proofs.lemmas.Nat.{from_le_bytes-to_le_bytes_2, from_le_bytes-to_le_bytes_4}
+use Rattle.netlink_packet_core_grammar.proofs.Numbers.{from_le2, from_le4}
 use Rattle.netlink_packet_core_grammar.specs.Numbers.{u16_at, u32_at, le2, le4}
 use Rattle.netlink_packet_core_messages.specs.declared.header.NetlinkHeader.{NetlinkHeader}
 use Rattle.netlink_packet_core_messages.specs.Headers.{header_of, header_text, HeaderFits}
 
 pub length_at : (h : NetlinkHeader) (r : List ℕ) → HeaderFits h → u32_at 0 (header_text h ++ r) ≡ h.length
 unfolding u32_at header_text le4 le2
-length_at h r f = from_le_bytes-to_le_bytes_4 h.length f.length_fits
+length_at h r f = from_le4 h.length
 
 pub type_at : (h : NetlinkHeader) (r : List ℕ) → HeaderFits h → u16_at 4 (header_text h ++ r) ≡ h.message_type
 unfolding u16_at header_text le4 le2
-type_at h r f = from_le_bytes-to_le_bytes_2 h.message_type f.type_fits
+type_at h r f = from_le2 h.message_type
 
 flags_at : (h : NetlinkHeader) (r : List ℕ) → HeaderFits h → u16_at 6 (header_text h ++ r) ≡ h.flags
 unfolding u16_at header_text le4 le2
-flags_at h r f = from_le_bytes-to_le_bytes_2 h.flags f.flags_fit
+flags_at h r f = from_le2 h.flags
 
 sequence_at : (h : NetlinkHeader) (r : List ℕ) → HeaderFits h → u32_at 8 (header_text h ++ r) ≡ h.sequence_number
 unfolding u32_at header_text le4 le2
-sequence_at h r f = from_le_bytes-to_le_bytes_4 h.sequence_number f.sequence_fits
+sequence_at h r f = from_le4 h.sequence_number
 
 port_at : (h : NetlinkHeader) (r : List ℕ) → HeaderFits h → u32_at 12 (header_text h ++ r) ≡ h.port_number
 unfolding u32_at header_text le4 le2
-port_at h r f = from_le_bytes-to_le_bytes_4 h.port_number f.port_fits
+port_at h r f = from_le4 h.port_number
 
 pub header_at : (h : NetlinkHeader) (r : List ℕ) → HeaderFits h → header_of (header_text h ++ r) ≡ h
 unfolding header_of

@@ -2,7 +2,7 @@
 use Rattle.std.proofs.Common.{◌≡◌, ◌≢◌, ℕ, ℤ, ◌<◌, ◌^◌, List, ◌++◌, length, refl, arith, false, Option, Some, None, pos, nat_eq, nat_lt, drop}
 use Rattle.std.specs.Ordering.{int_eq}
 use Rattle.std.specs.Cmp.{signed_Decides}
-use Rattle.std.proofs.lemmas.Nat.{from_le_bytes-to_le_bytes_4}
+use Rattle.netlink_packet_core_grammar.proofs.Numbers.{from_le4}
 use Rattle.std.proofs.lemmas.Bool.Decides.{nat_tests}
 use Rattle.std.proofs.lemmas.Int.{to_z-of_z}
 use Rattle.std.proofs.Math.Facts.{Fits-of_z}
@@ -19,7 +19,7 @@ use Rattle.netlink_packet_core_messages.specs.Payloads.{payload_value, payload_e
 
 pub number_at : (n : ℕ) (r : List ℕ) → n < 2 ^ 32 → u32_at 0 (le4 n ++ r) ≡ n
 unfolding u32_at le4
-number_at n r f = from_le_bytes-to_le_bytes_4 n f
+number_at n r f = from_le4 n
 
 pub drop-le4 : (n : ℕ) (r : List ℕ) → drop 4 (le4 n ++ r) ≡ r
 unfolding le4

@@ -2,7 +2,8 @@ ghost use Rattle.std.specs.Prelude.{◌≡◌, ◌≤◌, length, ◌+◌, ◌++
 ghost use Rattle.netlink_packet_core_messages.specs.Codes.{code_of, code_text};
 ghost use Rattle.netlink_packet_core_grammar.specs.Bytes.{put_at};
 
-use netlink_packet_core_attributes::view::ByteViewMut;
+use netlink_packet_core_attributes::view::{ByteViewMut, write_u32};
+use netlink_packet_core_numbers::payloads::fill_u32;
 
 /// The code that some bytes begin with.
 #[tactic(auto, unfolding(netlink_packet_core_grammar::specs::Numbers::u32_at))]
@@ -14,23 +15,22 @@ pub(crate) fn read_code(bytes: &[u8]) -> i32
 }
 
 /// Writes a code over the first 4 bytes.
-#[tactic(auto, unfolding(netlink_packet_core_grammar::specs::Numbers::le4))]
 pub(crate) fn write_code<T: ByteViewMut>(buffer: &mut T, code: i32)
     requires { 4 ≤ length (T.bytes buffer.old) }
     ensures bytes { T.bytes buffer.new ≡ put_at 0 (code_text code) (T.bytes buffer.old) }
     ensures same { T.same_storage buffer.old buffer.new }
 {
-    buffer.write_at(0, &code.to_le_bytes());
+    write_u32(buffer, 0, code.cast_unsigned());
 }
 
 /// Writes a code and the bytes behind it in front of a buffer.
-#[tactic(auto, unfolding(netlink_packet_core_grammar::specs::Numbers::le4))]
+#[tactic(auto, using(netlink_packet_core_grammar::proofs::Sizes::sizes))]
 pub(crate) fn emit_code(code: i32, rest: &[u8], buffer: &mut [u8])
     requires { 4 + length rest.now ≤ length buffer.old }
     ensures { buffer.new ≡ (code_text code ++ rest.now) ++ drop (4 + length rest.now) buffer.old }
 {
     let (front, back) = buffer.split_at_mut(4);
-    front.copy_from_slice(&code.to_le_bytes());
+    fill_u32(front, code.cast_unsigned());
     let (behind, _) = back.split_at_mut(rest.len());
     behind.copy_from_slice(rest);
 }

@@ -5,6 +5,7 @@ ghost use Rattle.netlink_packet_core_messages.specs.Headers.{header_of, header_t
 use super::buffer::{NETLINK_HEADER_LEN, NetlinkBuffer};
 use netlink_packet_core_attributes::traits::{Emitable, Parseable};
 use netlink_packet_core_numbers::error::DecodeError;
+use netlink_packet_core_numbers::payloads::{fill_u16, fill_u32};
 use std::alloc::Global;
 
 /// The header of a frame (netlink.h, `struct nlmsghdr`). It is written as 16 bytes, its numbers
@@ -61,11 +62,11 @@ impl Emitable for NetlinkHeader {
         let (message_type, rest) = rest.split_at_mut(2);
         let (flags, rest) = rest.split_at_mut(2);
         let (sequence_number, port_number) = rest.split_at_mut(4);
-        length.copy_from_slice(&self.length.to_le_bytes());
-        message_type.copy_from_slice(&self.message_type.to_le_bytes());
-        flags.copy_from_slice(&self.flags.to_le_bytes());
-        sequence_number.copy_from_slice(&self.sequence_number.to_le_bytes());
-        port_number.copy_from_slice(&self.port_number.to_le_bytes());
+        fill_u32(length, self.length);
+        fill_u16(message_type, self.message_type);
+        fill_u16(flags, self.flags);
+        fill_u32(sequence_number, self.sequence_number);
+        fill_u32(port_number, self.port_number);
     }
 }
 

@@ -9,7 +9,7 @@ use super::error::DecodeError;
 
 /// Writes a number into the first 2 bytes, in native order, the lowest first.
 /// A shorter buffer is refused and left as it is.
-#[tactic(auto, unfolding(netlink_packet_core_grammar::specs::Numbers::le2))]
+#[tactic(auto, using(netlink_packet_core_grammar::proofs::Numbers::digits))]
 pub fn emit_u16(buffer: &mut [u8], value: u16) -> Result<(), DecodeError>
     ensures size { IsOk result ↔ (2 ≤ length buffer.old) }
     ensures ok { OnOk result (buffer.new ≡ le2 value ++ drop 2 buffer.old) }
@@ -25,7 +25,7 @@ pub fn emit_u16(buffer: &mut [u8], value: u16) -> Result<(), DecodeError>
 
 /// Writes a number into the first 2 bytes, the highest first.
 /// A shorter buffer is refused and left as it is.
-#[tactic(auto, unfolding(netlink_packet_core_grammar::specs::Numbers::be2))]
+#[tactic(auto, using(netlink_packet_core_grammar::proofs::Numbers::digits))]
 pub fn emit_u16_be(buffer: &mut [u8], value: u16) -> Result<(), DecodeError>
     ensures size { IsOk result ↔ (2 ≤ length buffer.old) }
     ensures ok { OnOk result (buffer.new ≡ be2 value ++ drop 2 buffer.old) }
@@ -52,7 +52,7 @@ pub fn emit_u16_le(buffer: &mut [u8], value: u16) -> Result<(), DecodeError>
 
 /// Writes a number into the first 4 bytes, in native order, the lowest first.
 /// A shorter buffer is refused and left as it is.
-#[tactic(auto, unfolding(netlink_packet_core_grammar::specs::Numbers::le4))]
+#[tactic(auto, using(netlink_packet_core_grammar::proofs::Numbers::digits))]
 pub fn emit_u32(buffer: &mut [u8], value: u32) -> Result<(), DecodeError>
     ensures size { IsOk result ↔ (4 ≤ length buffer.old) }
     ensures ok { OnOk result (buffer.new ≡ le4 value ++ drop 4 buffer.old) }
@@ -68,7 +68,7 @@ pub fn emit_u32(buffer: &mut [u8], value: u32) -> Result<(), DecodeError>
 
 /// Writes a number into the first 4 bytes, the highest first.
 /// A shorter buffer is refused and left as it is.
-#[tactic(auto, unfolding(netlink_packet_core_grammar::specs::Numbers::be4))]
+#[tactic(auto, using(netlink_packet_core_grammar::proofs::Numbers::digits))]
 pub fn emit_u32_be(buffer: &mut [u8], value: u32) -> Result<(), DecodeError>
     ensures size { IsOk result ↔ (4 ≤ length buffer.old) }
     ensures ok { OnOk result (buffer.new ≡ be4 value ++ drop 4 buffer.old) }
@@ -95,7 +95,7 @@ pub fn emit_u32_le(buffer: &mut [u8], value: u32) -> Result<(), DecodeError>
 
 /// Writes a number into the first 8 bytes, in native order, the lowest first.
 /// A shorter buffer is refused and left as it is.
-#[tactic(auto, unfolding(netlink_packet_core_grammar::specs::Numbers::le8))]
+#[tactic(auto, using(netlink_packet_core_grammar::proofs::Numbers::digits))]
 pub fn emit_u64(buffer: &mut [u8], value: u64) -> Result<(), DecodeError>
     ensures size { IsOk result ↔ (8 ≤ length buffer.old) }
     ensures ok { OnOk result (buffer.new ≡ le8 value ++ drop 8 buffer.old) }
@@ -111,7 +111,7 @@ pub fn emit_u64(buffer: &mut [u8], value: u64) -> Result<(), DecodeError>
 
 /// Writes a number into the first 8 bytes, the highest first.
 /// A shorter buffer is refused and left as it is.
-#[tactic(auto, unfolding(netlink_packet_core_grammar::specs::Numbers::be8))]
+#[tactic(auto, using(netlink_packet_core_grammar::proofs::Numbers::digits))]
 pub fn emit_u64_be(buffer: &mut [u8], value: u64) -> Result<(), DecodeError>
     ensures size { IsOk result ↔ (8 ≤ length buffer.old) }
     ensures ok { OnOk result (buffer.new ≡ be8 value ++ drop 8 buffer.old) }

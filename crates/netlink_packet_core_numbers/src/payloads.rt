@@ -24,7 +24,7 @@ pub fn fill_bool(buffer: &mut [u8], value: bool)
 }
 
 /// Writes a number of 2 bytes, the lowest first.
-#[tactic(auto, unfolding(netlink_packet_core_grammar::specs::Numbers::le2))]
+#[tactic(auto, using(netlink_packet_core_grammar::proofs::Numbers::digits))]
 pub fn fill_u16(buffer: &mut [u8], value: u16)
     requires { length buffer.old ≡ 2 }
     ensures { buffer.new ≡ le2 value }
@@ -33,7 +33,7 @@ pub fn fill_u16(buffer: &mut [u8], value: u16)
 }
 
 /// Writes a number of 4 bytes, the lowest first.
-#[tactic(auto, unfolding(netlink_packet_core_grammar::specs::Numbers::le4))]
+#[tactic(auto, using(netlink_packet_core_grammar::proofs::Numbers::digits))]
 pub fn fill_u32(buffer: &mut [u8], value: u32)
     requires { length buffer.old ≡ 4 }
     ensures { buffer.new ≡ le4 value }
@@ -42,7 +42,7 @@ pub fn fill_u32(buffer: &mut [u8], value: u32)
 }
 
 /// Writes a number of 8 bytes, the lowest first.
-#[tactic(auto, unfolding(netlink_packet_core_grammar::specs::Numbers::le8))]
+#[tactic(auto, using(netlink_packet_core_grammar::proofs::Numbers::digits))]
 pub fn fill_u64(buffer: &mut [u8], value: u64)
     requires { length buffer.old ≡ 8 }
     ensures { buffer.new ≡ le8 value }
@@ -51,7 +51,7 @@ pub fn fill_u64(buffer: &mut [u8], value: u64)
 }
 
 /// Writes a number of 2 bytes, the highest first.
-#[tactic(auto, unfolding(netlink_packet_core_grammar::specs::Numbers::be2))]
+#[tactic(auto, using(netlink_packet_core_grammar::proofs::Numbers::digits))]
 pub fn fill_u16_be(buffer: &mut [u8], value: u16)
     requires { length buffer.old ≡ 2 }
     ensures { buffer.new ≡ be2 value }
@@ -60,7 +60,7 @@ pub fn fill_u16_be(buffer: &mut [u8], value: u16)
 }
 
 /// Writes a number of 4 bytes, the highest first.
-#[tactic(auto, unfolding(netlink_packet_core_grammar::specs::Numbers::be4))]
+#[tactic(auto, using(netlink_packet_core_grammar::proofs::Numbers::digits))]
 pub fn fill_u32_be(buffer: &mut [u8], value: u32)
     requires { length buffer.old ≡ 4 }
     ensures { buffer.new ≡ be4 value }
@@ -69,7 +69,7 @@ pub fn fill_u32_be(buffer: &mut [u8], value: u32)
 }
 
 /// Writes a number of 8 bytes, the highest first.
-#[tactic(auto, unfolding(netlink_packet_core_grammar::specs::Numbers::be8))]
+#[tactic(auto, using(netlink_packet_core_grammar::proofs::Numbers::digits))]
 pub fn fill_u64_be(buffer: &mut [u8], value: u64)
     requires { length buffer.old ≡ 8 }
     ensures { buffer.new ≡ be8 value }

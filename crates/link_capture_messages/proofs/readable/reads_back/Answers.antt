@@ -8,7 +8,7 @@ pub returns-then-not-branch-clause-otherwise : goal.returns-then-not-branch-clau
 returns-then-not-branch-clause-otherwise c =
     let k = c.in-Ok.ensures in
     let e = c.as_slice.ensures.value ∙ c.in_ok-text.ensures.ok in
-    let r = read_from _ _ c.in-Ok.again e k.ok k.family k.text k.names_row in
+    let r = read_from _ _ c.in-Ok.again e k.ok k.family k.text k.names_row k.fits in
     let same : says_the_same c.args.message.now c.in-Ok.again ≡ false = sym c.in_ok-says_the_same.ensures.ok ∙ c.if-not-branch.true in
     λ _. inr (inr (c.in-Ok.again, r, same))
 
@@ -22,5 +22,5 @@ pub returns-clause-ok : goal.returns-clause-ok
 returns-clause-ok c =
     let k = c.in-Ok.ensures in
     let e = c.as_slice.ensures.value ∙ c.in_ok-text.ensures.ok in
-    let r = read_from _ _ c.in-Ok.again e k.ok k.family k.text k.names_row in
+    let r = read_from _ _ c.in-Ok.again e k.ok k.family k.text k.names_row k.fits in
     readable_again c.args.message.now c.in-Ok.again (sym c.if-not-fits.ensures) r (sym (k.empty_ports ∙ ap link_body.empty_ports e) ∙ sym c.has_empty_ports.ensures ∙ c.if-has_empty_ports.false) (k.fits ∙ ap link_body.fits e) (sym c.in_ok-says_the_same.ensures.ok ∙ c.if-not-branch.false)

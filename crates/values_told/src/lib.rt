@@ -1,0 +1,4 @@
+//! Values are told by what they are written as.
+#![tactic(auto)]
+
+pub mod laws;

@@ -7,16 +7,16 @@ use Rattle.link_message_grammar.specs.Body.{link_body}
 use Rattle.link_message.specs.declared.message.LinkMessage.{LinkMessage}
 use Rattle.link_message.specs.LinkMessages.{link_message_text, link_message_fits}
 use Rattle.link_message.specs.contracts.message.LinkMessageEq.TheImpl.Laws.{laws-law}
-use Rattle.values_told.specs.Messages.{InnerAreTold, MessagesAreTold}
+use Rattle.link_message_laws.specs.Messages.{InnerAreTold, EqualTextsMeanEqualMessages}
 use Rattle.link_capture_messages.specs.Readable.{IsReadFrom, IsReadable, ReadsAsAnother, equal_messages, says_the_same}
 use Rattle.link_capture_messages.proofs.ReadAgain.{own}
 
 -- two messages that are read from the same bytes are equal
-pub one_message : MessagesAreTold → (t : List ℕ) (m n : LinkMessage) → IsReadFrom t m → IsReadFrom t n → equal_messages m n ≡ true
+pub one_message : EqualTextsMeanEqualMessages → (t : List ℕ) (m n : LinkMessage) → IsReadFrom t m → IsReadFrom t n → equal_messages m n ≡ true
 one_message told t m n r s = told m n (r.family ∙ sym s.family) r.names_row s.names_row (r.text ∙ sym s.text)
 
 -- what the one says, the other says
-alike : MessagesAreTold → (t : List ℕ) (m n k : LinkMessage) → IsReadFrom t n → IsReadFrom t k → says_the_same m k ≡ true → says_the_same m n ≡ true
+alike : EqualTextsMeanEqualMessages → (t : List ℕ) (m n k : LinkMessage) → IsReadFrom t n → IsReadFrom t k → says_the_same m k ≡ true → says_the_same m n ≡ true
 alike told t m n k r s h =
     let a = and_parts (equal_messages k m) (link_message_fits k && bytes_eq (link_message_text k) (link_message_text m)) h in
     let b = and_parts (link_message_fits k) (bytes_eq (link_message_text k) (link_message_text m)) a.1 in
@@ -29,10 +29,10 @@ pub differ : (b : Bool) → b ≡ true → b ≡ false → ⊥
 differ true h k = absurd cc
 differ false h k = absurd cc
 
-excluded : MessagesAreTold → (m : LinkMessage) → ReadsAsAnother m → IsReadable m → ⊥
+excluded : EqualTextsMeanEqualMessages → (m : LinkMessage) → ReadsAsAnother m → IsReadable m → ⊥
 excluded told m (inl a) h = differ _ (own _ h.text).accepted a
 excluded told m (inr (inl p)) h = differ _ p (own _ h.text).no_empty_ports
 excluded told m (inr (inr x)) h = not_there h.again (λ y. differ _ (alike told (link_message_text m) m x.0 y.0 x.1 y.1 y.2) x.2)
 
-pub exclusive : (InnerAreTold → MessagesAreTold) → (m : LinkMessage) → ReadsAsAnother m → InnerAreTold → IsReadable m → ⊥
+pub exclusive : (InnerAreTold → EqualTextsMeanEqualMessages) → (m : LinkMessage) → ReadsAsAnother m → InnerAreTold → IsReadable m → ⊥
 exclusive law m x t = excluded (law t) m x

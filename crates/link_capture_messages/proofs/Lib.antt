@@ -2,4 +2,4 @@ pub mod ReadAgain
 pub mod Others
 pub mod WrittenBodies
 pub mod Exact
-pub mod Told
+pub mod Equal

@@ -1,15 +1,15 @@
 //! Laws of messages of captures.
 
-ghost use Rattle.values_told.specs.Messages.{InnerAreTold};
-ghost use Rattle.link_capture_messages.specs.Told.{RoutesAreTold};
+ghost use Rattle.link_message_laws.specs.Messages.{InnerAreTold};
+ghost use Rattle.link_capture_messages.specs.Injective.{EqualEntriesMeanEqualRoutes};
 
-use values_told::laws::messages_are_told;
+use link_message_laws::laws::equal_texts_mean_equal_messages;
 
 /// Messages of one type that are written as the same bytes are equal: so what a message is
 /// serialised as is read as the same value.
-#[tactic(auto, using(crate::proofs::Told::routes_told))]
-pub fn routes_are_told()
-    ensures { InnerAreTold → RoutesAreTold }
+#[tactic(auto, using(crate::proofs::Equal::routes_injective))]
+pub fn equal_entries_mean_equal_routes()
+    ensures { InnerAreTold → EqualEntriesMeanEqualRoutes }
 {
-    messages_are_told();
+    equal_texts_mean_equal_messages();
 }

@@ -4,7 +4,7 @@ ghost use Rattle.std.specs.Prelude.{◌≡◌, ◌≢◌, ◌↔◌, Ok, true, f
 ghost use Rattle.link_capture_grammar.specs.Bodies.{ruled_text};
 ghost use Rattle.link_message_grammar.specs.Body.{link_body};
 ghost use Rattle.link_message.specs.LinkMessages.{link_message_text, link_message_fits};
-ghost use Rattle.values_told.specs.Messages.{InnerAreTold};
+ghost use Rattle.link_message_laws.specs.Messages.{InnerAreTold};
 ghost use Rattle.link_capture_messages.specs.Readable.{IsReadFrom, IsReadable, ReadsAsAnother, says_the_same};
 ghost use Rattle.link_capture_messages.specs.Views.{readable_message, readable_text};
 ghost use Rattle.link_capture_messages.specs.Routes.{TellsOf};
@@ -18,7 +18,7 @@ use link_message_grammar::laws::bodies_are_headers_and_attributes;
 use netlink_packet_core::Emitable;
 use std::alloc::Global;
 use thiserror::Error;
-use values_told::laws::messages_are_told;
+use link_message_laws::laws::equal_texts_mean_equal_messages;
 
 /// Why a message isn't readable.
 #[derive(Clone, Copy, Debug, PartialEq, Eq, Drop, Error)]
@@ -55,7 +55,7 @@ impl ReadableLink {
         ensures exact { IfErr result
             (λ e. e.1 ≡ NotReadable.ReadsOtherwise → InnerAreTold → IsReadable message → ⊥) }
     {
-        messages_are_told();
+        equal_texts_mean_equal_messages();
         match reads_back(alloc, &message) {
             Ok(()) => Ok(ReadableLink { message }),
             Err(why) => Err((message, why)),

@@ -1,6 +1,6 @@
 -- The data of amt: the kind and the payload of each value.
 use Rattle.std.specs.Prelude.{◌≡◌}
-use Rattle.netlink_packet_core.specs.Addresses.{ip_octets}
+use Rattle.netlink_packet_core.specs.Addresses.{ip_octets, HasAddressLength}
 use Rattle.netlink_packet_core.specs.Attributes.{Attribute, proper_kind}
 use Rattle.netlink_packet_core.specs.Numbers.{be2, le4}
 use Rattle.link_info_types.specs.AmtTypes.{amt_mode_number, amt_mode_of}
@@ -24,5 +24,8 @@ amt_entry (Other a) = a
 -- a number that names a mode is read as that mode, and no kind that has a row as another attribute
 abbrev pub amt_names_row : InfoAmt → Type 0
 amt_names_row (Mode m) = m ≡ amt_mode_of (amt_mode_number m)
+amt_names_row (LocalIp a) = HasAddressLength a
+amt_names_row (RemoteIp a) = HasAddressLength a
+amt_names_row (DiscoveryIp a) = HasAddressLength a
 amt_names_row (Other a) = has_no_row amt (proper_kind a.kind)
 amt_names_row _ = Unit {0}

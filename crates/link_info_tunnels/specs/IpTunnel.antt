@@ -1,7 +1,7 @@
 -- The data of ipip, ip6tnl and sit: the kind and the payload of each value, and what each kind of links tells of its flags.
 use Rattle.std.specs.Prelude.{◌≡◌, ◌∷◌, [], ℕ, Bool, List}
 use Rattle.std.specs.Net.Addr.{ipv4_octets, ipv6_octets}
-use Rattle.netlink_packet_core.specs.Addresses.{ip_octets}
+use Rattle.netlink_packet_core.specs.Addresses.{ip_octets, HasAddressLength}
 use Rattle.netlink_packet_core.specs.Attributes.{Attribute, proper_kind}
 use Rattle.netlink_packet_core.specs.Families.{attribute, family_row}
 use Rattle.netlink_packet_core.specs.Numbers.{be2, be4, le2, le4}
@@ -68,6 +68,8 @@ ip_tunnel_entry (Other a) = a
 -- flags are those of the kind, a number that names a protocol or an encapsulation is read as that one, and no kind that has a row as another
 -- attribute
 abbrev pub ip_tunnel_names_row : InfoKind → InfoIpTunnel → Type 0
+ip_tunnel_names_row k (Local a) = HasAddressLength a
+ip_tunnel_names_row k (Remote a) = HasAddressLength a
 ip_tunnel_names_row k (Ipv4Flags n) = k ≡ Kind.IpIp
 ip_tunnel_names_row k (Ipv6SitFlags n) = k ≡ Kind.SitTun
 ip_tunnel_names_row k (Ipv6Flags f) = k ≡ Kind.Ip6Tnl

@@ -1,7 +1,7 @@
 -- The data of vti: the kind and the payload of each value.
 use Rattle.netlink_packet_core.specs.Attributes.{Attribute, proper_kind}
 use Rattle.netlink_packet_core.specs.Numbers.{be4, le4}
-use Rattle.netlink_packet_core.specs.Addresses.{ip_octets}
+use Rattle.netlink_packet_core.specs.Addresses.{ip_octets, HasAddressLength}
 use Rattle.link_info_grammar.specs.Families.{vti}
 use Rattle.attribute_tables_grammar.specs.LookUps.{has_no_row}
 use Rattle.netlink_packet_core.specs.Families.{attribute}
@@ -19,5 +19,7 @@ vti_entry (Other a) = a
 
 -- no kind that has a row is read as another attribute
 abbrev pub vti_names_row : InfoVti → Type 0
+vti_names_row (Local a) = HasAddressLength a
+vti_names_row (Remote a) = HasAddressLength a
 vti_names_row (Other a) = has_no_row vti (proper_kind a.kind)
 vti_names_row _ = Unit {0}

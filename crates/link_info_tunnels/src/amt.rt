@@ -1,7 +1,7 @@
 //! Data of the kind `amt` (if_link.h, IFLA_AMT_*). Numbers are little-endian unless told.
 
 ghost use Rattle.std.specs.Prelude.{refl, IfNone, IfSome, ◌≡◌, ◌≢◌};
-ghost use Rattle.netlink_packet_core.specs.Addresses.{ip_octets};
+ghost use Rattle.netlink_packet_core.specs.Addresses.{ip_octets, HasAddressLength};
 ghost use Rattle.netlink_packet_core.specs.Numbers.{be2, le4};
 ghost use Rattle.netlink_packet_core.specs.Families.{attribute};
 ghost use Rattle.link_info_grammar.specs.Families.{amt};
@@ -102,6 +102,7 @@ impl InfoAmt {
 
     // The attribute of a kind that holds an address.
     fn of_ip(kind: u16, address: IpAddr) -> Option<Self>
+        requires { HasAddressLength address }
         ensures value { IfSome result (λ v. amt_entry v ≡ attribute kind (ip_octets address)) }
         ensures names_row { IfSome result (λ v. amt_names_row v) }
         ensures none { IfNone result (kind ≢ 5 × kind ≢ 6 × kind ≢ 7) }

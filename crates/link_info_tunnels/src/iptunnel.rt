@@ -2,7 +2,7 @@
 //! little-endian unless told.
 
 ghost use Rattle.std.specs.Prelude.{◌≡◌, ◌<◌, true, false, length, Some, IfOk, IfErr, IfSome, IfNone, [], ◌∷◌, ◌≢◌};
-ghost use Rattle.netlink_packet_core.specs.Addresses.{ip_octets};
+ghost use Rattle.netlink_packet_core.specs.Addresses.{ip_octets, HasAddressLength};
 ghost use Rattle.netlink_packet_core.specs.Numbers.{be2, le2, le4};
 ghost use Rattle.std.specs.List.{All};
 ghost use Rattle.netlink_packet_core.specs.Attributes.{proper_kind};
@@ -184,6 +184,7 @@ impl InfoIpTunnel {
 
     // The attribute of a kind that holds an address.
     fn of_ip(kind: u16, address: IpAddr) -> Option<Self>
+        requires { HasAddressLength address }
         ensures value { IfSome result (λ v. ip_tunnel_entry v ≡ attribute kind (ip_octets address)) }
         ensures names_row { IfSome result
             (λ v. (link : InfoKind) → ip_tunnel_names_row link v) }

@@ -1,9 +1,0 @@
--- Messages of captures that are written alike are equal.
-use Rattle.std.specs.Prelude.{◌≡◌, Bool, true}
-use Rattle.link_capture_messages.specs.declared.route.RouteLink.{RouteLink}
-use Rattle.link_capture_messages.specs.contracts.route.RouteLinkPartialEq.TheImpl as route_equality
-use Rattle.link_capture_messages.specs.Routes.{route_entry}
-
--- two messages of one type and one body text are equal, by `==`
-abbrev pub RoutesAreTold : Type 0
-RoutesAreTold = (x y : RouteLink) → route_entry x ≡ route_entry y → (route_equality.ghosts).eq x y ≡ true

@@ -1,0 +1,3 @@
+pub mod Injective
+pub mod Laws
+pub mod Messages

@@ -1,3 +1,0 @@
-pub mod Told
-pub mod Laws
-pub mod Messages

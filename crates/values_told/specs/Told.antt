@@ -1,7 +1,0 @@
--- Values that are told by the attribute that they are written as.
-use Rattle.std.specs.Prelude.{◌≡◌, ℕ, Bool, true, Option, Some, None}
-use Rattle.netlink_packet_core.specs.Attributes.{Attribute}
-
--- two values that rows name and that are written alike are equal
-abbrev pub IsTold : {V : Type 0} → (V → V → Bool) → (V → Attribute) → (V → Type 0) → Type 0
-IsTold {V} equal entry named = (v w : V) → named v → named w → entry v ≡ entry w → equal v w ≡ true

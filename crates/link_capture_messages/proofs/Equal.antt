@@ -1,4 +1,4 @@
--- Messages of captures that are written alike are equal.
+-- Messages of captures with equal types and equal body texts are equal.
 use Rattle.std.proofs.Common.{◌≡◌, ℕ, ◌≤◌, List, [], ◌∷◌, Bool, true, false, refl, sym, ap, ◌∙◌, subst, arith}
 use Rattle.std.specs.Prelude.{◌&&◌, bytes_eq}
 use Rattle.std.proofs.lemmas.Bool.{and_parts, and_from, eq-eqb}
@@ -7,11 +7,11 @@ use lib.Pointwise.{bytes_decides}
 use Rattle.link_message.specs.declared.message.LinkMessage.{LinkMessage}
 use Rattle.link_message.specs.LinkMessages.{link_message_text, link_message_fits}
 use Rattle.link_message.specs.contracts.message.LinkMessageEq.TheImpl.Laws.{laws-law}
-use Rattle.link_message_laws.specs.Messages.{InnerAreTold, EqualTextsMeanEqualMessages}
+use Rattle.link_message_laws.proofs.Messages.{messages_injective}
 use Rattle.link_capture_messages.specs.KeptTypes.{IsKeptType}
 use Rattle.link_capture_messages.specs.Readable.{IsReadFrom, IsReadable, equal_messages, says_the_same}
 use Rattle.link_capture_messages.specs.Routes.{route_entry}
-use Rattle.link_capture_messages.specs.Injective.{EqualEntriesMeanEqualRoutes}
+use Rattle.link_capture_messages.specs.Equal.{EqualEntriesMeanEqualRoutes}
 use Rattle.link_capture_messages.specs.declared.route.RouteLink.{RouteLink}
 use Rattle.link_capture_messages.specs.contracts.route.RouteLinkPartialEq.TheImpl as route_equality
 use Rattle.link_capture_messages.proofs.Exact.{one_message, differ}
@@ -24,10 +24,10 @@ stable true h = refl
 stable false h = absurd (h refl)
 
 -- two readable messages of one text are equal
-pub one_text : EqualTextsMeanEqualMessages → (m k : LinkMessage) → IsReadable m → IsReadable k → link_message_text m ≡ link_message_text k → equal_messages m k ≡ true
-one_text told m k p q e =
+pub one_text : (m k : LinkMessage) → IsReadable m → IsReadable k → link_message_text m ≡ link_message_text k → equal_messages m k ≡ true
+one_text m k p q e =
     stable (equal_messages m k) (λ f. not_there p.again (λ x. not_there q.again (λ y.
-      let between = one_message told (link_message_text m) x.0 y.0 x.1 (subst (λ t. IsReadFrom t y.0) (sym e) y.1) in
+      let between = one_message messages_injective (link_message_text m) x.0 y.0 x.1 (subst (λ t. IsReadFrom t y.0) (sym e) y.1) in
       differ _ (sym (laws-law.congr x.0 m k (equal_of m x.0 x.2)) ∙ laws-law.congr x.0 y.0 k between ∙ equal_of k y.0 y.2) f)))
 
 number : RouteLink → ℕ
@@ -48,22 +48,22 @@ type_is (RouteLink.Other x) = refl
 not_kept : (t n : ℕ) → IsKeptType t → t ≡ n → 16 ≤ n → n ≤ 19 → ⊥
 not_kept t n k e l u = let h = k.no_link in omega (arith, h (omega (arith, e, l)), e, u)
 
-by_variant : EqualTextsMeanEqualMessages → (x y : RouteLink) → number x ≡ number y → route_entry x ≡ route_entry y → (route_equality.ghosts).eq x y ≡ true
+by_variant : (x y : RouteLink) → number x ≡ number y → route_entry x ≡ route_entry y → (route_equality.ghosts).eq x y ≡ true
 unfolding number
-by_variant told (RouteLink.NewLink x) (RouteLink.NewLink y) i e = one_text told x.message y.message x.readable y.readable (ap (λ (z : ℕ × List ℕ). z.1) e)
-by_variant told (RouteLink.DelLink x) (RouteLink.DelLink y) i e = one_text told x.message y.message x.readable y.readable (ap (λ (z : ℕ × List ℕ). z.1) e)
-by_variant told (RouteLink.GetLink x) (RouteLink.GetLink y) i e = one_text told x.message y.message x.readable y.readable (ap (λ (z : ℕ × List ℕ). z.1) e)
-by_variant told (RouteLink.SetLink x) (RouteLink.SetLink y) i e = one_text told x.message y.message x.readable y.readable (ap (λ (z : ℕ × List ℕ). z.1) e)
-by_variant told (RouteLink.Other x) (RouteLink.Other y) i e = and_from _ _ (eq-eqb x.message_type y.message_type i) ((bytes_decides x.bytes y.bytes).1 (ap (λ (z : ℕ × List ℕ). z.1) e))
-by_variant told (RouteLink.Other x) (RouteLink.NewLink y) i e = absurd (not_kept _ 16 x.kept i (omega arith) (omega arith))
-by_variant told (RouteLink.Other x) (RouteLink.DelLink y) i e = absurd (not_kept _ 17 x.kept i (omega arith) (omega arith))
-by_variant told (RouteLink.Other x) (RouteLink.GetLink y) i e = absurd (not_kept _ 18 x.kept i (omega arith) (omega arith))
-by_variant told (RouteLink.Other x) (RouteLink.SetLink y) i e = absurd (not_kept _ 19 x.kept i (omega arith) (omega arith))
-by_variant told (RouteLink.NewLink x) (RouteLink.Other y) i e = absurd (not_kept _ 16 y.kept (sym i) (omega arith) (omega arith))
-by_variant told (RouteLink.DelLink x) (RouteLink.Other y) i e = absurd (not_kept _ 17 y.kept (sym i) (omega arith) (omega arith))
-by_variant told (RouteLink.GetLink x) (RouteLink.Other y) i e = absurd (not_kept _ 18 y.kept (sym i) (omega arith) (omega arith))
-by_variant told (RouteLink.SetLink x) (RouteLink.Other y) i e = absurd (not_kept _ 19 y.kept (sym i) (omega arith) (omega arith))
-by_variant told x y i e = absurd (omega (arith, i))
+by_variant (RouteLink.NewLink x) (RouteLink.NewLink y) i e = one_text x.message y.message x.readable y.readable (ap (λ (z : ℕ × List ℕ). z.1) e)
+by_variant (RouteLink.DelLink x) (RouteLink.DelLink y) i e = one_text x.message y.message x.readable y.readable (ap (λ (z : ℕ × List ℕ). z.1) e)
+by_variant (RouteLink.GetLink x) (RouteLink.GetLink y) i e = one_text x.message y.message x.readable y.readable (ap (λ (z : ℕ × List ℕ). z.1) e)
+by_variant (RouteLink.SetLink x) (RouteLink.SetLink y) i e = one_text x.message y.message x.readable y.readable (ap (λ (z : ℕ × List ℕ). z.1) e)
+by_variant (RouteLink.Other x) (RouteLink.Other y) i e = and_from _ _ (eq-eqb x.message_type y.message_type i) ((bytes_decides x.bytes y.bytes).1 (ap (λ (z : ℕ × List ℕ). z.1) e))
+by_variant (RouteLink.Other x) (RouteLink.NewLink y) i e = absurd (not_kept _ 16 x.kept i (omega arith) (omega arith))
+by_variant (RouteLink.Other x) (RouteLink.DelLink y) i e = absurd (not_kept _ 17 x.kept i (omega arith) (omega arith))
+by_variant (RouteLink.Other x) (RouteLink.GetLink y) i e = absurd (not_kept _ 18 x.kept i (omega arith) (omega arith))
+by_variant (RouteLink.Other x) (RouteLink.SetLink y) i e = absurd (not_kept _ 19 x.kept i (omega arith) (omega arith))
+by_variant (RouteLink.NewLink x) (RouteLink.Other y) i e = absurd (not_kept _ 16 y.kept (sym i) (omega arith) (omega arith))
+by_variant (RouteLink.DelLink x) (RouteLink.Other y) i e = absurd (not_kept _ 17 y.kept (sym i) (omega arith) (omega arith))
+by_variant (RouteLink.GetLink x) (RouteLink.Other y) i e = absurd (not_kept _ 18 y.kept (sym i) (omega arith) (omega arith))
+by_variant (RouteLink.SetLink x) (RouteLink.Other y) i e = absurd (not_kept _ 19 y.kept (sym i) (omega arith) (omega arith))
+by_variant x y i e = absurd (omega (arith, i))
 
-pub routes_injective : (InnerAreTold → EqualTextsMeanEqualMessages) → InnerAreTold → EqualEntriesMeanEqualRoutes
-routes_injective law t x y e = by_variant (law t) x y (type_is x ∙ ap (λ (z : ℕ × List ℕ). z.0) e ∙ sym (type_is y)) e
+pub routes_injective : EqualEntriesMeanEqualRoutes
+routes_injective x y e = by_variant x y (type_is x ∙ ap (λ (z : ℕ × List ℕ). z.0) e ∙ sym (type_is y)) e

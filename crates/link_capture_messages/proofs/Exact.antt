@@ -1,4 +1,4 @@
--- A message that is read as another isn't readable, where messages are told by what they are written as.
+-- A message whose text is read as another message isn't readable.
 use Rattle.std.proofs.Common.{◌≡◌, ◌⊎◌, ℕ, List, Bool, true, false, Ok, refl, sym, ap, ◌∙◌, inl, inr}
 use Rattle.std.specs.Prelude.{◌&&◌, bytes_eq, slice_index}
 use Rattle.std.proofs.lemmas.Bool.{and_parts, and_from}
@@ -7,20 +7,20 @@ use Rattle.link_message_grammar.specs.Body.{link_body}
 use Rattle.link_message.specs.declared.message.LinkMessage.{LinkMessage}
 use Rattle.link_message.specs.LinkMessages.{link_message_text, link_message_fits}
 use Rattle.link_message.specs.contracts.message.LinkMessageEq.TheImpl.Laws.{laws-law}
-use Rattle.link_message_laws.specs.Messages.{InnerAreTold, EqualTextsMeanEqualMessages}
+use Rattle.link_message_laws.specs.Messages.{EqualTextsMeanEqualMessages}
 use Rattle.link_capture_messages.specs.Readable.{IsReadFrom, IsReadable, ReadsAsAnother, equal_messages, says_the_same}
 use Rattle.link_capture_messages.proofs.ReadAgain.{own}
 
 -- two messages that are read from the same bytes are equal
 pub one_message : EqualTextsMeanEqualMessages → (t : List ℕ) (m n : LinkMessage) → IsReadFrom t m → IsReadFrom t n → equal_messages m n ≡ true
-one_message told t m n r s = told m n (r.family ∙ sym s.family) r.names_row s.names_row (r.text ∙ sym s.text)
+one_message law t m n r s = law m n (r.family ∙ sym s.family) r.names_row s.names_row (r.text ∙ sym s.text)
 
 -- what the one says, the other says
 alike : EqualTextsMeanEqualMessages → (t : List ℕ) (m n k : LinkMessage) → IsReadFrom t n → IsReadFrom t k → says_the_same m k ≡ true → says_the_same m n ≡ true
-alike told t m n k r s h =
+alike law t m n k r s h =
     let a = and_parts (equal_messages k m) (link_message_fits k && bytes_eq (link_message_text k) (link_message_text m)) h in
     let b = and_parts (link_message_fits k) (bytes_eq (link_message_text k) (link_message_text m)) a.1 in
-    let equal = laws-law.congr n k m (one_message told t n k r s) ∙ a.0 in
+    let equal = laws-law.congr n k m (one_message law t n k r s) ∙ a.0 in
     let fits = r.fits ∙ sym s.fits ∙ b.0 in
     let text = ap (λ x. bytes_eq x (link_message_text m)) (r.text ∙ sym s.text) ∙ b.1 in
     and_from _ _ equal (and_from _ _ fits text)
@@ -29,10 +29,7 @@ pub differ : (b : Bool) → b ≡ true → b ≡ false → ⊥
 differ true h k = absurd cc
 differ false h k = absurd cc
 
-excluded : EqualTextsMeanEqualMessages → (m : LinkMessage) → ReadsAsAnother m → IsReadable m → ⊥
-excluded told m (inl a) h = differ _ (own _ h.text).accepted a
-excluded told m (inr (inl p)) h = differ _ p (own _ h.text).no_empty_ports
-excluded told m (inr (inr x)) h = not_there h.again (λ y. differ _ (alike told (link_message_text m) m x.0 y.0 x.1 y.1 y.2) x.2)
-
-pub exclusive : (InnerAreTold → EqualTextsMeanEqualMessages) → (m : LinkMessage) → ReadsAsAnother m → InnerAreTold → IsReadable m → ⊥
-exclusive law m x t = excluded (law t) m x
+pub excluded : EqualTextsMeanEqualMessages → (m : LinkMessage) → ReadsAsAnother m → IsReadable m → ⊥
+excluded law m (inl a) h = differ _ (own _ h.text).accepted a
+excluded law m (inr (inl p)) h = differ _ p (own _ h.text).no_empty_ports
+excluded law m (inr (inr x)) h = not_there h.again (λ y. differ _ (alike law (link_message_text m) m x.0 y.0 x.1 y.1 y.2) x.2)

@@ -1,4 +1,4 @@
--- Messages of captures that are written alike are equal.
+-- Messages of captures with equal types and equal body texts are equal.
 use Rattle.std.specs.Prelude.{◌≡◌, Bool, true}
 use Rattle.link_capture_messages.specs.declared.route.RouteLink.{RouteLink}
 use Rattle.link_capture_messages.specs.contracts.route.RouteLinkPartialEq.TheImpl as route_equality

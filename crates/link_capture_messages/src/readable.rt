@@ -4,7 +4,6 @@ ghost use Rattle.std.specs.Prelude.{◌≡◌, ◌≢◌, ◌↔◌, Ok, true, f
 ghost use Rattle.link_capture_grammar.specs.Bodies.{ruled_text};
 ghost use Rattle.link_message_grammar.specs.Body.{link_body};
 ghost use Rattle.link_message.specs.LinkMessages.{link_message_text, link_message_fits};
-ghost use Rattle.link_message_laws.specs.Messages.{InnerAreTold};
 ghost use Rattle.link_capture_messages.specs.Readable.{IsReadFrom, IsReadable, ReadsAsAnother, says_the_same};
 ghost use Rattle.link_capture_messages.specs.Views.{readable_message, readable_text};
 ghost use Rattle.link_capture_messages.specs.Routes.{TellsOf};
@@ -20,27 +19,30 @@ use std::alloc::Global;
 use thiserror::Error;
 use link_message_laws::laws::equal_texts_mean_equal_messages;
 
-/// Why a message isn't readable.
+/// Why a message wasn't taken as a readable one.
 #[derive(Clone, Copy, Debug, PartialEq, Eq, Drop, Error)]
 pub enum NotReadable {
     /// A length inside doesn't fit the 2 bytes of its header.
     #[error("attribute over 65535")]
     Unfit,
-    /// What it is written as is refused, or read as another message.
+    /// Its text is invalid, or is read as another message.
     #[error("refused or read as another message")]
     ReadsOtherwise,
-    /// No memory was to be had to find out.
+    /// An allocation failed before it was known.
     #[error("no memory")]
     Memory,
 }
 
 impl ReadableLink {
-    /// Takes a message that fits and is read back equal from what it is written as; otherwise it gives
-    /// the message back unchanged.
+    /// Returns the message as a readable one: it fits, and its text is legal and is read back as an
+    /// equal message with the same text.
     ///
-    /// What is promised: a message that is taken is readable; `Unfit` is told exactly where it doesn't
-    /// fit, and `ReadsOtherwise` only where it isn't readable. `Memory` may be told of any message that
-    /// fits: it is written and read to find out.
+    /// # Errors
+    ///
+    /// Each error gives the message back unchanged. `Unfit` is returned if and only if the message
+    /// doesn't fit. Of messages that fit, a readable one gives `Ok` and any other `ReadsOtherwise`,
+    /// unless an allocation fails: then either may give `Memory`, as the message is written and read
+    /// back to find out.
     pub fn new(
         alloc: Global,
         message: LinkMessage,
@@ -52,8 +54,8 @@ impl ReadableLink {
             (λ e. (e.1 ≡ NotReadable.Unfit) ↔ (link_message_fits message ≡ false)) }
         ensures otherwise { IfErr result
             (λ e. e.1 ≡ NotReadable.ReadsOtherwise → ReadsAsAnother message) }
-        ensures exact { IfErr result
-            (λ e. e.1 ≡ NotReadable.ReadsOtherwise → InnerAreTold → IsReadable message → ⊥) }
+        ensures unreadable { IfErr result
+            (λ e. e.1 ≡ NotReadable.ReadsOtherwise → IsReadable message → ⊥) }
     {
         equal_texts_mean_equal_messages();
         match reads_back(alloc, &message) {

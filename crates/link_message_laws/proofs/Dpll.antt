@@ -1,4 +1,4 @@
--- Values of `DpllPin` are told by what they are written as.
+-- Values of `DpllPin` with equal attributes are equal.
 use Rattle.std.proofs.Common.{◌≡◌, ℕ, List, [], ◌∷◌, Bool, true, refl, sym, ap, ◌∙◌, arith}
 use Rattle.netlink_packet_core.specs.Attributes.{Attribute, proper_kind}
 use Rattle.attribute_tables_grammar.specs.LookUps.{line_at}
@@ -20,23 +20,23 @@ abbrev variant : DpllPin → ℕ
 variant (PinId a) = 1
 variant (Other a) = 0
 
-abbrev of_entry : Attribute → ℕ
-of_entry a = numbered (line_at dpll_pin (proper_kind a.kind)) (proper_kind a.kind)
+abbrev row_number : Attribute → ℕ
+row_number a = numbered (line_at dpll_pin (proper_kind a.kind)) (proper_kind a.kind)
 
-variant_is : (v : DpllPin) → dpll_pin_names_row v → variant v ≡ of_entry (dpll_pin_entry v)
-variant_is (Other a) h = rw h refl
-variant_is v h = refl
+variant_number : (v : DpllPin) → dpll_pin_names_row v → variant v ≡ row_number (dpll_pin_entry v)
+variant_number (Other a) h = rw h refl
+variant_number v h = refl
 
-payload_is : (v w : DpllPin) → dpll_pin_entry v ≡ dpll_pin_entry w → (dpll_pin_entry v).payload ≡ (dpll_pin_entry w).payload
-payload_is v w e = ap (λ (a : Attribute). a.payload) e
+payload_equal : (v w : DpllPin) → dpll_pin_entry v ≡ dpll_pin_entry w → (dpll_pin_entry v).payload ≡ (dpll_pin_entry w).payload
+payload_equal v w e = ap (λ (a : Attribute). a.payload) e
 
 same : (v w : DpllPin) → v ≡ w → equal v w ≡ true
 same v w e = ap (equal v) (sym e) ∙ laws-law.refl v
 
 by_variant : (v w : DpllPin) → variant v ≡ variant w → dpll_pin_names_row v → dpll_pin_names_row w → dpll_pin_entry v ≡ dpll_pin_entry w → equal v w ≡ true
-by_variant (PinId x) (PinId y) i p q e = same (PinId x) (PinId y) (ap PinId (le4_injective x y (payload_is (PinId x) (PinId y) e)))
+by_variant (PinId x) (PinId y) i p q e = same (PinId x) (PinId y) (ap PinId (le4_injective x y (payload_equal (PinId x) (PinId y) e)))
 by_variant (Other x) (Other y) i p q e = same (Other x) (Other y) (ap Other e)
 by_variant v w i p q e = absurd (omega (arith, i))
 
 pub dpll_injective : IsInjective equal dpll_pin_entry dpll_pin_names_row
-dpll_injective v w p q e = by_variant v w (variant_is v p ∙ ap of_entry e ∙ sym (variant_is w q)) p q e
+dpll_injective v w p q e = by_variant v w (variant_number v p ∙ ap row_number e ∙ sym (variant_number w q)) p q e

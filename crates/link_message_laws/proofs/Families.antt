@@ -1,7 +1,6 @@
--- What address families tell of a link is told by what it is written as.
+-- Settings of address families with equal attributes are equal.
 use Rattle.std.proofs.Common.{◌≡◌, ℕ, ℤ, List, [], ◌∷◌, ◌++◌, take, drop, Bool, true, refl, sym, ap, ◌∙◌, arith, flat_map}
 use Rattle.netlink_packet_core.specs.Attributes.{Attribute, proper_kind}
-use Rattle.netlink_packet_core_grammar.specs.Laws.{TextIsCut}
 use Rattle.netlink_packet_core_grammar.specs.Numbers.{le4, signed_bits}
 use Rattle.attribute_tables_grammar.specs.LookUps.{line_at}
 use Rattle.link_message_grammar.specs.NestedTables.{inet, inet6, specific}
@@ -136,13 +135,13 @@ unfolding family_variant
 family_is (AfSpecUnspec.Other a) h = rw h refl
 family_is v h = refl
 
-family_by : TextIsCut → (v w : AfSpecUnspec) → family_variant v ≡ family_variant w → af_spec_unspec_names_row v → af_spec_unspec_names_row w → af_spec_unspec_entry v ≡ af_spec_unspec_entry w → (family_equality.ghosts).eq v w ≡ true
+family_by : (v w : AfSpecUnspec) → family_variant v ≡ family_variant w → af_spec_unspec_names_row v → af_spec_unspec_names_row w → af_spec_unspec_entry v ≡ af_spec_unspec_entry w → (family_equality.ghosts).eq v w ≡ true
 unfolding family_variant
-family_by law (AfSpecUnspec.Inet x) (AfSpecUnspec.Inet y) i p q e = lists_injective _ _ _ law inet_injective _ _ p q (payload_of _ _ e)
-family_by law (AfSpecUnspec.Inet6 x) (AfSpecUnspec.Inet6 y) i p q e = lists_injective _ _ _ law inet6_injective _ _ p q (payload_of _ _ e)
-family_by law (AfSpecUnspec.Mctp x) (AfSpecUnspec.Mctp y) i p q e = lists_injective _ _ _ law mctp_injective _ _ p q (payload_of _ _ e)
-family_by law (AfSpecUnspec.Other x) (AfSpecUnspec.Other y) i p q e = ap (λ z. (family_equality.ghosts).eq (AfSpecUnspec.Other x) (AfSpecUnspec.Other z)) (sym e) ∙ family_laws.laws-law.refl (AfSpecUnspec.Other x)
-family_by law v w i p q e = absurd (omega (arith, i))
+family_by (AfSpecUnspec.Inet x) (AfSpecUnspec.Inet y) i p q e = lists_injective _ _ _ inet_injective _ _ p q (payload_of _ _ e)
+family_by (AfSpecUnspec.Inet6 x) (AfSpecUnspec.Inet6 y) i p q e = lists_injective _ _ _ inet6_injective _ _ p q (payload_of _ _ e)
+family_by (AfSpecUnspec.Mctp x) (AfSpecUnspec.Mctp y) i p q e = lists_injective _ _ _ mctp_injective _ _ p q (payload_of _ _ e)
+family_by (AfSpecUnspec.Other x) (AfSpecUnspec.Other y) i p q e = ap (λ z. (family_equality.ghosts).eq (AfSpecUnspec.Other x) (AfSpecUnspec.Other z)) (sym e) ∙ family_laws.laws-law.refl (AfSpecUnspec.Other x)
+family_by v w i p q e = absurd (omega (arith, i))
 
-pub families_injective : TextIsCut → IsInjective (family_equality.ghosts).eq af_spec_unspec_entry af_spec_unspec_names_row
-families_injective law v w p q e = family_by law v w (family_is v p ∙ ap (λ (a : Attribute). numbered (line_at specific (proper_kind a.kind)) (proper_kind a.kind)) e ∙ sym (family_is w q)) p q e
+pub families_injective : IsInjective (family_equality.ghosts).eq af_spec_unspec_entry af_spec_unspec_names_row
+families_injective v w p q e = family_by v w (family_is v p ∙ ap (λ (a : Attribute). numbered (line_at specific (proper_kind a.kind)) (proper_kind a.kind)) e ∙ sym (family_is w q)) p q e

@@ -1,4 +1,4 @@
--- Values of `AfSpecMctp` are told by what they are written as.
+-- Values of `AfSpecMctp` with equal attributes are equal.
 use Rattle.std.proofs.Common.{◌≡◌, ℕ, List, [], ◌∷◌, Bool, true, refl, sym, ap, ◌∙◌, arith}
 use Rattle.netlink_packet_core.specs.Attributes.{Attribute, proper_kind}
 use Rattle.attribute_tables_grammar.specs.LookUps.{line_at}
@@ -22,24 +22,24 @@ variant (Net a) = 1
 variant (PhysBinding a) = 2
 variant (Other a) = 0
 
-abbrev of_entry : Attribute → ℕ
-of_entry a = numbered (line_at mctp (proper_kind a.kind)) (proper_kind a.kind)
+abbrev row_number : Attribute → ℕ
+row_number a = numbered (line_at mctp (proper_kind a.kind)) (proper_kind a.kind)
 
-variant_is : (v : AfSpecMctp) → af_spec_mctp_names_row v → variant v ≡ of_entry (af_spec_mctp_entry v)
-variant_is (Other a) h = rw h refl
-variant_is v h = refl
+variant_number : (v : AfSpecMctp) → af_spec_mctp_names_row v → variant v ≡ row_number (af_spec_mctp_entry v)
+variant_number (Other a) h = rw h refl
+variant_number v h = refl
 
-payload_is : (v w : AfSpecMctp) → af_spec_mctp_entry v ≡ af_spec_mctp_entry w → (af_spec_mctp_entry v).payload ≡ (af_spec_mctp_entry w).payload
-payload_is v w e = ap (λ (a : Attribute). a.payload) e
+payload_equal : (v w : AfSpecMctp) → af_spec_mctp_entry v ≡ af_spec_mctp_entry w → (af_spec_mctp_entry v).payload ≡ (af_spec_mctp_entry w).payload
+payload_equal v w e = ap (λ (a : Attribute). a.payload) e
 
 same : (v w : AfSpecMctp) → v ≡ w → equal v w ≡ true
 same v w e = ap (equal v) (sym e) ∙ laws-law.refl v
 
 by_variant : (v w : AfSpecMctp) → variant v ≡ variant w → af_spec_mctp_names_row v → af_spec_mctp_names_row w → af_spec_mctp_entry v ≡ af_spec_mctp_entry w → equal v w ≡ true
-by_variant (Net x) (Net y) i p q e = same (Net x) (Net y) (ap Net (le4_injective x y (payload_is (Net x) (Net y) e)))
-by_variant (PhysBinding x) (PhysBinding y) i p q e = same (PhysBinding x) (PhysBinding y) (ap PhysBinding (p ∙ ap mctp_phys_binding_of (byte_equal _ _ (payload_is (PhysBinding x) (PhysBinding y) e)) ∙ sym q))
+by_variant (Net x) (Net y) i p q e = same (Net x) (Net y) (ap Net (le4_injective x y (payload_equal (Net x) (Net y) e)))
+by_variant (PhysBinding x) (PhysBinding y) i p q e = same (PhysBinding x) (PhysBinding y) (ap PhysBinding (p ∙ ap mctp_phys_binding_of (byte_equal _ _ (payload_equal (PhysBinding x) (PhysBinding y) e)) ∙ sym q))
 by_variant (Other x) (Other y) i p q e = same (Other x) (Other y) (ap Other e)
 by_variant v w i p q e = absurd (omega (arith, i))
 
 pub mctp_injective : IsInjective equal af_spec_mctp_entry af_spec_mctp_names_row
-mctp_injective v w p q e = by_variant v w (variant_is v p ∙ ap of_entry e ∙ sym (variant_is w q)) p q e
+mctp_injective v w p q e = by_variant v w (variant_number v p ∙ ap row_number e ∙ sym (variant_number w q)) p q e

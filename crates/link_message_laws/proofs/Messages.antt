@@ -1,13 +1,12 @@
--- Messages are told by what they are written as.
+-- Messages of one address family with equal texts are equal.
 use Rattle.std.proofs.Common.{◌≡◌, ℕ, List, [], ◌∷◌, ◌++◌, take, drop, Bool, true, refl, sym, ap, ◌∙◌, subst, All}
 use Rattle.std.proofs.lemmas.Bool.{and_from}
 use lib.Pointwise.{pointwise}
 use Rattle.netlink_packet_core.specs.Lists.{text_by}
-use Rattle.netlink_packet_core_grammar.specs.Laws.{TextIsCut}
 use Rattle.netlink_packet_core_grammar.specs.Numbers.{le2, le4}
 use Rattle.link_message_types.specs.AddressFamilies.{address_family_number, table_family}
 use Rattle.link_message_types.specs.Headers.{link_header_bytes}
-use Rattle.link_message_types.specs.Laws.{LayerTypesAreNamed}
+use Rattle.link_message_types.proofs.Numbers.{layer_types_are_named}
 use Rattle.link_message_types.specs.LinkFlagTypes.{link_flags_bits}
 use Rattle.link_message_types.specs.LinkLayerTypes.{link_layer_type_number, link_layer_type_of}
 use Rattle.link_message_types.specs.declared.header.LinkHeader.{LinkHeader}
@@ -17,7 +16,7 @@ use Rattle.link_message_types.specs.contracts.header.LinkHeaderEq.TheImpl.Laws a
 use Rattle.link_message_attributes.specs.LinkAttributes.{link_attribute_entry, link_attribute_names_row}
 use Rattle.link_message.specs.declared.message.LinkMessage.{LinkMessage}
 use Rattle.link_message.specs.LinkMessages.{link_message_text, link_message_names_row}
-use Rattle.link_message_laws.specs.Messages.{InnerAreTold, EqualTextsMeanEqualMessages}
+use Rattle.link_message_laws.specs.Messages.{EqualTextsMeanEqualMessages}
 use Rattle.link_message_laws.proofs.Numbers.{le2_injective, le4_injective}
 use Rattle.link_message_laws.proofs.Records.{number_4_equal, after_4_equal, number_2_equal, after_2_equal}
 use Rattle.link_message_laws.proofs.Lists.{lists_injective}
@@ -38,12 +37,12 @@ pub record OneHeader (h k : LinkHeader) (t u : List ℕ) : Type 0 where
   pub header : h ≡ k
   pub rest : t ≡ u
 
-pub header_injective : LayerTypesAreNamed → (h k : LinkHeader) (t u : List ℕ) → h.interface_family ≡ k.interface_family → link_header_bytes h ++ t ≡ link_header_bytes k ++ u → OneHeader h k t u
+pub header_injective : (h k : LinkHeader) (t u : List ℕ) → h.interface_family ≡ k.interface_family → link_header_bytes h ++ t ≡ link_header_bytes k ++ u → OneHeader h k t u
 unfolding with_header
-header_injective law h k t u f e =
+header_injective h k t u f e =
     let e0 = ap (drop 2) (sym (with_header_is h t) ∙ e ∙ with_header_is k u) in
     let l = number_2_equal (link_layer_type_number h.link_layer_type) (link_layer_type_number k.link_layer_type) _ _ e0 in
-    let layer = sym (law h.link_layer_type) ∙ ap link_layer_type_of l ∙ law k.link_layer_type in
+    let layer = sym (layer_types_are_named h.link_layer_type) ∙ ap link_layer_type_of l ∙ layer_types_are_named k.link_layer_type in
     let e1 = after_2_equal (link_layer_type_number h.link_layer_type) (link_layer_type_number k.link_layer_type) _ _ e0 in
     let index = number_4_equal h.index k.index _ _ e1 in
     let e2 = after_4_equal h.index k.index _ _ e1 in
@@ -55,11 +54,11 @@ header_injective law h k t u f e =
       rest = after_4_equal (link_flags_bits h.change_mask) (link_flags_bits k.change_mask) _ _ e3;
     }
 
-pub messages_injective : TextIsCut → LayerTypesAreNamed → InnerAreTold → EqualTextsMeanEqualMessages
-messages_injective cut layers t m n f p q e =
-    let h = header_injective layers m.header n.header _ _ f e in
+pub messages_injective : EqualTextsMeanEqualMessages
+messages_injective m n f p q e =
+    let h = header_injective m.header n.header _ _ f e in
     let family = table_family m.header.interface_family in
     let q' = subst (λ a. All (link_attribute_names_row (table_family a)) n.attributes.items) (sym f) q in
     and_from _ _
       (ap ((header_equality.ghosts).eq m.header) (sym h.header) ∙ header_laws.laws-law.refl m.header)
-      (lists_injective _ link_attribute_entry (link_attribute_names_row family) cut (attribute_injective cut t family) m.attributes.items n.attributes.items p q' h.rest)
+      (lists_injective _ link_attribute_entry (link_attribute_names_row family) (attribute_injective family) m.attributes.items n.attributes.items p q' h.rest)

@@ -6,13 +6,21 @@ use Rattle.attribute_tables_grammar.specs.LookUps.{line_at}
 use Rattle.link_info_grammar.specs.Families.{netkit}
 use Rattle.link_info_devices.specs.declared.netkit.InfoNetkit.{InfoNetkit}
 use Rattle.link_info_devices.specs.declared.netkit.InfoNetkit.TheVariants as Netkit
-use Rattle.link_info_types.specs.NetkitTypes.{netkit_mode_of, netkit_policy_of}
+use Rattle.link_info_types.specs.NetkitTypes.{netkit_mode_of, netkit_policy_of, netkit_scrub_number}
+use Rattle.link_info_types.specs.declared.netkit.NetkitScrub.{NetkitScrub}
 use Rattle.link_info_devices.specs.Netkit.{netkit_entry, netkit_names_row}
 use Rattle.link_info_devices.specs.contracts.netkit.InfoNetkitPartialEq.TheImpl as equality
 use Rattle.link_info_devices.specs.contracts.netkit.InfoNetkitEq.TheImpl.Laws.{laws-law}
 use Rattle.link_message_laws.specs.Injective.{IsInjective}
 use Rattle.link_message_laws.proofs.Numbers.{le2_injective, le4_injective, truth_injective}
 use Rattle.link_message_laws.proofs.Lists.{numbered}
+
+-- a scrub has a name of its own for each number that it is written as
+netkit_scrub_equal : (s t : NetkitScrub) → netkit_scrub_number s ≡ netkit_scrub_number t → s ≡ t
+netkit_scrub_equal NetkitScrub.None NetkitScrub.None e = refl
+netkit_scrub_equal NetkitScrub.Default NetkitScrub.Default e = refl
+netkit_scrub_equal NetkitScrub.None NetkitScrub.Default e = absurd (omega (arith, e))
+netkit_scrub_equal NetkitScrub.Default NetkitScrub.None e = absurd (omega (arith, e))
 
 abbrev equal : InfoNetkit → InfoNetkit → Bool
 equal = (equality.ghosts).eq

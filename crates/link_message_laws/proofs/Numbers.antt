@@ -1,13 +1,16 @@
--- Numbers are told by their bytes.
-use Rattle.std.proofs.Common.{◌≡◌, ℕ, ℤ, suc, pos, negsuc, cond, nat_lt, ◌+◌, ◌-◌, ◌*◌, ◌<◌, ◌≤◌, List, [], ◌∷◌, ◌++◌, ◌/◌, ◌%◌, take, drop, Bool, true, false, refl, sym, ap, ◌∙◌, arith}
+-- Numbers with equal bytes are equal.
+use Rattle.std.proofs.Common.{◌≡◌, ℕ, ℤ, suc, pos, negsuc, cond, nat_lt, ◌+◌, ◌-◌, ◌*◌, ◌<◌, ◌≤◌, List, [], ◌∷◌, ◌++◌, length, ◌/◌, ◌%◌, take, drop, Bool, true, false, refl, sym, ap, ◌∙◌, arith}
 use Rattle.std.specs.Prelude.{◌==◌}
 use Rattle.std.specs.Int.{w16, w32, w64, from_le_bytes, from_be_bytes}
 use Rattle.std.specs.Ordering.{int_eq}
 use Rattle.std.proofs.lemmas.Bool.{eq-eqb}
 use Rattle.std.proofs.lemmas.Bool.Decides.{nat_tests, Decides-int_eq}
 use Rattle.std.specs.Net.Addr.{ipv4_octets, ipv6_octets, ipv6_segments, octets_of}
+use Rattle.std.specs.declared.net.ip_addr.IpAddr.{IpAddr}
+use Rattle.std.specs.declared.net.ip_addr.IpAddr.TheVariants.{V4, V6}
 use Rattle.std.specs.declared.net.ipv4_addr.Ipv4Addr.{Ipv4Addr}
 use Rattle.std.specs.declared.net.ipv6_addr.Ipv6Addr.{Ipv6Addr}
+use Rattle.netlink_packet_core_numbers.specs.Addresses.{ip_octets, HasAddressLength}
 use Rattle.netlink_packet_core_grammar.specs.Truths.{truth_byte}
 use Rattle.netlink_packet_core_grammar.specs.Numbers.{le2, le4, le8, be2, be4, be8, signed_bits}
 use Rattle.netlink_packet_core_grammar.proofs.Numbers.{from_le2, from_le4, from_le8, from_be2, from_be4, from_be8}
@@ -101,3 +104,10 @@ range_injective r s e =
     let low = be2_injective r.0 s.0 (fronts_are _ _ _ _ e) in
     let high = be2_injective r.1 s.1 (rests_are r.0 s.0 _ _ e) in
     λ i. (low i, high i)
+
+-- addresses of one length are of one version
+pub ip_injective : (a b : IpAddr) → HasAddressLength a → HasAddressLength b → ip_octets a ≡ ip_octets b → a ≡ b
+ip_injective (V4 x) (V4 y) p q e = ap V4 (ipv4_injective x y e)
+ip_injective (V6 x) (V6 y) p q e = ap V6 (ipv6_injective x y e)
+ip_injective (V4 x) (V6 y) p q e = absurd (omega (arith, p, q, ap length e))
+ip_injective (V6 x) (V4 y) p q e = absurd (omega (arith, p, q, ap length e))

@@ -1,7 +1,6 @@
--- Ports of virtual functions, and what protocols tell, are told by what they are written as.
+-- Ports of virtual functions, and information of protocols, with equal attributes are equal.
 use Rattle.std.proofs.Common.{◌≡◌, ℕ, List, Bool, true, refl, sym, ap, ◌∙◌}
 use Rattle.netlink_packet_core.specs.Attributes.{Attribute}
-use Rattle.netlink_packet_core_grammar.specs.Laws.{TextIsCut}
 use Rattle.link_message_nested.specs.ProtocolInfos.{link_proto_info_inet_6_entry}
 use Rattle.link_message_nested.specs.VfPorts.{vf_port_entry, link_vf_port_entry}
 use Rattle.link_message_nested.specs.declared.proto_info.LinkProtoInfoInet6.{LinkProtoInfoInet6}
@@ -23,5 +22,5 @@ port_injective (Port.Other x) (Port.Other y) p q e = ap (λ a. (port_equality.gh
 pub protocol_injective : IsInjective (protocol_equality.ghosts).eq link_proto_info_inet_6_entry (λ _. Unit {0})
 protocol_injective (Protocol.Other x) (Protocol.Other y) p q e = ap (λ a. (protocol_equality.ghosts).eq (Protocol.Other x) (Protocol.Other a)) (sym e) ∙ protocol_laws.laws-law.refl (Protocol.Other x)
 
-pub ports_injective : TextIsCut → IsInjective (vf_port_equality.ghosts).eq link_vf_port_entry (λ _. Unit {0})
-ports_injective law v w p q e = lists_injective _ vf_port_entry (λ _. Unit {0}) law port_injective v.0.items w.0.items (λ _ _ _. tt) (λ _ _ _. tt) (ap (λ (a : Attribute). a.payload) e)
+pub ports_injective : IsInjective (vf_port_equality.ghosts).eq link_vf_port_entry (λ _. Unit {0})
+ports_injective v w p q e = lists_injective _ vf_port_entry (λ _. Unit {0}) port_injective v.0.items w.0.items (λ _ _ _. tt) (λ _ _ _. tt) (ap (λ (a : Attribute). a.payload) e)

@@ -1,4 +1,4 @@
--- Records, texts and raw attributes are told by their bytes.
+-- Records, texts and raw attributes with equal bytes are equal.
 use Rattle.std.proofs.Common.{◌≡◌, ℕ, ◌+◌, List, [], ◌∷◌, ◌++◌, length, take, drop, Bool, true, refl, sym, ap, ◌∙◌, arith, flat_map, String, Global, string_bytes, length-append}
 use Rattle.std.specs.Prelude.{◌==◌, ◌&&◌, string_eq}
 use Rattle.std.proofs.lemmas.Bool.{and_from, eq-eqb}
@@ -12,7 +12,7 @@ use Rattle.link_message_records.specs.ValueRecords.{u32_values_bytes, u64_values
 use Rattle.link_message_records.specs.declared.map.Map.{Map}
 use Rattle.link_message_records.specs.declared.values.Values.{Values}
 use Rattle.link_message_laws.specs.Injective.{IsInjective}
-use Rattle.link_message_laws.specs.Messages.{raw_equal}
+use Rattle.netlink_packet_core_attributes.specs.contracts.nla.DefaultNlaPartialEq.TheImpl as raw_equality
 use Rattle.link_message_laws.proofs.Numbers.{head_equal, tail_equal, le2_injective, le4_injective, le8_injective}
 
 pub number_4_equal : (m n : ℕ) (xs ys : List ℕ) → le4 m ++ xs ≡ le4 n ++ ys → m ≡ n
@@ -91,7 +91,7 @@ map_injective v w e =
 pub phys_id_injective : (x y : LinkPhysId) → link_phys_id_bytes x ≡ link_phys_id_bytes y → x ≡ y
 phys_id_injective x y e = λ i. record { bytes = e i }
 
-without_last : (xs ys : List ℕ) → xs ++ 0 ∷ [] ≡ ys ++ 0 ∷ [] → xs ≡ ys
+pub without_last : (xs ys : List ℕ) → xs ++ 0 ∷ [] ≡ ys ++ 0 ∷ [] → xs ≡ ys
 without_last [] [] e = refl
 without_last [] (y ∷ ys) e = absurd (omega (arith, ap length e, length-append ys (0 ∷ [])))
 without_last (x ∷ xs) [] e = absurd (omega (arith, ap length e, length-append xs (0 ∷ [])))
@@ -99,6 +99,9 @@ without_last (x ∷ xs) (y ∷ ys) e = let a = head_equal _ _ _ _ e in let b = w
 
 pub string_same : (x y : String Global) → string_bytes x ++ 0 ∷ [] ≡ string_bytes y ++ 0 ∷ [] → string_eq x y ≡ true
 string_same x y e = (bytes_decides x.bytes.items y.bytes.items).1 (without_last (string_bytes x) (string_bytes y) e)
+
+abbrev raw_equal : Attribute → Attribute → Bool
+raw_equal = (raw_equality.ghosts).eq
 
 pub raw_injective : IsInjective raw_equal (λ a. a) (λ _. Unit {0})
 raw_injective a b p q e =

@@ -5,12 +5,25 @@ use Rattle.attribute_tables_grammar.specs.LookUps.{line_at}
 use Rattle.link_info_grammar.specs.Families.{rmnet}
 use Rattle.link_info_devices.specs.declared.rmnet.InfoRmNet.{InfoRmNet}
 use Rattle.link_info_devices.specs.declared.rmnet.InfoRmNet.TheVariants.{MuxId, Flags, Other}
-use Rattle.link_info_devices.specs.Rmnet.{rmnet_entry, rmnet_names_row}
+use Rattle.link_info_devices.specs.Rmnet.{rmnet_entry, rmnet_names_row, flags_bytes}
+use Rattle.link_info_devices.specs.declared.rmnet.InfoRmNetFlags.{InfoRmNetFlags}
+use Rattle.link_info_types.specs.RmNetTypes.{rm_net_flags_bits}
+use Rattle.link_info_types.specs.declared.rmnet.RmNetFlags.{RmNetFlags}
 use Rattle.link_info_devices.specs.contracts.rmnet.InfoRmNetPartialEq.TheImpl as equality
 use Rattle.link_info_devices.specs.contracts.rmnet.InfoRmNetEq.TheImpl.Laws.{laws-law}
 use Rattle.link_message_laws.specs.Injective.{IsInjective}
-use Rattle.link_message_laws.proofs.Numbers.{le2_injective}
+use Rattle.link_message_laws.proofs.Numbers.{le2_injective, le4_injective}
+use Rattle.link_message_laws.proofs.Records.{number_4_equal, after_4_equal}
 use Rattle.link_message_laws.proofs.Lists.{numbered}
+
+flags_equal : (f g : RmNetFlags) → f.0 ≡ g.0 → f ≡ g
+flags_equal f g e = λ i. record f { 0 = e i }
+
+flag_pair_equal : (r s : InfoRmNetFlags) → flags_bytes r ≡ flags_bytes s → r ≡ s
+flag_pair_equal r s e =
+    let a = flags_equal r.flags s.flags (number_4_equal (rm_net_flags_bits r.flags) (rm_net_flags_bits s.flags) _ _ e) in
+    let b = flags_equal r.mask s.mask (le4_injective _ _ (after_4_equal (rm_net_flags_bits r.flags) (rm_net_flags_bits s.flags) _ _ e)) in
+    λ i. record { flags = a i; mask = b i }
 
 abbrev equal : InfoRmNet → InfoRmNet → Bool
 equal = (equality.ghosts).eq

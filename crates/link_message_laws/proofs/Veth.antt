@@ -38,5 +38,5 @@ by_variant (Pair.Peer x) (Pair.Peer y) i p q e = (bytes_decides x.items y.items)
 by_variant (Pair.Other x) (Pair.Other y) i p q e = same (Pair.Other x) (Pair.Other y) (ap Pair.Other e)
 by_variant v w i p q e = absurd (omega (arith, i))
 
-pub veth_injective : {n : ℕ} → IsInjective (equal {n}) (pair_entry {n}) (pair_names_row {n})
-veth_injective v w p q e = by_variant v w (variant_number v p ∙ ap row_number e ∙ sym (variant_number w q)) p q e
+pub pair_injective : {n : ℕ} → IsInjective (equal {n}) (pair_entry {n}) (pair_names_row {n})
+pair_injective v w p q e = by_variant v w (variant_number v p ∙ ap row_number e ∙ sym (variant_number w q)) p q e

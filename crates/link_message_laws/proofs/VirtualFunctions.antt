@@ -1,7 +1,6 @@
--- Settings of virtual functions are told by what they are written as.
+-- Settings of virtual functions with equal attributes are equal.
 use Rattle.std.proofs.Common.{◌≡◌, ℕ, suc, List, [], ◌∷◌, ◌++◌, take, drop, Bool, true, false, refl, sym, ap, ◌∙◌, arith, Option, Some, None}
 use Rattle.netlink_packet_core.specs.Attributes.{Attribute, proper_kind, zeros}
-use Rattle.netlink_packet_core_grammar.specs.Laws.{TextIsCut}
 use Rattle.netlink_packet_core_grammar.specs.Numbers.{le4, le8, be2}
 use Rattle.netlink_packet_core_grammar.specs.Truths.{truth_byte}
 use Rattle.attribute_tables_grammar.specs.LookUps.{Line, line_at}
@@ -164,10 +163,10 @@ vlan_variant : VfVlan → ℕ
 vlan_variant (VfVlan.Info r) = 2
 vlan_variant (VfVlan.Other a) = 0
 
-vlan_variant_is : (v : VfVlan) → vf_vlan_names_row v → vlan_variant v ≡ after_row (line_at vf_vlans (proper_kind (vf_vlan_entry v).kind)) (proper_kind (vf_vlan_entry v).kind)
+vlan_variant_number : (v : VfVlan) → vf_vlan_names_row v → vlan_variant v ≡ after_row (line_at vf_vlans (proper_kind (vf_vlan_entry v).kind)) (proper_kind (vf_vlan_entry v).kind)
 unfolding vlan_variant
-vlan_variant_is (VfVlan.Other a) h = rw h refl
-vlan_variant_is (VfVlan.Info r) h = refl
+vlan_variant_number (VfVlan.Other a) h = rw h refl
+vlan_variant_number (VfVlan.Info r) h = refl
 
 vlan_same : (v w : VfVlan) → v ≡ w → (vlan_equality.ghosts).eq v w ≡ true
 vlan_same v w e = ap ((vlan_equality.ghosts).eq v) (sym e) ∙ vlan_laws.laws-law.refl v
@@ -179,7 +178,7 @@ vlan_by (VfVlan.Other x) (VfVlan.Other y) i p q e = vlan_same _ _ (ap VfVlan.Oth
 vlan_by v w i p q e = absurd (omega (arith, i))
 
 vlan_injective : IsInjective (vlan_equality.ghosts).eq vf_vlan_entry vf_vlan_names_row
-vlan_injective v w p q e = vlan_by v w (vlan_variant_is v p ∙ ap (λ (a : Attribute). after_row (line_at vf_vlans (proper_kind a.kind)) (proper_kind a.kind)) e ∙ sym (vlan_variant_is w q)) p q e
+vlan_injective v w p q e = vlan_by v w (vlan_variant_number v p ∙ ap (λ (a : Attribute). after_row (line_at vf_vlans (proper_kind a.kind)) (proper_kind a.kind)) e ∙ sym (vlan_variant_number w q)) p q e
 
 -- ---- settings
 
@@ -205,24 +204,24 @@ info_is v h = refl
 info_same : (v w : VfInfo) → v ≡ w → (info_equality.ghosts).eq v w ≡ true
 info_same v w e = ap ((info_equality.ghosts).eq v) (sym e) ∙ info_laws.laws-law.refl v
 
-info_by : TextIsCut → (v w : VfInfo) → info_variant v ≡ info_variant w → vf_info_names_row v → vf_info_names_row w → vf_info_entry v ≡ vf_info_entry w → (info_equality.ghosts).eq v w ≡ true
+info_by : (v w : VfInfo) → info_variant v ≡ info_variant w → vf_info_names_row v → vf_info_names_row w → vf_info_entry v ≡ vf_info_entry w → (info_equality.ghosts).eq v w ≡ true
 unfolding info_variant
-info_by law (VfInfo.Mac x) (VfInfo.Mac y) i p q e = info_same _ _ (ap VfInfo.Mac (mac_record x y (payload_of _ _ e)))
-info_by law (VfInfo.Vlan x) (VfInfo.Vlan y) i p q e = info_same _ _ (ap VfInfo.Vlan (vlan_record x y (payload_of _ _ e)))
-info_by law (VfInfo.TxRate x) (VfInfo.TxRate y) i p q e = info_same _ _ (ap VfInfo.TxRate (tx_rate_record x y (payload_of _ _ e)))
-info_by law (VfInfo.SpoofCheck x) (VfInfo.SpoofCheck y) i p q e = info_same _ _ (ap VfInfo.SpoofCheck (setting_record x y (payload_of _ _ e)))
-info_by law (VfInfo.LinkState x) (VfInfo.LinkState y) i p q e = info_same _ _ (ap VfInfo.LinkState (state_record x y p q (payload_of _ _ e)))
-info_by law (VfInfo.Rate x) (VfInfo.Rate y) i p q e = info_same _ _ (ap VfInfo.Rate (rate_record x y (payload_of _ _ e)))
-info_by law (VfInfo.RssQueryEn x) (VfInfo.RssQueryEn y) i p q e = info_same _ _ (ap VfInfo.RssQueryEn (setting_record x y (payload_of _ _ e)))
-info_by law (VfInfo.Stats x) (VfInfo.Stats y) i p q e = lists_injective _ _ _ law stats_injective _ _ p q (payload_of _ _ e)
-info_by law (VfInfo.Trust x) (VfInfo.Trust y) i p q e = info_same _ _ (ap VfInfo.Trust (setting_record x y (payload_of _ _ e)))
-info_by law (VfInfo.VlanList x) (VfInfo.VlanList y) i p q e = lists_injective _ _ _ law vlan_injective _ _ p q (payload_of _ _ e)
-info_by law (VfInfo.Broadcast x) (VfInfo.Broadcast y) i p q e = info_same _ _ (ap VfInfo.Broadcast (broadcast_record x y (payload_of _ _ e)))
-info_by law (VfInfo.Other x) (VfInfo.Other y) i p q e = info_same _ _ (ap VfInfo.Other e)
-info_by law v w i p q e = absurd (omega (arith, i))
+info_by (VfInfo.Mac x) (VfInfo.Mac y) i p q e = info_same _ _ (ap VfInfo.Mac (mac_record x y (payload_of _ _ e)))
+info_by (VfInfo.Vlan x) (VfInfo.Vlan y) i p q e = info_same _ _ (ap VfInfo.Vlan (vlan_record x y (payload_of _ _ e)))
+info_by (VfInfo.TxRate x) (VfInfo.TxRate y) i p q e = info_same _ _ (ap VfInfo.TxRate (tx_rate_record x y (payload_of _ _ e)))
+info_by (VfInfo.SpoofCheck x) (VfInfo.SpoofCheck y) i p q e = info_same _ _ (ap VfInfo.SpoofCheck (setting_record x y (payload_of _ _ e)))
+info_by (VfInfo.LinkState x) (VfInfo.LinkState y) i p q e = info_same _ _ (ap VfInfo.LinkState (state_record x y p q (payload_of _ _ e)))
+info_by (VfInfo.Rate x) (VfInfo.Rate y) i p q e = info_same _ _ (ap VfInfo.Rate (rate_record x y (payload_of _ _ e)))
+info_by (VfInfo.RssQueryEn x) (VfInfo.RssQueryEn y) i p q e = info_same _ _ (ap VfInfo.RssQueryEn (setting_record x y (payload_of _ _ e)))
+info_by (VfInfo.Stats x) (VfInfo.Stats y) i p q e = lists_injective _ _ _ stats_injective _ _ p q (payload_of _ _ e)
+info_by (VfInfo.Trust x) (VfInfo.Trust y) i p q e = info_same _ _ (ap VfInfo.Trust (setting_record x y (payload_of _ _ e)))
+info_by (VfInfo.VlanList x) (VfInfo.VlanList y) i p q e = lists_injective _ _ _ vlan_injective _ _ p q (payload_of _ _ e)
+info_by (VfInfo.Broadcast x) (VfInfo.Broadcast y) i p q e = info_same _ _ (ap VfInfo.Broadcast (broadcast_record x y (payload_of _ _ e)))
+info_by (VfInfo.Other x) (VfInfo.Other y) i p q e = info_same _ _ (ap VfInfo.Other e)
+info_by v w i p q e = absurd (omega (arith, i))
 
-info_injective : TextIsCut → IsInjective (info_equality.ghosts).eq vf_info_entry vf_info_names_row
-info_injective law v w p q e = info_by law v w (info_is v p ∙ ap (λ (a : Attribute). after_row (line_at vf (proper_kind a.kind)) (proper_kind a.kind)) e ∙ sym (info_is w q)) p q e
+info_injective : IsInjective (info_equality.ghosts).eq vf_info_entry vf_info_names_row
+info_injective v w p q e = info_by v w (info_is v p ∙ ap (λ (a : Attribute). after_row (line_at vf (proper_kind a.kind)) (proper_kind a.kind)) e ∙ sym (info_is w q)) p q e
 
-pub vf_infos_injective : TextIsCut → IsInjective (link_equality.ghosts).eq link_vf_info_entry link_vf_info_names_row
-vf_infos_injective law v w p q e = lists_injective _ vf_info_entry vf_info_names_row law (info_injective law) v.0.items w.0.items p q (payload_of _ _ e)
+pub vf_infos_injective : IsInjective (link_equality.ghosts).eq link_vf_info_entry link_vf_info_names_row
+vf_infos_injective v w p q e = lists_injective _ vf_info_entry vf_info_names_row info_injective v.0.items w.0.items p q (payload_of _ _ e)

@@ -1,4 +1,4 @@
--- Values of `InfoVxlan` are told by what they are written as.
+-- Values of `InfoVxlan` with equal attributes are equal.
 use Rattle.std.proofs.Common.{◌≡◌, ℕ, List, [], ◌∷◌, Bool, true, refl, sym, ap, ◌∙◌, arith}
 use Rattle.netlink_packet_core.specs.Attributes.{Attribute, proper_kind}
 use Rattle.attribute_tables_grammar.specs.LookUps.{line_at}
@@ -55,59 +55,59 @@ variant (ReservedBits a) = 33
 variant (McRoute a) = 34
 variant (Other a) = 0
 
-abbrev of_entry : Attribute → ℕ
-of_entry a = numbered (line_at vxlan (proper_kind a.kind)) (proper_kind a.kind)
+abbrev row_number : Attribute → ℕ
+row_number a = numbered (line_at vxlan (proper_kind a.kind)) (proper_kind a.kind)
 
-variant_is : (v : InfoVxlan) → vxlan_names_row v → variant v ≡ of_entry (vxlan_entry v)
-variant_is (Other a) h = rw h refl
-variant_is v h = refl
+variant_number : (v : InfoVxlan) → vxlan_names_row v → variant v ≡ row_number (vxlan_entry v)
+variant_number (Other a) h = rw h refl
+variant_number v h = refl
 
-payload_is : (v w : InfoVxlan) → vxlan_entry v ≡ vxlan_entry w → (vxlan_entry v).payload ≡ (vxlan_entry w).payload
-payload_is v w e = ap (λ (a : Attribute). a.payload) e
+payload_equal : (v w : InfoVxlan) → vxlan_entry v ≡ vxlan_entry w → (vxlan_entry v).payload ≡ (vxlan_entry w).payload
+payload_equal v w e = ap (λ (a : Attribute). a.payload) e
 
 same : (v w : InfoVxlan) → v ≡ w → equal v w ≡ true
 same v w e = ap (equal v) (sym e) ∙ laws-law.refl v
 
 by_variant : (v w : InfoVxlan) → variant v ≡ variant w → vxlan_names_row v → vxlan_names_row w → vxlan_entry v ≡ vxlan_entry w → equal v w ≡ true
-by_variant (Id x) (Id y) i p q e = same (Id x) (Id y) (ap Id (le4_injective x y (payload_is (Id x) (Id y) e)))
-by_variant (Group x) (Group y) i p q e = same (Group x) (Group y) (ap Group (ipv4_injective x y (payload_is (Group x) (Group y) e)))
-by_variant (Link x) (Link y) i p q e = same (Link x) (Link y) (ap Link (le4_injective x y (payload_is (Link x) (Link y) e)))
-by_variant (Local x) (Local y) i p q e = same (Local x) (Local y) (ap Local (ipv4_injective x y (payload_is (Local x) (Local y) e)))
-by_variant (Ttl x) (Ttl y) i p q e = same (Ttl x) (Ttl y) (ap Ttl (byte_equal x y (payload_is (Ttl x) (Ttl y) e)))
-by_variant (Tos x) (Tos y) i p q e = same (Tos x) (Tos y) (ap Tos (byte_equal x y (payload_is (Tos x) (Tos y) e)))
-by_variant (Learning x) (Learning y) i p q e = same (Learning x) (Learning y) (ap Learning (truth_injective x y (payload_is (Learning x) (Learning y) e)))
-by_variant (Ageing x) (Ageing y) i p q e = same (Ageing x) (Ageing y) (ap Ageing (le4_injective x y (payload_is (Ageing x) (Ageing y) e)))
-by_variant (Limit x) (Limit y) i p q e = same (Limit x) (Limit y) (ap Limit (le4_injective x y (payload_is (Limit x) (Limit y) e)))
-by_variant (PortRange x) (PortRange y) i p q e = same (PortRange x) (PortRange y) (ap PortRange (range_injective x y (payload_is (PortRange x) (PortRange y) e)))
-by_variant (Proxy x) (Proxy y) i p q e = same (Proxy x) (Proxy y) (ap Proxy (truth_injective x y (payload_is (Proxy x) (Proxy y) e)))
-by_variant (Rsc x) (Rsc y) i p q e = same (Rsc x) (Rsc y) (ap Rsc (truth_injective x y (payload_is (Rsc x) (Rsc y) e)))
-by_variant (L2Miss x) (L2Miss y) i p q e = same (L2Miss x) (L2Miss y) (ap L2Miss (truth_injective x y (payload_is (L2Miss x) (L2Miss y) e)))
-by_variant (L3Miss x) (L3Miss y) i p q e = same (L3Miss x) (L3Miss y) (ap L3Miss (truth_injective x y (payload_is (L3Miss x) (L3Miss y) e)))
-by_variant (Port x) (Port y) i p q e = same (Port x) (Port y) (ap Port (be2_injective x y (payload_is (Port x) (Port y) e)))
-by_variant (Group6 x) (Group6 y) i p q e = same (Group6 x) (Group6 y) (ap Group6 (ipv6_injective x y (payload_is (Group6 x) (Group6 y) e)))
-by_variant (Local6 x) (Local6 y) i p q e = same (Local6 x) (Local6 y) (ap Local6 (ipv6_injective x y (payload_is (Local6 x) (Local6 y) e)))
-by_variant (UDPCsum x) (UDPCsum y) i p q e = same (UDPCsum x) (UDPCsum y) (ap UDPCsum (truth_injective x y (payload_is (UDPCsum x) (UDPCsum y) e)))
-by_variant (UDPZeroCsumTX x) (UDPZeroCsumTX y) i p q e = same (UDPZeroCsumTX x) (UDPZeroCsumTX y) (ap UDPZeroCsumTX (truth_injective x y (payload_is (UDPZeroCsumTX x) (UDPZeroCsumTX y) e)))
-by_variant (UDPZeroCsumRX x) (UDPZeroCsumRX y) i p q e = same (UDPZeroCsumRX x) (UDPZeroCsumRX y) (ap UDPZeroCsumRX (truth_injective x y (payload_is (UDPZeroCsumRX x) (UDPZeroCsumRX y) e)))
-by_variant (RemCsumTX x) (RemCsumTX y) i p q e = same (RemCsumTX x) (RemCsumTX y) (ap RemCsumTX (truth_injective x y (payload_is (RemCsumTX x) (RemCsumTX y) e)))
-by_variant (RemCsumRX x) (RemCsumRX y) i p q e = same (RemCsumRX x) (RemCsumRX y) (ap RemCsumRX (truth_injective x y (payload_is (RemCsumRX x) (RemCsumRX y) e)))
+by_variant (Id x) (Id y) i p q e = same (Id x) (Id y) (ap Id (le4_injective x y (payload_equal (Id x) (Id y) e)))
+by_variant (Group x) (Group y) i p q e = same (Group x) (Group y) (ap Group (ipv4_injective x y (payload_equal (Group x) (Group y) e)))
+by_variant (Link x) (Link y) i p q e = same (Link x) (Link y) (ap Link (le4_injective x y (payload_equal (Link x) (Link y) e)))
+by_variant (Local x) (Local y) i p q e = same (Local x) (Local y) (ap Local (ipv4_injective x y (payload_equal (Local x) (Local y) e)))
+by_variant (Ttl x) (Ttl y) i p q e = same (Ttl x) (Ttl y) (ap Ttl (byte_equal x y (payload_equal (Ttl x) (Ttl y) e)))
+by_variant (Tos x) (Tos y) i p q e = same (Tos x) (Tos y) (ap Tos (byte_equal x y (payload_equal (Tos x) (Tos y) e)))
+by_variant (Learning x) (Learning y) i p q e = same (Learning x) (Learning y) (ap Learning (truth_injective x y (payload_equal (Learning x) (Learning y) e)))
+by_variant (Ageing x) (Ageing y) i p q e = same (Ageing x) (Ageing y) (ap Ageing (le4_injective x y (payload_equal (Ageing x) (Ageing y) e)))
+by_variant (Limit x) (Limit y) i p q e = same (Limit x) (Limit y) (ap Limit (le4_injective x y (payload_equal (Limit x) (Limit y) e)))
+by_variant (PortRange x) (PortRange y) i p q e = same (PortRange x) (PortRange y) (ap PortRange (range_injective x y (payload_equal (PortRange x) (PortRange y) e)))
+by_variant (Proxy x) (Proxy y) i p q e = same (Proxy x) (Proxy y) (ap Proxy (truth_injective x y (payload_equal (Proxy x) (Proxy y) e)))
+by_variant (Rsc x) (Rsc y) i p q e = same (Rsc x) (Rsc y) (ap Rsc (truth_injective x y (payload_equal (Rsc x) (Rsc y) e)))
+by_variant (L2Miss x) (L2Miss y) i p q e = same (L2Miss x) (L2Miss y) (ap L2Miss (truth_injective x y (payload_equal (L2Miss x) (L2Miss y) e)))
+by_variant (L3Miss x) (L3Miss y) i p q e = same (L3Miss x) (L3Miss y) (ap L3Miss (truth_injective x y (payload_equal (L3Miss x) (L3Miss y) e)))
+by_variant (Port x) (Port y) i p q e = same (Port x) (Port y) (ap Port (be2_injective x y (payload_equal (Port x) (Port y) e)))
+by_variant (Group6 x) (Group6 y) i p q e = same (Group6 x) (Group6 y) (ap Group6 (ipv6_injective x y (payload_equal (Group6 x) (Group6 y) e)))
+by_variant (Local6 x) (Local6 y) i p q e = same (Local6 x) (Local6 y) (ap Local6 (ipv6_injective x y (payload_equal (Local6 x) (Local6 y) e)))
+by_variant (UDPCsum x) (UDPCsum y) i p q e = same (UDPCsum x) (UDPCsum y) (ap UDPCsum (truth_injective x y (payload_equal (UDPCsum x) (UDPCsum y) e)))
+by_variant (UDPZeroCsumTX x) (UDPZeroCsumTX y) i p q e = same (UDPZeroCsumTX x) (UDPZeroCsumTX y) (ap UDPZeroCsumTX (truth_injective x y (payload_equal (UDPZeroCsumTX x) (UDPZeroCsumTX y) e)))
+by_variant (UDPZeroCsumRX x) (UDPZeroCsumRX y) i p q e = same (UDPZeroCsumRX x) (UDPZeroCsumRX y) (ap UDPZeroCsumRX (truth_injective x y (payload_equal (UDPZeroCsumRX x) (UDPZeroCsumRX y) e)))
+by_variant (RemCsumTX x) (RemCsumTX y) i p q e = same (RemCsumTX x) (RemCsumTX y) (ap RemCsumTX (truth_injective x y (payload_equal (RemCsumTX x) (RemCsumTX y) e)))
+by_variant (RemCsumRX x) (RemCsumRX y) i p q e = same (RemCsumRX x) (RemCsumRX y) (ap RemCsumRX (truth_injective x y (payload_equal (RemCsumRX x) (RemCsumRX y) e)))
 by_variant Gbp Gbp i p q e = same Gbp Gbp refl
 by_variant RemCsumNoPartial RemCsumNoPartial i p q e = same RemCsumNoPartial RemCsumNoPartial refl
-by_variant (CollectMetadata x) (CollectMetadata y) i p q e = same (CollectMetadata x) (CollectMetadata y) (ap CollectMetadata (truth_injective x y (payload_is (CollectMetadata x) (CollectMetadata y) e)))
-by_variant (Label x) (Label y) i p q e = same (Label x) (Label y) (ap Label (be4_injective x y (payload_is (Label x) (Label y) e)))
+by_variant (CollectMetadata x) (CollectMetadata y) i p q e = same (CollectMetadata x) (CollectMetadata y) (ap CollectMetadata (truth_injective x y (payload_equal (CollectMetadata x) (CollectMetadata y) e)))
+by_variant (Label x) (Label y) i p q e = same (Label x) (Label y) (ap Label (be4_injective x y (payload_equal (Label x) (Label y) e)))
 by_variant Gpe Gpe i p q e = same Gpe Gpe refl
 by_variant TtlInheritFlag TtlInheritFlag i p q e = same TtlInheritFlag TtlInheritFlag refl
-by_variant (TtlInherit x) (TtlInherit y) i p q e = same (TtlInherit x) (TtlInherit y) (ap TtlInherit (byte_equal x y (payload_is (TtlInherit x) (TtlInherit y) e)))
-by_variant (Df x) (Df y) i p q e = same (Df x) (Df y) (ap Df (p ∙ ap vxlan_df_of (byte_equal _ _ (payload_is (Df x) (Df y) e)) ∙ sym q))
-by_variant (Vnifilter x) (Vnifilter y) i p q e = same (Vnifilter x) (Vnifilter y) (ap Vnifilter (truth_injective x y (payload_is (Vnifilter x) (Vnifilter y) e)))
-by_variant (Localbypass x) (Localbypass y) i p q e = same (Localbypass x) (Localbypass y) (ap Localbypass (truth_injective x y (payload_is (Localbypass x) (Localbypass y) e)))
-by_variant (LabelPolicy x) (LabelPolicy y) i p q e = same (LabelPolicy x) (LabelPolicy y) (ap LabelPolicy (le4_injective x y (payload_is (LabelPolicy x) (LabelPolicy y) e)))
-by_variant (ReservedBits x) (ReservedBits y) i p q e = same (ReservedBits x) (ReservedBits y) (ap ReservedBits (be8_injective x y (payload_is (ReservedBits x) (ReservedBits y) e)))
-by_variant (McRoute x) (McRoute y) i p q e = same (McRoute x) (McRoute y) (ap McRoute (truth_injective x y (payload_is (McRoute x) (McRoute y) e)))
+by_variant (TtlInherit x) (TtlInherit y) i p q e = same (TtlInherit x) (TtlInherit y) (ap TtlInherit (byte_equal x y (payload_equal (TtlInherit x) (TtlInherit y) e)))
+by_variant (Df x) (Df y) i p q e = same (Df x) (Df y) (ap Df (p ∙ ap vxlan_df_of (byte_equal _ _ (payload_equal (Df x) (Df y) e)) ∙ sym q))
+by_variant (Vnifilter x) (Vnifilter y) i p q e = same (Vnifilter x) (Vnifilter y) (ap Vnifilter (truth_injective x y (payload_equal (Vnifilter x) (Vnifilter y) e)))
+by_variant (Localbypass x) (Localbypass y) i p q e = same (Localbypass x) (Localbypass y) (ap Localbypass (truth_injective x y (payload_equal (Localbypass x) (Localbypass y) e)))
+by_variant (LabelPolicy x) (LabelPolicy y) i p q e = same (LabelPolicy x) (LabelPolicy y) (ap LabelPolicy (le4_injective x y (payload_equal (LabelPolicy x) (LabelPolicy y) e)))
+by_variant (ReservedBits x) (ReservedBits y) i p q e = same (ReservedBits x) (ReservedBits y) (ap ReservedBits (be8_injective x y (payload_equal (ReservedBits x) (ReservedBits y) e)))
+by_variant (McRoute x) (McRoute y) i p q e = same (McRoute x) (McRoute y) (ap McRoute (truth_injective x y (payload_equal (McRoute x) (McRoute y) e)))
 by_variant (Other x) (Other y) i p q e = same (Other x) (Other y) (ap Other e)
-by_variant TtlInheritFlag (TtlInherit y) i p q e = let h = payload_is TtlInheritFlag (TtlInherit y) e in absurd cc
-by_variant (TtlInherit x) TtlInheritFlag i p q e = let h = payload_is (TtlInherit x) TtlInheritFlag e in absurd cc
+by_variant TtlInheritFlag (TtlInherit y) i p q e = let h = payload_equal TtlInheritFlag (TtlInherit y) e in absurd cc
+by_variant (TtlInherit x) TtlInheritFlag i p q e = let h = payload_equal (TtlInherit x) TtlInheritFlag e in absurd cc
 by_variant v w i p q e = absurd (omega (arith, i))
 
 pub vxlan_injective : IsInjective equal vxlan_entry vxlan_names_row
-vxlan_injective v w p q e = by_variant v w (variant_is v p ∙ ap of_entry e ∙ sym (variant_is w q)) p q e
+vxlan_injective v w p q e = by_variant v w (variant_number v p ∙ ap row_number e ∙ sym (variant_number w q)) p q e

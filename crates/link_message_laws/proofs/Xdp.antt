@@ -1,4 +1,4 @@
--- Programs of the express data path are told by what they are written as.
+-- Programs of the express data path with equal attributes are equal.
 use Rattle.std.proofs.Common.{◌≡◌, ℕ, List, [], ◌∷◌, Bool, true, refl, sym, ap, ◌∙◌, subst, arith}
 use Rattle.netlink_packet_core.specs.Attributes.{Attribute, proper_kind}
 use Rattle.attribute_tables_grammar.specs.LookUps.{line_at}
@@ -28,32 +28,32 @@ variant (HwProgId n) = 7
 variant (ExpectedFd n) = 8
 variant (Other a) = 0
 
-abbrev of_entry : Attribute → ℕ
-of_entry a = numbered (line_at xdp (proper_kind a.kind)) (proper_kind a.kind)
+abbrev row_number : Attribute → ℕ
+row_number a = numbered (line_at xdp (proper_kind a.kind)) (proper_kind a.kind)
 
-variant_is : (v : LinkXdp) → link_xdp_names_row v → variant v ≡ of_entry (link_xdp_entry v)
-variant_is (Other a) h = rw h refl
-variant_is v h = refl
+variant_number : (v : LinkXdp) → link_xdp_names_row v → variant v ≡ row_number (link_xdp_entry v)
+variant_number (Other a) h = rw h refl
+variant_number v h = refl
 
-payload_is : (v w : LinkXdp) → link_xdp_entry v ≡ link_xdp_entry w → (link_xdp_entry v).payload ≡ (link_xdp_entry w).payload
-payload_is v w e = ap (λ (a : Attribute). a.payload) e
+payload_equal : (v w : LinkXdp) → link_xdp_entry v ≡ link_xdp_entry w → (link_xdp_entry v).payload ≡ (link_xdp_entry w).payload
+payload_equal v w e = ap (λ (a : Attribute). a.payload) e
 
 same : (v w : LinkXdp) → v ≡ w → equal v w ≡ true
 same v w e = ap (equal v) (sym e) ∙ laws-law.refl v
 
 by_variant : (v w : LinkXdp) → variant v ≡ variant w → link_xdp_names_row v → link_xdp_names_row w → link_xdp_entry v ≡ link_xdp_entry w → equal v w ≡ true
-by_variant (Fd x) (Fd y) i p q e = signed_same x y (payload_is (Fd x) (Fd y) e)
-by_variant (Attached x) (Attached y) i p q e = same (Attached x) (Attached y) (ap Attached (p ∙ ap xdp_attached_of (byte_equal _ _ (payload_is (Attached x) (Attached y) e)) ∙ sym q))
-by_variant (Flags x) (Flags y) i p q e = le4_same x y (payload_is (Flags x) (Flags y) e)
-by_variant (ProgId x) (ProgId y) i p q e = le4_same x y (payload_is (ProgId x) (ProgId y) e)
-by_variant (DrvProgId x) (DrvProgId y) i p q e = le4_same x y (payload_is (DrvProgId x) (DrvProgId y) e)
-by_variant (SkbProgId x) (SkbProgId y) i p q e = le4_same x y (payload_is (SkbProgId x) (SkbProgId y) e)
-by_variant (HwProgId x) (HwProgId y) i p q e = le4_same x y (payload_is (HwProgId x) (HwProgId y) e)
-by_variant (ExpectedFd x) (ExpectedFd y) i p q e = le4_same x y (payload_is (ExpectedFd x) (ExpectedFd y) e)
+by_variant (Fd x) (Fd y) i p q e = signed_same x y (payload_equal (Fd x) (Fd y) e)
+by_variant (Attached x) (Attached y) i p q e = same (Attached x) (Attached y) (ap Attached (p ∙ ap xdp_attached_of (byte_equal _ _ (payload_equal (Attached x) (Attached y) e)) ∙ sym q))
+by_variant (Flags x) (Flags y) i p q e = le4_same x y (payload_equal (Flags x) (Flags y) e)
+by_variant (ProgId x) (ProgId y) i p q e = le4_same x y (payload_equal (ProgId x) (ProgId y) e)
+by_variant (DrvProgId x) (DrvProgId y) i p q e = le4_same x y (payload_equal (DrvProgId x) (DrvProgId y) e)
+by_variant (SkbProgId x) (SkbProgId y) i p q e = le4_same x y (payload_equal (SkbProgId x) (SkbProgId y) e)
+by_variant (HwProgId x) (HwProgId y) i p q e = le4_same x y (payload_equal (HwProgId x) (HwProgId y) e)
+by_variant (ExpectedFd x) (ExpectedFd y) i p q e = le4_same x y (payload_equal (ExpectedFd x) (ExpectedFd y) e)
 by_variant (Other x) (Other y) i p q e = same (Other x) (Other y) (ap Other e)
 by_variant v w i p q e = absurd (omega (arith, i))
 
 pub xdp_injective : IsInjective equal link_xdp_entry link_xdp_names_row
-xdp_injective v w p q e = by_variant v w (variant_is v p ∙ ap of_entry e ∙ sym (variant_is w q)) p q e
+xdp_injective v w p q e = by_variant v w (variant_number v p ∙ ap row_number e ∙ sym (variant_number w q)) p q e
 
 pub ruleset laws = (xdp_injective)

@@ -1,4 +1,4 @@
--- Values of `InfoXfrm` are told by what they are written as.
+-- Values of `InfoXfrm` with equal attributes are equal.
 use Rattle.std.proofs.Common.{◌≡◌, ℕ, List, [], ◌∷◌, Bool, true, refl, sym, ap, ◌∙◌, arith}
 use Rattle.netlink_packet_core.specs.Attributes.{Attribute, proper_kind}
 use Rattle.attribute_tables_grammar.specs.LookUps.{line_at}
@@ -21,24 +21,24 @@ variant (Link a) = 1
 variant (IfId a) = 2
 variant (Other a) = 0
 
-abbrev of_entry : Attribute → ℕ
-of_entry a = numbered (line_at xfrm (proper_kind a.kind)) (proper_kind a.kind)
+abbrev row_number : Attribute → ℕ
+row_number a = numbered (line_at xfrm (proper_kind a.kind)) (proper_kind a.kind)
 
-variant_is : (v : InfoXfrm) → xfrm_names_row v → variant v ≡ of_entry (xfrm_entry v)
-variant_is (Other a) h = rw h refl
-variant_is v h = refl
+variant_number : (v : InfoXfrm) → xfrm_names_row v → variant v ≡ row_number (xfrm_entry v)
+variant_number (Other a) h = rw h refl
+variant_number v h = refl
 
-payload_is : (v w : InfoXfrm) → xfrm_entry v ≡ xfrm_entry w → (xfrm_entry v).payload ≡ (xfrm_entry w).payload
-payload_is v w e = ap (λ (a : Attribute). a.payload) e
+payload_equal : (v w : InfoXfrm) → xfrm_entry v ≡ xfrm_entry w → (xfrm_entry v).payload ≡ (xfrm_entry w).payload
+payload_equal v w e = ap (λ (a : Attribute). a.payload) e
 
 same : (v w : InfoXfrm) → v ≡ w → equal v w ≡ true
 same v w e = ap (equal v) (sym e) ∙ laws-law.refl v
 
 by_variant : (v w : InfoXfrm) → variant v ≡ variant w → xfrm_names_row v → xfrm_names_row w → xfrm_entry v ≡ xfrm_entry w → equal v w ≡ true
-by_variant (Link x) (Link y) i p q e = same (Link x) (Link y) (ap Link (le4_injective x y (payload_is (Link x) (Link y) e)))
-by_variant (IfId x) (IfId y) i p q e = same (IfId x) (IfId y) (ap IfId (le4_injective x y (payload_is (IfId x) (IfId y) e)))
+by_variant (Link x) (Link y) i p q e = same (Link x) (Link y) (ap Link (le4_injective x y (payload_equal (Link x) (Link y) e)))
+by_variant (IfId x) (IfId y) i p q e = same (IfId x) (IfId y) (ap IfId (le4_injective x y (payload_equal (IfId x) (IfId y) e)))
 by_variant (Other x) (Other y) i p q e = same (Other x) (Other y) (ap Other e)
 by_variant v w i p q e = absurd (omega (arith, i))
 
 pub xfrm_injective : IsInjective equal xfrm_entry xfrm_names_row
-xfrm_injective v w p q e = by_variant v w (variant_is v p ∙ ap of_entry e ∙ sym (variant_is w q)) p q e
+xfrm_injective v w p q e = by_variant v w (variant_number v p ∙ ap row_number e ∙ sym (variant_number w q)) p q e

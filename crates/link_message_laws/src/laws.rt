@@ -1,38 +1,11 @@
-//! Laws of values.
+//! Facts of the definitions. No function here makes a call.
 
-ghost use Rattle.link_message_laws.specs.Messages.{InnerAreTold, EqualTextsMeanEqualMessages};
-ghost use Rattle.link_message_laws.specs.Laws.{MacVlanIsTold, TunnelsAreTold, XdpIsTold};
+ghost use Rattle.link_message_laws.specs.Messages.{EqualTextsMeanEqualMessages};
 
-use link_message_types::laws::layer_types_are_named;
-use netlink_packet_core_grammar::laws::texts_are_cut_again;
-
-/// Programs of the express data path that are written alike are equal.
-#[tactic(auto, using(crate::proofs::TheLaws::laws))]
-pub fn xdp_is_injective()
-    ensures { XdpIsTold }
-{
-}
-
-/// Data of tunnels that is written alike is equal.
-#[tactic(auto, using(crate::proofs::TheLaws::laws))]
-pub fn tunnels_are_injective()
-    ensures { TunnelsAreTold }
-{
-}
-
-/// Messages that are written alike are equal, where the lists inside their attributes are told so.
+/// The text of a message determines it, up to `==`: messages of one address family that are written
+/// as the same bytes are equal, if each value is the variant that its row names. `LinkMessage::parse`
+/// promises family, text and variants, so messages that are read from the same bytes are equal.
 #[tactic(auto, using(crate::proofs::Messages::messages_injective))]
 pub fn equal_texts_mean_equal_messages()
-    ensures { InnerAreTold → EqualTextsMeanEqualMessages }
-{
-    texts_are_cut_again();
-    layer_types_are_named();
-}
-
-/// Data of `macvlan`, which holds lists of itself, that is written alike is equal.
-#[tactic(auto, using(crate::proofs::MacVlan::mac_vlan_injective))]
-pub fn mac_vlan_is_injective()
-    ensures { MacVlanIsTold }
-{
-    texts_are_cut_again();
-}
+    ensures { EqualTextsMeanEqualMessages }
+{}

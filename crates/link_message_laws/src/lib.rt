@@ -1,4 +1,4 @@
-//! Values are told by what they are written as.
+//! The laws of link messages as values: equal bytes mean equal values.
 #![tactic(auto)]
 
 pub mod laws;

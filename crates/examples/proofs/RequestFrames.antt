@@ -4,7 +4,7 @@ use Rattle.std.specs.Prelude.{min, Bool, true, false, ◌&&◌, ◌↔◌, ◌�
 use Rattle.std.proofs.Math.Nat.{min-eq_left, min-eq_right, min-le_left}
 use Rattle.std.proofs.lemmas.Bool.{cases_lt, leb-true, le-leb}
 use Rattle.std.proofs.lemmas.List.{drop_all, length-replicate, take_all}
-use Rattle.std.proofs.lemmas.Nat.{from_le_bytes-to_le_bytes_4}
+use Rattle.netlink_packet_core_grammar.proofs.Numbers.{from_le4}
 use Rattle.netlink_packet_core.specs.Attributes.{Attribute, attribute_header, attribute_length, attribute_text, list_size, list_text, nla_align, zeros}
 use Rattle.netlink_packet_core.specs.Families.{attribute}
 use Rattle.netlink_packet_core.specs.Frames.{IsFrame, frame_length, frame_type, frame_body, frame_text}
@@ -62,7 +62,7 @@ length-new_link_text s b = omega arith
 
 tells_length : (s : ℕ) (b : List ℕ) → 16 + length b < 2 ^ 32 → frame_length (new_link_text s b) ≡ 16 + length b
 unfolding u32_at header_text le4 le2
-tells_length s b h = from_le_bytes-to_le_bytes_4 (16 + length b) h
+tells_length s b h = from_le4 (16 + length b)
 
 tells_type : (s : ℕ) (b : List ℕ) → frame_type (new_link_text s b) ≡ 16
 unfolding u16_at header_text le4 le2

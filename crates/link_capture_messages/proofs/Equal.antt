@@ -1,5 +1,5 @@
 -- Messages of captures with equal types and equal body texts are equal.
-use Rattle.std.proofs.Common.{◌≡◌, ℕ, ◌≤◌, List, [], ◌∷◌, Bool, true, false, refl, sym, ap, ◌∙◌, subst, arith}
+use Rattle.std.proofs.Common.{◌≡◌, ℕ, ◌≤◌, List, [], ◌∷◌, Bool, true, false, Some, refl, sym, ap, ◌∙◌, subst, arith}
 use Rattle.std.specs.Prelude.{◌&&◌, bytes_eq}
 use Rattle.std.proofs.lemmas.Bool.{and_parts, and_from, eq-eqb}
 use Rattle.std.proofs.lemmas.Grind.{not_there}
@@ -10,8 +10,10 @@ use Rattle.link_message.specs.contracts.message.LinkMessageEq.TheImpl.Laws.{laws
 use Rattle.link_message_laws.proofs.Messages.{messages_injective}
 use Rattle.link_capture_messages.specs.KeptTypes.{IsKeptType}
 use Rattle.link_capture_messages.specs.Readable.{IsReadFrom, IsReadable, equal_messages, says_the_same}
+use Rattle.link_capture_messages.specs.RoundTrips.{round_trip}
 use Rattle.link_capture_messages.specs.Routes.{route_entry}
-use Rattle.link_capture_messages.specs.Equal.{EqualEntriesMeanEqualRoutes}
+use Rattle.netlink_packet_core.specs.TypedBodies.{TypedBody}
+use Rattle.link_capture_messages.specs.Equal.{EqualEntriesMeanEqualRoutes, RoutesReadBackEqual}
 use Rattle.link_capture_messages.specs.declared.route.RouteLink.{RouteLink}
 use Rattle.link_capture_messages.specs.contracts.route.RouteLinkPartialEq.TheImpl as route_equality
 use Rattle.link_capture_messages.proofs.Exact.{one_message, differ}
@@ -67,3 +69,11 @@ by_variant x y i e = absurd (omega (arith, i))
 
 pub routes_injective : EqualEntriesMeanEqualRoutes
 routes_injective x y e = by_variant x y (type_is x ∙ ap (λ (z : ℕ × List ℕ). z.0) e ∙ sym (type_is y)) e
+
+some_equal : (p q : TypedBody) → Some p ≡ Some q → p ≡ q
+some_equal p q e = cc
+
+pub routes_read_back : RoutesReadBackEqual
+routes_read_back x y e = routes_injective x y (some_equal _ _ (sym (round_trip x) ∙ e))
+
+pub ruleset laws = (routes_injective, routes_read_back)

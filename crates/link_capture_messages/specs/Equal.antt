@@ -1,9 +1,16 @@
--- Messages of captures with equal types and equal body texts are equal.
-use Rattle.std.specs.Prelude.{◌≡◌, Bool, true}
+-- Messages of captures that are determined by their type and the bytes of their body.
+use Rattle.std.specs.Prelude.{◌≡◌, Bool, true, Some}
 use Rattle.link_capture_messages.specs.declared.route.RouteLink.{RouteLink}
-use Rattle.link_capture_messages.specs.contracts.route.RouteLinkPartialEq.TheImpl as route_equality
-use Rattle.link_capture_messages.specs.Routes.{route_entry}
+use Rattle.link_capture_messages.specs.contracts.route.RouteLinkPartialEq.TheImpl as equality
+use Rattle.link_capture_messages.specs.Routes.{route_entry, reads_route}
 
--- two messages of one type and one body text are equal, by `==`
+-- two messages of one type whose bodies are the same bytes are equal, by `==`
 abbrev pub EqualEntriesMeanEqualRoutes : Type 0
-EqualEntriesMeanEqualRoutes = (x y : RouteLink) → route_entry x ≡ route_entry y → (route_equality.ghosts).eq x y ≡ true
+EqualEntriesMeanEqualRoutes =
+    (x y : RouteLink) → route_entry x ≡ route_entry y → (equality.ghosts).eq x y ≡ true
+
+-- what a message's own type and body are read as is equal to the message, by `==`
+abbrev pub RoutesReadBackEqual : Type 0
+RoutesReadBackEqual =
+    (x y : RouteLink) → reads_route (route_entry x).0 (route_entry x).1 ≡ Some (route_entry y) →
+    (equality.ghosts).eq x y ≡ true

@@ -82,7 +82,7 @@ pub u32_at-le4 : (n : ℕ) (c : List ℕ) → u32_at 0 (le4 n ++ c) ≡ n
 unfolding u32_at le4
 u32_at-le4 n c = from_le4 n
 
--- ---- a number that has a place in its bytes is written as them
+-- ---- a number in range is encoded as std encodes it
 
 pub le2-bytes : (n : ℕ) → n < 2 ^ 16 → to_le_bytes w16 n ≡ le2 n
 unfolding le2
@@ -110,7 +110,7 @@ be8-bytes n h = ap (λ d. d ∷ byte_at 6 n ∷ byte_at 5 n ∷ byte_at 4 n ∷ 
 
 pub ruleset digits = (le2-bytes, le4-bytes, le8-bytes, be2-bytes, be4-bytes, be8-bytes)
 
--- ---- a number that was read from bytes is written as them
+-- ---- a number that was read from bytes is encoded as them
 
 pub le2_read : (bs : List ℕ) (n : ℕ) → length bs ≡ 2 → ((i : ℕ) → get_or bs i 0 < 256) → n ≡ from_le_bytes w16 bs → le2 n ≡ bs
 le2_read bs n l s e = sym (le2-bytes n (omega (arith, e, s 0, s 1))) ∙ le_bytes_2 bs n l s e

@@ -17,6 +17,8 @@ pub use Rattle.link_capture_messages.specs.Views
 pub use Rattle.link_capture_messages.specs.Routes
 pub use Rattle.link_capture_messages.specs.Texts
 pub use Rattle.link_capture_messages.specs.Messages
+pub use Rattle.link_capture_messages.specs.EqualRoutes
+pub use Rattle.link_message_laws.specs.EqualTexts
 pub use Rattle.link_capture_reader.specs.Joined
 pub use Rattle.link_capture_spelling_rows.specs.SpellingWords
 pub use Rattle.link_capture_spelling_rows.specs.SpellingRows

@@ -6,6 +6,7 @@ pub use link_capture_commands::{Command, DEFAULT_LIMIT, read_words, status_norm,
 pub use link_capture_grammar::fault::{CaptureFault, FaultKind};
 pub use link_capture_grammar::laws;
 pub use link_capture_grammar::link_types::{RTM_DELLINK, RTM_GETLINK, RTM_NEWLINK, RTM_SETLINK};
+pub use link_capture_messages::laws::{equal_entries_mean_equal_routes, routes_read_back_equal};
 pub use link_capture_messages::{
     Messages, NotReadable, OtherMessage, ReadableLink, RouteFault, RouteLink, read_message,
 };
@@ -19,3 +20,4 @@ pub use link_capture_refusals::laws::{refused_bodies_are_told, refused_frames_st
 pub use link_capture_refusals::{Reason, Refusal, why, why_frame};
 pub use link_capture_spelling_rows::{PlacedSpelling, Spelling};
 pub use link_capture_spellings::{Spellings, spelling};
+pub use link_message_laws::laws::equal_texts_mean_equal_messages;

@@ -13,7 +13,7 @@ use Rattle.link_capture_messages.specs.Readable.{IsReadFrom, IsReadable, equal_m
 use Rattle.link_capture_messages.specs.RoundTrips.{round_trip}
 use Rattle.link_capture_messages.specs.Routes.{route_entry}
 use Rattle.netlink_packet_core.specs.TypedBodies.{TypedBody}
-use Rattle.link_capture_messages.specs.Equal.{EqualEntriesMeanEqualRoutes, RoutesReadBackEqual}
+use Rattle.link_capture_messages.specs.EqualRoutes.{EqualEntriesMeanEqualRoutes, RoutesReadBackEqual}
 use Rattle.link_capture_messages.specs.declared.route.RouteLink.{RouteLink}
 use Rattle.link_capture_messages.specs.contracts.route.RouteLinkPartialEq.TheImpl as route_equality
 use Rattle.link_capture_messages.proofs.Exact.{one_message, differ}

@@ -5,4 +5,4 @@ pub mod Routes
 pub mod RoundTrips
 pub mod Texts
 pub mod Messages
-pub mod Equal
+pub mod EqualRoutes

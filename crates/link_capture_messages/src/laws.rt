@@ -1,7 +1,7 @@
 //! Facts of the definitions. No function here makes a call.
 #![tactic(auto, using(crate::proofs::Equal::laws))]
 
-ghost use Rattle.link_capture_messages.specs.Equal.{EqualEntriesMeanEqualRoutes, RoutesReadBackEqual};
+ghost use Rattle.link_capture_messages.specs.EqualRoutes.{EqualEntriesMeanEqualRoutes, RoutesReadBackEqual};
 
 /// Type and body of a message determine it, up to `==`.
 pub fn equal_entries_mean_equal_routes()

@@ -16,7 +16,7 @@ use Rattle.link_message_types.specs.contracts.header.LinkHeaderEq.TheImpl.Laws a
 use Rattle.link_message_attributes.specs.LinkAttributes.{link_attribute_entry, link_attribute_names_row}
 use Rattle.link_message.specs.declared.message.LinkMessage.{LinkMessage}
 use Rattle.link_message.specs.LinkMessages.{link_message_text, link_message_names_row}
-use Rattle.link_message_laws.specs.Messages.{EqualTextsMeanEqualMessages}
+use Rattle.link_message_laws.specs.EqualTexts.{EqualTextsMeanEqualMessages}
 use Rattle.link_message_laws.proofs.Numbers.{le2_injective, le4_injective}
 use Rattle.link_message_laws.proofs.Records.{number_4_equal, after_4_equal, number_2_equal, after_2_equal}
 use Rattle.link_message_laws.proofs.Lists.{lists_injective}

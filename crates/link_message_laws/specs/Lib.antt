@@ -1,2 +1,2 @@
 pub mod Injective
-pub mod Messages
+pub mod EqualTexts

@@ -1,6 +1,6 @@
 //! Facts of the definitions. No function here makes a call.
 
-ghost use Rattle.link_message_laws.specs.Messages.{EqualTextsMeanEqualMessages};
+ghost use Rattle.link_message_laws.specs.EqualTexts.{EqualTextsMeanEqualMessages};
 
 /// The text of a message determines it, up to `==`: messages of one address family that are written
 /// as the same bytes are equal, if each value is the variant that its row names. `LinkMessage::parse`

@@ -42,7 +42,7 @@ make_dump() {
             echo "link add link a$i name v$i type vlan id $i"
         done
     } | ip -n "$netns" -force -batch - 2> /dev/null || true
-    ip netns exec "$netns" samples/dump_links.py
+    ip netns exec "$netns" scripts/linkrec dump
 }
 
 # Runs a command from the input to an output; sets `took` to milliseconds by the clock, of the program, and of both.

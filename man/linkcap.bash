@@ -1,4 +1,4 @@
-# Words of linkcap, linkshow and linkdiff, for bash's completion.
+# Completion in bash for linkcap, linkshow, linkdiff, linkrec and linkgold.
 
 _linkcap() {
     local word=${COMP_WORDS[COMP_CWORD]}
@@ -24,9 +24,31 @@ _linkshow() {
 }
 
 _linkdiff() {
-    _linkshow_words "--empty --without-numbers --only --kernels --limit --help"
+    _linkshow_words "--quiet --without-numbers --only --ignore-order --empty --limit --kernels --color --help"
+}
+
+_linkrec() {
+    local word=${COMP_WORDS[COMP_CWORD]}
+    if [ "$COMP_CWORD" -eq 1 ]; then
+        mapfile -t COMPREPLY < <(compgen -W "run dump watch pcap strace cut split --help" -- "$word")
+        return
+    fi
+    case ${COMP_WORDS[1]} in
+        run) _linkshow_words "--netns --setup --answers --output --attach --help" ;;
+        dump) _linkshow_words "--all --port --help" ;;
+        watch) _linkshow_words "--all --time --port --help" ;;
+        strace) _linkshow_words "--answers --output --help" ;;
+        cut) _linkshow_words "--at --type --legal --help" ;;
+        *) _linkshow_words "--help" ;;
+    esac
+}
+
+_linkgold() {
+    _linkshow_words "--update --setup --here --numbers --only --ignore-order --help"
 }
 
 complete -o filenames -F _linkcap linkcap
 complete -o filenames -F _linkshow linkshow
 complete -o filenames -F _linkdiff linkdiff
+complete -o filenames -F _linkrec linkrec
+complete -o filenames -F _linkgold linkgold

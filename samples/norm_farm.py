@@ -10,11 +10,10 @@ file and the fault. So each worker has to see this folder and the files under th
 come as the tasks end, in any order. The status is 0 where every file's is. Needs Dask's distributed, as in Debian's
 python3-distributed.
 """
+import argparse
 import os
 import subprocess
 import sys
-
-from frames import plainly, words
 
 try:
     from distributed import Client, LocalCluster, as_completed
@@ -43,7 +42,7 @@ def connect(args):
 
 
 def main():
-    parser = words(__doc__)
+    parser = argparse.ArgumentParser(description=__doc__, formatter_class=argparse.RawDescriptionHelpFormatter)
     farm = parser.add_mutually_exclusive_group(required=True)
     farm.add_argument("--scheduler", metavar="ADDRESS")
     farm.add_argument("--workers", type=int, metavar="NUMBER")
@@ -61,4 +60,4 @@ def main():
 
 
 if __name__ == "__main__":
-    plainly(main)
+    main()

@@ -44,7 +44,7 @@ MARK = re.compile(r"\s*<!--\s*(.*?)\s*-->\s*")
 MARKS = re.compile(r"wants .+|status \d+|given .+|output|file: \S+|run by \S+|written by \S+|sketch")
 FENCE = re.compile(r"(\s*)(```+)\s*([\w+-]*)\s*")
 LINK = re.compile(r"\[[^\]]*\]\(([^)\s]+)\)")
-PATH = re.compile(r"(?:crates|docs|samples|bench|bindings|tools|man)/[\w./-]+")
+PATH = re.compile(r"(?:crates|docs|samples|scripts|bench|bindings|tools|man)/[\w./-]+")
 NOT_A_PATH = re.compile(r"\.\.|/out/|NAME|CRATE")
 
 

@@ -76,7 +76,7 @@ variant_number c v h = refl
 
 data_equal : (o : Option (List ℕ)) (d e : InfoData) → data_names_row o d → data_names_row o e → info_data_payload d ≡ info_data_payload e → (data_equality.ghosts).eq d e ≡ true
 data_equal None d e p q h = absurd p
-data_equal (Some n) d e (k, a, p) (m, b, q) h = data_injective k m d e (kinds k m a.1 b.1 (a.0 ∙ sym b.0)) p q h
+data_equal (Some n) d e (k, a, p) (m, b, q) h = data_injective k m d e (names_tell_kinds k m a.1 b.1 (a.0 ∙ sym b.0)) p q h
 
 port_data_equal : (o : Option (List ℕ)) (d e : InfoPortData) → port_data_names_row o d → port_data_names_row o e → info_port_data_payload d ≡ info_port_data_payload e → (port_data_equality.ghosts).eq d e ≡ true
 port_data_equal None d e p q h = absurd p

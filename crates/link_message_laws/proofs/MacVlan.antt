@@ -85,7 +85,7 @@ by_variant : (v w : InfoMacVlan) → variant v ≡ variant w → mac_vlan_names_
 by_variant (MacAddrData' s r) (MacAddrData' s' r') i p q e =
     lists s r s' r'
     ∙ lists_injective equal mac_vlan_entry mac_vlan_address_names_row address_injective _ _ p q
-    (sym (texts-items _ r) ∙ payload_is (MacAddrData' s r) (MacAddrData' s' r') e ∙ texts-items _ r')
+    (sym (texts-items _ r) ∙ payload_equal (MacAddrData' s r) (MacAddrData' s' r') e ∙ texts-items _ r')
 by_variant (Mode x) (Mode y) i p q e = address_by (Mode x) (Mode y) i p q e
 by_variant (Flags x) (Flags y) i p q e = address_by (Flags x) (Flags y) i p q e
 by_variant (MacAddrMode x) (MacAddrMode y) i p q e = address_by (MacAddrMode x) (MacAddrMode y) i p q e

@@ -2,4 +2,4 @@ pub mod LayerTypes
 pub mod HeaderBytes
 pub mod Masks
 pub mod FlagTexts
-mod Numbers
+pub mod Numbers

@@ -103,7 +103,8 @@ def prove(names, repository):
             if found:
                 progress.proved(found[1])
     if run.returncode:
-        sys.exit("".join(log[-40:]) + "build: not proved: " + names[-1])
+        first = next((at for at, line in enumerate(log) if " NOT PROVED" in line), len(log))
+        sys.exit("".join(log[max(first - 40, 0):first + 1] + log[-3:]) + "build: not proved: " + names[-1])
 
 
 def build_static(name, of, repository, archive):

@@ -27,7 +27,7 @@ from layers import TOP, crates
 CACHE = Path(os.environ.get("XDG_CACHE_HOME") or Path.home() / ".cache") / "linkcap"
 KIT_LIBRARY = "std"
 SOURCES = ["src", "specs", "proofs"]
-DONE = re.compile(r"rt: (\w+) (?:proved|is kept)")
+DONE = re.compile(r"rt: (\w+) (proved|is kept)")
 
 
 def say(text):
@@ -76,16 +76,16 @@ class Progress:
     """What is proved of some crates, and how long the rest may take, by lines of source."""
 
     def __init__(self, names):
-        self.begun, self.of = time.time(), len(names)
+        self.begun, self.of, self.proved = time.time(), len(names), 0
         self.lines = {it: sum(file.read_bytes().count(b"\n") for file in files_of(it)) for it in names}
-        self.all_lines = sum(self.lines.values())
 
-    def proved(self, name):
-        self.lines.pop(name, None)
+    def add(self, name, is_kept):
+        """Prints a line for one more crate. One that was proved before takes no time, and says nothing of the others."""
+        self.proved += 0 if is_kept else self.lines[name]
+        del self.lines[name]
         minutes, left = (time.time() - self.begun) / 60, sum(self.lines.values())
-        rest = minutes * left / max(self.all_lines - left, 1)
-        say("%d of %d crates proved (%s), %.1f minutes so far, about %.0f to come"
-            % (self.of - len(self.lines), self.of, name, minutes, rest))
+        rest = ", about %.0f to come" % (minutes * left / self.proved) if self.proved else ""
+        say("%d of %d crates (%s), %.1f minutes so far%s" % (self.of - len(self.lines), self.of, name, minutes, rest))
 
 
 def prove(names, repository):
@@ -101,7 +101,7 @@ def prove(names, repository):
             log.append(line)
             found = DONE.match(line)
             if found:
-                progress.proved(found[1])
+                progress.add(found[1], found[2] != "proved")
     if run.returncode:
         first = next((at for at, line in enumerate(log) if " NOT PROVED" in line), len(log))
         sys.exit("".join(log[max(first - 40, 0):first + 1] + log[-3:]) + "build: not proved: " + names[-1])

@@ -81,8 +81,8 @@ class Progress:
 
     def add(self, name, is_kept):
         """Prints a line for one more crate. One that was proved before takes no time, and says nothing of the others."""
-        self.proved += 0 if is_kept else self.lines[name]
-        del self.lines[name]
+        lines = self.lines.pop(name, 0)
+        self.proved += 0 if is_kept else lines
         minutes, left = (time.time() - self.begun) / 60, sum(self.lines.values())
         rest = ", about %.0f to come" % (minutes * left / self.proved) if self.proved else ""
         say("%d of %d crates (%s), %.1f minutes so far%s" % (self.of - len(self.lines), self.of, name, minutes, rest))
@@ -127,26 +127,36 @@ def build_static(name, of, repository, archive):
         sys.exit(ran.stdout[-4000:] + "build: not proved: " + name)
 
 
-def built(name, of):
-    """The file that a crate is built to, from the cache if it has that."""
+def keep(file, kept):
+    """Keeps a build for later runs, if the folder for that can be written."""
+    part = kept.with_name("%s.%d" % (kept.name, os.getpid()))
+    try:
+        kept.parent.mkdir(parents=True, exist_ok=True)
+        shutil.copy(file, part)
+        part.replace(kept)
+    except OSError as error:
+        say("not kept: %s" % error)
+
+
+def build(name, of, folder):
+    """Puts what a crate is built to into a folder."""
     is_static = "staticlib" in line_of(name).partition(":")[0]
     libraries, result = below(name, of), "lib%s.a" % name if is_static else name
     kept = CACHE / key_of([*libraries, name])[:32] / result
-    if not kept.is_file():
-        with tempfile.TemporaryDirectory(prefix="linkcap-build-") as room:
-            repository = Path(room, "repository")
-            repository.mkdir()
-            prove(libraries if is_static else [*libraries, name], repository)
-            made = repository / "crates" / name / "out" / result
-            if is_static:
-                say("building " + result)
-                made = Path(room, result)
-                build_static(name, of, repository, made)
-            kept.parent.mkdir(parents=True, exist_ok=True)
-            part = kept.with_name("%s.%d" % (result, os.getpid()))
-            shutil.copy(made, part)
-            part.replace(kept)
-    return kept
+    if kept.is_file():
+        shutil.copy(kept, folder)
+        return
+    with tempfile.TemporaryDirectory(prefix="linkcap-build-") as room:
+        repository = Path(room, "repository")
+        repository.mkdir()
+        prove(libraries if is_static else [*libraries, name], repository)
+        made = repository / "crates" / name / "out" / result
+        if is_static:
+            say("building " + result)
+            made = Path(room, result)
+            build_static(name, of, repository, made)
+        shutil.copy(made, folder)
+        keep(made, kept)
 
 
 def main():
@@ -157,7 +167,7 @@ def main():
     for name in words.crates:
         if name not in of:
             parser.error("crates.txt has no crate " + name)
-        shutil.copy(built(name, of), words.folder)
+        build(name, of, words.folder)
 
 
 if __name__ == "__main__":

@@ -17,6 +17,7 @@ from pathlib import Path
 
 HERE = Path(__file__).resolve().parent
 TESTS = HERE.parent.parent / "crates/memory_tests/out/memory_tests_tests"
+NAME = re.compile(r"^(\S+): test$", re.M)
 LAST = re.compile(r"^last request: (granted|refused)$", re.M)
 MOST = 1000
 
@@ -42,7 +43,7 @@ def results(test, library):
 def main():
     if not TESTS.is_file():
         sys.exit("refused: no %s: run rt ci, or rt test in crates/memory_tests" % TESTS)
-    names = run("--list").stdout.split()
+    names = NAME.findall(run("--list").stdout)
     printed = Counter()
     with tempfile.TemporaryDirectory() as folder:
         library = folder + "/refuse.so"
@@ -50,7 +51,9 @@ def main():
         subprocess.run([*compiler, "-o", library, HERE / "refuse.c", "-ldl"], check=True)
         for test in names:
             printed.update(results(test, library))
-    print("refused: %d requests of %d tests, each by itself" % (printed.total(), len(names)))
+    if not names:
+        sys.exit("refused: no tests in %s" % TESTS)
+    print("refused: %d requests of %d tests, each by itself" % (sum(printed.values()), len(names)))
     for text, count in sorted(printed.items()):
         print("%6d %s" % (count, text))
 

@@ -139,8 +139,6 @@ test_c() {
     step "C: the page" page_in_c
     if ! has pkg-config; then
         skip "C: installed" "no pkg-config"
-    elif [ ! -x crates/linkcap/out/linkcap ] || [ ! -x crates/linkshow/out/linkshow ]; then
-        skip "C: installed" "the programs aren't built: rt run in crates/linkcap and crates/linkshow"
     else
         step "C: installed" installed
     fi

@@ -3,25 +3,22 @@
 #
 #     bindings/c/build.sh FOLDER
 #
-# It wants the static library of the crate linkcap_c, which `rt lib` makes in crates/linkcap_c, and which is made here
-# where it isn't there or a source is newer; and the command rt, whose kit has the small layer between that library and
-# malloc. Both libraries have that layer inside, and show nothing but linkcap_*. CC names the compiler (cc).
+# tools/build.py proves and builds the static library of the crate linkcap_c, and keeps it by content. The kit of the command
+# rt has the small layer between that library and malloc, which both libraries contain. They export nothing but linkcap_*. CC
+# names the compiler (cc).
 set -euo pipefail
 here=$(cd "$(dirname "$0")" && pwd)
 [ $# -eq 1 ] || { echo "usage: bindings/c/build.sh FOLDER" >&2; exit 2; }
 mkdir -p "$1"
 folder=$(cd "$1" && pwd)
 
-top=$here/../..
-proved=$top/crates/linkcap_c/out/liblinkcap_c.a
-. "$here/newer.sh"
-if ! is_built "$proved"; then (cd "$top/crates/linkcap_c" && rt lib) >&2; fi
 layer=$(dirname "$(rt doc)")/c/liblibc_c.a
 version=$(sed -n 's/^#define LINKCAP_VERSION //p' "$here/linkcap.h")
 
 work=$(mktemp -d)
 trap 'rm -rf "$work"' EXIT
-ld -r -o "$work/linkcap.o" --whole-archive "$proved" --no-whole-archive "$layer"
+"$here/../../tools/build.py" "$work" linkcap_c
+ld -r -o "$work/linkcap.o" --whole-archive "$work/liblinkcap_c.a" --no-whole-archive "$layer"
 objcopy --wildcard --keep-global-symbol='linkcap_*' "$work/linkcap.o"
 rm -f "$folder/liblinkcap.a"
 ar rcs "$folder/liblinkcap.a" "$work/linkcap.o"

@@ -34,9 +34,9 @@ use Rattle.link_capture_grammar.proofs.Normal.{header_size, texted}
 
 -- ---- bytes
 
-of_number : (n : ℕ) → AreBytes (le4 n)
+of_number : (n : ℕ) → n < 2 ^ 32 → AreBytes (le4 n)
 unfolding le4
-of_number n = (omega arith, (omega arith, (omega arith, (omega arith, tt))))
+of_number n h = (omega arith, (omega arith, (omega arith, (omega (arith, h), tt))))
 
 -- ---- the text of a body has bytes
 
@@ -190,15 +190,15 @@ text_known n s body rest x h front e k =
     (subst (NumbersAreKnown n) own r.0, subst (Known n) more r.1)
 
 module _ (n : Bool) where
-  own_is : (c body : List ℕ) → 16 ≤ length c → AreBytes c → body_text (frame_type c) (frame_body c) ≡ Ok body → IsOwnFrame (own_frame c body)
-  own_is c body h p o =
+  own_is : (c body : List ℕ) → 16 ≤ length c → 16 + length body < 2 ^ 32 → AreBytes c → body_text (frame_type c) (frame_body c) ≡ Ok body → IsOwnFrame (own_frame c body)
+  own_is c body h small p o =
       let size = own_size c body h in
       let given : AreBytes (frame_body c) = AreBytes-take (frame_length c - 16) (drop 16 c) (AreBytes-drop 16 c p) in
       let held = body_bytes (frame_type c) (frame_body c) body given o in
       let again : body_text (frame_type c) body ≡ Ok body = in_force.bodies_are_normal (frame_type c) (frame_body c) body o in
       let is = own_body c body h in
       record {
-        bytes = AreBytes-append (le4 (16 + length body)) (take 12 (drop 4 c) ++ body) (of_number (16 + length body))
+        bytes = AreBytes-append (le4 (16 + length body)) (take 12 (drop 4 c) ++ body) (of_number (16 + length body) small)
             (AreBytes-append (take 12 (drop 4 c)) body (AreBytes-take 12 (drop 4 c) (AreBytes-drop 4 c p)) held);
         header = omega (arith, size);
         body = ap (λ t. body_text t (drop 16 (own_frame c body))) (own_type c body h)
@@ -219,7 +219,7 @@ module _ (n : Bool) where
         body = i.body;
         after = after;
         header = header;
-        own = own_is s i.body header p i.body_is;
+        own = own_is s i.body header small p i.body_is;
         text = text;
         lines = ap (λ z. text_lines (all_of n) z) text ∙ in_front (all_of n) s i.body (texts limit after) header small
             ∙ ap (λ z. frame_lines n z ++ text_lines (all_of n) (texts limit after)) (in_text s i.body header);

@@ -3,7 +3,7 @@ use Rattle.std.proofs.Common.{◌≡◌, ℕ, zero, suc, ◌+◌, ◌-◌, ◌^�
 use Rattle.std.specs.Prelude.{◌&&◌, nat_le}
 use Rattle.std.proofs.lemmas.Bool.{and_from, le-leb}
 use Rattle.std.proofs.lemmas.List.{drop_at, length-append, length-drop, take-append-le}
-use Rattle.std.proofs.lemmas.Nat.{from_le_bytes-to_le_bytes_4}
+use Rattle.netlink_packet_core_grammar.proofs.Numbers.{from_le4}
 use Rattle.netlink_packet_core_grammar.specs.Attributes.{nla_align}
 use Rattle.netlink_packet_core_grammar.specs.Frames.{frame_length, frame_text}
 use Rattle.netlink_packet_core_grammar.specs.Numbers.{u32_at, le4}
@@ -59,7 +59,7 @@ module _ (P : List ℕ → Type 0) (none : (c : List ℕ) → is_frame c ≡ fal
 
 length_kept : (n : ℕ) (more : List ℕ) → n < 2 ^ 32 → frame_length (le4 n ++ more) ≡ n
 unfolding u32_at le4
-length_kept n more h = from_le_bytes-to_le_bytes_4 n h
+length_kept n more h = from_le4 n
 
 -- a frame's text in front of other bytes begins with a whole frame
 pub record InFront (c body r : List ℕ) : Type 0 where

@@ -4,6 +4,7 @@ use Rattle.std.proofs.lemmas.List.{append-nil, length-take}
 use Rattle.std.proofs.lemmas.Result.{err_from_is_err_and}
 use Rattle.std.proofs.KnownBytes.{Appends-trans, Consumes-trans}
 use Rattle.std.specs.Io.KnownBytes.{Appends, Consumes}
+use Rattle.link_capture_reader.proofs.FirstBytes.{kept_more}
 use Rattle.link_capture_reader.specs.Devices.{risen}
 use Rattle.link_capture_reader.specs.Outcomes.{IsPrefix}
 use Rattle.link_capture_refusals.specs.RefusalViews.{all_found}
@@ -13,9 +14,9 @@ use Rattle.link_lines.specs.Refused.{refusal_told}
 use Rattle.link_lines.proofs.Joined.{on_ok}
 use Rattle.link_lines.proofs.Progress.{nothing_came, unended, goes_on, fed_lines, failed_write, lines_lack, pushed, fed_outcome}
 use Rattle.link_lines.proofs.Refusing.{before, before_start, all_read, stands_in, told_shown, alone_shown, write_alone, cut_shown}
-use Rattle.link_lines.proofs.engine.show.Goals as goal
-use Rattle.link_lines.proofs.engine.show.Goals.{After-len}
-use Rattle.link_lines.proofs.engine.show.Given.{Over}
+use Rattle.link_lines.proofs.engine.show_keeping_first.Goals as goal
+use Rattle.link_lines.proofs.engine.show_keeping_first.Goals.{After-len}
+use Rattle.link_lines.proofs.engine.show_keeping_first.Given.{Over}
 
 pub pieces-init : goal.pieces-init
 pieces-init g c = record {
@@ -24,7 +25,7 @@ pieces-init g c = record {
   source_failures = refl;
   ends = refl;
   sink_failures = refl;
-  came = ([], nothing_came _ c.lines_are_joined.ensures c.args.limit c.new-reader.result _ _ c.new-reader.ensures.limit c.new-reader.ensures.empty);
+  came = ([], nothing_came _ c.lines_are_joined.ensures c.args.limit c.new-reader.result _ _ c.new-reader.ensures.limit c.new-reader.ensures.empty, c.clear.ensures);
 }
 
 -- the bytes that are kept are those of the reader
@@ -45,6 +46,7 @@ returns-in_err-finish g c =
       subst (Consumes _ _) (ap (λ n. s ++ take n c.read.new.buffer) c.if-size-eq0.true ∙ append-nil s) (Consumes-trans _ _ _ s (take c.in-Ok.size c.read.new.buffer) came.consumed c.in-Ok.ensures.bytes.0),
       came.wrote,
       cut_shown _ _ _ _ c.args.limit c.pieces.reader s p.0 c.in_err-finish.field-0.0 p.2 came.limit_is (search rules) (c.in_err-finish.ensures.fault s came.stands),
+      c.pieces.invariant.came.2,
     )
 
 pub returns-then-is_err : goal.returns-then-is_err
@@ -57,6 +59,7 @@ returns-then-is_err g c =
       Consumes-trans _ _ _ s piece came.consumed c.in-Ok.ensures.bytes.0,
       came.wrote,
       alone_shown _ _ _ _ c.args.limit (s ++ piece) _ c.fault_at-then-is_err.result _ c.fault_at-then-is_err.ensures refl (lines_lack _ c.args.limit c.pieces.reader s piece c.accepted-accepted.result came.limit_is came.stands c.accepted-accepted.ensures),
+      kept_more c.pieces.first.items _ s piece c.pieces.invariant.came.2 c.keep_first.ensures,
     )
 
 pub returns-then-is_err-2 : goal.returns-then-is_err-2
@@ -69,6 +72,7 @@ returns-then-is_err-2 g c =
       Consumes-trans _ _ _ s piece came.consumed c.in-Ok.ensures.bytes.0,
       came.wrote,
       alone_shown _ _ _ _ c.args.limit (s ++ piece) _ c.fault_at-then-is_err-2.result _ c.fault_at-then-is_err-2.ensures refl (lines_lack _ c.args.limit c.pieces.reader s piece c.accepted-accepted.result came.limit_is came.stands c.accepted-accepted.ensures),
+      kept_more c.pieces.first.items _ s piece c.pieces.invariant.came.2 c.keep_first.ensures,
     )
 
 pub returns-in_err-written : goal.returns-in_err-written
@@ -91,6 +95,7 @@ returns-in_err-written g c =
           (subst (λ x. IsPrefix (lines (choice_of c.args.options) c.args.limit s ++ x) (lines (choice_of c.args.options) c.args.limit (s ++ piece))) (sym shown)
           (fed_lines (choice_of c.args.options) c.texts_of_a_prefix_stay.ensures c.lines_are_joined.ensures c.args.limit c.pieces.reader c.feed-fed.new.self s piece c.pieces.texts.items c.feed-fed.new.out.items c.feed-fed.result c.ranges.limit.fits came.limit_is i.no_texts came.stands c.feed-fed.ensures.ok c.feed-fed.ensures.fault))
           z.2.1 came.count z.0 z.2.2),
+      kept_more c.pieces.first.items _ s piece i.came.2 c.keep_first.ensures,
     )
 
 pub told-requires-clause-frame : goal.told-requires-clause-frame
@@ -117,6 +122,7 @@ returns-in-Err g c =
       Appends-trans _ _ _ (lines (choice_of c.args.options) c.args.limit s) (text_lines (choice_of c.args.options) c.feed-fed.new.out.items) came.wrote (subst (Appends _ _) shown z.1),
       told_shown _ _ _ _ c.args.limit (s ++ piece) _ c.told.result c.in-Err.fault c.told.ensures.fault found
           (fed_outcome _ c.lines_are_joined.ensures _ _ _ c.args.limit c.pieces.reader s piece c.pieces.texts.items c.feed-fed.new.out.items c.in-Err.fault c.ranges.limit.fits came.limit_is i.no_texts (omega (arith, length-take c.in-Ok.size c.read.new.buffer)) came.stands c.in-Err.ensures.fault),
+      kept_more c.pieces.first.items _ s piece i.came.2 c.keep_first.ensures,
     )
 
 pub pieces-preserved : goal.pieces-preserved
@@ -128,13 +134,14 @@ pieces-preserved g c =
     let z = c.in_ok-written.ensures.ok in
     let shown = c.as_slice-in-pieces.ensures.value ∙ pushed _ c.push_lines.result c.pieces.lines.items c.push_lines.new.out.items c.as_slice.result.now c.feed-fed.new.out.items (sym c.if-is_err-2.ensures.value) i.empty c.as_slice.ensures.value c.push_lines.ensures.ok in
     record {
-      no_texts = c.clear.ensures.items;
-      empty = c.clear-in-pieces.ensures.items;
+      no_texts = c.clear-in-pieces.ensures.items;
+      empty = c.clear-in-pieces-2.ensures.items;
       source_failures = c.in-Ok.ensures.failures ∙ i.source_failures;
       ends = c.in-Ok.ensures.ends ∙ unended c.in-Ok.size _ _ c.if-size-eq0.false ∙ i.ends;
       sink_failures = z.2 ∙ i.sink_failures;
       came = (
         s ++ piece,
         goes_on _ c.lines_are_joined.ensures c.args.limit c.pieces.reader c.feed-fed.new.self s piece c.pieces.texts.items c.feed-fed.new.out.items c.as_slice-in-pieces.result.now _ _ _ _ _ _ c.pieces.written c.in_ok-written.written c.ranges.limit.fits came i.no_texts c.feed-fed.ensures.limit c.in_default-fed.ensures.ok c.in-Ok.ensures.bytes.0 shown z.1 z.0,
+        kept_more c.pieces.first.items _ s piece i.came.2 c.keep_first.ensures,
       );
     }

@@ -5,8 +5,8 @@
 #
 #     bench/devices.sh [PROGRAM [SHOW]]
 #
-# PROGRAM is crates/linkcap/out/linkcap where none is given, and SHOW crates/linkshow/out/linkshow. It builds nothing, and
-# no gate runs it: the gate compares neither standard error nor what a device does.
+# PROGRAM is crates/linkcap/out/linkcap where none is given, and SHOW crates/linkshow/out/linkshow. It builds nothing;
+# ./check runs it by tools/programs.sh, since `rt ci` compares neither standard error nor what a device does.
 set -uo pipefail
 cd "$(dirname "$0")/.."
 
@@ -23,14 +23,8 @@ failed=0
 
 # One frame that claims 4294967295 bytes, of which these many have come.
 claimed() {
-    python3 - "$1" <<'PYTHON'
-import struct, sys
-sys.stdout.buffer.write(struct.pack("<IHHII", 4294967295, 16, 0, 1, 0))
-left = int(sys.argv[1]) - 16
-while left > 0:
-    sys.stdout.buffer.write(bytes(min(left, 1 << 20)))
-    left -= 1 << 20
-PYTHON
+    printf '\xff\xff\xff\xff\x10\0\0\0\1\0\0\0\0\0\0\0'
+    head -c $(($1 - 16)) /dev/zero
 }
 
 # wants NAME STATUS TOLD WRITTEN: compares the run of before, whose status is in `status`, with these. TOLD is the line on

@@ -3,7 +3,7 @@
 #
 #     bench/show_words.sh [PROGRAM]
 #
-# PROGRAM is crates/linkshow/out/linkshow where none is given. It builds nothing, and no gate runs it.
+# PROGRAM is crates/linkshow/out/linkshow where none is given. It builds nothing; ./check runs it by tools/programs.sh.
 set -uo pipefail
 cd "$(dirname "$0")/.."
 
@@ -85,6 +85,12 @@ wants "the version is that of the page" 0 "" "$work/version"
 run --help
 status=$status:$(head -n 1 "$work/text"):$(grep -c -- '^  --' "$work/text")
 wants "help" "0:usage: linkshow [--without-numbers] [--only TYPE,..] [--kernels] [--limit N] [FILE]:6" "" "$work/text"
+# The limits are those of the header for C.
+default=$(sed -n 's/^#define LINKCAP_DEFAULT_LIMIT //p' bindings/c/linkcap.h)
+lowest=$(sed -n 's/^#define LINKCAP_MIN_LIMIT //p' bindings/c/linkcap.h)
+run --help
+status=$status:$(tr -s ' \n' ' ' < "$work/text" | grep -oE 'N the greatest [^;]*; without it, [0-9]+')
+wants "the limits in the help" "0:N the greatest length of a message in bytes, from $lowest to 4294967295; without it, $default" "" "$work/text"
 : > "$work/text"
 "$program" --help > /dev/full 2> "$work/told"
 status=$?

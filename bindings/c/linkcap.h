@@ -66,7 +66,7 @@ enum linkcap_kind {
     LINKCAP_FAILED           /* a fault came before */
 };
 
-/* A fault. It is written where the answer is LINKCAP_FAULT or LINKCAP_NO_MEMORY; after another one it holds any value. */
+/* A fault. It is written where the answer is LINKCAP_FAULT or LINKCAP_NO_MEMORY; after another one it is as it was. */
 struct linkcap_fault {
     uint32_t kind;   /* an enum linkcap_kind */
     uint32_t side;   /* of two captures 1 for the first and 2 for the second, else 0 */
@@ -108,7 +108,7 @@ uint32_t linkcap_measure(const uint8_t *capture, size_t length, uint32_t limit, 
  * LINKCAP_WRONG        a limit under 16.
  * LINKCAP_NO_ROOM      out has less room than these texts want: nothing is written, and *written has the length that is
  *                      wanted (at most 2^64 - 1). This is answered before a fault is.
- * LINKCAP_NO_MEMORY    nothing is written. What stands before the fault's place is legal.
+ * LINKCAP_NO_MEMORY    nothing is written, and *written is as it was. What stands before the fault's place is legal.
  *
  * Behind what is written, out stays as it was. A text is at most 77 times as long as its capture, mostly as long.
  * Memory is taken for the text.
@@ -175,7 +175,7 @@ uint32_t linkcap_fault_text(const struct linkcap_fault *fault, uint8_t *out, siz
  *                      attribute begins, in bytes from the capture's start: UINT64_MAX for NLMSG_ERROR and NLMSG_DONE.
  * LINKCAP_OK           the capture is legal, or its first fault is another one. Nothing is written.
  * LINKCAP_WRONG        a limit under 16.
- * LINKCAP_NO_ROOM      out has less room than the words want: nothing is written, and *written has their length.
+ * LINKCAP_NO_ROOM      out has less room than the words want: *written has their length, and nothing else is written.
  * LINKCAP_NO_MEMORY    there is no memory for the words. Nothing is written.
  *
  * No null byte is written behind the words.

@@ -6,6 +6,7 @@ ghost use Rattle.link_capture_reader.specs.Devices.{Rises, TellsItsEnd};
 ghost use Rattle.link_capture_reader.specs.Outcomes.{Normalizes, ReadFault};
 
 use super::devices::{Sink, Source};
+use super::first::{FirstBytes, keep_first};
 use super::reader::CaptureReader;
 use link_capture_grammar::fault::{CaptureFault, FaultKind};
 use link_capture_grammar::laws::texts_of_a_prefix_stay;
@@ -90,6 +91,25 @@ pub fn read_all<S: Source>(alloc: Global, source: &mut S) -> Result<Vec<u8>, Cap
         (λ fault. ReadFault (S.failures source.old) (S.failures source.new) s fault.kind
         × (fault.offset ≡ length s)) }
 {
+    read_all_keeping_first(alloc, source, &mut FirstBytes::new())
+}
+
+/// Reads as `read_all` does, and keeps the first bytes, whether it succeeds or fails.
+pub fn read_all_keeping_first<S: Source>(
+    alloc: Global,
+    source: &mut S,
+    first: &mut FirstBytes,
+) -> Result<Vec<u8>, CaptureFault>
+    // s was read.
+    ensures { (s : List ℕ) × Consumes (S.to_come source.old) (S.to_come source.new) s
+        × MatchResult result
+        (λ bytes. (bytes.items ≡ s) × (S.failures source.new ≡ S.failures source.old)
+        × TellsItsEnd (S.ends_told source.old) (S.ends_told source.new) (S.to_come source.new))
+        (λ fault. ReadFault (S.failures source.old) (S.failures source.new) s fault.kind
+        × (fault.offset ≡ length s))
+        × (first.new.items ≡ take 4 s) }
+{
+    first.clear();
     let mut buffer = [0u8; 65536];
     let mut bytes = Vec::new(alloc);
     'pieces: loop {
@@ -102,6 +122,7 @@ pub fn read_all<S: Source>(alloc: Global, source: &mut S) -> Result<Vec<u8>, Cap
         if count == 0 {
             return Ok(bytes);
         }
+        keep_first(first, &buffer[..count]);
         if bytes.extend_from_slice(&buffer[..count]).is_err() {
             return Err(CaptureFault {
                 kind: FaultKind::Memory,

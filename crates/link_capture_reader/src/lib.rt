@@ -4,6 +4,7 @@
 
 mod devices;
 mod engine;
+mod first;
 mod frames;
 mod pieces;
 mod reader;
@@ -13,7 +14,8 @@ mod telling;
 mod whole;
 
 pub use devices::{DeviceFailed, Sink, Source};
-pub use engine::{normalize, read_all, write_all};
+pub use engine::{normalize, read_all, read_all_keeping_first, write_all};
+pub use first::{FirstBytes, keep_first};
 pub use reader::CaptureReader;
 pub use sinks::{VecSink, WriteSink};
 pub use sources::{ReadSource, SliceSource};

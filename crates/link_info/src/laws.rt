@@ -1,4 +1,4 @@
-//! Facts of the definitions. A function here calls nothing but laws of the crates below.
+//! Facts of the definitions. No function here makes a call.
 
 ghost use Rattle.link_info.specs.Laws.{LinkInfoIsLawful, KindsAreTheNames};
 
@@ -11,7 +11,6 @@ pub use link_info_data::laws::{
     data_without_peers_have_one_rule, names_tell_rules, port_data_have_one_rule,
     port_names_tell_rules,
 };
-use link_info_grammar::laws::info_is_lawful;
 pub use link_info_grammar::laws::{
     info_grammar_is_lawful, info_is_a_payload, tables_are_listed, tables_pass,
 };
@@ -19,11 +18,10 @@ pub use link_info_kinds::laws::{names_tell_kinds, names_tell_port_kinds};
 
 /// The canonical text of legal link info is legal, its own canonical text, and at most 77 times as
 /// long; two legal lists mean the same exactly where they have one canonical text.
+#[tactic(auto, using(link_info_grammar::proofs::Families::info_is_lawful))]
 pub fn link_info_is_lawful()
     ensures { LinkInfoIsLawful }
-{
-    info_is_lawful();
-}
+{}
 
 /// The kinds that aren't `Other` have the listed names, each its own, and so have the port kinds.
 pub fn kinds_are_the_names()

@@ -1,2 +1,3 @@
 pub mod InForce
 pub mod WithoutPeers
+pub mod Together

@@ -50,3 +50,9 @@ abbrev pub Shows : Choice → Option (List ℕ) → Option (List ℕ) → Option
     → Type 0 → Type 0 → Type 0 → ℕ → Result (Unit {0}) ShowFault → Type 0
 Shows o from left held holds ended read_failed write_failed limit result =
     (s w : List ℕ) × Consumes from left s × Appends held holds w × Shown o ended read_failed write_failed limit s w result
+
+-- the same of a call that keeps the first bytes of what was read: it kept these
+abbrev pub ShowsKeeping : List ℕ → Choice → Option (List ℕ) → Option (List ℕ) → Option (List ℕ) → Option (List ℕ)
+    → Type 0 → Type 0 → Type 0 → ℕ → Result (Unit {0}) ShowFault → Type 0
+ShowsKeeping first o from left held holds ended read_failed write_failed limit result =
+    (s w : List ℕ) × Consumes from left s × Appends held holds w × Shown o ended read_failed write_failed limit s w result × (first ≡ take 4 s)

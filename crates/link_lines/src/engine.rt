@@ -3,7 +3,7 @@
 ghost use Rattle.std.specs.Prelude.{◌≡◌, ◌≤◌};
 ghost use Rattle.link_capture_reader.specs.Devices.{Rises, TellsItsEnd};
 ghost use Rattle.link_lines.specs.Options.{choice_of};
-ghost use Rattle.link_lines.specs.Outcomes.{Shows};
+ghost use Rattle.link_lines.specs.Outcomes.{Shows, ShowsKeeping};
 ghost use Rattle.link_lines.specs.Refused.{alone};
 
 use crate::lines::push_lines;
@@ -11,7 +11,7 @@ use crate::options::LineOptions;
 use crate::refused::{ShowFault, keep, told};
 use link_capture_grammar::fault::{CaptureFault, FaultKind};
 use link_capture_grammar::laws::{captures_go_by_frames, texts_of_a_prefix_stay};
-use link_capture_reader::{CaptureReader, Sink, Source, write_all};
+use link_capture_reader::{CaptureReader, FirstBytes, Sink, Source, keep_first, write_all};
 use link_capture_refusals::laws::refused_frames_are_whole;
 use link_lines_texts::laws::lines_are_joined;
 use std::alloc::Global;
@@ -45,6 +45,26 @@ pub fn show<S: Source, K: Sink>(
         (Rises (S.failures source.old) (S.failures source.new))
         (Rises (K.failures sink.old) (K.failures sink.new)) limit result }
 {
+    show_keeping_first(alloc, source, sink, limit, options, &mut FirstBytes::new())
+}
+
+/// Shows a capture as `show` does, and keeps the first bytes of what was read.
+pub fn show_keeping_first<S: Source, K: Sink>(
+    alloc: Global,
+    source: &mut S,
+    sink: &mut K,
+    limit: u32,
+    options: LineOptions<'_>,
+    first: &mut FirstBytes,
+) -> Result<(), ShowFault>
+    requires { 16 ≤ limit }
+    ensures { ShowsKeeping first.new.items (choice_of options.entry)
+        (S.to_come source.old) (S.to_come source.new) (K.holds sink.old) (K.holds sink.new)
+        (TellsItsEnd (S.ends_told source.old) (S.ends_told source.new) (S.to_come source.new))
+        (Rises (S.failures source.old) (S.failures source.new))
+        (Rises (K.failures sink.old) (K.failures sink.new)) limit result }
+{
+    first.clear();
     texts_of_a_prefix_stay();
     captures_go_by_frames();
     refused_frames_are_whole();
@@ -64,6 +84,7 @@ pub fn show<S: Source, K: Sink>(
             return Ok(reader.finish()?);
         }
         let piece = &buffer[..size];
+        keep_first(first, piece);
         if keep(&mut front, reader.kept_bytes(), piece).is_err() {
             return Err(fault_at(FaultKind::Memory, accepted));
         }

@@ -18,6 +18,14 @@ pub record Writes (text : List ℕ) (answer size : ℕ) (old new : List ℕ) : T
   pub room : answer ≡ 4 → length old < length text
   pub kept : (answer ≡ 3) ⊎ (answer ≡ 4) ⊎ (answer ≡ 5) → new ≡ old
 
+-- A fault is written only where one is reported: of a fault, and where an allocation fails.
+abbrev pub KeepsFault : ℕ → LinkcapFault → LinkcapFault → Type 0
+KeepsFault answer old new = (answer ≡ 0) ⊎ (answer ≡ 1) ⊎ (answer ≡ 3) ⊎ (answer ≡ 4) → new ≡ old
+
+-- A length is written only where a text is, or where the buffer is too small for it.
+abbrev pub KeepsSize : ℕ → ℕ → ℕ → Type 0
+KeepsSize answer old new = (answer ≡ 3) ⊎ (answer ≡ 5) → new ≡ old
+
 -- the answers of calls that judge a capture, and of those that write a text
 abbrev pub IsJudgement : ℕ → Type 0
 IsJudgement answer = (answer ≡ 0) ⊎ (answer ≡ 2) ⊎ (answer ≡ 3)

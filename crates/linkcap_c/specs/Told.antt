@@ -44,7 +44,7 @@ TellsFault side limit c fault = option_map (told side) (first_fault limit c) ≡
 
 -- want of memory is told at a place where a frame starts, before which the capture is legal
 abbrev pub TellsMemory : ℕ → List ℕ → LinkcapFault → Type 0
-TellsMemory limit c fault = (fault.kind ≡ kind_number Memory) × StopsAt limit c fault.offset
+TellsMemory limit c fault = (fault.kind ≡ kind_number Memory) × (fault.side ≡ 0) × StopsAt limit c fault.offset
 
 -- the number for a place: the greatest where there is none
 abbrev pub place_number : Option ℕ → ℕ

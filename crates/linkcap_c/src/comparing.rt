@@ -3,6 +3,7 @@
 ghost use Rattle.std.specs.Prelude.{◌≡◌, ◌<◌, ◌≤◌, ◌↔◌, ◌⊎◌};
 ghost use Rattle.link_capture_grammar.specs.Captures.{texts, IsLegal};
 ghost use Rattle.link_capture_grammar.specs.Same.{SameCapture};
+ghost use Rattle.linkcap_c.specs.Answers.{KeepsFault};
 ghost use Rattle.linkcap_c.specs.Told.{TellsFault};
 
 use crate::statuses::{DIFFERENT, FAULT, OK, WRONG, is_limit};
@@ -28,6 +29,7 @@ pub extern "C" fn linkcap_same(
     ensures second_side { result ≡ 2 → fault.new.side ≡ 2
         → IsLegal limit first.now × TellsFault 2 limit second.now fault.new }
     ensures side { result ≡ 2 → (fault.new.side ≡ 1) ⊎ (fault.new.side ≡ 2) }
+    ensures kept { KeepsFault result fault.old fault.new }
     ensures limit { (result ≡ 3) ↔ (limit < 16) }
     ensures answers { result ≤ 3 }
 {

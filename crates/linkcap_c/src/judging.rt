@@ -1,9 +1,9 @@
 //! One capture judged and measured.
 
-ghost use Rattle.std.specs.Prelude.{◌≡◌, ◌+◌, ◌*◌, ◌^◌, length};
+ghost use Rattle.std.specs.Prelude.{◌≡◌, ◌+◌, ◌*◌, ◌^◌, ◌⊎◌, length};
 ghost use Rattle.link_capture_grammar.specs.Captures.{texts};
 ghost use Rattle.link_capture_grammar.specs.Numbers.{attributes, frames};
-ghost use Rattle.linkcap_c.specs.Answers.{IsJudgement, Judges};
+ghost use Rattle.linkcap_c.specs.Answers.{IsJudgement, Judges, KeepsFault};
 
 use crate::statuses::{FAULT, OK, WRONG, is_limit};
 use crate::told::{LinkcapFault, of_one};
@@ -28,6 +28,7 @@ pub struct LinkcapMeasure {
 #[unsafe(no_mangle)]
 pub extern "C" fn linkcap_check(capture: &[u8], limit: u32, fault: &mut LinkcapFault) -> u32
     ensures judged { Judges limit capture.now result fault.new }
+    ensures kept { KeepsFault result fault.old fault.new }
     ensures answers { IsJudgement result }
 {
     if !is_limit(limit) {
@@ -55,6 +56,8 @@ pub extern "C" fn linkcap_measure(
     ensures attributes { result ≡ 0 → numbers.new.attributes ≡ attributes limit capture.now }
     ensures text { result ≡ 0 → numbers.new.text_low + 2 ^ 64 * numbers.new.text_high
         ≡ length (texts limit capture.now) }
+    ensures unmeasured { (result ≡ 2) ⊎ (result ≡ 3) → numbers.new ≡ numbers.old }
+    ensures kept { KeepsFault result fault.old fault.new }
     ensures answers { IsJudgement result }
 {
     if !is_limit(limit) {

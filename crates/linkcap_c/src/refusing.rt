@@ -23,8 +23,8 @@ fn number_of(place: Option<u64>) -> u64
 }
 
 /// Writes what of a refused body is refused to the front of `out`, where the capture's first fault is one: the names of
-/// attributes from outside in, why, and the place. Where there is less room, `out` stays as it was, and the length that
-/// is wanted is told; it stays, too, where memory is wanting, and where nothing is refused so.
+/// attributes from outside in, why, and the place. Where there is less room, `out` and `place` stay as they were, and the
+/// length that is wanted is told; all three stay where memory is wanting, and where nothing is refused so.
 #[unsafe(no_mangle)]
 pub extern "C" fn linkcap_why(
     alloc: Global,
@@ -42,7 +42,9 @@ pub extern "C" fn linkcap_why(
     ensures room { result ≡ 4 → (found : Found) × (refusal limit capture.now ≡ Some found)
         × Lacks (refusal_text found) size.new out.old }
     ensures memory { result ≡ 5 → (found : Found) × (refusal limit capture.now ≡ Some found) }
-    ensures kept { (result ≡ 0) ⊎ (result ≡ 3) ⊎ (result ≡ 4) ⊎ (result ≡ 5) → out.new ≡ out.old }
+    ensures kept { (result ≡ 0) ⊎ (result ≡ 3) ⊎ (result ≡ 4) ⊎ (result ≡ 5)
+        → (out.new ≡ out.old) × (place.new ≡ place.old) }
+    ensures size { (result ≡ 0) ⊎ (result ≡ 3) ⊎ (result ≡ 5) → size.new ≡ size.old }
     ensures answers { IsAnswer result }
 {
     if !is_limit(limit) {
@@ -51,9 +53,12 @@ pub extern "C" fn linkcap_why(
     let Some(found) = why(capture, limit) else {
         return OK;
     };
-    *place = number_of(found.place);
-    match found.to_string(alloc) {
-        Ok(text) => hand_over(text.as_bytes(), FAULT, out, size),
-        Err(_) => NO_MEMORY,
+    let Ok(text) = found.to_string(alloc) else {
+        return NO_MEMORY;
+    };
+    let status = hand_over(text.as_bytes(), FAULT, out, size);
+    if status == FAULT {
+        *place = number_of(found.place);
     }
+    status
 }

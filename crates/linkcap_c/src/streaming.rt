@@ -3,7 +3,7 @@
 ghost use Rattle.std.specs.Prelude.{◌≡◌, ◌≢◌, ◌+◌, ◌<◌, ◌≤◌, ◌↔◌, ◌⊎◌, ◌++◌, ℕ, List, [], true, length, take, drop};
 ghost use Rattle.link_capture_grammar.specs.declared.fault.FaultKind.{FaultKind};
 ghost use Rattle.link_capture_grammar.specs.Captures.{texts};
-ghost use Rattle.linkcap_c.specs.Answers.{IsAnswer};
+ghost use Rattle.linkcap_c.specs.Answers.{IsAnswer, KeepsFault};
 ghost use Rattle.linkcap_c.specs.Buffers.{Holds};
 ghost use Rattle.linkcap_c.specs.Pieces.{IsUsed, IsAccepted, IsEnded, IsFaulty, Wants, IsWhole, GoesOn, Fails};
 ghost use Rattle.linkcap_c.specs.Told.{kind_number, told};
@@ -52,8 +52,11 @@ pub extern "C" fn linkcap_normalize_some(
         → (length out.old < progress.new.written + progress.new.wanted)
         × Wants limit (drop progress.new.used piece.now) progress.new.wanted }
     ensures nothing_wanted { (result ≡ 0) ⊎ (result ≡ 2) ⊎ (result ≡ 5) → progress.new.wanted ≡ 0 }
-    ensures memory { result ≡ 5 → (fault.new.kind ≡ 8) × (fault.new.offset ≡ progress.new.used)
+    ensures memory { result ≡ 5 → (fault.new.kind ≡ 8) × (fault.new.side ≡ 0)
+        × (fault.new.offset ≡ progress.new.used)
         × IsAccepted limit (drop progress.new.used piece.now) }
+    ensures kept { KeepsFault result fault.old fault.new }
+    ensures unwritten { result ≡ 3 → (out.new ≡ out.old) × (progress.new ≡ progress.old) }
     ensures answers { IsAnswer result }
     // What the pieces write one after the other is what the whole writes.
     ensures goes_on { result ≢ 3 → (before : List ℕ) → IsWhole limit before

@@ -1,6 +1,6 @@
 //! The words of faults, and the version, for C.
 
-ghost use Rattle.std.specs.Prelude.{◌≡◌, true, false};
+ghost use Rattle.std.specs.Prelude.{◌≡◌, ◌≢◌, true, false};
 ghost use Rattle.link_capture_grammar.specs.declared.fault.CaptureFault.{CaptureFault};
 ghost use Rattle.link_capture_grammar.specs.Faults.{fault_text};
 ghost use Rattle.linkcap_c.specs.Buffers.{HandsOver};
@@ -15,6 +15,13 @@ use link_capture_grammar::fault::CaptureFault;
 /// The version of the interface.
 const VERSION: u32 = 1;
 
+/// A fault of one of two captures.
+fn of_side(fault: CaptureFault, second: bool) -> SideFault
+    ensures { result ≡ record { second = second; fault = fault } }
+{
+    SideFault { second, fault }
+}
+
 /// Writes the words of a fault and its place to the front of `out`, behind the word of its side where it has one.
 #[unsafe(no_mangle)]
 pub extern "C" fn linkcap_fault_text(fault: &LinkcapFault, out: &mut [u8], size: &mut u64) -> u32
@@ -25,7 +32,8 @@ pub extern "C" fn linkcap_fault_text(fault: &LinkcapFault, out: &mut [u8], size:
     ensures second { (found : CaptureFault) → fault.now ≡ told 2 found
         → HandsOver 0 (words_of_side true found) result size.new out.old out.new }
     ensures wrong { result ≡ 3 → IsFault fault.now → ⊥ }
-    ensures kept { result ≡ 3 → out.new ≡ out.old }
+    ensures right { result ≢ 3 → IsFault fault.now }
+    ensures kept { result ≡ 3 → (out.new ≡ out.old) × (size.new ≡ size.old) }
 {
     let Some(kind) = kind_of(fault.kind) else {
         return WRONG;
@@ -36,13 +44,18 @@ pub extern "C" fn linkcap_fault_text(fault: &LinkcapFault, out: &mut [u8], size:
     };
     match fault.side {
         0 => hand_over(found.text().as_str().as_bytes(), OK, out, size),
-        1 | 2 => {
-            let found = SideFault {
-                second: fault.side == 2,
-                fault: found,
-            };
-            hand_over(found.text().as_str().as_bytes(), OK, out, size)
-        }
+        1 => hand_over(
+            of_side(found, false).text().as_str().as_bytes(),
+            OK,
+            out,
+            size,
+        ),
+        2 => hand_over(
+            of_side(found, true).text().as_str().as_bytes(),
+            OK,
+            out,
+            size,
+        ),
         _ => WRONG,
     }
 }

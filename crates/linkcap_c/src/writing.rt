@@ -1,6 +1,6 @@
 //! Texts and lines written to a caller's buffer.
 
-ghost use Rattle.std.specs.Prelude.{◌≡◌, ◌*◌, ◌%◌, ◌<◌, ◌≤◌, ◌↔◌, ◌⊎◌, length, drop};
+ghost use Rattle.std.specs.Prelude.{◌≡◌, ◌≢◌, ◌*◌, ◌%◌, ◌<◌, ◌≤◌, ◌↔◌, ◌⊎◌, length, drop};
 ghost use Rattle.link_capture_grammar.specs.Captures.{texts, IsLegal};
 ghost use Rattle.link_capture_grammar.specs.Same.{SameCapture};
 ghost use Rattle.link_capture_reader.specs.Joined.{IsJoined};
@@ -9,17 +9,17 @@ ghost use Rattle.link_lines.specs.Meanings.{GoesByMeaning};
 ghost use Rattle.link_lines.specs.Outcomes.{WantsMemoryAt};
 ghost use Rattle.link_lines.specs.Captures.{everything, lines};
 ghost use Rattle.link_lines.specs.Options.{choice_of};
-ghost use Rattle.linkcap_c.specs.Answers.{IsAnswer, Judges, Writes};
+ghost use Rattle.linkcap_c.specs.Answers.{IsAnswer, Judges, KeepsFault, KeepsSize, Writes};
 ghost use Rattle.linkcap_c.specs.Buffers.{told_length};
 ghost use Rattle.linkcap_c.specs.Choices.{asked};
 ghost use Rattle.linkcap_c.specs.Pieces.{IsAccepted};
-ghost use Rattle.linkcap_c.specs.Told.{TellsMemory};
+ghost use Rattle.linkcap_c.specs.Told.{TellsMemory, told};
 
 use crate::room::hand_over;
 use crate::statuses::{FAULT, NO_MEMORY, NO_ROOM, OK, WRONG, is_limit};
 use crate::told::{LinkcapFault, of_one};
 use link_capture_checks::{measure, normal_len};
-use link_capture_grammar::fault::FaultKind;
+use link_capture_grammar::fault::{CaptureFault, FaultKind};
 use link_capture_grammar::laws::{captures_go_by_frames, faults_stand_at_frames};
 use link_capture_reader::normalize_bytes;
 use link_lines::{LineOptions, show_bytes};
@@ -40,20 +40,33 @@ fn texts_len(bytes: &[u8], limit: u32) -> u128
     }
 }
 
-/// What is answered where there was no memory for a text: that the buffer has less room than the text wants, where it
-/// has, else want of memory. The length that is wanted goes to `size`, no more than 2^64 - 1.
+/// The status where an allocation for a text failed: `NO_ROOM` if the buffer is too small for the text, whose length
+/// goes to `size`, no more than 2^64 - 1; else `NO_MEMORY`.
 fn lacking_memory(bytes: &[u8], limit: u32, room: usize, size: &mut u64) -> u32
     ensures room { (result ≡ 4) ↔ (room < length (texts limit bytes.now)) }
     ensures memory { (result ≡ 4) ⊎ (result ≡ 5) }
-    ensures size { size.new ≡ told_length (texts limit bytes.now) }
+    ensures size { result ≡ 4 → size.new ≡ told_length (texts limit bytes.now) }
+    ensures kept { result ≡ 5 → size.new ≡ size.old }
 {
     let wanted = texts_len(bytes, limit);
-    *size = wanted.min(u64::MAX as u128) as u64;
     if wanted > room as u128 {
+        *size = wanted.min(u64::MAX as u128) as u64;
         NO_ROOM
     } else {
         NO_MEMORY
     }
+}
+
+/// Reports a fault along with a status, unless that is `NO_ROOM`.
+fn report(status: u32, found: CaptureFault, fault: &mut LinkcapFault) -> u32
+    ensures status { result ≡ status }
+    ensures reported { status ≢ 4 → fault.new ≡ told 0 found }
+    ensures kept { status ≡ 4 → fault.new ≡ fault.old }
+{
+    if status != NO_ROOM {
+        *fault = of_one(found);
+    }
+    status
 }
 
 /// Writes the normal text of a capture to the front of `out`, or the texts before its first fault. Where there is less
@@ -71,6 +84,8 @@ pub extern "C" fn linkcap_normalize(
     ensures written { Writes (texts limit capture.now) result size.new out.old out.new }
     ensures place { result ≡ 2 → IsPlaceOf capture.now fault.new.offset }
     ensures memory { result ≡ 5 → TellsMemory limit capture.now fault.new }
+    ensures kept_fault { KeepsFault result fault.old fault.new }
+    ensures kept_size { KeepsSize result size.old size.new }
     ensures answers { IsAnswer result }
     // Room is answered first.
     ensures room { 16 ≤ limit
@@ -97,12 +112,12 @@ pub extern "C" fn linkcap_normalize(
     match normalize_bytes(capture, limit, &mut text) {
         Ok(()) => hand_over(text.as_slice(), OK, out, size),
         Err(found) => {
-            *fault = of_one(found);
-            if found.kind == FaultKind::Memory {
+            let status = if found.kind == FaultKind::Memory {
                 lacking_memory(capture, limit, out.len(), size)
             } else {
                 hand_over(text.as_slice(), FAULT, out, size)
-            }
+            };
+            report(status, found, fault)
         }
     }
 }
@@ -121,6 +136,8 @@ fn show_as(
     ensures written { Writes (lines (choice_of options.entry) limit capture.now) result size.new out.old out.new }
     ensures place { result ≡ 2 → IsPlaceOf capture.now fault.new.offset }
     ensures memory { result ≡ 5 → TellsMemory limit capture.now fault.new }
+    ensures kept_fault { KeepsFault result fault.old fault.new }
+    ensures kept_size { KeepsSize result size.old size.new }
     ensures answers { IsAnswer result }
     ensures wanted { result ≡ 4 → size.new ≡ length (lines (choice_of options.entry) limit capture.now) }
     ensures cause { result ≡ 5 → WantsMemoryAt limit capture.now fault.new.offset }
@@ -133,12 +150,12 @@ fn show_as(
     match show_bytes(alloc, capture, limit, options, &mut shown) {
         Ok(()) => hand_over(shown.as_slice(), OK, out, size),
         Err(found) => {
-            *fault = of_one(found);
-            if found.kind == FaultKind::Memory {
+            let status = if found.kind == FaultKind::Memory {
                 NO_MEMORY
             } else {
                 hand_over(shown.as_slice(), FAULT, out, size)
-            }
+            };
+            report(status, found, fault)
         }
     }
 }
@@ -158,6 +175,8 @@ pub extern "C" fn linkcap_show(
     ensures written { Writes (lines everything limit capture.now) result size.new out.old out.new }
     ensures place { result ≡ 2 → IsPlaceOf capture.now fault.new.offset }
     ensures memory { result ≡ 5 → TellsMemory limit capture.now fault.new }
+    ensures kept_fault { KeepsFault result fault.old fault.new }
+    ensures kept_size { KeepsSize result size.old size.new }
     ensures answers { IsAnswer result }
     ensures wanted { result ≡ 4 → size.new ≡ length (lines everything limit capture.now) }
     ensures cause { result ≡ 5 → WantsMemoryAt limit capture.now fault.new.offset }
@@ -191,6 +210,8 @@ pub extern "C" fn linkcap_show_with(
     ensures written { Writes (lines (asked without_numbers only.now) limit capture.now) result size.new out.old out.new }
     ensures place { result ≡ 2 → IsPlaceOf capture.now fault.new.offset }
     ensures memory { result ≡ 5 → TellsMemory limit capture.now fault.new }
+    ensures kept_fault { KeepsFault result fault.old fault.new }
+    ensures kept_size { KeepsSize result size.old size.new }
     ensures answers { IsAnswer result }
     ensures wanted { result ≡ 4 → size.new ≡ length (lines (asked without_numbers only.now) limit capture.now) }
     ensures cause { result ≡ 5 → WantsMemoryAt limit capture.now fault.new.offset }

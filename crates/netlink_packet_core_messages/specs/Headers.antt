@@ -1,5 +1,5 @@
 -- The header of a frame (netlink.h, struct nlmsghdr), and its bytes.
-use Rattle.std.specs.Prelude.{ℕ, ◌<◌, ◌^◌, List, ◌++◌}
+use Rattle.std.specs.Prelude.{ℕ, List, ◌++◌}
 use Rattle.netlink_packet_core_messages.specs.declared.header.NetlinkHeader.{NetlinkHeader}
 use Rattle.netlink_packet_core_grammar.specs.Numbers.{u16_at, u32_at, le2, le4}
 
@@ -10,11 +10,3 @@ header_of b = record { length = u32_at 0 b; message_type = u16_at 4 b; flags = u
 -- the 16 bytes that it is written as
 unfoldable pub header_text : NetlinkHeader → List ℕ
 header_text h = le4 h.length ++ (le2 h.message_type ++ (le2 h.flags ++ (le4 h.sequence_number ++ le4 h.port_number)))
-
--- its numbers fit their fields
-pub record HeaderFits (h : NetlinkHeader) : Type 0 where
-  pub length_fits : h.length < 2 ^ 32
-  pub type_fits : h.message_type < 2 ^ 16
-  pub flags_fit : h.flags < 2 ^ 16
-  pub sequence_fits : h.sequence_number < 2 ^ 32
-  pub port_fits : h.port_number < 2 ^ 32

@@ -1,6 +1,6 @@
 ghost use Rattle.std.specs.Prelude.{◌≡◌, ◌≤◌, ◌++◌, length, drop, true, false, ⊤};
 ghost use Rattle.netlink_packet_core_messages.specs.NetlinkBuffers.{storage};
-ghost use Rattle.netlink_packet_core_messages.specs.Headers.{header_of, header_text, HeaderFits};
+ghost use Rattle.netlink_packet_core_messages.specs.Headers.{header_of, header_text};
 
 use super::buffer::{NETLINK_HEADER_LEN, NetlinkBuffer};
 use netlink_packet_core_attributes::traits::{Emitable, Parseable};
@@ -67,20 +67,5 @@ impl Emitable for NetlinkHeader {
         fill_u16(flags, self.flags);
         fill_u32(sequence_number, self.sequence_number);
         fill_u32(port_number, self.port_number);
-    }
-}
-
-impl NetlinkHeader {
-    /// Its numbers fit their fields.
-    pub(crate) fn numbers_fit(&self)
-        ensures { HeaderFits self.now }
-    {
-        let NetlinkHeader {
-            length: _length,
-            message_type: _message_type,
-            flags: _flags,
-            sequence_number: _sequence_number,
-            port_number: _port_number,
-        } = *self;
     }
 }

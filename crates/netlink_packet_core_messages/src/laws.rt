@@ -1,5 +1,5 @@
-//! Facts of frames and messages. No function here writes or answers anything: a caller learns what
-//! its contract says.
+//! Facts of frames and messages. No function here calls anything but `code_fits`, which reads the code of a parameter: the
+//! prover takes a number behind a reference to be in its type's range only once it is read.
 
 ghost use Rattle.std.specs.Prelude.{◌≡◌, ◌↔◌, true, ◌≤◌, ◌<◌, ◌+◌, ◌-◌, ◌++◌, ℕ, List, Some, None, length, take, drop};
 ghost use Rattle.netlink_packet_core_grammar.specs.Attributes.{nla_align, zeros};
@@ -13,14 +13,11 @@ ghost use Rattle.netlink_packet_core_messages.specs.Laws.{ConstantsAreOfTheHeade
 use super::header::NetlinkHeader;
 use super::message::NetlinkMessage;
 use super::payload_traits::{NetlinkDeserializable, NetlinkProtocol, NetlinkSerializable};
-use netlink_packet_core_grammar::laws::numbers_stand_alone;
 
 /// What is written of a header is read as the header, whatever follows.
 pub fn headers_read_back(header: &NetlinkHeader, rest: &[u8])
     ensures { header_of (header_text header.now ++ rest.now) ≡ header.now }
-{
-    header.numbers_fit();
-}
+{}
 
 /// What is read of a header is written as its bytes.
 pub fn headers_are_written_back(bytes: &[u8])
@@ -58,9 +55,7 @@ pub fn short_lengths_are_refused<I: NetlinkDeserializable>(header: &[u8], rest: 
     requires whole { 16 ≤ length header.now }
     requires short { frame_length header.now < 16 }
     ensures { read_message I.reads (header.now ++ rest.now) ≡ None }
-{
-    numbers_stand_alone();
-}
+{}
 
 /// The body of a frame is the same whatever follows its length.
 pub fn bodies_end_with_their_frame(frame: &[u8], rest: &[u8])
@@ -82,7 +77,6 @@ pub fn messages_read_back<I: NetlinkProtocol>(message: &NetlinkMessage<I>, rest:
     ensures { read_message I.reads (message_text I.entry message.now ++ rest.now)
         ≡ Some (message_value I.value message.now) }
 {
-    message.header.numbers_fit();
     message.payload.code_fits();
 }
 
@@ -94,9 +88,7 @@ pub fn messages_are_frames<I: NetlinkProtocol>(message: &NetlinkMessage<I>, rest
     ensures length { frame_length (message_text I.entry message.now ++ rest.now)
         ≡ length (message_text I.entry message.now) }
     ensures size { length (message_text I.entry message.now) ≡ message_size I.entry message.now }
-{
-    message.header.numbers_fit();
-}
+{}
 
 /// A message that was read from the bytes of a finalized one is written as these bytes, once it is
 /// finalized itself.
@@ -112,7 +104,7 @@ pub fn canonical_frames_are_stable<I: NetlinkProtocol>(
     ensures { message_text I.entry (finalized I.entry other.now)
         ≡ message_text I.entry message.now }
 {
-    messages_read_back(message, rest);
+    message.payload.code_fits();
 }
 
 /// Messages that say the same have the same bytes.
@@ -136,8 +128,8 @@ pub fn texts_have_one_message<I: NetlinkProtocol>(
     requires same { message_text I.entry message.now ≡ message_text I.entry other.now }
     ensures { message_value I.value message.now ≡ message_value I.value other.now }
 {
-    messages_read_back(message, &[]);
-    messages_read_back(other, &[]);
+    message.payload.code_fits();
+    other.payload.code_fits();
 }
 
 /// A message that was read from a frame, once it is finalized, is written as the frame's header

@@ -1,15 +1,5 @@
--- the piece for which there was no memory was read
-use Rattle.std.proofs.Common.{◌≡◌, ◌∙◌, ◌++◌, length, take, arith, length-append}
-use Rattle.std.proofs.lemmas.List.{length-take}
-use Rattle.std.proofs.lemmas.Grind.{common_steps}
-use Rattle.std.proofs.KnownBytes.{Consumes-trans}
+-- what is said without the first bytes
 use Rattle.link_capture_reader.proofs.engine.read_all.Goals as goal
 
-pub returns-then-is_err : goal.returns-then-is_err
-returns-then-is_err g c =
-    let old = c.pieces.bytes.items in
-    let piece = take c.in-Ok.count c.read.new.buffer in
-    let size : length piece ≡ c.in-Ok.count = length-take c.in-Ok.count c.read.new.buffer ∙ omega (arith, c.in-Ok.ensures.within) in
-    let n : c.len-then-is_err.result ≡ length old = grind (arith, common_steps) in
-    let total = length-append old piece in
-    (old ++ piece, Consumes-trans _ _ _ old piece c.pieces.invariant.consumed c.in-Ok.ensures.bytes.0, ((grind (arith, common_steps), omega (arith, size, total)), omega (arith, size, total, n)))
+pub returns : goal.returns
+returns g c = let read = c.read_all_keeping_first.ensures in (read.0, read.1, read.2)

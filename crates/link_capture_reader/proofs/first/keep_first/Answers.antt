@@ -1,6 +1,6 @@
 use Rattle.std.proofs.Common.{◌≡◌, ◌+◌, ◌++◌, ap, ◌∙◌, take, length}
-use Rattle.linkshow_program.proofs.Keeping.{kept}
-use Rattle.linkshow_program.proofs.first_kept.keep.Goals as goal
+use Rattle.link_capture_reader.proofs.FirstBytes.{kept}
+use Rattle.link_capture_reader.proofs.first.keep_first.Goals as goal
 
 pub returns-in-Ok : goal.returns-in-Ok
 returns-in-Ok c =

@@ -1,8 +1,8 @@
 -- what was read was accepted, and its lines are written
-use Rattle.std.proofs.Common.{◌≡◌, ◌-◌, ◌^◌, ℕ, List, []}
+use Rattle.std.proofs.Common.{◌≡◌, ◌-◌, ◌^◌, ℕ, List, [], take}
 use Rattle.link_lines.specs.Options.{choice_of}
 use Rattle.link_lines.proofs.Progress.{Came}
-use Rattle.link_lines.proofs.engine.show.Given as goal
+use Rattle.link_lines.proofs.engine.show_keeping_first.Given as goal
 
 abbrev pub invariant-pieces : goal.invariant-pieces
 invariant-pieces g l = record {
@@ -11,7 +11,7 @@ invariant-pieces g l = record {
   source_failures : g.S.Source.failures l.source ≡ g.S.Source.failures l.fn.source;
   ends : g.S.Source.ends_told l.source ≡ g.S.Source.ends_told l.fn.source;
   sink_failures : g.K.Sink.failures l.sink ≡ g.K.Sink.failures l.fn.sink;
-  came : (s : List ℕ) × Came (choice_of l.fn.options) l.limit l.reader l.written (g.S.Source.to_come l.fn.source) (g.S.Source.to_come l.source) (g.K.Sink.holds l.fn.sink) (g.K.Sink.holds l.sink) s;
+  came : (s : List ℕ) × Came (choice_of l.fn.options) l.limit l.reader l.written (g.S.Source.to_come l.fn.source) (g.S.Source.to_come l.source) (g.K.Sink.holds l.fn.sink) (g.K.Sink.holds l.sink) s × (l.first.items ≡ take 4 s);
 }
 
 abbrev pub decreases-pieces : goal.decreases-pieces

@@ -234,15 +234,15 @@ tunnels_equal k m l p =
     listed_is k t.0 t.1 ∙ sym (listed_is m t.0 (sym l ∙ t.1))
 
 by_variant : (k m : InfoKind) (d e : InfoData) → listed_kind k ≡ listed_kind m → variant d ≡ variant e → info_data_names_row k d → info_data_names_row m e → info_data_payload d ≡ info_data_payload e → equal d e ≡ true
-by_variant k m (Data.Bridge x) (Data.Bridge y) l i p q e = lists_injective _ raw_entry (λ _. Unit {0}) (raw_data_injective _) x.items y.items (λ _ _ _. tt) (λ _ _ _. tt) e
-by_variant k m (Data.Can x) (Data.Can y) l i p q e = lists_injective _ raw_entry (λ _. Unit {0}) (raw_data_injective _) x.items y.items (λ _ _ _. tt) (λ _ _ _. tt) e
-by_variant k m (Data.Tun x) (Data.Tun y) l i p q e = lists_injective _ raw_entry (λ _. Unit {0}) (raw_data_injective _) x.items y.items (λ _ _ _. tt) (λ _ _ _. tt) e
-by_variant k m (Data.Vlan x) (Data.Vlan y) l i p q e = lists_injective _ raw_entry (λ _. Unit {0}) (raw_data_injective _) x.items y.items (λ _ _ _. tt) (λ _ _ _. tt) e
-by_variant k m (Data.Veth x) (Data.Veth y) l i p q e = pair_injective _ x y p.1 q.1 (one_attribute _ _ e)
+by_variant k m (Data.Bridge x) (Data.Bridge y) l i p q e = lists_injective _ raw_entry (λ _. Unit {0}) (raw_data_injective _ (record { fits = omega arith })) x.items y.items (λ _ _ _. tt) (λ _ _ _. tt) e
+by_variant k m (Data.Can x) (Data.Can y) l i p q e = lists_injective _ raw_entry (λ _. Unit {0}) (raw_data_injective _ (record { fits = omega arith })) x.items y.items (λ _ _ _. tt) (λ _ _ _. tt) e
+by_variant k m (Data.Tun x) (Data.Tun y) l i p q e = lists_injective _ raw_entry (λ _. Unit {0}) (raw_data_injective _ (record { fits = omega arith })) x.items y.items (λ _ _ _. tt) (λ _ _ _. tt) e
+by_variant k m (Data.Vlan x) (Data.Vlan y) l i p q e = lists_injective _ raw_entry (λ _. Unit {0}) (raw_data_injective _ (record { fits = omega arith })) x.items y.items (λ _ _ _. tt) (λ _ _ _. tt) e
+by_variant k m (Data.Veth x) (Data.Veth y) l i p q e = pair_injective _ (record { fits = omega arith }) x y p.1 q.1 (one_attribute _ _ e)
 by_variant k m (Data.Vxlan x) (Data.Vxlan y) l i p q e = lists_injective _ vxlan_entry vxlan_names_row vxlan_injective x.items y.items p.1 q.1 e
-by_variant k m (Data.Bond x) (Data.Bond y) l i p q e = lists_injective _ raw_entry (λ _. Unit {0}) (raw_data_injective _) x.items y.items (λ _ _ _. tt) (λ _ _ _. tt) e
-by_variant k m (Data.IpVlan x) (Data.IpVlan y) l i p q e = lists_injective _ ipvlan_entry ipvlan_names_row (ipvlan_injective _) x.items y.items p.1 q.1 e
-by_variant k m (Data.IpVtap x) (Data.IpVtap y) l i p q e = lists_injective _ ipvlan_entry ipvlan_names_row (ipvlan_injective _) x.items y.items p.1 q.1 e
+by_variant k m (Data.Bond x) (Data.Bond y) l i p q e = lists_injective _ raw_entry (λ _. Unit {0}) (raw_data_injective _ (record { fits = omega arith })) x.items y.items (λ _ _ _. tt) (λ _ _ _. tt) e
+by_variant k m (Data.IpVlan x) (Data.IpVlan y) l i p q e = lists_injective _ ipvlan_entry ipvlan_names_row (ipvlan_injective _ (record { fits = omega arith })) x.items y.items p.1 q.1 e
+by_variant k m (Data.IpVtap x) (Data.IpVtap y) l i p q e = lists_injective _ ipvlan_entry ipvlan_names_row (ipvlan_injective _ (record { fits = omega arith })) x.items y.items p.1 q.1 e
 by_variant k m (Data.MacVlan x) (Data.MacVlan y) l i p q e = lists_injective _ mac_vlan_entry mac_vlan_names_row mac_vlan_injective x.items y.items p.1 q.1 e
 by_variant k m (Data.MacVtap x) (Data.MacVtap y) l i p q e = lists_injective _ mac_vlan_entry mac_vlan_names_row mac_vlan_injective x.items y.items p.1 q.1 e
 by_variant k m (Data.GreTap x) (Data.GreTap y) l i p q e = lists_injective _ gre_entry gre_names_row gre_injective x.items y.items p.1 q.1 e
@@ -255,22 +255,22 @@ by_variant k m (Data.Gtp x) (Data.Gtp y) l i p q e = lists_injective _ gtp_entry
 by_variant k m (Data.Ipoib x) (Data.Ipoib y) l i p q e = lists_injective _ ipoib_entry ipoib_names_row ipoib_injective x.items y.items p.1 q.1 e
 by_variant k m (Data.Xfrm x) (Data.Xfrm y) l i p q e = lists_injective _ xfrm_entry xfrm_names_row xfrm_injective x.items y.items p.1 q.1 e
 by_variant k m (Data.MacSec x) (Data.MacSec y) l i p q e = lists_injective _ macsec_entry macsec_names_row macsec_injective x.items y.items p.1 q.1 e
-by_variant k m (Data.Hsr x) (Data.Hsr y) l i p q e = lists_injective _ raw_entry (λ _. Unit {0}) (raw_data_injective _) x.items y.items (λ _ _ _. tt) (λ _ _ _. tt) e
+by_variant k m (Data.Hsr x) (Data.Hsr y) l i p q e = lists_injective _ raw_entry (λ _. Unit {0}) (raw_data_injective _ (record { fits = omega arith })) x.items y.items (λ _ _ _. tt) (λ _ _ _. tt) e
 by_variant k m (Data.Geneve x) (Data.Geneve y) l i p q e = lists_injective _ geneve_entry geneve_names_row geneve_injective x.items y.items p.1 q.1 e
 by_variant k m (Data.IpTunnel x) (Data.IpTunnel y) l i p q e = 
     let same_kind : k ≡ m = tunnels_equal k m l p.0 in
     lists_injective _ ip_tunnel_entry (ip_tunnel_names_row k) (ip_tunnel_injective k) x.items y.items p.1 (subst (λ h. All (ip_tunnel_names_row h) y.items) (sym same_kind) q.1) e
 by_variant k m (Data.Netkit x) (Data.Netkit y) l i p q e = lists_injective _ netkit_entry netkit_names_row netkit_injective x.items y.items p.1 q.1 e
-by_variant k m (Data.Vxcan x) (Data.Vxcan y) l i p q e = pair_injective _ x y p.1 q.1 (one_attribute _ _ e)
+by_variant k m (Data.Vxcan x) (Data.Vxcan y) l i p q e = pair_injective _ (record { fits = omega arith }) x y p.1 q.1 (one_attribute _ _ e)
 by_variant k m (Data.Amt x) (Data.Amt y) l i p q e = lists_injective _ amt_entry amt_names_row amt_injective x.items y.items p.1 q.1 e
 by_variant k m (Data.BatAdv x) (Data.BatAdv y) l i p q e = lists_injective _ batadv_entry batadv_names_row batadv_injective x.items y.items p.1 q.1 e
 by_variant k m (Data.BareUdp x) (Data.BareUdp y) l i p q e = lists_injective _ bareudp_entry bareudp_names_row bareudp_injective x.items y.items p.1 q.1 e
-by_variant k m (Data.Dsa x) (Data.Dsa y) l i p q e = lists_injective _ raw_entry (λ _. Unit {0}) (raw_data_injective _) x.items y.items (λ _ _ _. tt) (λ _ _ _. tt) e
+by_variant k m (Data.Dsa x) (Data.Dsa y) l i p q e = lists_injective _ raw_entry (λ _. Unit {0}) (raw_data_injective _ (record { fits = omega arith })) x.items y.items (λ _ _ _. tt) (λ _ _ _. tt) e
 by_variant k m (Data.Wwan x) (Data.Wwan y) l i p q e = lists_injective _ wwan_entry wwan_names_row wwan_injective x.items y.items p.1 q.1 e
 by_variant k m (Data.RmNet x) (Data.RmNet y) l i p q e = lists_injective _ rmnet_entry rmnet_names_row rmnet_injective x.items y.items p.1 q.1 e
 by_variant k m (Data.ErSpan x) (Data.ErSpan y) l i p q e = lists_injective _ gre_entry gre_names_row gre_injective x.items y.items p.1 q.1 e
 by_variant k m (Data.Ip6ErSpan x) (Data.Ip6ErSpan y) l i p q e = lists_injective _ gre6_entry gre6_names_row gre6_injective x.items y.items p.1 q.1 e
-by_variant k m (Data.Wireguard x) (Data.Wireguard y) l i p q e = lists_injective _ raw_entry (λ _. Unit {0}) (raw_data_injective _) x.items y.items (λ _ _ _. tt) (λ _ _ _. tt) e
+by_variant k m (Data.Wireguard x) (Data.Wireguard y) l i p q e = lists_injective _ raw_entry (λ _. Unit {0}) (raw_data_injective _ (record { fits = omega arith })) x.items y.items (λ _ _ _. tt) (λ _ _ _. tt) e
 by_variant k m (Data.Other x) (Data.Other y) l i p q e = (bytes_decides x.items y.items).1 e
 by_variant k m d e l i p q h = absurd (omega (arith, i))
 

@@ -46,9 +46,9 @@ vrf_rows PortKind.Vrf vs p = p
 vrf_rows k vs p = absurd p
 
 by_variant : (k m : InfoPortKind) (d e : InfoPortData) → variant d ≡ variant e → info_port_data_names_row k d → info_port_data_names_row m e → info_port_data_payload d ≡ info_port_data_payload e → equal d e ≡ true
-by_variant k m (PortData.BondPort x) (PortData.BondPort y) i p q e = lists_injective _ raw_entry (λ _. Unit {0}) (raw_data_injective _) x.items y.items (λ _ _ _. tt) (λ _ _ _. tt) e
-by_variant k m (PortData.BridgePort x) (PortData.BridgePort y) i p q e = lists_injective _ raw_entry (λ _. Unit {0}) (raw_data_injective _) x.items y.items (λ _ _ _. tt) (λ _ _ _. tt) e
-by_variant k m (PortData.TeamPort x) (PortData.TeamPort y) i p q e = lists_injective _ raw_entry (λ _. Unit {0}) (raw_data_injective _) x.items y.items (λ _ _ _. tt) (λ _ _ _. tt) e
+by_variant k m (PortData.BondPort x) (PortData.BondPort y) i p q e = lists_injective _ raw_entry (λ _. Unit {0}) (raw_data_injective _ (record { fits = omega arith })) x.items y.items (λ _ _ _. tt) (λ _ _ _. tt) e
+by_variant k m (PortData.BridgePort x) (PortData.BridgePort y) i p q e = lists_injective _ raw_entry (λ _. Unit {0}) (raw_data_injective _ (record { fits = omega arith })) x.items y.items (λ _ _ _. tt) (λ _ _ _. tt) e
+by_variant k m (PortData.TeamPort x) (PortData.TeamPort y) i p q e = lists_injective _ raw_entry (λ _. Unit {0}) (raw_data_injective _ (record { fits = omega arith })) x.items y.items (λ _ _ _. tt) (λ _ _ _. tt) e
 by_variant k m (PortData.VrfPort x) (PortData.VrfPort y) i p q e = lists_injective _ vrf_entry vrf_names_row vrf_injective x.items y.items (vrf_rows k x p) (vrf_rows m y q) e
 by_variant k m (PortData.Other x) (PortData.Other y) i p q e = (bytes_decides x.items y.items).1 e
 by_variant k m d e i p q h = absurd (omega (arith, i))

@@ -1,7 +1,7 @@
 -- Values of `IpVlanData` with equal attributes are equal.
-use Rattle.std.proofs.Common.{◌≡◌, ℕ, List, [], ◌∷◌, Bool, true, refl, sym, ap, ◌∙◌, arith}
-use denote.RattleType.{RattleType}
-use denote.Param.{value_of}
+use Rattle.std.proofs.Common.{Fits, ◌≡◌, ℕ, List, [], ◌∷◌, Bool, true, refl, sym, ap, ◌∙◌, arith}
+use denote.Param.{number}
+use Rattle.std.specs.Int.{w16}
 use Rattle.netlink_packet_core.specs.Attributes.{Attribute, proper_kind}
 use Rattle.attribute_tables_grammar.specs.LookUps.{line_at}
 use Rattle.link_info_grammar.specs.Families.{ipvlan}
@@ -16,8 +16,8 @@ use Rattle.link_message_laws.specs.Injective.{IsInjective}
 use Rattle.link_message_laws.proofs.Numbers.{le2_injective}
 use Rattle.link_message_laws.proofs.Lists.{numbered}
 
-abbrev equal : (K : RattleType) → IpVlanData (value_of K) → IpVlanData (value_of K) → Bool
-equal K = (equality.ghosts K).eq
+abbrev equal : (n : ℕ) → IpVlanData n → IpVlanData n → Bool
+equal n = (equality.ghosts (number n)).eq
 
 ip_vlan_flags_bits_equal : (f g : IpVlanFlags) → f.0 ≡ g.0 → f ≡ g
 ip_vlan_flags_bits_equal f g e = λ i. record f { 0 = e i }
@@ -38,14 +38,14 @@ variant_number v h = refl
 payload_equal : {n : ℕ} (v w : IpVlanData n) → ipvlan_entry v ≡ ipvlan_entry w → (ipvlan_entry v).payload ≡ (ipvlan_entry w).payload
 payload_equal v w e = ap (λ (a : Attribute). a.payload) e
 
-same : (K : RattleType) (v w : IpVlanData (value_of K)) → v ≡ w → equal K v w ≡ true
-same K v w e = ap (equal K v) (sym e) ∙ laws-law.refl v
+same : (n : ℕ) → Fits w16 n → (v w : IpVlanData n) → v ≡ w → equal n v w ≡ true
+same n f v w e = ap (equal n v) (sym e) ∙ (laws-law n f).refl v
 
-by_variant : (K : RattleType) (v w : IpVlanData (value_of K)) → variant v ≡ variant w → ipvlan_names_row v → ipvlan_names_row w → ipvlan_entry v ≡ ipvlan_entry w → equal K v w ≡ true
-by_variant K (IpVlan.Mode x) (IpVlan.Mode y) i p q e = same K (IpVlan.Mode x) (IpVlan.Mode y) (ap IpVlan.Mode (p ∙ ap ip_vlan_mode_of (le2_injective _ _ (payload_equal (IpVlan.Mode x) (IpVlan.Mode y) e)) ∙ sym q))
-by_variant K (IpVlan.Flags x) (IpVlan.Flags y) i p q e = same K (IpVlan.Flags x) (IpVlan.Flags y) (ap IpVlan.Flags (ip_vlan_flags_bits_equal x y (le2_injective _ _ (payload_equal (IpVlan.Flags x) (IpVlan.Flags y) e))))
-by_variant K (IpVlan.Other x) (IpVlan.Other y) i p q e = same K (IpVlan.Other x) (IpVlan.Other y) (ap IpVlan.Other e)
-by_variant K v w i p q e = absurd (omega (arith, i))
+by_variant : (n : ℕ) → Fits w16 n → (v w : IpVlanData n) → variant v ≡ variant w → ipvlan_names_row v → ipvlan_names_row w → ipvlan_entry v ≡ ipvlan_entry w → equal n v w ≡ true
+by_variant n f (IpVlan.Mode x) (IpVlan.Mode y) i p q e = same n f (IpVlan.Mode x) (IpVlan.Mode y) (ap IpVlan.Mode (p ∙ ap ip_vlan_mode_of (le2_injective _ _ (payload_equal {n = n} (IpVlan.Mode x) (IpVlan.Mode y) e)) ∙ sym q))
+by_variant n f (IpVlan.Flags x) (IpVlan.Flags y) i p q e = same n f (IpVlan.Flags x) (IpVlan.Flags y) (ap IpVlan.Flags (ip_vlan_flags_bits_equal x y (le2_injective _ _ (payload_equal {n = n} (IpVlan.Flags x) (IpVlan.Flags y) e))))
+by_variant n f (IpVlan.Other x) (IpVlan.Other y) i p q e = same n f (IpVlan.Other x) (IpVlan.Other y) (ap IpVlan.Other e)
+by_variant n f v w i p q e = absurd (omega (arith, i))
 
-pub ipvlan_injective : (K : RattleType) → IsInjective (equal K) ipvlan_entry ipvlan_names_row
-ipvlan_injective K v w p q e = by_variant K v w (variant_number v p ∙ ap row_number e ∙ sym (variant_number w q)) p q e
+pub ipvlan_injective : (n : ℕ) → Fits w16 n → IsInjective (equal n) ipvlan_entry ipvlan_names_row
+ipvlan_injective n f v w p q e = by_variant n f v w (variant_number v p ∙ ap row_number e ∙ sym (variant_number w q)) p q e

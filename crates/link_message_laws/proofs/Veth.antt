@@ -1,8 +1,8 @@
 -- Values of `PairData` with equal attributes are equal.
-use Rattle.std.proofs.Common.{◌≡◌, ℕ, List, [], ◌∷◌, Bool, true, refl, sym, ap, ◌∙◌, arith}
+use Rattle.std.proofs.Common.{Fits, ◌≡◌, ℕ, List, [], ◌∷◌, Bool, true, refl, sym, ap, ◌∙◌, arith}
 use lib.Pointwise.{bytes_decides}
-use denote.RattleType.{RattleType}
-use denote.Param.{value_of}
+use denote.Param.{number}
+use Rattle.std.specs.Int.{w16}
 use Rattle.netlink_packet_core.specs.Attributes.{Attribute, proper_kind}
 use Rattle.attribute_tables_grammar.specs.LookUps.{line_at}
 use Rattle.link_info_grammar.specs.Families.{pair}
@@ -14,8 +14,8 @@ use Rattle.link_info_devices.specs.contracts.veth.PairDataEq.TheImpl.Laws.{laws-
 use Rattle.link_message_laws.specs.Injective.{IsInjective}
 use Rattle.link_message_laws.proofs.Lists.{numbered}
 
-abbrev equal : (K : RattleType) → PairData (value_of K) → PairData (value_of K) → Bool
-equal K = (equality.ghosts K).eq
+abbrev equal : (n : ℕ) → PairData n → PairData n → Bool
+equal n = (equality.ghosts (number n)).eq
 
 -- the number of a variant is that of its row
 abbrev variant : {n : ℕ} → PairData n → ℕ
@@ -32,13 +32,13 @@ variant_number v h = refl
 payload_equal : {n : ℕ} (v w : PairData n) → pair_entry v ≡ pair_entry w → (pair_entry v).payload ≡ (pair_entry w).payload
 payload_equal v w e = ap (λ (a : Attribute). a.payload) e
 
-same : (K : RattleType) (v w : PairData (value_of K)) → v ≡ w → equal K v w ≡ true
-same K v w e = ap (equal K v) (sym e) ∙ laws-law.refl v
+same : (n : ℕ) → Fits w16 n → (v w : PairData n) → v ≡ w → equal n v w ≡ true
+same n f v w e = ap (equal n v) (sym e) ∙ (laws-law n f).refl v
 
-by_variant : (K : RattleType) (v w : PairData (value_of K)) → variant v ≡ variant w → pair_names_row v → pair_names_row w → pair_entry v ≡ pair_entry w → equal K v w ≡ true
-by_variant K (Pair.Peer x) (Pair.Peer y) i p q e = (bytes_decides x.items y.items).1 (payload_equal (Pair.Peer x) (Pair.Peer y) e)
-by_variant K (Pair.Other x) (Pair.Other y) i p q e = same K (Pair.Other x) (Pair.Other y) (ap Pair.Other e)
-by_variant K v w i p q e = absurd (omega (arith, i))
+by_variant : (n : ℕ) → Fits w16 n → (v w : PairData n) → variant v ≡ variant w → pair_names_row v → pair_names_row w → pair_entry v ≡ pair_entry w → equal n v w ≡ true
+by_variant n f (Pair.Peer x) (Pair.Peer y) i p q e = (bytes_decides x.items y.items).1 (payload_equal {n = n} (Pair.Peer x) (Pair.Peer y) e)
+by_variant n f (Pair.Other x) (Pair.Other y) i p q e = same n f (Pair.Other x) (Pair.Other y) (ap Pair.Other e)
+by_variant n f v w i p q e = absurd (omega (arith, i))
 
-pub pair_injective : (K : RattleType) → IsInjective (equal K) pair_entry pair_names_row
-pair_injective K v w p q e = by_variant K v w (variant_number v p ∙ ap row_number e ∙ sym (variant_number w q)) p q e
+pub pair_injective : (n : ℕ) → Fits w16 n → IsInjective (equal n) pair_entry pair_names_row
+pair_injective n f v w p q e = by_variant n f v w (variant_number v p ∙ ap row_number e ∙ sym (variant_number w q)) p q e

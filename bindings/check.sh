@@ -5,7 +5,7 @@
 #
 # It wants the command rt; a compiler, valgrind, pkg-config, Python, pytest, pyroute2, cargo and Debian's package of the crate
 # netlink-packet-route where they are there, and says what it skipped. CC, CXX and PYTHON name others than cc, c++ and
-# python3. Builds lie in a folder of their own, which goes at the end. The last line is `N passed, M failed`.
+# python3. Builds lie in a folder of their own, which goes at the end. The last line is `N passed, M failed, K skipped`.
 set -uo pipefail
 cd "$(dirname "$0")/.."
 top=$PWD
@@ -14,7 +14,7 @@ work=$(mktemp -d)
 trap 'rm -rf "$work"' EXIT
 cc=${CC:-cc}
 cxx=${CXX:-c++}
-passed=0 failed=0
+passed=0 failed=0 skipped=0
 
 # Runs a command quietly, and counts it; its words are shown where it fails.
 step() {
@@ -31,6 +31,7 @@ step() {
 }
 
 skip() {
+    skipped=$((skipped + 1))
     echo "bindings: skipped: $1: $2"
 }
 
@@ -39,7 +40,7 @@ has() {
 }
 
 finish() {
-    echo "$passed passed, $failed failed"
+    echo "$passed passed, $failed failed, $skipped skipped"
     [ "$failed" -eq 0 ]
     exit
 }
@@ -155,6 +156,32 @@ choose_python() {
     for candidate in ${PYTHON:-python3}; do has "$candidate" && { echo "$candidate"; return; }; done
 }
 
+# Interrupted calls on each other Python at hand: those of pyenv.
+test_other_pythons() {
+    local python version
+    for python in "${PYENV_ROOT:-$HOME/.pyenv}"/versions/*/bin/python; do
+        [ -x "$python" ] || continue
+        version=$(basename "$(dirname "$(dirname "$python")")")
+        if "$python" -c 'import sys; sys.exit(sys.version_info < (3, 8))'; then
+            step "Python $version: calls that are interrupted" env -C bindings/python/tests LINKCAP_LIB_DIR="$lib" \
+                PYTHONPATH="$top/bindings/python" "$python" -m unittest -q test_reentry
+        else
+            skip "Python $version" "older than 3.8"
+        fi
+    done
+}
+
+test_python_types() {
+    if ! has mypy; then
+        skip "Python: types" "no mypy"
+    elif ! mypy --cache-dir="$work/mypy" -c 'import pytest' > /dev/null 2>&1; then
+        skip "Python: types" "no pytest for mypy"
+    else
+        step "Python: types" env MYPYPATH=bindings/python:bindings/python/tests mypy --strict --cache-dir="$work/mypy" \
+            bindings/python/linkcap bindings/python/tests
+    fi
+}
+
 test_python() {
     local python
     python=$(choose_python)
@@ -166,9 +193,14 @@ test_python() {
     fi
     export PYTHONDONTWRITEBYTECODE=1
     step "Python: pip install without a network" env LINKCAP_LIB_DIR="$lib" "$work/venv/bin/pip" install --no-index "$top/bindings/python"
-    local run=("$work/venv/bin/python")
+    local run=("$work/venv/bin/python") tests=bindings/python/tests
     mkdir -p "$work/python"
-    step "Python: the calls" env -C bindings/python/tests "${run[@]}" -m unittest -q test_linkcap
+    step "Python: the calls" env -C $tests "${run[@]}" -m unittest -q test_linkcap test_golden
+    step "Python: calls that are interrupted" env -C $tests "${run[@]}" -m unittest -q test_reentry
+    step "Python: installs" env -C $tests "${run[@]}" -m unittest -q test_install
+    "${run[@]}" -c 'import numpy' 2> /dev/null || skip "Python: captures of numpy" "no numpy"
+    test_other_pythons
+    test_python_types
     if ! "${run[@]}" -c 'import pytest' 2> /dev/null; then
         skip "Python: the fixture and the page" "no pytest"
         return

@@ -84,7 +84,11 @@ shown_symbols() {
 page_in_c() {
     block c > "$work/norm.c"
     "$cc" -std=c11 -Wall -Wextra -Werror -I "$lib" -o "$work/norm" "$work/norm.c" "$lib/liblinkcap.a"
-    "$work/norm" < samples/req-veth.bin | cmp - samples/req-veth.bin
+    "$work/norm" < samples/req-veth.bin | cmp - samples/req-veth.bin || return
+    # 3 MiB of what is its own normal text.
+    yes samples/req-veth.bin | head -n 3000 | xargs cat > "$work/long"
+    [ "$(wc -c < "$work/long")" -gt $((3 << 20)) ] && "$work/norm" < "$work/long" | cmp - "$work/long" || return
+    "$work/norm" < "$work/long" > /dev/full && return 1
     printf '\x30\0\0\0' | "$work/norm" 2> "$work/fault" > "$work/text"
     [ $? -eq 2 ] && [ "$(cat "$work/fault")" = "cut frame at 0" ] && [ ! -s "$work/text" ]
 }
@@ -95,6 +99,10 @@ installed() {
     export PKG_CONFIG_PATH=$work/prefix/lib/pkgconfig
     "$cc" -o "$work/installed" "$work/norm.c" $(pkg-config --cflags --libs linkcap) "-Wl,-rpath,$work/prefix/lib" || return
     "$work/installed" < samples/req-veth.bin | cmp - samples/req-veth.bin || return
+    "$cc" -o "$work/archived" "$work/norm.c" $(pkg-config --cflags --libs linkcap-static) || return
+    ! readelf -d "$work/archived" | grep -q liblinkcap || return
+    "$work/archived" < samples/req-veth.bin | cmp - samples/req-veth.bin || return
+    cmp "$(pkg-config --variable=archive linkcap)" "$lib/liblinkcap.a" || return
     "$work/prefix/bin/linkcap" norm < samples/req-veth.bin | cmp - samples/req-veth.bin || return
     "$work/prefix/bin/linkshow" < samples/req-veth.bin | cmp - samples/req-veth.lines || return
     cmp man/linkshow.1 "$work/prefix/share/man/man1/linkshow.1" || return

@@ -1,5 +1,5 @@
 #!/usr/bin/env bash
-# Installs liblinkcap.a, liblinkcap.so, linkcap.h, linkcap.pc and the programs linkcap and linkshow.
+# Installs liblinkcap.a, liblinkcap.so, linkcap.h, linkcap.pc, linkcap-static.pc and the programs linkcap and linkshow.
 #
 #     bindings/c/install.sh PREFIX
 #
@@ -33,5 +33,7 @@ install -m 755 "$work"/liblinkcap.so.* "$to/lib"
 cp -P "$work/liblinkcap.so" "$to/lib"
 install -m 644 "$work/linkcap.h" "$to/include"
 version=$(sed -n 's/^#define LINKCAP_VERSION //p' "$here/linkcap.h")
-sed -e "s|@PREFIX@|$prefix|" -e "s|@VERSION@|$version|" "$here/linkcap.pc.in" > "$to/lib/pkgconfig/linkcap.pc"
+for name in linkcap linkcap-static; do
+    sed -e "s|@PREFIX@|$prefix|" -e "s|@VERSION@|$version|" "$here/$name.pc.in" > "$to/lib/pkgconfig/$name.pc"
+done
 for program in linkcap linkshow; do install -m 755 "$top/crates/$program/out/$program" "$to/bin"; done

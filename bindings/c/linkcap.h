@@ -7,10 +7,10 @@
  *
  * What holds of every function:
  *
- * - Pointers. Each points to what its type says, and is never null, not even beside a length of 0. A capture is
- *   `length` bytes that nobody writes to during the call; a buffer `out` is `room` bytes that may be written, and hold
- *   any values. What is written overlaps nothing that is read or written by the same call. Lengths are under 2^63.
- *   Nothing is kept of a pointer after the call.
+ * - Pointers. Each points to what its type says. Captures, pieces, `types` and buffers may be null if their length is 0;
+ *   no other pointer may be null. A capture is `length` bytes that nobody writes to during the call; a buffer `out` is
+ *   `room` bytes that may be written, and hold any values. What is written overlaps nothing that is read or written by
+ *   the same call. Lengths are under 2^63. Nothing is kept of a pointer after the call.
  * - Memory. linkcap_normalize, linkcap_normalize_some, linkcap_show, linkcap_show_with and linkcap_why call malloc,
  *   realloc and free, and have freed all when they return. The others take no memory. Where malloc or realloc answers null, the answer is
  *   LINKCAP_NO_MEMORY, or the one that wanted no memory; no call ends the process. The three functions come from one
@@ -32,6 +32,12 @@ extern "C" {
 
 /* The version of this interface. A program that loads the library when it runs compares it with linkcap_version(). */
 #define LINKCAP_VERSION 1
+
+/*
+ * The format version of normal texts and lines of the library that this header came with, as `linkshow --version` prints
+ * it. Under one version both stay as they are, byte for byte.
+ */
+#define LINKCAP_FORMAT 2
 
 /* A limit is the greatest length in bytes that a message, read or written, may have: from 16 to 4294967295. */
 #define LINKCAP_MIN_LIMIT 16

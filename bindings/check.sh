@@ -1,5 +1,5 @@
 #!/usr/bin/env bash
-# Runs the tests of C, Python and Rust over the proved library, and the examples of docs/other-languages.md.
+# Runs the tests of C, Python, Rust and Go over the proved library, and the examples of docs/other-languages.md.
 #
 #     bindings/check.sh
 #
@@ -242,6 +242,67 @@ test_rust() {
     fi
 }
 
+# The library as it is installed, for pkg-config.
+installed_library() {
+    local name
+    mkdir -p "$1/lib/pkgconfig" "$1/include"
+    cp -P "$lib"/liblinkcap.* "$1/lib"
+    cp "$lib/linkcap.h" "$1/include"
+    for name in linkcap linkcap-static; do
+        sed -e "s|@PREFIX@|$1|" -e "s|@VERSION@|1|" "bindings/c/$name.pc.in" > "$1/lib/pkgconfig/$name.pc"
+    done
+}
+
+formatted_go() {
+    local unformatted
+    unformatted=$(gofmt -l bindings/go)
+    [ -z "$unformatted" ] || { echo "gofmt would change $unformatted"; return 1; }
+}
+
+# Without cgo a build fails, and the only error names what is needed.
+go_without_cgo() {
+    ! env -C bindings/go CGO_ENABLED=0 go build ./... 2> "$work/errors" || return
+    cat "$work/errors"
+    [ "$(grep -c '^\./' "$work/errors")" -eq 1 ] && grep -q linkcap_needs_Linux_and_CGO_ENABLED_1_and_a_C_compiler "$work/errors"
+}
+
+# Requests of vishvananda/netlink beside golden files; those of LinkAdd itself need root and strace.
+test_vishvananda() {
+    local folder=bindings/go/vishvananda_test
+    if [ ! -d /usr/share/gocode/src/github.com/vishvananda/netlink ]; then
+        skip "Go: vishvananda/netlink" "no package golang-github-vishvananda-netlink-dev"
+        return
+    fi
+    step "Go: vishvananda/netlink" env -C $folder go test -run 'TestVlan|TestVeth|TestPadding' .
+    if [ "$(id -u)" -eq 0 ] && has strace && has python3 && unshare -n true 2> /dev/null; then
+        step "Go: LinkAdd" env -C $folder go test -run TestLinkAdd .
+    else
+        skip "Go: LinkAdd" "no root, strace or network namespaces"
+    fi
+}
+
+test_go() {
+    has go || { skip Go "no go"; return; }
+    has pkg-config || { skip Go "no pkg-config"; return; }
+    echo "bindings: $(go version)"
+    installed_library "$work/go"
+    export PKG_CONFIG_PATH=$work/go/lib/pkgconfig GOCACHE=$work/go/cache GOPROXY=off
+    local test=(env -C bindings/go go test)
+    step "Go: format" formatted_go
+    step "Go: vet" env -C bindings/go go vet ./...
+    step "Go: the calls" "${test[@]}" ./...
+    step "Go: the calls, shared" env LD_LIBRARY_PATH="$work/go/lib" "${test[@]}" -tags linkcap_shared ./...
+    if echo 'int main(void) { return 0; }' | "$cc" -fsanitize=thread -x c -o "$work/none" - 2> /dev/null; then
+        step "Go: races" "${test[@]}" -race -run 'Goroutines|Example|Reader|Golden' ./...
+    else
+        skip "Go: races" "$cc has no thread sanitizer"
+    fi
+    step "Go: fuzzing of one capture" "${test[@]}" -run '^$' -fuzz FuzzNormalize -fuzztime 5s .
+    step "Go: fuzzing of two captures" "${test[@]}" -run '^$' -fuzz FuzzSame -fuzztime 5s .
+    step "Go: without cgo" go_without_cgo
+    test_vishvananda
+}
+
 for tool in "$cc" ld objcopy ar; do
     has "$tool" || { skip "all" "no $tool, which makes the library"; finish; }
 done
@@ -251,4 +312,5 @@ step "the library" bindings/c/build.sh "$lib"
 test_c
 test_python
 test_rust
+test_go
 finish

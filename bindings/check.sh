@@ -223,11 +223,36 @@ test_python() {
     fi
 }
 
+# Documentation is built where no library is found.
+rust_docs() {
+    env -u LINKCAP_LIB_DIR PKG_CONFIG_PATH=/nonexistent PKG_CONFIG_LIBDIR=/nonexistent RUSTDOCFLAGS="-D warnings" \
+        cargo doc -q --offline --no-deps --manifest-path bindings/rust/Cargo.toml
+}
+
+# The oldest Rust that Cargo.toml names: Debian 12's.
+test_oldest_rust() {
+    local oldest
+    oldest=$(sed -n 's/^rust-version = "\(.*\)"/\1/p' bindings/rust/Cargo.toml)
+    if [ -x /usr/bin/cargo ] && /usr/bin/rustc --version 2> /dev/null | grep -q "^rustc ${oldest//./\\.}\."; then
+        step "Rust $oldest: the calls" env RUSTC=/usr/bin/rustc RUSTDOC=/usr/bin/rustdoc CARGO_TARGET_DIR="$work/oldest" \
+            /usr/bin/cargo test -q --offline --manifest-path bindings/rust/Cargo.toml
+    else
+        skip "Rust $oldest: the calls" "no rustc $oldest of Debian"
+    fi
+}
+
 test_rust() {
     has cargo || { skip Rust "no cargo"; return; }
     echo "bindings: $(rustc --version)"
     export LINKCAP_LIB_DIR=$lib CARGO_TARGET_DIR=$work/target
-    step "Rust: the calls" cargo test -q --offline --manifest-path bindings/rust/Cargo.toml
+    step "Rust: the calls, and examples" cargo test -q --offline --manifest-path bindings/rust/Cargo.toml
+    if cargo clippy --version > /dev/null 2>&1; then
+        step "Rust: clippy" cargo clippy -q --offline --all-targets --manifest-path bindings/rust/Cargo.toml -- -D warnings
+    else
+        skip "Rust: clippy" "no clippy"
+    fi
+    step "Rust: documentation without a library" rust_docs
+    test_oldest_rust
     mkdir -p "$work/page/src"
     block rust > "$work/page/src/main.rs"
     printf '[package]\nname = "page"\nversion = "1.0.0"\nedition = "2021"\n\n[dependencies]\nlinkcap = { path = "%s" }\n' \

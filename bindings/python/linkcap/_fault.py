@@ -1,4 +1,5 @@
 """Faults of captures, and why a body is refused."""
+import contextlib
 import ctypes
 import enum
 from typing import Any, NamedTuple, Optional, Tuple
@@ -44,7 +45,7 @@ class Fault(Exception):
     words: str
     #: what the call wrote before it: normal text, or lines in ASCII
     written: bytes
-    #: the attribute that isn't accepted and the reason, where the kind is `Kind.REFUSED`
+    #: the attribute that isn't accepted and the reason, if the kind is `Kind.REFUSED` and there is memory for the words
     why: Optional[Refusal]
 
     def __init__(self, kind: int, offset: int, side: Optional[int] = None, written: bytes = b"",
@@ -96,5 +97,6 @@ def failure(status: int, fault: _native.FaultStruct, at: int, length: int, limit
     offset = fault.offset
     reason = None
     if fault.kind == Kind.REFUSED:
-        reason = refusal(at + offset, length - offset, limit, start + offset)
+        with contextlib.suppress(MemoryError):
+            reason = refusal(at + offset, length - offset, limit, start + offset)
     return Fault(fault.kind, start + offset, fault.side or None, written, reason)

@@ -20,7 +20,8 @@ class Reader:
     cut. The work is linear in the capture's length, whatever the pieces' sizes.
 
     The calls of one reader come one after the other: one that is made while another runs, from a thread, a finaliser or
-    a signal handler, raises RuntimeError and changes nothing. After a fault, and after `finish`, each raises ValueError.
+    a signal handler, raises RuntimeError and changes nothing. After a call that raised a fault or another exception, and
+    after `finish`, each raises ValueError; a piece of a wrong type changes nothing.
     """
 
     def __init__(self, limit: SupportsIndex = DEFAULT_LIMIT) -> None:
@@ -36,11 +37,16 @@ class Reader:
 
         Raises the capture's first `Fault`, whose `written` are the texts of this piece before it.
         """
-        self._begin()
-        try:
-            return self._feed(piece)
-        finally:
-            self._running.release()
+        with Borrowed(piece) as given:
+            self._begin()
+            try:
+                # If an exception of a signal handler comes in between, nobody knows what was taken: the reader has ended.
+                self._has_ended = True
+                text = self._feed(given)
+                self._has_ended = False
+                return text
+            finally:
+                self._running.release()
 
     def finish(self) -> bytes:
         """The capture ends here: returns the text of a last message that lacks padding, or raises a `Fault`."""
@@ -77,14 +83,13 @@ class Reader:
             self._running.release()
             raise ValueError("the reader has ended, or has raised a fault")
 
-    def _feed(self, piece: Capture) -> bytes:
-        with Borrowed(piece) as given:
-            if not self._rest:
-                used, text = self._write(given.at, given.length, False)
-                self._rest += ctypes.string_at(given.at + used, given.length - used)
-                self._go_on(used)
-                return text
-            self._rest += ctypes.string_at(given.at, given.length)
+    def _feed(self, given: Borrowed) -> bytes:
+        if not self._rest:
+            used, text = self._write(given.at, given.length, False)
+            self._rest += ctypes.string_at(given.at + used, given.length - used)
+            self._go_on(used)
+            return text
+        self._rest += ctypes.string_at(given.at, given.length)
         if len(self._rest) < self._wanted:
             return b""
         with Borrowed(self._rest) as rest:
@@ -112,7 +117,6 @@ class Reader:
             room = max(progress.wanted, length - used + 256)
         text = b"".join(texts)
         if status != _native.OK:
-            self._has_ended = True
             fault.offset = 0  # the fault is that of the message after those that were used
             raise failure(status, fault, at + used, length - used, self._limit, self._start + used, text)
         return used, text

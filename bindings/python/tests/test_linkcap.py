@@ -328,6 +328,13 @@ class Readers(unittest.TestCase):
             with self.assertRaises(TypeError):
                 list(linkcap.Reader().read_file(text_file))  # type: ignore[arg-type]
 
+    def test_wrong_pieces_change_nothing(self) -> None:
+        capture, reader = sample("req-veth.bin"), linkcap.Reader()
+        texts = reader.feed(capture[:60])
+        with self.assertRaises(TypeError):
+            reader.feed("text")  # type: ignore[arg-type]
+        self.assertEqual(texts + reader.feed(capture[60:]) + reader.finish(), capture)
+
     def test_linear(self) -> None:
         """A long message that comes byte by byte takes eight times as long if it is eight times as long."""
         def seconds(length: int) -> float:

@@ -156,6 +156,36 @@ class Reentry(unittest.TestCase):
         self.assertEqual(text + reader.finish(), REQUEST)
         self.assertGreater(refused[0], 100)
 
+    def test_reader_that_was_interrupted(self) -> None:
+        """A reader in which a handler raised an exception gives no texts that lack some."""
+        seen = set()
+        for number in range(1, 600):
+            reader, at = linkcap.Reader(), [number]
+
+            def trace(frame: types.FrameType, event: str, argument: Any) -> Optional[Callable[..., Any]]:
+                if frame.f_code.co_name in ("_feed", "_write", "_go_on", "take"):
+                    frame.f_trace_opcodes = True
+                    at[0] -= event == "opcode"
+                    if at[0] == 0:
+                        raise KeyboardInterrupt
+                return trace if os.path.dirname(frame.f_code.co_filename) == FOLDER else None
+
+            text = reader.feed(REQUEST[:60])
+            sys.settrace(trace)
+            try:
+                text += reader.feed(REQUEST[60:])
+                seen.add("whole")
+            except KeyboardInterrupt:
+                seen.add("interrupted")
+                with self.assertRaises(ValueError):
+                    reader.finish()
+                continue
+            finally:
+                sys.settrace(None)
+            self.assertEqual(text + reader.finish(), REQUEST)
+            break
+        self.assertEqual(seen, {"interrupted", "whole"})
+
     def test_interrupted_by_an_exception(self) -> None:
         """An exception that a handler raises inside a call leaves nothing borrowed."""
         capture, at = bytearray(REQUEST), [0]

@@ -3,9 +3,10 @@
 #
 #     bindings/check.sh
 #
-# It wants the command rt; a compiler, valgrind, pkg-config, Python, pytest, pyroute2, cargo and Debian's package of the crate
-# netlink-packet-route where they are there, and says what it skipped. CC, CXX and PYTHON name others than cc, c++ and
-# python3. Builds lie in a folder of their own, which goes at the end. The last line is `N passed, M failed, K skipped`.
+# It needs the command rt, and uses a compiler, valgrind, pkg-config, Python, pytest, mypy, numpy, pyroute2, the Pythons of
+# pyenv, cargo, clippy, Debian's Rust and its package of the crate netlink-packet-route, go, strace and Debian's package of
+# vishvananda/netlink if they are there; it says and counts what it skipped. CC, CXX and PYTHON name others than cc, c++ and
+# python3. Builds are in a folder of their own, which goes at the end. The last line is `N passed, M failed, K skipped`.
 set -uo pipefail
 cd "$(dirname "$0")/.."
 top=$PWD

@@ -106,6 +106,7 @@ installed() {
     cmp "$(pkg-config --variable=archive linkcap)" "$lib/liblinkcap.a" || return
     "$work/prefix/bin/linkcap" norm < samples/req-veth.bin | cmp - samples/req-veth.bin || return
     "$work/prefix/bin/linkshow" < samples/req-veth.bin | cmp - samples/req-veth.lines || return
+    "$work/prefix/bin/linkshow" --version | grep -qw "lines $(sed -n 's/^#define LINKCAP_FORMAT //p' "$lib/linkcap.h")" || return
     cmp man/linkshow.1 "$work/prefix/share/man/man1/linkshow.1" || return
     bash -c '. "$1"; complete -p linkcap linkshow' - "$work/prefix/share/bash-completion/completions/linkcap"
 }
@@ -141,7 +142,7 @@ test_c() {
         skip "C, valgrind" "no valgrind"
     fi
     if has "$cxx"; then
-        echo '#include <linkcap.h>' > "$work/header.cc"
+        printf '#include <linkcap.h>\nstruct linkcap_measure sizes;\nlinkcap_progress progress;\n' > "$work/header.cc"
         step "C++: the header" "$cxx" -std=c++11 -Wall -Wextra -Werror -fsyntax-only -I "$lib" "$work/header.cc"
     else
         skip "C++: the header" "no $cxx"

@@ -79,7 +79,7 @@ struct linkcap_fault {
     uint64_t offset; /* the start of the message that has it, in bytes from the start of the capture that was given */
 };
 
-/* The sizes of a legal capture. */
+/* The sizes of a legal capture. A function has the same name, so C++ too writes `struct linkcap_measure`. */
 struct linkcap_measure {
     uint64_t frames;     /* messages */
     uint64_t attributes; /* attribute headers in the bodies of its link messages, at all depths */

@@ -1,4 +1,4 @@
-//! Finds the library: in the folder that LINKCAP_LIB_DIR names, or by pkg-config. The static one is taken if it is there.
+//! Finds the library: in the folder that `LINKCAP_LIB_DIR` names, or by pkg-config. The static one is taken if it is there.
 //! Without a library nothing is refused here, so that documentation and checks need none; a program then fails to link.
 
 use std::env;

@@ -6,6 +6,8 @@ import (
 	"path/filepath"
 	"strings"
 	"testing"
+
+	"linkcap.invalid/linkcap"
 )
 
 // A fake is a test that notes how it failed.
@@ -78,6 +80,21 @@ func TestGolden(t *testing.T) {
 	}
 	if f := golden(link(1), path+".missing"); !f.stopped || !strings.Contains(f.message, "no golden file") {
 		t.Error(f.message)
+	}
+}
+
+// TestLinesOfLinkshow takes files that linkshow writes, as the tests of Python do.
+func TestLinesOfLinkshow(t *testing.T) {
+	for _, name := range []string{"get-veth", "lo-request", "notify-vrf", "req-veth"} {
+		path := filepath.Join("..", "..", "..", "samples", name)
+		capture, err := os.ReadFile(path + ".bin")
+		if err != nil {
+			t.Fatal(err)
+		}
+		GoldenLines(t, capture, path+".lines", linkcap.LineOptions{})
+		if f := golden(capture, path+".lines"); f.message == "" {
+			t.Errorf("%s: lines without numbers are those with numbers", name)
+		}
 	}
 }
 

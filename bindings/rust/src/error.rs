@@ -15,7 +15,7 @@ pub enum Kind {
     OverLimit,
     /// The body isn't accepted.
     Refused,
-    /// An accepted IFLA_VF_PORTS keeps no entry.
+    /// An accepted `IFLA_VF_PORTS` keeps no entry.
     EmptyPorts,
     /// An attribute of the text would be longer than 65535 bytes.
     Unfit,

@@ -85,7 +85,7 @@ pub fn check(capture: &[u8], limit: u32) -> Result<(), Error> {
 /// [`Error::Fault`] with the capture's first fault, or [`Error::Limit`].
 ///
 /// ```
-/// // An NLMSG_DONE of 16 bytes, whose normal text has the error number 0 behind its header.
+/// // An NLMSG_DONE of 16 bytes, whose normal text has the error number 0 after its header.
 /// let done = b"\x10\0\0\0\x03\0\x02\0\0\0\0\0\0\0\0\0";
 /// let sizes = linkcap::measure(done, linkcap::DEFAULT_LIMIT)?;
 /// assert_eq!((sizes.frames, sizes.attributes, sizes.text_len), (1, 0, 20));

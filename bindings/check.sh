@@ -1,11 +1,12 @@
 #!/usr/bin/env bash
-# Runs the tests of C, Python and Rust over the proved library, and the examples of docs/other-languages.md.
+# Runs the tests of C, Python, Rust and Go over the proved library, and the examples of docs/other-languages.md.
 #
 #     bindings/check.sh
 #
-# It wants the command rt; a compiler, valgrind, pkg-config, Python, pytest, pyroute2, cargo and Debian's package of the crate
-# netlink-packet-route where they are there, and says what it skipped. CC, CXX and PYTHON name others than cc, c++ and
-# python3. Builds lie in a folder of their own, which goes at the end. The last line is `N passed, M failed`.
+# It needs the command rt, and uses a compiler, valgrind, pkg-config, Python, pytest, mypy, numpy, pyroute2, the Pythons of
+# pyenv, cargo, clippy, Debian's Rust and its package of the crate netlink-packet-route, go, strace and Debian's package of
+# vishvananda/netlink if they are there; it says and counts what it skipped. CC, CXX and PYTHON name others than cc, c++ and
+# python3. Builds are in a folder of their own, which goes at the end. The last line is `N passed, M failed, K skipped`.
 set -uo pipefail
 cd "$(dirname "$0")/.."
 top=$PWD
@@ -14,7 +15,7 @@ work=$(mktemp -d)
 trap 'rm -rf "$work"' EXIT
 cc=${CC:-cc}
 cxx=${CXX:-c++}
-passed=0 failed=0
+passed=0 failed=0 skipped=0
 
 # Runs a command quietly, and counts it; its words are shown where it fails.
 step() {
@@ -31,6 +32,7 @@ step() {
 }
 
 skip() {
+    skipped=$((skipped + 1))
     echo "bindings: skipped: $1: $2"
 }
 
@@ -39,7 +41,7 @@ has() {
 }
 
 finish() {
-    echo "$passed passed, $failed failed"
+    echo "$passed passed, $failed failed, $skipped skipped"
     [ "$failed" -eq 0 ]
     exit
 }
@@ -83,7 +85,11 @@ shown_symbols() {
 page_in_c() {
     block c > "$work/norm.c"
     "$cc" -std=c11 -Wall -Wextra -Werror -I "$lib" -o "$work/norm" "$work/norm.c" "$lib/liblinkcap.a"
-    "$work/norm" < samples/req-veth.bin | cmp - samples/req-veth.bin
+    "$work/norm" < samples/req-veth.bin | cmp - samples/req-veth.bin || return
+    # 3 MiB of what is its own normal text.
+    yes samples/req-veth.bin | head -n 3000 | xargs cat > "$work/long"
+    [ "$(wc -c < "$work/long")" -gt $((3 << 20)) ] && "$work/norm" < "$work/long" | cmp - "$work/long" || return
+    "$work/norm" < "$work/long" > /dev/full && return 1
     printf '\x30\0\0\0' | "$work/norm" 2> "$work/fault" > "$work/text"
     [ $? -eq 2 ] && [ "$(cat "$work/fault")" = "cut frame at 0" ] && [ ! -s "$work/text" ]
 }
@@ -94,8 +100,13 @@ installed() {
     export PKG_CONFIG_PATH=$work/prefix/lib/pkgconfig
     "$cc" -o "$work/installed" "$work/norm.c" $(pkg-config --cflags --libs linkcap) "-Wl,-rpath,$work/prefix/lib" || return
     "$work/installed" < samples/req-veth.bin | cmp - samples/req-veth.bin || return
+    "$cc" -o "$work/archived" "$work/norm.c" $(pkg-config --cflags --libs linkcap-static) || return
+    ! readelf -d "$work/archived" | grep -q liblinkcap || return
+    "$work/archived" < samples/req-veth.bin | cmp - samples/req-veth.bin || return
+    cmp "$(pkg-config --variable=archive linkcap)" "$lib/liblinkcap.a" || return
     "$work/prefix/bin/linkcap" norm < samples/req-veth.bin | cmp - samples/req-veth.bin || return
     "$work/prefix/bin/linkshow" < samples/req-veth.bin | cmp - samples/req-veth.lines || return
+    "$work/prefix/bin/linkshow" --version | grep -qw "lines $(sed -n 's/^#define LINKCAP_FORMAT //p' "$lib/linkcap.h")" || return
     cmp man/linkshow.1 "$work/prefix/share/man/man1/linkshow.1" || return
     bash -c '. "$1"; complete -p linkcap linkshow' - "$work/prefix/share/bash-completion/completions/linkcap"
 }
@@ -131,7 +142,7 @@ test_c() {
         skip "C, valgrind" "no valgrind"
     fi
     if has "$cxx"; then
-        echo '#include <linkcap.h>' > "$work/header.cc"
+        printf '#include <linkcap.h>\nstruct linkcap_measure sizes;\nlinkcap_progress progress;\n' > "$work/header.cc"
         step "C++: the header" "$cxx" -std=c++11 -Wall -Wextra -Werror -fsyntax-only -I "$lib" "$work/header.cc"
     else
         skip "C++: the header" "no $cxx"
@@ -153,6 +164,32 @@ choose_python() {
     for candidate in ${PYTHON:-python3}; do has "$candidate" && { echo "$candidate"; return; }; done
 }
 
+# Interrupted calls on each other Python at hand: those of pyenv.
+test_other_pythons() {
+    local python version
+    for python in "${PYENV_ROOT:-$HOME/.pyenv}"/versions/*/bin/python; do
+        [ -x "$python" ] || continue
+        version=$(basename "$(dirname "$(dirname "$python")")")
+        if "$python" -c 'import sys; sys.exit(sys.version_info < (3, 8))'; then
+            step "Python $version: calls that are interrupted" env -C bindings/python/tests LINKCAP_LIB_DIR="$lib" \
+                PYTHONPATH="$top/bindings/python" "$python" -m unittest -q test_reentry
+        else
+            skip "Python $version" "older than 3.8"
+        fi
+    done
+}
+
+test_python_types() {
+    if ! has mypy; then
+        skip "Python: types" "no mypy"
+    elif ! mypy --cache-dir="$work/mypy" -c 'import pytest' > /dev/null 2>&1; then
+        skip "Python: types" "no pytest for mypy"
+    else
+        step "Python: types" env MYPYPATH=bindings/python:bindings/python/tests mypy --strict --cache-dir="$work/mypy" \
+            bindings/python/linkcap bindings/python/tests
+    fi
+}
+
 test_python() {
     local python
     python=$(choose_python)
@@ -164,9 +201,14 @@ test_python() {
     fi
     export PYTHONDONTWRITEBYTECODE=1
     step "Python: pip install without a network" env LINKCAP_LIB_DIR="$lib" "$work/venv/bin/pip" install --no-index "$top/bindings/python"
-    local run=("$work/venv/bin/python")
+    local run=("$work/venv/bin/python") tests=bindings/python/tests
     mkdir -p "$work/python"
-    step "Python: the calls" env -C bindings/python/tests "${run[@]}" -m unittest -q test_linkcap
+    step "Python: the calls" env -C $tests "${run[@]}" -m unittest -q test_linkcap test_golden
+    step "Python: calls that are interrupted" env -C $tests "${run[@]}" -m unittest -q test_reentry
+    step "Python: installs" env -C $tests "${run[@]}" -m unittest -q test_install
+    "${run[@]}" -c 'import numpy' 2> /dev/null || skip "Python: captures of numpy" "no numpy"
+    test_other_pythons
+    test_python_types
     if ! "${run[@]}" -c 'import pytest' 2> /dev/null; then
         skip "Python: the fixture and the page" "no pytest"
         return
@@ -181,11 +223,36 @@ test_python() {
     fi
 }
 
+# Documentation is built where no library is found.
+rust_docs() {
+    env -u LINKCAP_LIB_DIR PKG_CONFIG_PATH=/nonexistent PKG_CONFIG_LIBDIR=/nonexistent RUSTDOCFLAGS="-D warnings" \
+        cargo doc -q --offline --no-deps --manifest-path bindings/rust/Cargo.toml
+}
+
+# The oldest Rust that Cargo.toml names: Debian 12's.
+test_oldest_rust() {
+    local oldest
+    oldest=$(sed -n 's/^rust-version = "\(.*\)"/\1/p' bindings/rust/Cargo.toml)
+    if [ -x /usr/bin/cargo ] && /usr/bin/rustc --version 2> /dev/null | grep -q "^rustc ${oldest//./\\.}\."; then
+        step "Rust $oldest: the calls" env RUSTC=/usr/bin/rustc RUSTDOC=/usr/bin/rustdoc CARGO_TARGET_DIR="$work/oldest" \
+            /usr/bin/cargo test -q --offline --manifest-path bindings/rust/Cargo.toml
+    else
+        skip "Rust $oldest: the calls" "no rustc $oldest of Debian"
+    fi
+}
+
 test_rust() {
     has cargo || { skip Rust "no cargo"; return; }
     echo "bindings: $(rustc --version)"
     export LINKCAP_LIB_DIR=$lib CARGO_TARGET_DIR=$work/target
-    step "Rust: the calls" cargo test -q --offline --manifest-path bindings/rust/Cargo.toml
+    step "Rust: the calls, and examples" cargo test -q --offline --manifest-path bindings/rust/Cargo.toml
+    if cargo clippy --version > /dev/null 2>&1; then
+        step "Rust: clippy" cargo clippy -q --offline --all-targets --manifest-path bindings/rust/Cargo.toml -- -D warnings
+    else
+        skip "Rust: clippy" "no clippy"
+    fi
+    step "Rust: documentation without a library" rust_docs
+    test_oldest_rust
     mkdir -p "$work/page/src"
     block rust > "$work/page/src/main.rs"
     printf '[package]\nname = "page"\nversion = "1.0.0"\nedition = "2021"\n\n[dependencies]\nlinkcap = { path = "%s" }\n' \
@@ -200,6 +267,67 @@ test_rust() {
     fi
 }
 
+# The library as it is installed, for pkg-config.
+installed_library() {
+    local name
+    mkdir -p "$1/lib/pkgconfig" "$1/include"
+    cp -P "$lib"/liblinkcap.* "$1/lib"
+    cp "$lib/linkcap.h" "$1/include"
+    for name in linkcap linkcap-static; do
+        sed -e "s|@PREFIX@|$1|" -e "s|@VERSION@|1|" "bindings/c/$name.pc.in" > "$1/lib/pkgconfig/$name.pc"
+    done
+}
+
+formatted_go() {
+    local unformatted
+    unformatted=$(gofmt -l bindings/go)
+    [ -z "$unformatted" ] || { echo "gofmt would change $unformatted"; return 1; }
+}
+
+# Without cgo a build fails, and the only error names what is needed.
+go_without_cgo() {
+    ! env -C bindings/go CGO_ENABLED=0 go build ./... 2> "$work/errors" || return
+    cat "$work/errors"
+    [ "$(grep -c '^\./' "$work/errors")" -eq 1 ] && grep -q linkcap_needs_Linux_and_CGO_ENABLED_1_and_a_C_compiler "$work/errors"
+}
+
+# Requests of vishvananda/netlink beside golden files; those of LinkAdd itself need root and strace.
+test_vishvananda() {
+    local folder=bindings/go/vishvananda_test
+    if [ ! -d /usr/share/gocode/src/github.com/vishvananda/netlink ]; then
+        skip "Go: vishvananda/netlink" "no package golang-github-vishvananda-netlink-dev"
+        return
+    fi
+    step "Go: vishvananda/netlink" env -C $folder go test -run 'TestVlan|TestVeth|TestPadding' .
+    if [ "$(id -u)" -eq 0 ] && has strace && has python3 && unshare -n true 2> /dev/null; then
+        step "Go: LinkAdd" env -C $folder go test -run TestLinkAdd .
+    else
+        skip "Go: LinkAdd" "no root, strace or network namespaces"
+    fi
+}
+
+test_go() {
+    has go || { skip Go "no go"; return; }
+    has pkg-config || { skip Go "no pkg-config"; return; }
+    echo "bindings: $(go version)"
+    installed_library "$work/go"
+    export PKG_CONFIG_PATH=$work/go/lib/pkgconfig GOCACHE=$work/go/cache GOPROXY=off
+    local test=(env -C bindings/go go test)
+    step "Go: format" formatted_go
+    step "Go: vet" env -C bindings/go go vet ./...
+    step "Go: the calls" "${test[@]}" ./...
+    step "Go: the calls, shared" env LD_LIBRARY_PATH="$work/go/lib" "${test[@]}" -tags linkcap_shared ./...
+    if echo 'int main(void) { return 0; }' | "$cc" -fsanitize=thread -x c -o "$work/none" - 2> /dev/null; then
+        step "Go: races" "${test[@]}" -race -run 'Goroutines|Example|Reader|Golden' ./...
+    else
+        skip "Go: races" "$cc has no thread sanitizer"
+    fi
+    step "Go: fuzzing of one capture" "${test[@]}" -run '^$' -fuzz FuzzNormalize -fuzztime 5s .
+    step "Go: fuzzing of two captures" "${test[@]}" -run '^$' -fuzz FuzzSame -fuzztime 5s .
+    step "Go: without cgo" go_without_cgo
+    test_vishvananda
+}
+
 for tool in "$cc" ld objcopy ar; do
     has "$tool" || { skip "all" "no $tool, which makes the library"; finish; }
 done
@@ -209,4 +337,5 @@ step "the library" bindings/c/build.sh "$lib"
 test_c
 test_python
 test_rust
+test_go
 finish

@@ -1,5 +1,5 @@
 #!/usr/bin/env bash
-# Installs liblinkcap.a, liblinkcap.so, linkcap.h and linkcap.pc.
+# Installs liblinkcap.a, liblinkcap.so, linkcap.h, linkcap.pc and linkcap-static.pc.
 #
 #     bindings/c/install.sh PREFIX
 #
@@ -20,4 +20,6 @@ install -m 755 "$work"/liblinkcap.so.* "$to/lib"
 cp -P "$work/liblinkcap.so" "$to/lib"
 install -m 644 "$work/linkcap.h" "$to/include"
 version=$(sed -n 's/^#define LINKCAP_VERSION //p' "$here/linkcap.h")
-sed -e "s|@PREFIX@|$prefix|" -e "s|@VERSION@|$version|" "$here/linkcap.pc.in" > "$to/lib/pkgconfig/linkcap.pc"
+for name in linkcap linkcap-static; do
+    sed -e "s|@PREFIX@|$prefix|" -e "s|@VERSION@|$version|" "$here/$name.pc.in" > "$to/lib/pkgconfig/$name.pc"
+done

@@ -1,20 +1,20 @@
 /*
- * linkcap: captures of Linux netlink link messages, judged, measured, normalised, compared and shown.
+ * linkcap: captures of Linux netlink link messages, checked, measured, normalised, compared and shown.
  *
- * A capture is a byte string of netlink messages, each at a multiple of 4. Its normal text is what linkcap writes for
- * it: captures that mean the same have equal ones. docs/other-languages.md is the page for callers, docs/frames.md has
- * the faults and the limit.
+ * A capture is a byte string of netlink messages, each at a multiple of 4. It is legal if it has no fault. Its normal text
+ * is its canonical form: two legal captures mean the same if and only if their normal texts are equal.
+ * docs/other-languages.md is the page for callers, docs/frames.md has the faults and the limit.
  *
  * What holds of every function:
  *
- * - Pointers. Each points to what its type says, and is never null, not even beside a length of 0. A capture is
- *   `length` bytes that nobody writes to during the call; a buffer `out` is `room` bytes that may be written, and hold
- *   any values. What is written overlaps nothing that is read or written by the same call. Lengths are under 2^63.
- *   Nothing is kept of a pointer after the call.
+ * - Pointers. Each points to what its type says. Captures, pieces, `types` and buffers may be null if their length is 0;
+ *   no other pointer may be null. A capture is `length` bytes that nobody writes to during the call; a buffer `out` is
+ *   `room` bytes that may be written, and hold any values. What is written overlaps nothing that is read or written by
+ *   the same call. Lengths are under 2^63. Nothing is kept of a pointer after the call.
  * - Memory. linkcap_normalize, linkcap_normalize_some, linkcap_show, linkcap_show_with and linkcap_why call malloc,
- *   realloc and free, and have freed all when they return. The others take no memory. Where malloc or realloc answers null, the answer is
- *   LINKCAP_NO_MEMORY, or the one that wanted no memory; no call ends the process. The three functions come from one
- *   allocator, and align a block as C's do.
+ *   realloc and free, and have freed all blocks when they return. The others allocate nothing. If malloc or realloc returns
+ *   null, a function returns LINKCAP_NO_MEMORY, or a result that needed no memory; none ends the process. The three come
+ *   from one allocator, and align a block as C's do.
  * - Threads. Calls share nothing: any number may run at once in different threads, also over the same capture.
  * - Signals and forks. Nothing here is called from a signal handler, nor in the forked child of a process with threads
  *   before it runs another program (as Python's multiprocessing makes them by its method "fork").
@@ -33,47 +33,53 @@ extern "C" {
 /* The version of this interface. A program that loads the library when it runs compares it with linkcap_version(). */
 #define LINKCAP_VERSION 1
 
+/*
+ * The format version of normal texts and lines of the library that this header came with, as `linkshow --version` prints
+ * it. Under one version both stay as they are, byte for byte.
+ */
+#define LINKCAP_FORMAT 2
+
 /* A limit is the greatest length in bytes that a message, read or written, may have: from 16 to 4294967295. */
 #define LINKCAP_MIN_LIMIT 16
 #define LINKCAP_DEFAULT_LIMIT 1048576
 
-/* Room for the words of every fault, and a null byte behind them. */
+/* The size of a buffer for the words of every fault and a null byte after them, which the caller writes. */
 #define LINKCAP_FAULT_TEXT 128
 
-/* What functions answer. The first four are the statuses of the program linkcap. */
+/* What functions return. The first four are the statuses of the program linkcap. */
 enum linkcap_status {
-    LINKCAP_OK = 0,        /* the capture is legal; of two, both are legal and mean the same */
+    LINKCAP_OK = 0,        /* the capture is legal; two are legal and mean the same */
     LINKCAP_DIFFERENT = 1, /* both captures are legal and don't mean the same */
-    LINKCAP_FAULT = 2,     /* a fault, which is told in *fault */
+    LINKCAP_FAULT = 2,     /* a fault, which *fault has */
     LINKCAP_WRONG = 3,     /* a limit under 16, or a fault that is none; nothing was written */
-    LINKCAP_NO_ROOM = 4,   /* the buffer has less room than what is to be written */
-    LINKCAP_NO_MEMORY = 5  /* no memory; *fault tells where */
+    LINKCAP_NO_ROOM = 4,   /* the buffer is too small for what is to be written */
+    LINKCAP_NO_MEMORY = 5  /* out of memory; *fault has the offset */
 };
 
-/* Kinds of faults. Captures in memory have the first eight; the last four are told by the program alone. */
+/* Kinds of faults. Captures in memory have the first eight; the last four are those of the program. */
 enum linkcap_kind {
-    LINKCAP_CUT = 1,         /* fewer bytes are left than a header has, or than it tells */
+    LINKCAP_CUT = 1,         /* fewer bytes are left than a header has, or than its length */
     LINKCAP_SHORT_LENGTH,    /* the header's length is under 16 */
     LINKCAP_OVER_LIMIT,      /* the header's length is over the limit */
     LINKCAP_REFUSED,         /* the body isn't accepted */
     LINKCAP_EMPTY_PORTS,     /* an accepted IFLA_VF_PORTS keeps no entry */
     LINKCAP_UNFIT,           /* an attribute of the text would be longer than 65535 bytes */
     LINKCAP_TEXT_OVER_LIMIT, /* the length of the message's text would be over the limit */
-    LINKCAP_MEMORY,          /* no memory */
+    LINKCAP_MEMORY,          /* out of memory */
     LINKCAP_READ,            /* a read failed */
     LINKCAP_WRITE,           /* a write failed */
     LINKCAP_TOO_LONG,        /* more bytes than can be counted */
     LINKCAP_FAILED           /* a fault came before */
 };
 
-/* A fault. It is written where the answer is LINKCAP_FAULT or LINKCAP_NO_MEMORY; after another one it is as it was. */
+/* A fault. It is written if LINKCAP_FAULT or LINKCAP_NO_MEMORY is returned; after another result it is unchanged. */
 struct linkcap_fault {
     uint32_t kind;   /* an enum linkcap_kind */
     uint32_t side;   /* of two captures 1 for the first and 2 for the second, else 0 */
     uint64_t offset; /* the start of the message that has it, in bytes from the start of the capture that was given */
 };
 
-/* The numbers of a legal capture. */
+/* The sizes of a legal capture. A function has the same name, so C++ too writes `struct linkcap_measure`. */
 struct linkcap_measure {
     uint64_t frames;     /* messages */
     uint64_t attributes; /* attribute headers in the bodies of its link messages, at all depths */
@@ -89,96 +95,96 @@ struct linkcap_progress {
 };
 
 /*
- * Whether a capture is legal. LINKCAP_OK, LINKCAP_FAULT with its first fault, or LINKCAP_WRONG. It takes no memory.
+ * Whether a capture is legal. LINKCAP_OK, LINKCAP_FAULT with its first fault, or LINKCAP_WRONG. It allocates nothing.
  */
 uint32_t linkcap_check(const uint8_t *capture, size_t length, uint32_t limit, struct linkcap_fault *fault);
 
 /*
- * The numbers of a legal capture. LINKCAP_OK, and *numbers has them; LINKCAP_FAULT with its first fault; or
- * LINKCAP_WRONG. It takes no memory.
+ * The sizes of a legal capture. LINKCAP_OK, and *numbers has them; LINKCAP_FAULT with its first fault; or LINKCAP_WRONG.
+ * It allocates nothing.
  */
 uint32_t linkcap_measure(const uint8_t *capture, size_t length, uint32_t limit, struct linkcap_measure *numbers,
                          struct linkcap_fault *fault);
 
 /*
- * Writes the normal text of a capture to the front of out, and its length to *written.
+ * Writes the normal text of a capture to the start of out, and its length to *written.
  *
  * LINKCAP_OK           the capture is legal, and its normal text is written.
  * LINKCAP_FAULT        the first fault; the texts of the messages before it are written.
  * LINKCAP_WRONG        a limit under 16.
- * LINKCAP_NO_ROOM      out has less room than these texts want: nothing is written, and *written has the length that is
- *                      wanted (at most 2^64 - 1). This is answered before a fault is.
- * LINKCAP_NO_MEMORY    nothing is written, and *written is as it was. What stands before the fault's place is legal.
+ * LINKCAP_NO_ROOM      out is too small for these texts: nothing is written, and *written has the length that is needed
+ *                      (at most 2^64 - 1). This is returned rather than a fault.
+ * LINKCAP_NO_MEMORY    nothing is written, and *written is unchanged. The messages before the fault's offset are legal.
  *
- * Behind what is written, out stays as it was. A text is at most 77 times as long as its capture, mostly as long.
- * Memory is taken for the text.
+ * After what is written, out stays as it was. A text is at most 77 times as long as its capture, mostly as long.
+ * Memory is allocated for the text.
  */
 uint32_t linkcap_normalize(const uint8_t *capture, size_t length, uint32_t limit, uint8_t *out, size_t room,
                            uint64_t *written, struct linkcap_fault *fault);
 
 /*
- * Writes the texts of the messages that are whole in one piece of a capture, with their padding; of the last piece the
+ * Writes the texts of the messages that are whole in one piece of a capture, with their padding; in the last piece the
  * last message may lack padding. Nothing is kept between calls: the caller gives the bytes that weren't used again, with
- * more behind them. What the pieces write one after the other is what the whole writes, and the first fault is the
- * whole's.
+ * more after them. The texts of all pieces, one after the other, are those of the whole capture, and the first fault is
+ * the whole's.
  *
  * LINKCAP_OK           all whole messages are written. Of the last piece all is used, and the whole capture is legal.
  * LINKCAP_FAULT        the fault of the message at progress->used, which is fault->offset: counted from this piece's
- *                      start, so add what was used before. LINKCAP_CUT is told of the last piece alone.
+ *                      start, so add what was used before. Only the last piece has LINKCAP_CUT.
  * LINKCAP_WRONG        a limit under 16.
- * LINKCAP_NO_ROOM      the next message's text wants progress->wanted bytes, and fewer are left in out. What came before
- *                      it is written: go on behind it with an empty buffer, or a greater one where nothing was written.
- * LINKCAP_NO_MEMORY    there is no memory for the next message's text. What came before it is written.
+ * LINKCAP_NO_ROOM      the next message's text needs progress->wanted bytes, and fewer are left in out. What came before
+ *                      it is written: go on after it with an empty buffer, or a larger one if nothing was written.
+ * LINKCAP_NO_MEMORY    out of memory for the next message's text. What came before it is written.
  *
- * *progress is written in all cases but LINKCAP_WRONG. Memory is taken for one text at a time.
+ * *progress is written unless LINKCAP_WRONG is returned. Memory is allocated for one text at a time.
  */
 uint32_t linkcap_normalize_some(const uint8_t *piece, size_t length, bool last, uint32_t limit, uint8_t *out,
                                 size_t room, struct linkcap_progress *progress, struct linkcap_fault *fault);
 
 /*
- * Whether two captures mean the same, which is where their normal texts are equal. LINKCAP_OK or LINKCAP_DIFFERENT
- * where both are legal; LINKCAP_FAULT with the first fault of the first one, or of the second where the first is legal;
- * or LINKCAP_WRONG. It takes no memory.
+ * Whether two captures mean the same, which is if and only if their normal texts are equal. LINKCAP_OK or
+ * LINKCAP_DIFFERENT if both are legal; LINKCAP_FAULT with the first fault of the first one, or of the second if the first
+ * is legal; or LINKCAP_WRONG. It allocates nothing.
  */
 uint32_t linkcap_same(const uint8_t *first, size_t first_length, const uint8_t *second, size_t second_length,
                       uint32_t limit, struct linkcap_fault *fault);
 
 /*
- * Writes the lines of a capture for people, as the program linkshow does, to the front of out, and their length to
- * *written. The answers are those of linkcap_normalize, but for want of memory, which may be told before want of room.
- * Memory is taken for the normal text and, twice, for the lines.
+ * Writes the lines of a capture for people, as the program linkshow does, to the start of out, and their length to
+ * *written. The results are those of linkcap_normalize, except that LINKCAP_NO_MEMORY may be returned rather than
+ * LINKCAP_NO_ROOM. Memory is allocated for the normal text and, twice, for the lines.
  */
 uint32_t linkcap_show(const uint8_t *capture, size_t length, uint32_t limit, uint8_t *out, size_t room,
                       uint64_t *written, struct linkcap_fault *fault);
 
 /*
- * The same of some lines: without sequence and port numbers where without_numbers says so, and of messages of these
- * types alone, types_length of them, where there are any. Two captures have the same lines without numbers exactly where
- * their normal texts are the same with these numbers zero.
+ * As linkcap_show, for some of the lines: without sequence and port numbers if without_numbers is true, and of messages of
+ * types_length types alone, if there are any. Two legal captures have the same lines without numbers if and only if their
+ * normal texts are equal after zeroing these numbers.
  */
 uint32_t linkcap_show_with(const uint8_t *capture, size_t length, uint32_t limit, bool without_numbers,
                            const uint16_t *types, size_t types_length, uint8_t *out, size_t room, uint64_t *written,
                            struct linkcap_fault *fault);
 
 /*
- * Writes the words of a fault and its place in ASCII, as `cut frame at 48`, behind `first: ` or `second: ` where it has
- * a side, and their length to *written. No null byte is written behind them. LINKCAP_OK; LINKCAP_NO_ROOM, and *written
- * has the length; or LINKCAP_WRONG where the kind or the side is none. It takes no memory.
+ * Writes the words of a fault and its offset in ASCII, as `cut frame at 48`, after `first: ` or `second: ` if it has a
+ * side, and their length to *written. No null byte is written. LINKCAP_OK; LINKCAP_NO_ROOM, and *written has the length;
+ * or LINKCAP_WRONG if the kind or the side is none. It allocates nothing.
  */
 uint32_t linkcap_fault_text(const struct linkcap_fault *fault, uint8_t *out, size_t room, uint64_t *written);
 
 /*
- * What of a refused body is refused, where the first fault is LINKCAP_REFUSED: the attribute's names from outside in, why
- * it isn't accepted, and where, in ASCII, as `IFLA_LINKINFO > IFLA_INFO_DATA > IFLA_VRF_TABLE: a payload of 3 bytes at 60`.
+ * What of a refused body isn't accepted, if the first fault is LINKCAP_REFUSED: the attribute's names from outside in, the
+ * reason and the offset, in ASCII, as `IFLA_LINKINFO > IFLA_INFO_DATA > IFLA_VRF_TABLE: a payload of 3 bytes at 60`.
  *
- * LINKCAP_FAULT        the words are written to the front of out, their length to *written, and to *place where the
+ * LINKCAP_FAULT        the words are written to the start of out, their length to *written, and to *place where the
  *                      attribute begins, in bytes from the capture's start: UINT64_MAX for NLMSG_ERROR and NLMSG_DONE.
- * LINKCAP_OK           the capture is legal, or its first fault is another one. Nothing is written.
+ * LINKCAP_OK           the capture is legal, or its first fault is another one. Nothing is written, *written included.
  * LINKCAP_WRONG        a limit under 16.
- * LINKCAP_NO_ROOM      out has less room than the words want: *written has their length, and nothing else is written.
- * LINKCAP_NO_MEMORY    there is no memory for the words. Nothing is written.
+ * LINKCAP_NO_ROOM      out is too small for the words: *written has their length, and nothing else is written.
+ * LINKCAP_NO_MEMORY    out of memory for the words. Nothing is written.
  *
- * No null byte is written behind the words.
+ * No null byte is written after the words.
  */
 uint32_t linkcap_why(const uint8_t *capture, size_t length, uint32_t limit, uint8_t *out, size_t room,
                      uint64_t *written, uint64_t *place);

@@ -1,5 +1,5 @@
 /*
- * What callers meet at the edges: nothing at all, a limit under 16, a buffer one byte too short, a capture cut at each
+ * What callers meet at the edges: nothing at all, null, a limit under 16, a buffer one byte too short, a capture cut at each
  * byte, each request for memory refused, eight threads at once.
  *
  *     edges CAPTURE ..
@@ -118,6 +118,40 @@ static void test_nothing(void)
         assert(progress.used == 0 && progress.written == 0 && progress.wanted == 0);
     }
     assert(none[0] == UNTOUCHED && out[0] == UNTOUCHED);
+}
+
+/* Null for each capture, piece, list of types and buffer whose length is 0. */
+static void test_null(struct bytes capture)
+{
+    struct linkcap_fault fault;
+    struct linkcap_measure numbers;
+    struct linkcap_progress progress;
+    uint64_t length = 7, place;
+    assert(linkcap_check(NULL, 0, limit, &fault) == LINKCAP_OK);
+    assert(linkcap_measure(NULL, 0, limit, &numbers, &fault) == LINKCAP_OK && numbers.frames == 0 && numbers.text_low == 0);
+    assert(linkcap_normalize(NULL, 0, limit, NULL, 0, &length, &fault) == LINKCAP_OK && length == 0);
+    length = 7;
+    assert(linkcap_show(NULL, 0, limit, NULL, 0, &length, &fault) == LINKCAP_OK && length == 0);
+    length = 7;
+    assert(linkcap_show_with(NULL, 0, limit, true, NULL, 0, NULL, 0, &length, &fault) == LINKCAP_OK && length == 0);
+    assert(linkcap_why(NULL, 0, limit, NULL, 0, &length, &place) == LINKCAP_OK);
+    assert(linkcap_same(NULL, 0, NULL, 0, limit, &fault) == LINKCAP_OK);
+    assert(linkcap_same(NULL, 0, capture.at, capture.length, limit, &fault) == LINKCAP_DIFFERENT);
+    assert(linkcap_same(capture.at, capture.length, NULL, 0, limit, &fault) == LINKCAP_DIFFERENT);
+    assert(linkcap_normalize_some(NULL, 0, false, limit, NULL, 0, &progress, &fault) == LINKCAP_OK && progress.used == 0);
+    assert(linkcap_normalize_some(NULL, 0, true, limit, NULL, 0, &progress, &fault) == LINKCAP_OK && progress.used == 0);
+
+    assert(linkcap_normalize(capture.at, capture.length, limit, NULL, 0, &length, &fault) == LINKCAP_NO_ROOM);
+    assert(length == capture.length);
+    assert(linkcap_show(capture.at, capture.length, limit, NULL, 0, &length, &fault) == LINKCAP_NO_ROOM && length > 0);
+    uint64_t lines = length;
+    assert(linkcap_show_with(capture.at, capture.length, limit, false, NULL, 0, NULL, 0, &length, &fault) == LINKCAP_NO_ROOM);
+    assert(length == lines);
+    assert(linkcap_normalize_some(capture.at, capture.length, true, limit, NULL, 0, &progress, &fault) == LINKCAP_NO_ROOM);
+    assert(progress.used == 0 && progress.written == 0 && progress.wanted > 0 && progress.wanted <= capture.length);
+    assert(linkcap_normalize(capture.at, 1, limit, NULL, 0, &length, &fault) == LINKCAP_FAULT && length == 0);
+    assert(fault.kind == LINKCAP_CUT && fault.offset == 0);
+    assert(linkcap_fault_text(&fault, NULL, 0, &length) == LINKCAP_NO_ROOM && length == strlen("cut frame at 0"));
 }
 
 static void test_limit_of_15(struct bytes capture)
@@ -338,6 +372,7 @@ int main(int argc, char **argv)
         struct bytes capture = read_file(argv[i]);
         size_t in_the_last = capture.length - 8;
         test_limit_of_15(capture);
+        test_null(capture);
         test_room(linkcap_normalize, capture, capture.length, LINKCAP_OK, 1 + capture.length / 500);
         test_room(linkcap_normalize, capture, in_the_last, LINKCAP_FAULT, 1 + capture.length / 500);
         test_room(linkcap_show, capture, capture.length, LINKCAP_OK, 1 + capture.length / 100);

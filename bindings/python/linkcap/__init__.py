@@ -1,16 +1,29 @@
-"""Captures of Linux netlink link messages: judged, measured, normalised, compared and shown.
+"""Captures of Linux netlink link messages: checked, measured, normalised, compared and shown.
 
-A capture is a byte string of netlink messages, each at a multiple of 4: any bytes-like object, of which no copy is made.
+A capture is a byte string of netlink messages, each at a multiple of 4: any bytes-like object whose bytes are contiguous,
+as bytes, bytearray, memoryview, mmap, array or a numpy array. It isn't copied; nobody may write to it while a call runs.
 `limit` is the greatest length in bytes that a message, read or written, may have, from 16 to 4294967295.
 
-Calls may run in threads at once. They must not run in a child that a process with threads has forked, as
-`multiprocessing` makes it by its method "fork"; use "spawn" there.
+What may be called from where:
 
-The work is done by the library liblinkcap.so, in this package or found by the loader; the environment may name its
-folder in LINKCAP_LIB_DIR. docs/other-languages.md of linkcap is the page for callers.
+- Threads: everything, at once. The calls of one Reader come one after the other.
+- Finalisers (`__del__`, weakref callbacks), signal handlers of the module signal, and trace functions: everything, also
+  while another call of linkcap is interrupted, whose result stays its own. A Reader that is interrupted raises
+  RuntimeError.
+- The child of a process with threads that was forked, as `multiprocessing` makes it by its method "fork": nothing. Use
+  its method "spawn".
+
+The work is done by the library liblinkcap.so: the one in this package if there is one, else that of the folder that
+LINKCAP_LIB_DIR names, else the one that the loader finds. LIBRARY_PATH has its name. docs/other-languages.md of linkcap
+is the page for callers; `python -m linkcap` normalises, compares and shows files.
 """
-from ._calls import DEFAULT_LIMIT, Measure, Reader, Refusal, check, lines, measure, normalize, same, why
-from ._fault import Fault, Kind
-from ._golden import golden
+from ._calls import DEFAULT_LIMIT, Measure, Message, check, lines, measure, messages, normalize, same, why
+from ._fault import Fault, Kind, Refusal
+from ._golden import FORMAT, golden
+from ._native import LIBRARY_PATH, Capture
+from ._reader import Reader
 
-__all__ = ["DEFAULT_LIMIT", "Fault", "Kind", "Measure", "Reader", "Refusal", "check", "golden", "lines", "measure", "normalize", "same", "why"]
+__version__ = "1.1"
+
+__all__ = ["DEFAULT_LIMIT", "FORMAT", "LIBRARY_PATH", "Capture", "Fault", "Kind", "Measure", "Message", "Reader", "Refusal",
+           "check", "golden", "lines", "measure", "messages", "normalize", "same", "why"]

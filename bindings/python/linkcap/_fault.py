@@ -1,13 +1,14 @@
-"""Faults of captures."""
+"""Faults of captures, and why a body is refused."""
+import contextlib
 import ctypes
 import enum
-from typing import Optional
+from typing import Any, NamedTuple, Optional, Tuple
 
 from . import _native
 
 
 class Kind(enum.IntEnum):
-    """What is wrong with a capture. Those in memory have the first seven."""
+    """What is wrong with a capture. Captures in memory have the first seven."""
 
     CUT = 1
     SHORT_LENGTH = 2
@@ -23,8 +24,17 @@ class Kind(enum.IntEnum):
     FAILED = 12
 
 
+class Refusal(NamedTuple):
+    """What of a refused body isn't accepted."""
+
+    #: the attribute's names from outside in, the reason, and the offset
+    words: str
+    #: where the attribute begins, in bytes from the capture's start; None for NLMSG_ERROR and NLMSG_DONE
+    offset: Optional[int]
+
+
 class Fault(Exception):
-    """A capture's first fault."""
+    """A capture's first fault. `str` gives its words, followed by the reason where a body is refused."""
 
     kind: Kind
     #: the start of the message that has it, in bytes from the capture's start
@@ -33,21 +43,60 @@ class Fault(Exception):
     side: Optional[int]
     #: as "cut frame at 48"
     words: str
-    #: what the call wrote before it: texts, or lines in ASCII
+    #: what the call wrote before it: normal text, or lines in ASCII
     written: bytes
+    #: the attribute that isn't accepted and the reason, if the kind is `Kind.REFUSED` and there is memory for the words
+    why: Optional[Refusal]
 
-    def __init__(self, kind: int, offset: int, side: Optional[int] = None, written: bytes = b"") -> None:
-        self.kind, self.offset, self.side, self.written = Kind(kind), offset, side, written
+    def __init__(self, kind: int, offset: int, side: Optional[int] = None, written: bytes = b"",
+                 why: Optional[Refusal] = None) -> None:
+        self.kind, self.offset, self.side, self.written, self.why = Kind(kind), offset, side, written, why
         self.words = _words(kind, offset, side or 0)
-        super().__init__(self.words)
+        super().__init__(f"{self.words}: {why.words}" if why else self.words)
 
-    def __reduce__(self):
-        return Fault, (int(self.kind), self.offset, self.side, self.written)
+    def __reduce__(self) -> Tuple[Any, ...]:
+        return Fault, (int(self.kind), self.offset, self.side, self.written, self.why)
 
 
 def _words(kind: int, offset: int, side: int) -> str:
-    room, size = ctypes.create_string_buffer(128), ctypes.c_uint64()
-    told = _native.FaultStruct(kind, side, offset)
-    if _native.library.linkcap_fault_text(ctypes.addressof(told), ctypes.addressof(room), len(room), ctypes.addressof(size)) != _native.OK:
+    out, size = _native.Output(128), ctypes.c_uint64()
+    fault = _native.FaultStruct(kind, side, offset)
+    call = _native.call("linkcap_fault_text")
+    if call(_native.address_of(fault), out.at, out.room, _native.address_of(size)) != _native.OK:
         raise ValueError("no fault of a capture")
-    return room.raw[:size.value].decode("ascii")
+    return out.take(size.value).decode("ascii")
+
+
+def refusal(at: int, length: int, limit: int, start: int = 0) -> Optional[Refusal]:
+    """Why the first fault of the bytes at an address is a refused body, if it is. They begin `start` bytes after the
+    capture's start."""
+    call, size, place = _native.call("linkcap_why"), ctypes.c_uint64(), ctypes.c_uint64()
+    room, status = 512, _native.NO_ROOM
+    while status == _native.NO_ROOM:
+        out = _native.Output(room)
+        status = call(at, length, limit, out.at, out.room, _native.address_of(size), _native.address_of(place))
+        room = size.value
+    if status == _native.NO_MEMORY:
+        raise MemoryError("no memory for the words of a refusal")
+    if status != _native.FAULT:
+        return None
+    words = out.take(size.value).decode("ascii")
+    if place.value == (1 << 64) - 1:
+        return Refusal(words, None)
+    here, offset = f" at {place.value}", place.value + start
+    return Refusal(f"{words[:-len(here)]} at {offset}", offset)
+
+
+def failure(status: int, fault: _native.FaultStruct, at: int, length: int, limit: int, start: int = 0,
+            written: bytes = b"") -> Exception:
+    """The exception for a status that isn't a success, over the bytes at an address."""
+    if status == _native.NO_MEMORY:
+        return MemoryError("no memory for the capture's text")
+    if status != _native.FAULT:
+        return ValueError("a limit is a number from 16 to 4294967295")
+    offset = fault.offset
+    reason = None
+    if fault.kind == Kind.REFUSED:
+        with contextlib.suppress(MemoryError):
+            reason = refusal(at + offset, length - offset, limit, start + offset)
+    return Fault(fault.kind, start + offset, fault.side or None, written, reason)

@@ -1,28 +1,73 @@
 """Golden files of lines, for tests."""
 import difflib
 import os
-from typing import Union
+import re
+from typing import Iterable, Optional, SupportsIndex, Tuple, Union
 
-from ._calls import DEFAULT_LIMIT, Capture, lines
+from ._calls import DEFAULT_LIMIT, lines
+from ._native import Capture
+from ._types import MessageType
+
+#: The format version of normal texts and lines, as CHANGELOG.md has it.
+FORMAT = 2
+
+# Frames of this module are left out of tracebacks, by unittest and by pytest.
+__unittest = True
+
+_FIRST_LINE = re.compile(r"# linkcap lines, format ([0-9]+)\n")
 
 
-def golden(capture: Capture, path: Union[str, "os.PathLike[str]"], *, update: bool = False, numbers: bool = True,
-           limit: int = DEFAULT_LIMIT) -> None:
-    """Compares a capture's lines with those of a file, and fails with a unified diff where they differ.
+def golden(capture: Capture, path: Union[str, "os.PathLike[str]"], *, update: bool = False, numbers: bool = False,
+           only: Optional[Iterable[MessageType]] = None, limit: SupportsIndex = DEFAULT_LIMIT) -> None:
+    """Compares a capture's lines with those of a file; if they differ, raises AssertionError with a unified diff.
 
-    With `update` the file is written in place of that. Without `numbers` the lines of messages have no sequence and port
-    numbers. A capture that isn't legal raises its `Fault`.
+    With `update` it writes the file instead, and its folder. Lines have sequence and port numbers with `numbers`, and
+    are those of some message types with `only`, as for `lines`. A capture that isn't legal raises its `Fault`, and one
+    without lines AssertionError: the test has captured nothing.
+
+    The file's first line has the format version of the lines; a file without it, as linkshow writes it, will do.
     """
-    shown = lines(capture, limit, numbers=numbers)
+    __tracebackhide__ = True
+    shown = lines(capture, limit, numbers=numbers, only=only)
+    if not shown:
+        raise AssertionError("the capture is empty, or has no message of these types")
+    name = os.fspath(path)
     if update:
-        with open(path, "w", encoding="ascii", newline="\n") as file:
-            file.write(shown)
+        _write(name, f"# linkcap lines, format {FORMAT}\n{shown}")
         return
-    try:
-        with open(path, encoding="ascii", newline="\n") as file:
-            expected = file.read()
-    except FileNotFoundError:
-        raise AssertionError(f"no golden file {os.fspath(path)}: write it by update=True, or pytest --linkcap-update") from None
+    version, expected = _read(name)
     if shown != expected:
-        diff = difflib.unified_diff(expected.splitlines(True), shown.splitlines(True), os.fspath(path), "this capture")
-        raise AssertionError("the capture isn't that of the golden file\n" + "".join(diff))
+        raise AssertionError(_difference(name, version, expected, shown))
+
+
+def _write(name: str, text: str) -> None:
+    os.makedirs(os.path.dirname(os.path.abspath(name)), exist_ok=True)
+    with open(name, "w", encoding="ascii", newline="\n") as file:
+        file.write(text)
+
+
+def _read(name: str) -> Tuple[Optional[int], str]:
+    """The format version that a golden file names, and its lines."""
+    __tracebackhide__ = True
+    try:
+        with open(name, encoding="utf-8", errors="backslashreplace", newline="") as file:
+            text = file.read()
+    except FileNotFoundError:
+        raise AssertionError(f"no golden file {name}: write it by update=True, or pytest --linkcap-update") from None
+    first = _FIRST_LINE.match(text.replace("\r\n", "\n", 1))
+    if not first:
+        return None, text
+    return int(first.group(1)), text[text.index("\n") + 1:]
+
+
+def _difference(name: str, version: Optional[int], expected: str, shown: str) -> str:
+    """Why a file isn't that of a capture."""
+    if expected.replace("\r\n", "\n") == shown:
+        return (f"{name} has the capture's lines, but ends them by CRLF: keep it as it was written, in git by a line"
+                f" `*.lines -text` of .gitattributes")
+    told = "the capture isn't that of the golden file\n"
+    if version not in (None, FORMAT):
+        told = (f"{name} has lines of format {version}, and this linkcap writes format {FORMAT}: update the file with the"
+                f" capture that it was made of (CHANGELOG.md)\n")
+    diff = difflib.unified_diff(expected.splitlines(True), shown.splitlines(True), name, "this capture")
+    return told + "".join(line if line.endswith("\n") else line + "\n\\ No newline at end of file\n" for line in diff)

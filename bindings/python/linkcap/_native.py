@@ -1,6 +1,29 @@
-"""The library by ctypes."""
+"""liblinkcap by ctypes: the library that is loaded, its structs, and the memory that its calls read and write.
+
+Nothing is kept from one call to the next. Python may run a finaliser or a signal handler between a native call and the
+line that reads its result, and these may call linkcap in turn; so each call owns what it hands to the library.
+"""
 import ctypes
+import importlib
 import os
+import sys
+from types import TracebackType
+from typing import TYPE_CHECKING, Any, Callable, Dict, List, Optional, Protocol, Type, Union, cast
+
+if TYPE_CHECKING:
+    from _typeshed import ReadableBuffer
+
+    class _SupportsArrayInterface(Protocol):
+        """numpy's arrays, whose older stubs don't say that they are bytes-like."""
+
+        @property
+        def __array_interface__(self) -> Dict[str, Any]: ...
+
+    Capture = Union[ReadableBuffer, _SupportsArrayInterface]
+elif sys.version_info >= (3, 12):
+    from collections.abc import Buffer as Capture
+else:
+    Capture = Union[bytes, bytearray, memoryview]
 
 VERSION = 1
 OK, DIFFERENT, FAULT, WRONG, NO_ROOM, NO_MEMORY = range(6)
@@ -18,54 +41,88 @@ class ProgressStruct(ctypes.Structure):
     _fields_ = [(name, ctypes.c_uint64) for name in ("used", "written", "wanted")]
 
 
-class _View(ctypes.Structure):
-    """What CPython's buffer protocol tells of an object: `Py_buffer` of its headers."""
-    _fields_ = [("buf", ctypes.c_void_p), ("obj", ctypes.py_object), ("len", ctypes.c_ssize_t), ("itemsize", ctypes.c_ssize_t),
-                ("readonly", ctypes.c_int), ("ndim", ctypes.c_int), ("format", ctypes.c_char_p), ("shape", ctypes.c_void_p),
-                ("strides", ctypes.c_void_p), ("suboffsets", ctypes.c_void_p), ("internal", ctypes.c_void_p)]
-
-
-_get = ctypes.pythonapi.PyObject_GetBuffer
-_get.argtypes, _get.restype = [ctypes.py_object, ctypes.POINTER(_View), ctypes.c_int], ctypes.c_int
-_release = ctypes.pythonapi.PyBuffer_Release
-_release.argtypes, _release.restype = [ctypes.POINTER(_View)], None
-_SOME = ctypes.create_string_buffer(1)
-SOMEWHERE = ctypes.addressof(_SOME)
+# The address and the length of a bytes-like object, in one call that nothing interrupts: of CPython's stable interface.
+_as_read_buffer = ctypes.pythonapi.PyObject_AsReadBuffer
+_as_read_buffer.argtypes, _as_read_buffer.restype = [ctypes.py_object, ctypes.c_void_p, ctypes.c_void_p], ctypes.c_int
+_ONE_BYTE = ctypes.create_string_buffer(1)
+#: an address that is never null, for empty buffers
+SOMEWHERE = ctypes.addressof(_ONE_BYTE)
 
 
 class Borrowed:
-    """The bytes of a bytes-like object, which aren't copied: their address and length, until `give_back`."""
+    """The address and the length of a bytes-like object, which isn't copied, and keeps its size while this exists."""
 
     __slots__ = ("at", "length", "_view")
 
-    def __init__(self, capture) -> None:
-        self._view = _View()
-        _get(capture, self._view, 0)
-        self.at, self.length = self._view.buf or SOMEWHERE, self._view.len
+    def __init__(self, capture: Capture) -> None:
+        # A memoryview gives the object back when it goes, even if an exception of a signal handler comes before `with`.
+        self._view = memoryview(cast(bytes, capture))
+        at, length = ctypes.c_void_p(), ctypes.c_ssize_t()
+        _as_read_buffer(self._view, ctypes.addressof(at), ctypes.addressof(length))
+        self.at: int = at.value or SOMEWHERE
+        self.length: int = length.value
 
-    def __enter__(self):
+    def __enter__(self) -> "Borrowed":
         return self
 
-    def __exit__(self, *_) -> None:
-        _release(self._view)
+    def __exit__(self, kind: Optional[Type[BaseException]], error: Optional[BaseException],
+                 traceback: Optional[TracebackType]) -> None:
+        self._view.release()
+
+
+class Output:
+    """A buffer that one call writes to."""
+
+    __slots__ = ("at", "room", "_bytes")
+
+    def __init__(self, room: int) -> None:
+        if room > sys.maxsize:
+            raise MemoryError("the result is longer than memory")
+        self.room = max(room, 1)
+        self._bytes = bytearray(self.room)
+        self.at = ctypes.addressof(ctypes.c_char.from_buffer(self._bytes))
+
+    def take(self, length: int) -> bytes:
+        """The first `length` bytes."""
+        return bytes(memoryview(self._bytes)[:length])
+
+
+def address_of(value: Union[ctypes.Structure, ctypes.c_uint64]) -> int:
+    return ctypes.addressof(value)
+
+
+def _candidates() -> List[str]:
+    """Where the library may be, first the one that belongs to this package."""
+    here = os.path.dirname(os.path.abspath(__file__))
+    bundled = os.path.join(here, "liblinkcap.so")
+    if os.path.exists(bundled):
+        return [bundled]
+    folders: List[str] = []
+    try:
+        folders.append(importlib.import_module("_linkcap_editable").FOLDER)
+    except ImportError:
+        pass
+    if os.environ.get("LINKCAP_LIB_DIR"):
+        folders.append(os.environ["LINKCAP_LIB_DIR"])
+    found = [os.path.join(folder, "liblinkcap.so") for folder in folders]
+    return found or [f"liblinkcap.so.{VERSION}"]
+
+
+def _open() -> ctypes.CDLL:
+    refused = []
+    for name in _candidates():
+        try:
+            return ctypes.CDLL(name)
+        except OSError as error:
+            refused.append(str(error))
+    raise ImportError(f"{'; '.join(refused)}: name the library's folder in LINKCAP_LIB_DIR, here or at pip install")
 
 
 def _load() -> ctypes.CDLL:
-    folder = os.environ.get("LINKCAP_LIB_DIR")
-    beside = os.path.join(os.path.dirname(os.path.abspath(__file__)), "liblinkcap.so")
-    if folder:
-        name = os.path.join(folder, "liblinkcap.so")
-    elif os.path.exists(beside):
-        name = beside
-    else:
-        name = f"liblinkcap.so.{VERSION}"
-    try:
-        library = ctypes.CDLL(name)
-    except OSError as error:
-        raise ImportError(f"{error}: name the library's folder in LINKCAP_LIB_DIR, here or at pip install") from None
-    # Addresses are taken as they are: bytes, or the numbers of `ctypes.addressof`.
+    library = _open()
+    # Addresses are the numbers of `ctypes.addressof`.
     capture, number, address = [ctypes.c_void_p, ctypes.c_size_t], ctypes.c_uint32, ctypes.c_void_p
-    for call, arguments in {
+    signatures: Dict[str, List[Any]] = {
         "linkcap_version": [],
         "linkcap_check": [*capture, number, address],
         "linkcap_measure": [*capture, number, address, address],
@@ -76,20 +133,22 @@ def _load() -> ctypes.CDLL:
         "linkcap_show_with": [*capture, number, ctypes.c_bool, *capture, *capture, address, address],
         "linkcap_why": [*capture, number, *capture, address, address],
         "linkcap_fault_text": [address, *capture, address],
-    }.items():
-        getattr(library, call).argtypes = arguments
-        getattr(library, call).restype = number
-    if library.linkcap_version() != VERSION:
-        raise ImportError(f"{name} has version {library.linkcap_version()} of the interface, and {VERSION} is wanted")
+    }
+    for name, arguments in signatures.items():
+        call = getattr(library, name)
+        call.argtypes, call.restype = arguments, number
+    found = library.linkcap_version()
+    if found != VERSION:
+        raise ImportError(f"{library._name} has version {found} of the interface, and {VERSION} is needed")
     return library
 
 
 library = _load()
+#: the file that was loaded, as the loader was given it
+LIBRARY_PATH: str = library._name
 
 
-def small(call: str):
-    """A call for captures so small that it needs no more than microseconds: it keeps the interpreter's lock, and takes its
-    arguments as ctypes objects, of which nothing has to be made anew."""
-    quick = ctypes.PyDLL(library._name)[call]
-    quick.restype = ctypes.c_uint32
-    return quick
+def call(name: str) -> Callable[..., int]:
+    """A function of the library, which returns an enum linkcap_status."""
+    function: Callable[..., int] = getattr(library, name)
+    return function

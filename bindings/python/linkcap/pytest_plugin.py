@@ -1,18 +1,22 @@
 """A pytest fixture for golden files of lines, and the option that writes them."""
+from typing import Any, Callable
+
 import pytest
 
 from ._golden import golden
+from ._native import Capture
 
 
-def pytest_addoption(parser):
+def pytest_addoption(parser: pytest.Parser) -> None:
     parser.addoption("--linkcap-update", action="store_true", help="write the golden files of linkcap_golden")
 
 
 @pytest.fixture
-def linkcap_golden(request):
+def linkcap_golden(request: pytest.FixtureRequest) -> Callable[..., None]:
     """`linkcap.golden`, with names beside the test's file, and written anew under --linkcap-update."""
 
-    def compare(capture, name, **options):
+    def compare(capture: Capture, name: str, **options: Any) -> None:
+        __tracebackhide__ = True
         options.setdefault("update", request.config.getoption("--linkcap-update"))
         golden(capture, request.path.parent / name, **options)
 

@@ -1,5 +1,6 @@
 """The pytest fixture, as tests use it."""
 import os
+from typing import Any
 
 import pytest
 
@@ -9,22 +10,24 @@ SAMPLES = os.path.join(os.path.dirname(os.path.abspath(__file__)), "..", "..", "
 TEST = """
 def test_request(linkcap_golden):
     with open({sample!r}, "rb") as file:
-        linkcap_golden(file.read(){change}, "request.lines", numbers=False)
+        linkcap_golden(file.read(){change}, "request.lines")
 """
 
 
-def run(pytester, *options, change=""):
+def run(pytester: pytest.Pytester, *options: str, change: str = "") -> Any:
     pytester.makepyfile(TEST.format(sample=os.path.join(SAMPLES, "lo-request.bin"), change=change))
     return pytester.runpytest(*options)
 
 
-def test_golden_files(pytester):
+def test_golden_files(pytester: pytest.Pytester) -> None:
     run(pytester).assert_outcomes(failed=1)
     run(pytester, "--linkcap-update").assert_outcomes(passed=1)
     shown = (pytester.path / "request.lines").read_text()
     with open(os.path.join(SAMPLES, "lo-request.lines")) as file:
-        assert shown.splitlines()[1:] == file.read().splitlines()[1:]
+        assert shown.splitlines()[2:] == file.read().splitlines()[1:]
     run(pytester).assert_outcomes(passed=1)
     result = run(pytester, change='.replace(b"lo", b"hi")')
     result.assert_outcomes(failed=1)
     result.stdout.fnmatch_lines(['*-  IFLA_IFNAME "lo"*', '*+  IFLA_IFNAME "hi"*'])
+    # the failure is shown at the test's line, without the frames of linkcap
+    assert "_golden.py" not in str(result.stdout) and "pytest_plugin.py" not in str(result.stdout)

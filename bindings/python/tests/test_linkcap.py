@@ -3,41 +3,31 @@ import array
 import mmap
 import os
 import pickle
-import subprocess
-import sys
 import tempfile
 import threading
+import time
 import unittest
+from typing import Callable, Optional, Tuple
 
 import linkcap
+from support import answers, captures, cases, header_constants, sample
 
-TOP = os.path.join(os.path.dirname(os.path.abspath(__file__)), "..", "..", "..")
-sys.path.append(os.path.join(TOP, "tools", "oracle"))
-import vectors              # noqa: E402
+Written = Tuple[bytes, Optional[linkcap.Fault]]
+Call = Callable[..., object]
 
-
-def read(*names):
-    with open(os.path.join(TOP, *names), "rb") as file:
-        return file.read()
-
-
-def stored_vectors(kind):
-    """The captures of each case of a kind with their limit, and all that is to be answered."""
-    cases = []
-    for case in vectors.cases(kind):
-        limit, *captures = case.split(" ")
-        cases.append((int(limit), *(bytes.fromhex(capture) for capture in captures)))
-    return cases, "".join(vectors.answers(kind))
+# an IFLA_MTU of 3 bytes, in a message of 40 bytes; a NLMSG_DONE that is written with 4 bytes more
+REFUSED = bytes.fromhex("28000000100000000000000000000000") + bytes(16) + bytes.fromhex("0700040001020300")
+DONE = bytes.fromhex("10000000030002000000000000000000")
 
 
-def normalize(capture, limit):
+def normalize(capture: bytes, limit: int) -> Written:
     try:
         return linkcap.normalize(capture, limit), None
     except linkcap.Fault as fault:
         return fault.written, fault
 
 
-def normalize_pieces(capture, limit, size):
+def normalize_pieces(capture: bytes, limit: int, size: int) -> Written:
     reader, texts = linkcap.Reader(limit), []
     try:
         for at in range(0, len(capture), size):
@@ -48,116 +38,143 @@ def normalize_pieces(capture, limit, size):
     return b"".join(texts), None
 
 
-def norm_line(capture, limit, text, fault):
+def norm_line(capture: bytes, limit: int, text: bytes, fault: Optional[linkcap.Fault]) -> str:
     if fault is None:
         linkcap.check(capture, limit)
         numbers = linkcap.measure(capture, limit)
-        return f"{text.hex()} {numbers.frames} {numbers.attributes} {numbers.text_len}\n"
-    for call in (linkcap.check, linkcap.measure):
+        assert len(linkcap.messages(capture, limit)) == numbers.frames
+        return f"{text.hex()} {numbers.frames} {numbers.attributes} {numbers.text_len}"
+    for call in (linkcap.check, linkcap.measure, linkcap.messages):
         try:
             call(capture, limit)
-            raise AssertionError("a fault that wasn't told again")
+            raise AssertionError("a fault that wasn't raised again")
         except linkcap.Fault as again:
-            assert (again.kind, again.offset, again.side) == (fault.kind, fault.offset, None)
-    return f"{text.hex()} {fault}\n"
+            assert (again.kind, again.offset, again.side, again.why) == (fault.kind, fault.offset, None, fault.why)
+    return f"{text.hex()} {fault.words}"
 
 
 class Vectors(unittest.TestCase):
     maxDiff = 200
 
-    def check_norm(self, run):
-        cases, stored = stored_vectors("norm")
-        self.assertEqual(len(cases), stored.count("\n"))
-        for number, ((limit, capture), line) in enumerate(zip(cases, stored.splitlines(True))):
-            self.assertEqual(norm_line(capture, limit, *run(capture, limit, number)), line)
+    def check_norm(self, run: Callable[[bytes, int, int], Written]) -> None:
+        given, stored = captures("norm"), answers("norm")
+        self.assertEqual(len(given), len(stored))
+        for number, ((limit, (capture,)), line) in enumerate(zip(given, stored)):
+            self.assertEqual(norm_line(capture, limit, *run(capture, limit, number)) + "\n", line)
 
-    def test_norm(self):
+    def test_norm(self) -> None:
         self.check_norm(lambda capture, limit, number: normalize(capture, limit))
 
-    def test_pieces(self):
+    def test_pieces(self) -> None:
         self.check_norm(lambda capture, limit, number: normalize_pieces(capture, limit, (1, 7, 100)[number % 3]))
 
-    def test_same(self):
-        cases, stored = stored_vectors("same")
-        answers = []
-        for limit, first, second in cases:
+    def test_same(self) -> None:
+        given, stored = captures("same"), answers("same")
+        self.assertEqual(len(given), len(stored))
+        for (limit, (first, second)), line in zip(given, stored):
             try:
-                answers.append("same" if linkcap.same(first, second, limit) else "different")
+                self.assertEqual("same\n" if linkcap.same(first, second, limit) else "different\n", line)
             except linkcap.Fault as fault:
-                self.assertEqual({1: "first: ", 2: "second: "}[fault.side], str(fault)[:str(fault).index(" ") + 1])
-                answers.append(str(fault))
-        self.assertEqual(answers, stored.splitlines())
+                self.assertEqual({1: "first", 2: "second"}[fault.side or 0], fault.words.split(":")[0])
+                self.assertEqual(fault.words + "\n", line)
 
-    def test_show(self):
-        answers = []
-        for case in vectors.cases("show"):
+    def test_show(self) -> None:
+        given, stored = cases("show"), answers("show")
+        self.assertEqual(len(given), len(stored))
+        for case, expected in zip(given, stored):
             limit, *choice, capture = case.split(" ")
             numbers = choice != ["without-numbers"]
             only = [int(kind) for kind in choice[0].split(",")] if choice and numbers else None
             try:
-                answers.append(linkcap.lines(bytes.fromhex(capture), int(limit), numbers=numbers, only=only) + "legal\n")
+                shown = linkcap.lines(bytes.fromhex(capture), int(limit), numbers=numbers, only=only) + "legal\n"
             except linkcap.Fault as fault:
-                answers.append(fault.written.decode() + str(fault) + "\n")
-        self.assertTrue(answers == vectors.answers("show"))
+                shown = f"{fault.written.decode()}{fault.words}\n"
+            self.assertTrue(shown == expected, case[:200])
 
-    def test_why(self):
-        cases, stored = stored_vectors("refusal")
-        answers = []
-        for limit, capture in cases:
+    def test_why(self) -> None:
+        given, stored = captures("refusal"), answers("refusal")
+        self.assertEqual(len(given), len(stored))
+        for (limit, (capture,)), line in zip(given, stored):
             found = linkcap.why(capture, limit)
-            answers.append(found.words if found else "nothing")
+            self.assertEqual((found.words if found else "nothing") + "\n", line)
             if found:
-                self.assertEqual(found.words.endswith(f" at {found.offset}"), found.offset is not None)
-                with self.assertRaises(linkcap.Fault) as raised:
-                    linkcap.check(capture, limit)
-                self.assertEqual(raised.exception.kind, linkcap.Kind.REFUSED)
-        self.assertEqual(answers, stored.splitlines())
+                self.check_reason(capture, limit, found)
+
+    def check_reason(self, capture: bytes, limit: int, found: linkcap.Refusal) -> None:
+        """Each call that raises the fault gives this reason; a reader, too, which has the last bytes alone."""
+        self.assertEqual(found.words.endswith(f" at {found.offset}"), found.offset is not None)
+        with self.assertRaises(linkcap.Fault) as raised:
+            linkcap.check(capture, limit)
+        self.assertEqual((raised.exception.kind, raised.exception.why), (linkcap.Kind.REFUSED, found))
+        self.assertEqual(str(raised.exception), f"{raised.exception.words}: {found.words}")
+        for fault in (normalize(capture, limit)[1], normalize_pieces(capture, limit, 61)[1]):
+            assert fault is not None
+            self.assertEqual((fault.kind, fault.why), (linkcap.Kind.REFUSED, found))
 
 
 class Edges(unittest.TestCase):
-    def test_nothing(self):
-        for nothing in (b"", bytearray(), memoryview(b"")):
+    def test_nothing(self) -> None:
+        empty: Tuple[linkcap.Capture, ...] = (b"", bytearray(), memoryview(b""), array.array("I"))
+        for nothing in empty:
             self.assertEqual(linkcap.normalize(nothing), b"")
             self.assertEqual(linkcap.lines(nothing), "")
             self.assertEqual(linkcap.measure(nothing), (0, 0, 0))
+            self.assertEqual(linkcap.messages(nothing), [])
             self.assertTrue(linkcap.same(nothing, b""))
         self.assertEqual(linkcap.Reader().finish(), b"")
 
-    def test_limits(self):
-        for limit in (15, 0, -1, 1 << 32):
-            for call in (linkcap.check, linkcap.measure, linkcap.normalize, linkcap.lines, linkcap.why):
+    def test_limits(self) -> None:
+        calls: Tuple[Call, ...] = (
+            linkcap.check, linkcap.measure, linkcap.normalize, linkcap.lines, linkcap.why, linkcap.messages)
+        for limit in (15, 0, -1, 1 << 32, True):
+            for call in calls:
                 with self.assertRaises(ValueError):
                     call(b"", limit)
             with self.assertRaises(ValueError):
                 linkcap.same(b"", b"", limit)
             with self.assertRaises(ValueError):
                 linkcap.Reader(limit)
-        done = bytes.fromhex("10000000030002000000000000000000")
-        self.assertEqual(linkcap.normalize(done, 20).hex(), "1400000003000200000000000000000000000000")
+        self.assertEqual(linkcap.normalize(DONE, 20).hex(), "1400000003000200000000000000000000000000")
         with self.assertRaises(linkcap.Fault) as raised:
-            linkcap.normalize(done, 19)
+            linkcap.normalize(DONE, 19)
         self.assertEqual((raised.exception.kind, raised.exception.offset), (linkcap.Kind.TEXT_OVER_LIMIT, 0))
+        with self.assertRaises(TypeError):
+            linkcap.check(b"", 20.0)  # type: ignore[arg-type]
 
-    def test_cut_at_each_byte(self):
-        capture = read("samples", "req-veth.bin")
+    def test_limit_with_an_index(self) -> None:
+        class Limit:
+            def __index__(self) -> int:
+                return 19
+
+        calls: Tuple[Call, ...] = (linkcap.normalize, linkcap.check, linkcap.measure, linkcap.lines, linkcap.messages)
+        for call in calls:
+            with self.assertRaises(linkcap.Fault):
+                call(DONE, Limit())
+        with self.assertRaises(linkcap.Fault):
+            linkcap.Reader(Limit()).feed(DONE)
+        self.assertIsNone(linkcap.why(DONE, Limit()))
+
+    def test_cut_at_each_byte(self) -> None:
+        capture = sample("req-veth.bin")
         starts, at = [], 0
         while at < len(capture):
             starts.append(at)
             at += (int.from_bytes(capture[at:at + 4], "little") + 3) // 4 * 4
         for cut in range(len(capture) + 1):
-            piece = memoryview(capture)[:cut]
+            piece = capture[:cut]
             whole = max((start for start in [*starts, len(capture)] if start <= cut), default=0)
             text, fault = normalize(piece, linkcap.DEFAULT_LIMIT)
             last = int.from_bytes(capture[whole:whole + 4], "little")
             if whole < cut < whole + last:
+                assert fault is not None
                 self.assertEqual((text, fault.kind, fault.offset), (capture[:whole], linkcap.Kind.CUT, whole))
             else:
                 self.assertIsNone(fault)
                 self.assertEqual(text, capture[:(cut + 3) // 4 * 4])
             self.assertEqual(normalize_pieces(piece, linkcap.DEFAULT_LIMIT, 33)[0], text)
 
-    def test_objects(self):
-        capture = read("samples", "notify-vrf.bin")
+    def test_objects(self) -> None:
+        capture = sample("notify-vrf.bin")
         text = linkcap.normalize(capture)
         self.assertNotEqual(text, capture)
         self.assertTrue(linkcap.same(capture, text))
@@ -166,7 +183,10 @@ class Edges(unittest.TestCase):
             file.flush()
             with mmap.mmap(file.fileno(), 0, access=mmap.ACCESS_READ) as mapped:
                 self.assertEqual(linkcap.normalize(mapped), text)
-        for other in (bytearray(capture), memoryview(capture), array.array("I", capture)):
+                self.assertEqual(linkcap.messages(mapped), linkcap.messages(capture))
+        others: Tuple[linkcap.Capture, ...] = (
+            bytearray(capture), memoryview(capture), array.array("I", capture), memoryview(capture).cast("I"))
+        for other in others:
             self.assertEqual(linkcap.normalize(other), text)
             reader = linkcap.Reader()
             self.assertEqual(reader.feed(other) + reader.feed(b"") + reader.finish(), text)
@@ -175,15 +195,28 @@ class Edges(unittest.TestCase):
         with self.assertRaises(BufferError):
             linkcap.normalize(memoryview(capture)[::2])
         with self.assertRaises(TypeError):
-            linkcap.normalize("a text")
+            linkcap.normalize("a text")  # type: ignore[arg-type]
 
-    def test_faults(self):
-        capture = read("samples", "lo-request.bin")
+    def test_numpy(self) -> None:
+        try:
+            import numpy
+        except ImportError:
+            self.skipTest("no numpy")
+        capture = sample("notify-vrf.bin")
+        text = linkcap.normalize(capture)
+        for kind in ("u1", "<u4", ">u2"):
+            given = numpy.frombuffer(capture, kind)
+            self.assertEqual(linkcap.normalize(given), text)
+            reader = linkcap.Reader()
+            self.assertEqual(reader.feed(given[:25]) + reader.feed(given[25:]) + reader.finish(), text)
+
+    def test_faults(self) -> None:
+        capture = sample("lo-request.bin")
         with self.assertRaises(linkcap.Fault) as raised:
             linkcap.normalize(capture + capture[:20])
         fault = raised.exception
-        self.assertEqual(str(fault), "cut frame at 48")
-        self.assertEqual((fault.kind, fault.offset, fault.side, len(fault.written)), (linkcap.Kind.CUT, 48, None, 48))
+        self.assertEqual((str(fault), fault.words), ("cut frame at 48", "cut frame at 48"))
+        self.assertEqual((fault.kind, fault.offset, fault.side, len(fault.written), fault.why), (linkcap.Kind.CUT, 48, None, 48, None))
         again = pickle.loads(pickle.dumps(fault))
         self.assertEqual((again.kind, again.offset, again.side, again.written), (fault.kind, 48, None, fault.written))
         with self.assertRaises(linkcap.Fault) as raised:
@@ -197,11 +230,29 @@ class Edges(unittest.TestCase):
         with self.assertRaises(ValueError):
             reader.feed(b"")
 
-    def test_threads(self):
-        capture = read("samples", "get-veth.bin")
+    def test_reasons(self) -> None:
+        capture, reason = sample("lo-request.bin"), ": IFLA_MTU: a payload of 3 bytes at "
+        with self.assertRaises(linkcap.Fault) as raised:
+            linkcap.lines(capture + REFUSED)
+        self.assertEqual(str(raised.exception), "refused body at 48" + reason + "80")
+        again = pickle.loads(pickle.dumps(raised.exception))
+        self.assertEqual((str(again), again.why), (str(raised.exception), raised.exception.why))
+        for first, second, words in ((REFUSED, capture, "first: refused body at 0"), (capture, capture + REFUSED, "second: refused body at 48")):
+            with self.assertRaises(linkcap.Fault) as raised:
+                linkcap.same(first, second)
+            assert raised.exception.why is not None
+            self.assertEqual(str(raised.exception), f"{words}{reason}{raised.exception.why.offset}")
+        reader = linkcap.Reader()
+        reader.feed(capture + REFUSED[:9])
+        with self.assertRaises(linkcap.Fault) as raised:
+            reader.feed(REFUSED[9:])
+        self.assertEqual(str(raised.exception), "refused body at 48" + reason + "80")
+
+    def test_threads(self) -> None:
+        capture = sample("get-veth.bin")
         text, shown, wrong = linkcap.normalize(capture), linkcap.lines(capture), []
 
-        def run():
+        def run() -> None:
             for _ in range(30):
                 if linkcap.normalize(capture) != text or linkcap.lines(capture) != shown or not linkcap.same(capture, text):
                     wrong.append(1)
@@ -214,38 +265,89 @@ class Edges(unittest.TestCase):
         self.assertEqual(wrong, [])
 
 
-class Golden(unittest.TestCase):
-    def test_lines(self):
-        for name in ("get-veth", "lo-request", "notify-vrf", "req-veth"):
-            capture = read("samples", name + ".bin")
-            self.assertEqual(linkcap.lines(capture), read("samples", name + ".lines").decode())
-            linkcap.golden(capture, os.path.join(TOP, "samples", name + ".lines"))
-        shown = linkcap.lines(read("samples", "lo-request.bin"), numbers=False)
-        self.assertEqual(shown.splitlines()[0], "RTM_GETLINK flags 0x301 (REQUEST | ROOT | MATCH)")
-        self.assertEqual(shown.splitlines()[1:], read("samples", "lo-request.lines").decode().splitlines()[1:])
+class Messages(unittest.TestCase):
+    def test_headers(self) -> None:
+        capture = sample("lo-request.bin")
+        # the numbers that samples/lo-request.lines has
+        message = linkcap.Message(0, 48, 18, 0x301, 1526271540, 0)
+        self.assertEqual(linkcap.messages(capture), [message])
+        self.assertEqual(linkcap.messages(capture * 3), [message._replace(offset=offset) for offset in (0, 48, 96)])
+        self.assertEqual(linkcap.messages(DONE), [linkcap.Message(0, 16, 3, 2, 0, 0)])
 
-    def test_files(self):
-        capture = read("samples", "lo-request.bin")
-        with tempfile.TemporaryDirectory() as folder:
-            path = os.path.join(folder, "lo.lines")
-            with self.assertRaisesRegex(AssertionError, "no golden file"):
-                linkcap.golden(capture, path)
-            linkcap.golden(capture, path, update=True, numbers=False)
-            linkcap.golden(capture, path, numbers=False)
-            other = capture.replace(b"lo", b"hi")
-            with self.assertRaisesRegex(AssertionError, '(?s)\n-  IFLA_IFNAME "lo"\n\\+  IFLA_IFNAME "hi"\n'):
-                linkcap.golden(other, path, numbers=False)
+    def test_parts_are_captures(self) -> None:
+        capture = sample("get-veth.bin")
+        found = linkcap.messages(capture)
+        self.assertGreater(len(found), 1)
+        texts = [linkcap.normalize(memoryview(capture)[one.offset:one.offset + one.length]) for one in found]
+        self.assertEqual(b"".join(texts), linkcap.normalize(capture))
+
+    def test_only_by_name(self) -> None:
+        capture = DONE + sample("lo-request.bin")
+        getlink = linkcap.lines(capture, only=[18])
+        self.assertTrue(getlink.startswith("RTM_GETLINK "))
+        for name in ("getlink", "GETLINK", "RTM_GETLINK", "rtm_getlink"):
+            self.assertEqual(linkcap.lines(capture, only=[name]), getlink)
+        self.assertEqual(linkcap.lines(capture, only=["nlmsg_done", "getlink"]), linkcap.lines(capture))
+        self.assertEqual(linkcap.lines(capture, only=[]), "")
+        with self.assertRaisesRegex(ValueError, "no message type 'setlnk'"):
+            linkcap.lines(capture, only=["setlnk"])
+        with self.assertRaisesRegex(ValueError, "65536"):
+            linkcap.lines(capture, only=[65536])
+        with self.assertRaisesRegex(TypeError, "only is a list"):
+            linkcap.lines(capture, only="getlink")
+
+    def test_names_are_the_headers(self) -> None:
+        from linkcap._types import NAMES
+        found = dict(header_constants("NLMSG_", "netlink.h") + header_constants("RTM_", "rtnetlink.h"))
+        if not found:
+            self.skipTest("no kernel headers")
+        for name, number in NAMES.items():
+            word = ("NLMSG_" if number < 16 else "RTM_") + name.upper()
+            if word in found:
+                self.assertEqual(found[word], number)
+            message = bytes([20, 0, 0, 0, number]) + bytes(15) if number < 16 else bytes([32, 0, 0, 0, number]) + bytes(27)
+            if name not in ("error",):
+                self.assertTrue(linkcap.lines(message).startswith(word + " "), name)
+
+
+class Readers(unittest.TestCase):
+    def test_files(self) -> None:
+        capture = sample("get-veth.bin")
+        text = linkcap.normalize(capture)
+        path = os.path.join(os.path.dirname(os.path.abspath(__file__)), "..", "..", "..", "samples", "get-veth.bin")
+        for size in (1, 100, 1 << 16):
+            with open(path, "rb") as file:
+                self.assertEqual(b"".join(linkcap.Reader().read_file(file, size)), text)
+        with open(os.devnull, "rb") as file:
+            self.assertEqual(list(linkcap.Reader().read_file(file)), [])
+        with open(path, "rb") as file:
+            file.seek(48)
             with self.assertRaises(linkcap.Fault):
-                linkcap.golden(capture[:-1], path)
+                list(linkcap.Reader().read_file(file))
+        with open(path, encoding="latin-1") as text_file:
+            with self.assertRaises(TypeError):
+                list(linkcap.Reader().read_file(text_file))  # type: ignore[arg-type]
 
+    def test_wrong_pieces_change_nothing(self) -> None:
+        capture, reader = sample("req-veth.bin"), linkcap.Reader()
+        texts = reader.feed(capture[:60])
+        with self.assertRaises(TypeError):
+            reader.feed("text")  # type: ignore[arg-type]
+        self.assertEqual(texts + reader.feed(capture[60:]) + reader.finish(), capture)
 
-class Loading(unittest.TestCase):
-    def test_no_library(self):
-        """An import without the library says what to do."""
-        with tempfile.TemporaryDirectory() as folder:
-            tried = subprocess.run([sys.executable, "-c", "import linkcap"], env={**os.environ, "LINKCAP_LIB_DIR": folder},
-                                   capture_output=True, text=True, check=False)
-        self.assertRegex(tried.stderr.splitlines()[-1], "ImportError: .*liblinkcap.so.*: name the library's folder in LINKCAP_LIB_DIR")
+    def test_linear(self) -> None:
+        """A long message that comes byte by byte takes eight times as long if it is eight times as long."""
+        def seconds(length: int) -> float:
+            message = length.to_bytes(4, "little") + b"\x14" + bytes(length - 5)
+            reader, start = linkcap.Reader(), time.process_time()
+            for at in range(length):
+                text = reader.feed(message[at:at + 1])
+            self.assertEqual(text, message)
+            return time.process_time() - start
+
+        seconds(1 << 12)
+        small, great = (min(seconds(length) for _ in range(3)) for length in (1 << 15, 1 << 18))
+        self.assertLess(great, 24 * small)
 
 
 if __name__ == "__main__":

@@ -1,7 +1,7 @@
 //! What goes wrong.
 
 use crate::ffi;
-use std::fmt;
+use std::{fmt, io};
 
 /// What is wrong with a capture, numbered as in linkcap.h.
 #[derive(Clone, Copy, Debug, PartialEq, Eq, Hash)]
@@ -15,7 +15,7 @@ pub enum Kind {
     OverLimit,
     /// The body isn't accepted.
     Refused,
-    /// An accepted IFLA_VF_PORTS keeps no entry.
+    /// An accepted `IFLA_VF_PORTS` keeps no entry.
     EmptyPorts,
     /// An attribute of the text would be longer than 65535 bytes.
     Unfit,
@@ -42,21 +42,21 @@ pub struct Fault {
     pub written: Vec<u8>,
 }
 
-/// Why a call gives no value.
+/// Why a call returns no value.
 #[derive(Clone, Debug, PartialEq, Eq)]
 #[non_exhaustive]
 pub enum Error {
     Fault(Fault),
-    /// There is no memory for a text.
+    /// There is no memory for a text, or the text is longer than memory.
     Memory,
     /// The limit is under 16.
     Limit,
-    /// The reader has raised an error before.
+    /// The reader has returned an error before.
     Failed,
 }
 
 impl Error {
-    pub(crate) fn of(status: u32, fault: ffi::Fault, written: Vec<u8>) -> Error {
+    pub(crate) fn of(status: u32, fault: &ffi::Fault, written: Vec<u8>) -> Error {
         match status {
             ffi::FAULT => Error::Fault(Fault {
                 kind: kind_of(fault.kind),
@@ -69,7 +69,8 @@ impl Error {
         }
     }
 
-    /// The fault, where it is one.
+    /// The fault, if it is one.
+    #[must_use]
     pub fn fault(&self) -> Option<&Fault> {
         match self {
             Error::Fault(fault) => Some(fault),
@@ -79,21 +80,30 @@ impl Error {
 }
 
 fn kind_of(number: u32) -> Kind {
-    use Kind::*;
-    [Cut, ShortLength, OverLimit, Refused, EmptyPorts, Unfit, TextOverLimit][number as usize - 1]
+    match number {
+        1 => Kind::Cut,
+        2 => Kind::ShortLength,
+        3 => Kind::OverLimit,
+        4 => Kind::Refused,
+        5 => Kind::EmptyPorts,
+        6 => Kind::Unfit,
+        // Captures in memory have no other one.
+        _ => Kind::TextOverLimit,
+    }
 }
 
 impl fmt::Display for Fault {
     fn fmt(&self, f: &mut fmt::Formatter<'_>) -> fmt::Result {
-        let told = ffi::Fault {
+        let fault = ffi::Fault {
             kind: self.kind as u32,
             side: self.side.map_or(0, |side| side as u32),
             offset: self.offset,
         };
         let (mut words, mut length) = ([0u8; 128], 0u64);
-        // Safety: `words` has the room that is told.
-        unsafe { ffi::linkcap_fault_text(&told, words.as_mut_ptr(), words.len(), &mut length) };
-        f.pad(std::str::from_utf8(&words[..length as usize]).unwrap_or_default())
+        // Safety: `words` has the room that is given.
+        unsafe { ffi::linkcap_fault_text(&fault, words.as_mut_ptr(), words.len(), &mut length) };
+        let length = usize::try_from(length).unwrap_or(0);
+        f.pad(words.get(..length).and_then(|words| std::str::from_utf8(words).ok()).unwrap_or_default())
     }
 }
 
@@ -115,5 +125,17 @@ impl std::error::Error for Error {}
 impl From<Fault> for Error {
     fn from(fault: Fault) -> Error {
         Error::Fault(fault)
+    }
+}
+
+impl From<Error> for io::Error {
+    fn from(error: Error) -> io::Error {
+        let kind = match error {
+            Error::Fault(_) => io::ErrorKind::InvalidData,
+            Error::Memory => io::ErrorKind::OutOfMemory,
+            Error::Limit => io::ErrorKind::InvalidInput,
+            Error::Failed => io::ErrorKind::Other,
+        };
+        io::Error::new(kind, error)
     }
 }

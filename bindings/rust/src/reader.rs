@@ -1,89 +1,112 @@
 //! Captures in pieces.
 
-use crate::{ffi, room, Error};
+use crate::writing::{count, reserve};
+use crate::{ffi, Error};
 
-/// Reads a capture that comes in pieces of any sizes. Between pieces it keeps the bytes of the message that is cut.
+/// Normalises a capture that comes in pieces of any sizes. Between pieces it keeps the bytes of the message that is cut.
+///
+/// ```
+/// use linkcap::{Reader, DEFAULT_LIMIT};
+///
+/// let noop = b"\x14\0\0\0\x01\0\0\0\x01\0\0\0\0\0\0\0\xaa\xbb\xcc\xdd";
+/// let mut text = Vec::new();
+/// let mut reader = Reader::new(DEFAULT_LIMIT)?;
+/// reader.feed(&noop[..7], &mut text)?;
+/// assert!(text.is_empty());
+/// reader.feed(&noop[7..], &mut text)?;
+/// reader.finish(&mut text)?;
+/// assert_eq!(text, b"\x10\0\0\0\x01\0\0\0\x01\0\0\0\0\0\0\0");
+/// # Ok::<(), linkcap::Error>(())
+/// ```
 #[derive(Debug)]
 pub struct Reader {
     limit: u32,
     rest: Vec<u8>,
-    place: u64,
-    failed: bool,
+    start: u64,
+    has_failed: bool,
 }
 
 impl Reader {
     /// A reader of nothing yet. `limit` is the greatest length in bytes that a message, read or written, may have.
+    ///
+    /// # Errors
+    ///
+    /// [`Error::Limit`].
     pub fn new(limit: u32) -> Result<Reader, Error> {
         if limit < 16 {
             return Err(Error::Limit);
         }
-        Ok(Reader { limit, rest: Vec::new(), place: 0, failed: false })
+        Ok(Reader { limit, rest: Vec::new(), start: 0, has_failed: false })
     }
 
-    /// Takes the next piece. The texts of the messages that are whole now, with their padding, go to the end of `out`;
-    /// those before a fault, too, whose `written` is empty. After an error each later call answers `Failed`.
+    /// Takes the next piece. The texts of the messages that are whole now, with their padding, are appended to `out`.
+    ///
+    /// # Errors
+    ///
+    /// [`Error::Fault`] with the capture's first fault, whose `written` is empty: the texts before it are in `out`; or
+    /// [`Error::Memory`]. After an error each later call returns [`Error::Failed`].
     pub fn feed(&mut self, piece: &[u8], out: &mut Vec<u8>) -> Result<(), Error> {
-        if self.failed {
+        if self.has_failed {
             return Err(Error::Failed);
         }
-        self.failed = true;
+        self.has_failed = true;
         let used = if self.rest.is_empty() {
             let used = self.write(piece, false, out)?;
-            self.rest.extend_from_slice(&piece[used..]);
+            self.keep(&piece[used..])?;
             used
         } else {
-            let mut given = std::mem::take(&mut self.rest);
-            given.extend_from_slice(piece);
-            let used = self.write(&given, false, out)?;
-            given.drain(..used);
-            self.rest = given;
+            self.keep(piece)?;
+            let used = self.write(&self.rest, false, out)?;
+            self.rest.drain(..used);
             used
         };
-        self.place += used as u64;
-        self.failed = false;
+        self.start += used as u64;
+        self.has_failed = false;
         Ok(())
     }
 
-    /// The capture ends here: the text of a last message that lacks padding goes to `out`, or a fault is told.
-    pub fn finish(mut self, out: &mut Vec<u8>) -> Result<(), Error> {
-        if self.failed {
+    /// The capture ends here: the text of a last message that lacks padding is appended to `out`.
+    ///
+    /// # Errors
+    ///
+    /// Those of [`Reader::feed`].
+    pub fn finish(self, out: &mut Vec<u8>) -> Result<(), Error> {
+        if self.has_failed {
             return Err(Error::Failed);
         }
-        let given = std::mem::take(&mut self.rest);
-        self.write(&given, true, out).map(|_| ())
+        self.write(&self.rest, true, out).map(|_| ())
     }
 
-    /// Writes the texts of what is there, and answers how many bytes were used.
+    fn keep(&mut self, piece: &[u8]) -> Result<(), Error> {
+        reserve(&mut self.rest, piece.len())?;
+        self.rest.extend_from_slice(piece);
+        Ok(())
+    }
+
+    /// Writes the texts of what is there, and returns how many bytes were used.
     fn write(&self, given: &[u8], last: bool, out: &mut Vec<u8>) -> Result<usize, Error> {
         let mut used = 0;
         let mut wanted = given.len();
         loop {
             let rest = &given[used..];
             let (mut progress, mut fault) = (ffi::Progress::default(), ffi::Fault::default());
-            room(out, wanted)?;
+            reserve(out, wanted)?;
             let free = out.spare_capacity_mut();
-            // Safety: both pointers have the lengths that are told, and lie apart.
+            let (to, room) = (free.as_mut_ptr().cast(), free.len());
+            // Safety: both pointers have the lengths that are given, and don't overlap.
             let status = unsafe {
-                ffi::linkcap_normalize_some(
-                    rest.as_ptr(),
-                    rest.len(),
-                    last,
-                    self.limit,
-                    free.as_mut_ptr().cast(),
-                    free.len(),
-                    &mut progress,
-                    &mut fault,
-                )
+                let (from, length) = (rest.as_ptr(), rest.len());
+                ffi::linkcap_normalize_some(from, length, last, self.limit, to, room, &mut progress, &mut fault)
             };
-            // Safety: so many bytes behind the vector's are written.
-            unsafe { out.set_len(out.len() + progress.written as usize) };
-            used += progress.used as usize;
+            // Safety: this many bytes after the vector's are written.
+            unsafe { out.set_len(out.len() + count(progress.written)?) };
+            used += count(progress.used)?;
             match status {
                 ffi::OK => return Ok(used),
-                ffi::NO_ROOM => wanted = (progress.wanted as usize).max(given.len() - used),
+                ffi::NO_ROOM => wanted = count(progress.wanted)?.max(given.len() - used),
                 _ => {
-                    fault.offset = self.place + used as u64;
-                    return Err(Error::of(status, fault, Vec::new()));
+                    fault.offset = self.start + used as u64;
+                    return Err(Error::of(status, &fault, Vec::new()));
                 }
             }
         }

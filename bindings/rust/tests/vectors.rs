@@ -1,7 +1,8 @@
 //! The calls over the stored vectors, and at the edges.
 
-use linkcap::{Error, Kind, LineOptions, Reader, Side, DEFAULT_LIMIT};
+use linkcap::{Error, Kind, LineOptions, Message, NormalReader, Reader, Side, DEFAULT_LIMIT};
 use std::fs;
+use std::io::{self, Read};
 use std::path::Path;
 
 fn read(name: &str) -> Vec<u8> {
@@ -68,14 +69,50 @@ fn pieces(capture: &[u8], limit: u32, size: usize) -> Written {
     (out, error)
 }
 
+/// A source of pieces of one size, which is interrupted before each.
+struct Chunks<'a> {
+    rest: &'a [u8],
+    size: usize,
+    is_interrupted: bool,
+}
+
+impl Read for Chunks<'_> {
+    fn read(&mut self, to: &mut [u8]) -> io::Result<usize> {
+        self.is_interrupted = !self.is_interrupted;
+        if self.is_interrupted {
+            return Err(io::Error::from(io::ErrorKind::Interrupted));
+        }
+        let size = self.size.min(to.len());
+        (&mut self.rest).take(size as u64).read(to)
+    }
+}
+
+fn by_reader(capture: &[u8], limit: u32, size: usize) -> Written {
+    let source = Chunks { rest: capture, size, is_interrupted: false };
+    let mut reader = NormalReader::new(source, limit).expect("a limit");
+    let mut out = Vec::new();
+    // `read_to_end` goes on after an interruption.
+    let error = reader.read_to_end(&mut out).err().map(|error| {
+        assert_eq!(error.kind(), io::ErrorKind::InvalidData);
+        assert_eq!(reader.read(&mut [0; 9]).expect_err("the same error").to_string(), error.to_string());
+        *error.into_inner().expect("an error inside").downcast::<Error>().expect("one of linkcap")
+    });
+    (out, error)
+}
+
+fn count_messages(capture: &[u8], limit: u32) -> Result<u64, Error> {
+    linkcap::messages(capture, limit).map(|messages| messages.count() as u64)
+}
+
 fn norm_line(capture: &[u8], limit: u32, (text, error): Written) -> String {
     let again = linkcap::measure(capture, limit);
     assert_eq!(linkcap::check(capture, limit).err(), again.clone().err());
     match (error, again) {
-        (None, Ok(numbers)) => format!("{} {} {} {}", hex(&text), numbers.frames, numbers.attributes, numbers.text_len),
+        (None, Ok(numbers)) if count_messages(capture, limit) == Ok(numbers.frames) => format!("{} {} {} {}", hex(&text), numbers.frames, numbers.attributes, numbers.text_len),
         (Some(error), Err(again)) => {
-            let (told, other) = (error.fault().expect("a fault"), again.fault().expect("a fault"));
-            assert_eq!((told.kind, told.offset, told.side), (other.kind, other.offset, None));
+            let (fault, other) = (error.fault().expect("a fault"), again.fault().expect("a fault"));
+            assert_eq!((fault.kind, fault.offset, fault.side), (other.kind, other.offset, None));
+            assert_eq!(count_messages(capture, limit), Err(again));
             format!("{} {error}", hex(&text))
         }
         _ => panic!("a measure with another answer"),
@@ -87,6 +124,7 @@ fn norm() {
     for (i, (limit, captures, line)) in answered("norm").into_iter().enumerate() {
         assert_eq!(norm_line(&captures[0], limit, whole(&captures[0], limit)), line);
         assert_eq!(norm_line(&captures[0], limit, pieces(&captures[0], limit, [1, 7, 100][i % 3])), line);
+        assert_eq!(norm_line(&captures[0], limit, by_reader(&captures[0], limit, [1, 7, 100][i % 3])), line);
     }
 }
 
@@ -159,6 +197,34 @@ fn edges() {
     assert_eq!((fault.kind, fault.side, fault.offset), (Kind::Cut, Some(Side::Second), 0));
     let boxed: Box<dyn std::error::Error + Send + Sync> = Box::new(error);
     assert_eq!(boxed.to_string(), "second: cut frame at 0");
+}
+
+#[test]
+fn messages() {
+    let capture = read("samples/lo-request.bin");
+    let twice = [&capture[..], &capture[..]].concat();
+    let found: Vec<Message> = linkcap::messages(&twice, DEFAULT_LIMIT).expect("a legal capture").collect();
+    // the numbers that samples/lo-request.lines has
+    let (message_type, flags, sequence_number, port_number) = (18, 0x301, 1_526_271_540, 0);
+    let message = |offset| Message { offset, bytes: &capture, message_type, flags, sequence_number, port_number };
+    assert_eq!(found, [message(0), message(48)]);
+    assert_eq!(linkcap::messages(&[], 16).expect("nothing").next(), None);
+}
+
+#[test]
+fn broken_sources() {
+    struct Broken;
+    impl Read for Broken {
+        fn read(&mut self, _: &mut [u8]) -> io::Result<usize> {
+            Err(io::Error::from(io::ErrorKind::BrokenPipe))
+        }
+    }
+    let capture = read("samples/req-veth.bin");
+    let mut reader = NormalReader::new(capture.chain(Broken), DEFAULT_LIMIT).expect("a limit");
+    let mut out = Vec::new();
+    assert_eq!(reader.read_to_end(&mut out).expect_err("a broken source").kind(), io::ErrorKind::BrokenPipe);
+    assert_eq!(out, read("samples/req-veth.bin"));
+    assert_eq!(NormalReader::new(&[][..], 15).err(), Some(Error::Limit));
 }
 
 #[test]

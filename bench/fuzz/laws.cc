@@ -1,0 +1,257 @@
+// A libFuzzer target over linkcap.h: the laws of one capture, of its pieces and of two captures are the oracle.
+//
+// liblinkcap isn't instrumented. Names in lines, refused attributes and kinds of faults stand for its coverage.
+#include "library.h"
+
+#include <algorithm>
+#include <cstdio>
+#include <cstdlib>
+#include <random>
+
+static const Bytes *input;
+// Nobody here reads them: without `used` the compiler drops them.
+__attribute__((used, section("__libfuzzer_extra_counters"))) static uint8_t counters[1 << 16];
+
+static struct {
+    uint64_t inputs, legal, faults[8], pairs_same, pairs_different, pieces;
+} counts;
+
+void report_broken(const char *law, const char *file, int line)
+{
+    fprintf(stderr, "%s:%d: LAW BROKEN: %s\ninput of %zu bytes: ", file, line, law, input ? input->size() : 0);
+    for (size_t i = 0; input && i < input->size(); i++)
+        fprintf(stderr, "%02x", (*input)[i]);
+    fprintf(stderr, "\n");
+    abort();
+}
+
+static void report_counts(void)
+{
+    fprintf(stderr, "inputs %lu, legal %lu, faults", counts.inputs, counts.legal);
+    for (int kind = LINKCAP_CUT; kind <= LINKCAP_TEXT_OVER_LIMIT; kind++)
+        fprintf(stderr, " %lu", counts.faults[kind]);
+    fprintf(stderr, ", pairs alike %lu, different %lu, pieces %lu\n", counts.pairs_same, counts.pairs_different, counts.pieces);
+}
+
+// ---- coverage
+
+static uint32_t hash(const uint8_t *from, const uint8_t *to)
+{
+    uint32_t value = 2166136261u;
+    for (; from < to; from++)
+        if (*from < '0' || *from > '9')
+            value = (value ^ *from) * 16777619u;
+    return value;
+}
+
+static void touch(const uint8_t *from, const uint8_t *to)
+{
+    uint32_t value = hash(from, to);
+    counters[(value ^ value >> 16) & 0xffff] = 1;
+}
+
+// A line's indentation and name, and the name of its value.
+static void touch_line(const uint8_t *from, const uint8_t *to)
+{
+    const uint8_t *name = std::find_if(from, to, [](uint8_t byte) { return byte != ' '; });
+    touch(from, std::find(name, to, ' '));
+    const uint8_t *value_name = std::find(name, to, '(');
+    touch(value_name, to);
+}
+
+static void touch_lines(const Bytes &shown)
+{
+    const uint8_t *at = shown.data(), *end = at + shown.size();
+    while (at < end) {
+        const uint8_t *newline = std::find(at, end, '\n');
+        touch_line(at, newline);
+        at = newline + 1;
+    }
+}
+
+// ---- laws
+
+static bool is_text(const Bytes &text, bool has_newlines)
+{
+    return std::all_of(text.begin(), text.end(), [=](uint8_t byte) {
+        return (byte >= ' ' && byte < 0x7f) || (has_newlines && byte == '\n');
+    });
+}
+
+static bool is_same_fault(const linkcap_fault &one, const linkcap_fault &other)
+{
+    return one.kind == other.kind && one.offset == other.offset && one.side == other.side;
+}
+
+static Bytes front(const Bytes &capture, size_t length)
+{
+    return Bytes(capture.begin(), capture.begin() + length);
+}
+
+static void check_legal(const Bytes &capture, uint32_t limit, const Bytes &text, const Bytes &shown)
+{
+    struct linkcap_measure sizes, text_sizes;
+    LAW(measure(capture, limit, sizes).status == LINKCAP_OK && sizes.text_high == 0 && sizes.text_low == text.size());
+    LAW(measure(text, limit, text_sizes).status == LINKCAP_OK && text_sizes.frames == sizes.frames);
+    Result again = normalize(text, limit);
+    LAW(again.status == LINKCAP_OK && again.written == text);
+    LAW(same(capture, text, limit).status == LINKCAP_OK && same(text, capture, limit).status == LINKCAP_OK);
+    LAW(same(capture, capture, limit).status == LINKCAP_OK);
+    Result text_lines = lines(text, limit, {});
+    LAW(text_lines.status == LINKCAP_OK && text_lines.written == shown);
+    Result fewer = lines(capture, limit, {true, {}});
+    LAW(fewer.status == LINKCAP_OK && fewer.written.size() <= shown.size());
+    Result some = lines(capture, limit, {false, {16, 3}});
+    LAW(some.status == LINKCAP_OK && some.written.size() <= shown.size());
+    LAW(why(capture, limit).status == LINKCAP_OK);
+}
+
+static void check_reason(const Bytes &capture, uint32_t limit, const linkcap_fault &fault)
+{
+    Reason reason = why(capture, limit);
+    LAW((reason.status == LINKCAP_FAULT) == (fault.kind == LINKCAP_REFUSED));
+    LAW(reason.status == LINKCAP_FAULT || reason.status == LINKCAP_OK);
+    LAW(is_text(reason.words, false));
+    LAW(reason.words.empty() || reason.place == UINT64_MAX || (reason.place > fault.offset && reason.place <= capture.size()));
+    touch(reason.words.data(), reason.words.data() + reason.words.size());
+}
+
+static void check_fault(const Bytes &capture, uint32_t limit, const Result &text, const Bytes &shown)
+{
+    const linkcap_fault &fault = text.fault;
+    LAW(fault.kind >= LINKCAP_CUT && fault.kind <= LINKCAP_TEXT_OVER_LIMIT && fault.side == 0);
+    LAW(fault.offset < capture.size() && fault.offset % 4 == 0);
+    Bytes before = front(capture, fault.offset);
+    Result before_text = normalize(before, limit), before_lines = lines(before, limit, {});
+    LAW(before_text.status == LINKCAP_OK && before_text.written == text.written);
+    LAW(before_lines.status == LINKCAP_OK && before_lines.written == shown);
+    Result first = same(capture, capture, limit), second = same({}, capture, limit);
+    LAW(first.status == LINKCAP_FAULT && is_same_fault(first.fault, {fault.kind, 1, fault.offset}));
+    LAW(second.status == LINKCAP_FAULT && is_same_fault(second.fault, {fault.kind, 2, fault.offset}));
+    LAW(is_text(fault_text(fault), false));
+    check_reason(capture, limit, fault);
+    counts.faults[fault.kind]++;
+}
+
+static void check_room(const Bytes &capture, uint32_t limit, size_t length, std::minstd_rand &random)
+{
+    if (length == 0)
+        return;
+    size_t room = random() % 2 ? length - 1 : random() % length;
+    LAW(wanted_room(capture, limit, room) == length);
+}
+
+// ---- pieces
+
+struct Stream {
+    const Bytes &capture;
+    uint32_t limit;
+    size_t used, there; // bytes of the capture
+    bool is_last;
+    Bytes written;
+};
+
+// Calls with what is there until it wants no more room.
+static Piece go_on(Stream &stream, size_t room)
+{
+    for (;;) {
+        Bytes rest(stream.capture.begin() + stream.used, stream.capture.begin() + stream.there);
+        Piece piece = normalize_some(rest, stream.is_last, stream.limit, room);
+        counts.pieces++;
+        LAW(piece.status != LINKCAP_NO_ROOM || piece.progress.used > 0 || room < piece.progress.wanted);
+        stream.written.insert(stream.written.end(), piece.written.begin(), piece.written.end());
+        stream.used += piece.progress.used;
+        if (piece.status != LINKCAP_NO_ROOM)
+            return piece;
+        room = piece.progress.wanted;
+    }
+}
+
+// In pieces of any sizes, with any room, a capture has the text and the fault that it has as a whole.
+static void check_pieces(const Bytes &capture, uint32_t limit, const Result &text, std::minstd_rand &random)
+{
+    Stream stream = {capture, limit, 0, 0, false, {}};
+    Piece piece = {};
+    while (!stream.is_last && piece.status == LINKCAP_OK) {
+        size_t more = random() % 3 == 0 ? random() % 5 : random() % (capture.size() + 2);
+        stream.there = std::min(capture.size(), stream.there + more);
+        stream.is_last = stream.there == capture.size() && random() % 2;
+        size_t left = stream.there - stream.used;
+        piece = go_on(stream, random() % 4 ? left + 64 : random() % (left + 1));
+    }
+    LAW(piece.status == text.status && stream.written == text.written);
+    LAW(stream.used == (text.status == LINKCAP_OK ? capture.size() : text.fault.offset));
+    LAW(text.status == LINKCAP_OK || piece.fault.kind == text.fault.kind);
+}
+
+static void check_one(const Bytes &capture, uint32_t limit, std::minstd_rand &random)
+{
+    Result text = normalize(capture, limit), shown = lines(capture, limit, {}), checked = check(capture, limit);
+    struct linkcap_measure sizes;
+    Result measured = measure(capture, limit, sizes);
+    LAW(checked.status == text.status && measured.status == text.status && shown.status == text.status);
+    LAW(is_text(shown.written, true) && text.written.size() <= 77 * capture.size());
+    touch_lines(shown.written);
+    check_room(capture, limit, text.written.size(), random);
+    if (text.status == LINKCAP_OK) {
+        counts.legal++;
+        check_legal(capture, limit, text.written, shown.written);
+    } else {
+        LAW(is_same_fault(checked.fault, text.fault) && is_same_fault(measured.fault, text.fault));
+        LAW(is_same_fault(shown.fault, text.fault));
+        check_fault(capture, limit, text, shown.written);
+    }
+    check_pieces(capture, limit, text, random);
+}
+
+// ---- two captures
+
+static void check_pair(const Bytes &first, const Bytes &second, uint32_t limit)
+{
+    Result one = normalize(first, limit), other = normalize(second, limit), found = same(first, second, limit);
+    if (one.status == LINKCAP_FAULT || other.status == LINKCAP_FAULT) {
+        bool is_first = one.status == LINKCAP_FAULT;
+        const linkcap_fault &fault = is_first ? one.fault : other.fault;
+        LAW(found.status == LINKCAP_FAULT && is_same_fault(found.fault, {fault.kind, is_first ? 1u : 2u, fault.offset}));
+        return;
+    }
+    bool is_same = one.written == other.written;
+    LAW(found.status == (is_same ? LINKCAP_OK : LINKCAP_DIFFERENT) && same(second, first, limit).status == found.status);
+    LAW((lines(first, limit, {}).written == lines(second, limit, {}).written) == is_same);
+    (is_same ? counts.pairs_same : counts.pairs_different)++;
+}
+
+// A capture with one or two bytes changed.
+static Bytes neighbour(Bytes capture, std::minstd_rand &random)
+{
+    if (capture.empty())
+        return capture;
+    for (uint32_t changes = 1 + random() % 2; changes > 0; changes--) {
+        uint8_t &byte = capture[random() % capture.size()];
+        const uint8_t values[] = {uint8_t(byte ^ 1 << random() % 8), uint8_t(random()), 0, 0x80};
+        byte = values[random() % 4];
+    }
+    return capture;
+}
+
+extern "C" int LLVMFuzzerInitialize(int *, char ***)
+{
+    atexit(report_counts);
+    return 0;
+}
+
+extern "C" int LLVMFuzzerTestOneInput(const uint8_t *bytes, size_t length)
+{
+    static const uint32_t limits[] = {16, 17, 20, 32, 48, 100, 1000, 65535, UINT32_MAX};
+    if (length > 1 << 20)
+        return 0;
+    Bytes capture(bytes, bytes + length);
+    input = &capture;
+    counts.inputs++;
+    std::minstd_rand random(hash(bytes, bytes + length) | 1);
+    uint32_t limit = random() % 8 ? LINKCAP_DEFAULT_LIMIT : limits[random() % 9];
+    check_one(capture, limit, random);
+    check_pair(capture, neighbour(capture, random), limit);
+    input = nullptr;
+    return 0;
+}

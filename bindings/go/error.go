@@ -1,0 +1,95 @@
+//go:build cgo && linux
+
+package linkcap
+
+// #include <linkcap.h>
+import "C"
+
+import (
+	"errors"
+	"fmt"
+	"unsafe"
+)
+
+// A Kind is what is wrong with a capture. A Kind is an error, for errors.Is(err, linkcap.Cut).
+type Kind uint32
+
+// Kinds of faults of captures, numbered as in linkcap.h.
+const (
+	Cut           Kind = C.LINKCAP_CUT             // fewer bytes are left than a header has, or than its length
+	ShortLength   Kind = C.LINKCAP_SHORT_LENGTH    // the header's length is under 16
+	OverLimit     Kind = C.LINKCAP_OVER_LIMIT      // the header's length is over the limit
+	Refused       Kind = C.LINKCAP_REFUSED         // the body isn't accepted
+	EmptyPorts    Kind = C.LINKCAP_EMPTY_PORTS     // an accepted IFLA_VF_PORTS keeps no entry
+	Unfit         Kind = C.LINKCAP_UNFIT           // an attribute of the text would be longer than 65535 bytes
+	TextOverLimit Kind = C.LINKCAP_TEXT_OVER_LIMIT // the length of the message's text would be over the limit
+)
+
+var kindTexts = map[Kind]string{
+	Cut: "cut frame", ShortLength: "length under 16", OverLimit: "frame over the limit", Refused: "refused body",
+	EmptyPorts: "ports with foreign entries alone", Unfit: "attribute over 65535", TextOverLimit: "normal text over the limit",
+}
+
+// Error returns the words of the kind, as "cut frame".
+func (k Kind) Error() string {
+	if text, ok := kindTexts[k]; ok {
+		return text
+	}
+	return fmt.Sprintf("fault of kind %d", uint32(k))
+}
+
+// An Error is a capture's first fault.
+type Error struct {
+	Kind    Kind
+	Side    int      // of two captures 1 for the first and 2 for the second, else 0
+	Offset  uint64   // the start of the message that has it, in bytes from the capture's start
+	Written []byte   // what the call wrote before it: normal text, or lines in ASCII
+	Why     *Refusal // the attribute that isn't accepted and the reason, if the kind is Refused
+}
+
+// Error returns the words of the fault, as "cut frame at 48" or "second: cut frame at 48", followed by the reason if a
+// body is refused.
+func (e *Error) Error() string {
+	words := e.words()
+	if e.Why != nil {
+		words += ": " + e.Why.Words
+	}
+	return words
+}
+
+// Unwrap returns the kind.
+func (e *Error) Unwrap() error { return e.Kind }
+
+func (e *Error) words() string {
+	var text [C.LINKCAP_FAULT_TEXT]byte
+	var written C.uint64_t
+	fault := C.struct_linkcap_fault{kind: C.uint32_t(e.Kind), side: C.uint32_t(e.Side), offset: C.uint64_t(e.Offset)}
+	status := C.linkcap_fault_text(&fault, (*C.uint8_t)(unsafe.Pointer(&text[0])), C.size_t(len(text)), &written)
+	if status != C.LINKCAP_OK {
+		return fmt.Sprintf("%v at %d", e.Kind, e.Offset)
+	}
+	return string(text[:written])
+}
+
+// Errors that aren't faults of a capture.
+var (
+	// ErrLimit is returned for a limit under 16.
+	ErrLimit = errors.New("linkcap: limit under 16")
+	// ErrMemory is returned if the library ran out of memory, or the result is longer than memory.
+	ErrMemory = errors.New("linkcap: out of memory")
+)
+
+// failure returns the error for a status that isn't a success. faulty is the capture that the fault is of.
+func failure(status C.uint32_t, fault C.struct_linkcap_fault, faulty, written []byte, limit Limit) error {
+	switch status {
+	case C.LINKCAP_WRONG:
+		return ErrLimit
+	case C.LINKCAP_FAULT:
+		e := &Error{Kind: Kind(fault.kind), Side: int(fault.side), Offset: uint64(fault.offset), Written: written}
+		if e.Kind == Refused {
+			e.Why, _ = limit.Why(faulty)
+		}
+		return e
+	}
+	return ErrMemory
+}

@@ -1,0 +1,253 @@
+package linkcap_test
+
+import (
+	"bytes"
+	"errors"
+	"fmt"
+	"io"
+	"math/rand"
+	"os"
+	"path/filepath"
+	"sync"
+	"testing"
+	"testing/iotest"
+
+	"linkcap.invalid/linkcap"
+)
+
+// top is the repository's.
+const top = "../.."
+
+var names = []string{"get-veth", "notify-vrf", "req-veth", "lo-request"}
+
+// refused has an IFLA_MTU of 3 bytes.
+var refused = append(append([]byte{0x28, 0, 0, 0, 0x10}, make([]byte, 27)...), 7, 0, 4, 0, 1, 2, 3, 0)
+
+func read(t testing.TB, name string) []byte {
+	t.Helper()
+	text, err := os.ReadFile(filepath.Join(top, name))
+	if err != nil {
+		t.Fatal(err)
+	}
+	return text
+}
+
+func sample(t testing.TB, name string) []byte {
+	t.Helper()
+	return read(t, "samples/"+name+".bin")
+}
+
+func normal(t testing.TB, capture []byte) []byte {
+	t.Helper()
+	text, err := linkcap.Normalize(capture)
+	if err != nil {
+		t.Fatal(err)
+	}
+	return text
+}
+
+func faultOf(t testing.TB, err error) *linkcap.Error {
+	t.Helper()
+	var fault *linkcap.Error
+	if !errors.As(err, &fault) {
+		t.Fatalf("%v is no fault", err)
+	}
+	return fault
+}
+
+func TestSamples(t *testing.T) {
+	for _, name := range names {
+		capture := sample(t, name)
+		shown, err := linkcap.Lines(capture, linkcap.LineOptions{})
+		if err != nil || shown != string(read(t, "samples/"+name+".lines")) {
+			t.Errorf("%s: %v, lines differ", name, err)
+		}
+		text := normal(t, capture)
+		sizes, err := linkcap.Measure(capture)
+		if err != nil || sizes.TextLen != uint64(len(text)) {
+			t.Errorf("%s: %v %v, %d bytes", name, sizes, err, len(text))
+		}
+		if same, err := linkcap.Same(capture, text); !same || err != nil {
+			t.Errorf("%s: %v %v", name, same, err)
+		}
+	}
+}
+
+func TestFaults(t *testing.T) {
+	capture := sample(t, "req-veth") // which is its own normal text
+	cut := append(append([]byte(nil), capture...), capture[:20]...)
+	words := fmt.Sprintf("cut frame at %d", len(capture))
+	_, err := linkcap.Normalize(cut)
+	fault := faultOf(t, err)
+	if fault.Kind != linkcap.Cut || fault.Offset != uint64(len(capture)) || fault.Side != 0 || fault.Why != nil || err.Error() != words {
+		t.Errorf("%#v", err)
+	}
+	if !errors.Is(err, linkcap.Cut) || errors.Is(err, linkcap.Refused) {
+		t.Error("Is")
+	}
+	if !bytes.Equal(fault.Written, capture) {
+		t.Errorf("written %x", fault.Written)
+	}
+	if _, err := linkcap.Same(capture, cut); err == nil || err.Error() != "second: "+words {
+		t.Error(err)
+	}
+	if err := linkcap.Limit(16).Check(capture); !errors.Is(err, linkcap.OverLimit) {
+		t.Error(err)
+	}
+	for kind := linkcap.Cut; kind <= linkcap.TextOverLimit; kind++ {
+		if got, want := (&linkcap.Error{Kind: kind, Offset: 7}).Error(), kind.Error()+" at 7"; got != want {
+			t.Errorf("%q, want %q", got, want)
+		}
+	}
+}
+
+func TestReasons(t *testing.T) {
+	capture := sample(t, "lo-request")
+	both := append(append([]byte(nil), capture...), refused...)
+	const reason = "IFLA_MTU: a payload of 3 bytes at 80"
+	_, sameErr := linkcap.Same(capture, both)
+	_, readErr := io.ReadAll(linkcap.NewReader(iotest.OneByteReader(bytes.NewReader(both))))
+	for err, want := range map[error]string{
+		linkcap.Check(both): "refused body at 48: " + reason,
+		readErr:             "refused body at 48: " + reason,
+		sameErr:             "second: refused body at 48: " + reason,
+	} {
+		fault := faultOf(t, err)
+		if err.Error() != want || fault.Why.Offset != 80 || !fault.Why.HasOffset {
+			t.Errorf("%v, want %s", err, want)
+		}
+	}
+	why, err := linkcap.Why(both)
+	if err != nil || why.String() != reason {
+		t.Error(why, err)
+	}
+}
+
+func TestLimits(t *testing.T) {
+	for _, limit := range []linkcap.Limit{0, 15} {
+		_, measureErr := limit.Measure(nil)
+		_, sameErr := limit.Same(nil, nil)
+		_, normalErr := limit.Normalize(nil)
+		_, linesErr := limit.Lines(nil, linkcap.LineOptions{})
+		_, whyErr := limit.Why(nil)
+		_, messagesErr := limit.Messages(nil)
+		_, readErr := io.ReadAll(limit.NewReader(bytes.NewReader(nil)))
+		for i, err := range []error{limit.Check(nil), measureErr, sameErr, normalErr, linesErr, whyErr, messagesErr, readErr} {
+			if err != linkcap.ErrLimit {
+				t.Errorf("call %d: %v", i, err)
+			}
+		}
+	}
+}
+
+func TestEmpty(t *testing.T) {
+	for _, empty := range [][]byte{nil, {}} {
+		if err := linkcap.Check(empty); err != nil {
+			t.Error(err)
+		}
+		text, err := linkcap.Normalize(empty)
+		shown, linesErr := linkcap.Lines(empty, linkcap.LineOptions{})
+		same, sameErr := linkcap.Same(empty, nil)
+		why, whyErr := linkcap.Why(empty)
+		messages, messagesErr := linkcap.Messages(empty)
+		read, readErr := io.ReadAll(linkcap.NewReader(bytes.NewReader(empty)))
+		if len(text) != 0 || shown != "" || !same || why != nil || len(messages) != 0 || len(read) != 0 {
+			t.Error(text, shown, same, why, messages, read)
+		}
+		for i, err := range []error{err, linesErr, sameErr, whyErr, messagesErr, readErr} {
+			if err != nil {
+				t.Errorf("call %d: %v", i, err)
+			}
+		}
+	}
+}
+
+func TestAppendNormal(t *testing.T) {
+	capture := sample(t, "req-veth")
+	out, err := linkcap.DefaultLimit.AppendNormal([]byte("before"), capture)
+	if err != nil || string(out) != "before"+string(capture) {
+		t.Error(err, len(out))
+	}
+	cut := append(append([]byte(nil), capture...), 1)
+	out, err = linkcap.DefaultLimit.AppendNormal([]byte("before"), cut)
+	if !errors.Is(err, linkcap.Cut) || string(out) != "before"+string(capture) {
+		t.Error(err, len(out))
+	}
+}
+
+func TestMessages(t *testing.T) {
+	capture := sample(t, "lo-request")
+	messages, err := linkcap.Messages(append(append([]byte(nil), capture...), capture...))
+	if err != nil || len(messages) != 2 {
+		t.Fatal(err, len(messages))
+	}
+	for i, m := range messages {
+		// the numbers that samples/lo-request.lines has
+		want := linkcap.Message{Offset: 48 * i, Type: 18, Flags: 0x301, SequenceNumber: 1526271540, Bytes: capture}
+		if fmt.Sprint(m) != fmt.Sprint(want) || cap(m.Bytes) != 48 {
+			t.Errorf("%v, want %v", m, want)
+		}
+	}
+	if _, err := linkcap.Messages(capture[:47]); !errors.Is(err, linkcap.Cut) {
+		t.Error(err)
+	}
+}
+
+func TestReader(t *testing.T) {
+	for _, name := range names {
+		capture := sample(t, name)
+		want := normal(t, capture)
+		for _, wrap := range []func(io.Reader) io.Reader{
+			func(r io.Reader) io.Reader { return r }, iotest.OneByteReader, iotest.HalfReader, iotest.DataErrReader,
+		} {
+			got, err := io.ReadAll(linkcap.NewReader(wrap(bytes.NewReader(capture))))
+			if err != nil || !bytes.Equal(got, want) {
+				t.Errorf("%s: %v, %d bytes", name, err, len(got))
+			}
+		}
+		broken := errors.New("broken")
+		got, err := io.ReadAll(linkcap.NewReader(io.MultiReader(bytes.NewReader(capture), iotest.ErrReader(broken))))
+		if err != broken || !bytes.Equal(got, want) {
+			t.Errorf("%s: %v, %d bytes", name, err, len(got))
+		}
+		if err := iotest.TestReader(linkcap.NewReader(bytes.NewReader(capture)), want); err != nil {
+			t.Error(err)
+		}
+	}
+}
+
+func TestReaderOfLongMessages(t *testing.T) {
+	message := make([]byte, 1<<19)
+	message[2], message[4] = 1<<3, 20
+	got, err := io.ReadAll(linkcap.NewReader(iotest.OneByteReader(bytes.NewReader(message))))
+	if err != nil || !bytes.Equal(got, message) {
+		t.Error(err, len(got))
+	}
+}
+
+func TestGoroutines(t *testing.T) {
+	capture := sample(t, "notify-vrf")
+	want := normal(t, capture)
+	var all sync.WaitGroup
+	for i := 0; i < 16; i++ {
+		all.Add(1)
+		go func(seed int64) {
+			defer all.Done()
+			normalizePrefixes(t, rand.New(rand.NewSource(seed)), capture, want)
+		}(int64(i))
+	}
+	all.Wait()
+}
+
+func normalizePrefixes(t *testing.T, random *rand.Rand, capture, want []byte) {
+	for i := 0; i < 200; i++ {
+		text, err := linkcap.Normalize(capture[:random.Intn(len(capture)+1)])
+		var fault *linkcap.Error
+		if errors.As(err, &fault) {
+			text = fault.Written
+		}
+		if !bytes.HasPrefix(want, text) {
+			t.Error("texts differ")
+		}
+	}
+}

@@ -1,0 +1,115 @@
+// Package linkcaptest compares captures with golden files of lines, in tests.
+//
+//	func TestAddVeth(t *testing.T) {
+//		linkcaptest.Golden(t, request, "testdata/veth.lines")
+//	}
+//
+// go test -linkcap.update writes the files. Only test binaries of packages that import this one have the flag, so name
+// them: go test ./cni -linkcap.update.
+package linkcaptest
+
+import (
+	"errors"
+	"flag"
+	"fmt"
+	"io/fs"
+	"os"
+	"path/filepath"
+	"regexp"
+	"strconv"
+	"strings"
+	"testing"
+
+	"linkcap.invalid/linkcap"
+)
+
+var update = flag.Bool("linkcap.update", false, "write the golden files of linkcaptest.Golden")
+
+var firstLine = regexp.MustCompile(`^# linkcap lines, format ([0-9]+)\r?\n`)
+
+// Golden compares a capture's lines with those of a file, without sequence and port numbers, and fails with a diff if
+// they differ. It stops the test at a fault, at an empty capture, and if the file can't be read or written.
+//
+// The file's first line has the format version of the lines; a file without it, as linkshow writes it, will do.
+func Golden(t testing.TB, capture []byte, path string) {
+	t.Helper()
+	GoldenLines(t, capture, path, linkcap.LineOptions{WithoutNumbers: true})
+}
+
+// GoldenLines is Golden with lines of the caller's choice.
+func GoldenLines(t testing.TB, capture []byte, path string, options linkcap.LineOptions) {
+	t.Helper()
+	shown, err := linkcap.Lines(capture, options)
+	if err != nil {
+		t.Fatalf("linkcap: %v", err)
+	}
+	if shown == "" {
+		t.Fatalf("linkcap: the capture is empty, or has no message of these types")
+	}
+	if *update {
+		if err := write(path, fmt.Sprintf("# linkcap lines, format %d\n%s", linkcap.Format, shown)); err != nil {
+			t.Fatalf("linkcap: %v", err)
+		}
+		return
+	}
+	text, err := os.ReadFile(path)
+	if errors.Is(err, fs.ErrNotExist) {
+		t.Fatalf("linkcap: no golden file %s: write it by -linkcap.update", path)
+	}
+	if err != nil {
+		t.Fatalf("linkcap: %v", err)
+	}
+	if version, expected := parse(string(text)); expected != shown {
+		t.Errorf("linkcap: %s", difference(path, version, expected, shown))
+	}
+}
+
+// Same fails if two captures don't mean the same, with a diff of their lines; sequence and port numbers count.
+func Same(t testing.TB, got, want []byte) {
+	t.Helper()
+	same, err := linkcap.Same(got, want)
+	if err != nil {
+		t.Fatalf("linkcap: %v", err)
+	}
+	if same {
+		return
+	}
+	// Both are legal.
+	wanted, _ := linkcap.Lines(want, linkcap.LineOptions{})
+	found, _ := linkcap.Lines(got, linkcap.LineOptions{})
+	t.Errorf("linkcap: the captures don't mean the same\n%s", Diff("want", "got", wanted, found))
+}
+
+func write(path, text string) error {
+	if err := os.MkdirAll(filepath.Dir(path), 0o777); err != nil {
+		return err
+	}
+	return os.WriteFile(path, []byte(text), 0o666)
+}
+
+// parse returns the format version that a golden file names, or 0, and its lines.
+func parse(text string) (int, string) {
+	first := firstLine.FindStringSubmatch(text)
+	if first == nil {
+		return 0, text
+	}
+	version, err := strconv.Atoi(first[1])
+	if err != nil {
+		return 0, text
+	}
+	return version, text[len(first[0]):]
+}
+
+// difference returns why a file isn't that of a capture.
+func difference(path string, version int, expected, shown string) string {
+	if strings.ReplaceAll(expected, "\r\n", "\n") == shown {
+		return path + " has the capture's lines, but ends them by CRLF: keep it as it was written, in git by a line" +
+			" `*.lines -text` of .gitattributes"
+	}
+	reason := "the capture isn't that of the golden file"
+	if version != 0 && version != linkcap.Format {
+		reason = fmt.Sprintf("%s has lines of format %d, and this linkcap writes format %d: update the file with the capture"+
+			" that it was made of (CHANGELOG.md)", path, version, linkcap.Format)
+	}
+	return reason + "\n" + Diff(path, "this capture", expected, shown)
+}

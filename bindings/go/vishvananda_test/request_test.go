@@ -1,0 +1,144 @@
+// Package vishvananda_test compares requests of github.com/vishvananda/netlink with golden files.
+package vishvananda_test
+
+import (
+	"flag"
+	"net"
+	"os"
+	"os/exec"
+	"path/filepath"
+	"runtime"
+	"testing"
+
+	"github.com/vishvananda/netlink"
+	"github.com/vishvananda/netlink/nl"
+	"golang.org/x/sys/unix"
+
+	"linkcap.invalid/linkcap"
+	"linkcap.invalid/linkcap/linkcaptest"
+)
+
+// newLink begins a request as netlink.LinkAdd does.
+func newLink(name string) *nl.NetlinkRequest {
+	request := nl.NewNetlinkRequest(unix.RTM_NEWLINK, unix.NLM_F_CREATE|unix.NLM_F_EXCL|unix.NLM_F_ACK)
+	request.AddData(nl.NewIfInfomsg(unix.AF_UNSPEC))
+	request.AddData(nl.NewRtAttr(unix.IFLA_IFNAME, nl.ZeroTerminated(name)))
+	return request
+}
+
+// linkInfo returns the data of a kind in an IFLA_LINKINFO.
+func linkInfo(kind string) (info, data *nl.RtAttr) {
+	info = nl.NewRtAttr(unix.IFLA_LINKINFO, nil)
+	info.AddRtAttr(nl.IFLA_INFO_KIND, nl.NonZeroTerminated(kind))
+	return info, info.AddRtAttr(nl.IFLA_INFO_DATA, nil)
+}
+
+func addVlan(name string, parent uint32, id uint16, mtu uint32) []byte {
+	request := newLink(name)
+	request.AddData(nl.NewRtAttr(unix.IFLA_LINK, nl.Uint32Attr(parent)))
+	request.AddData(nl.NewRtAttr(unix.IFLA_MTU, nl.Uint32Attr(mtu)))
+	info, data := linkInfo("vlan")
+	data.AddRtAttr(nl.IFLA_VLAN_ID, nl.Uint16Attr(id))
+	request.AddData(info)
+	return request.Serialize()
+}
+
+func addVeth(name, peerName string, address net.HardwareAddr) []byte {
+	request := newLink(name)
+	info, data := linkInfo("veth")
+	peer := data.AddRtAttr(nl.VETH_INFO_PEER, nil)
+	nl.NewIfInfomsgChild(peer, unix.AF_UNSPEC)
+	peer.AddRtAttr(unix.IFLA_IFNAME, nl.ZeroTerminated(peerName))
+	peer.AddRtAttr(unix.IFLA_ADDRESS, []byte(address))
+	request.AddData(info)
+	return request.Serialize()
+}
+
+func TestVlan(t *testing.T) {
+	linkcaptest.Golden(t, addVlan("eth0.5", 2, 5, 1450), "testdata/vlan.lines")
+}
+
+func TestVeth(t *testing.T) {
+	linkcaptest.Golden(t, addVeth("v0", "v1", net.HardwareAddr{2, 0, 0, 0, 0, 1}), "testdata/veth.lines")
+}
+
+func TestPaddingMeansNothing(t *testing.T) {
+	one := addVlan("eth0.5", 2, 5, 1450)
+	other := append([]byte(nil), one...)
+	other[len(other)-1] = 0xee // padding of IFLA_VLAN_ID
+	if string(one) == string(other) {
+		t.Fatal("equal bytes")
+	}
+	linkcaptest.Same(t, other, one)
+}
+
+// withParent returns attributes of a link above the first one.
+func withParent(name string) netlink.LinkAttrs {
+	attributes := named(name)
+	attributes.ParentIndex = 1
+	return attributes
+}
+
+func named(name string) netlink.LinkAttrs {
+	attributes := netlink.NewLinkAttrs()
+	attributes.Name = name
+	return attributes
+}
+
+var links = map[string]netlink.Link{
+	"bridge":  &netlink.Bridge{LinkAttrs: named("br0")},
+	"dummy":   &netlink.Dummy{LinkAttrs: named("d0")},
+	"ipvlan":  &netlink.IPVlan{LinkAttrs: withParent("i0"), Mode: netlink.IPVLAN_MODE_L2},
+	"macvlan": &netlink.Macvlan{LinkAttrs: withParent("m0"), Mode: netlink.MACVLAN_MODE_BRIDGE},
+	"veth":    &netlink.Veth{LinkAttrs: named("v0"), PeerName: "v1"},
+	"vlan":    &netlink.Vlan{LinkAttrs: withParent("e0.5"), VlanId: 5, VlanProtocol: netlink.VLAN_PROTOCOL_8021Q},
+	"vxlan":   &netlink.Vxlan{LinkAttrs: named("vx0"), VxlanId: 10, Port: 4789, Learning: true},
+}
+
+var add = flag.String("add", "", "the link that this program adds, in place of its tests")
+
+func TestMain(m *testing.M) {
+	flag.Parse()
+	if *add == "" {
+		os.Exit(m.Run())
+	}
+	runtime.LockOSThread()
+	if err := netlink.LinkAdd(links[*add]); err != nil {
+		println(err.Error())
+		os.Exit(1)
+	}
+}
+
+// TestLinkAdd compares with golden files what netlink.LinkAdd itself sends, which strace shows.
+func TestLinkAdd(t *testing.T) {
+	if os.Geteuid() != 0 {
+		t.Skip("needs root, for a network namespace")
+	}
+	for _, tool := range []string{"strace", "unshare", "python3"} {
+		if _, err := exec.LookPath(tool); err != nil {
+			t.Skip(err)
+		}
+	}
+	for name := range links {
+		t.Run(name, func(t *testing.T) {
+			options := linkcap.LineOptions{WithoutNumbers: true, Only: []uint16{unix.RTM_NEWLINK}}
+			linkcaptest.GoldenLines(t, requestOf(t, name), filepath.Join("testdata", "linkadd-"+name+".lines"), options)
+		})
+	}
+}
+
+// requestOf returns what this program sends where it adds a link.
+func requestOf(t *testing.T, name string) []byte {
+	t.Helper()
+	trace := filepath.Join(t.TempDir(), "trace")
+	run := exec.Command("unshare", "-n", "strace", "-f", "-yy", "-e", "trace=sendmsg,sendto", "-e", "write=all", "-o", trace,
+		os.Args[0], "-add="+name)
+	if out, err := run.CombinedOutput(); err != nil {
+		t.Logf("%v: %s", err, out) // this kernel may lack the kind; the request was sent
+	}
+	capture, err := exec.Command("python3", "../../../samples/strace_to_capture.py", trace).Output()
+	if err != nil {
+		t.Fatal(err)
+	}
+	return capture
+}

@@ -1,0 +1,151 @@
+"""Golden files, and `python -m linkcap`."""
+import os
+import subprocess
+import sys
+import tempfile
+import unittest
+from typing import List, Tuple
+
+import linkcap
+from support import TOP, read, sample
+
+REFUSED = bytes.fromhex("28000000100000000000000000000000") + bytes(16) + bytes.fromhex("0700040001020300")
+
+
+class Golden(unittest.TestCase):
+    def setUp(self) -> None:
+        self.capture = sample("lo-request.bin")
+        folder = tempfile.TemporaryDirectory()
+        self.addCleanup(folder.cleanup)
+        self.path = os.path.join(folder.name, "golden", "new", "lo.lines")
+
+    def written(self) -> str:
+        with open(self.path, encoding="ascii", newline="") as file:
+            return file.read()
+
+    def write(self, text: str) -> None:
+        os.makedirs(os.path.dirname(self.path), exist_ok=True)
+        with open(self.path, "w", encoding="utf-8", newline="") as file:
+            file.write(text)
+
+    def test_lines_of_samples(self) -> None:
+        for name in ("get-veth", "lo-request", "notify-vrf", "req-veth"):
+            capture = sample(name + ".bin")
+            self.assertEqual(linkcap.lines(capture), sample(name + ".lines").decode())
+            linkcap.golden(capture, os.path.join(TOP, "samples", name + ".lines"), numbers=True)
+        shown = linkcap.lines(self.capture, numbers=False)
+        self.assertEqual(shown.splitlines()[0], "RTM_GETLINK flags 0x301 (REQUEST | ROOT | MATCH)")
+        self.assertEqual(shown.splitlines()[1:], sample("lo-request.lines").decode().splitlines()[1:])
+
+    def test_without_numbers_unless_asked(self) -> None:
+        linkcap.golden(self.capture, self.path, update=True)
+        first, *rest = self.written().splitlines()
+        self.assertEqual(first, "# linkcap lines, format 2")
+        self.assertEqual(rest[0], "RTM_GETLINK flags 0x301 (REQUEST | ROOT | MATCH)")
+        self.assertEqual(rest[1:], sample("lo-request.lines").decode().splitlines()[1:])
+        linkcap.golden(self.capture, self.path)
+        # another sequence number
+        linkcap.golden(self.capture[:8] + b"\1\2\3\4" + self.capture[12:], self.path)
+        with self.assertRaises(AssertionError):
+            linkcap.golden(self.capture, self.path, numbers=True)
+        linkcap.golden(self.capture, self.path, update=True, numbers=True)
+        self.assertEqual(self.written().splitlines()[1:], sample("lo-request.lines").decode().splitlines())
+
+    def test_difference(self) -> None:
+        with self.assertRaisesRegex(AssertionError, "no golden file"):
+            linkcap.golden(self.capture, self.path)
+        linkcap.golden(self.capture, self.path, update=True)
+        other = self.capture.replace(b"lo", b"hi")
+        with self.assertRaisesRegex(AssertionError, '(?s)^the capture isn\'t .*\n-  IFLA_IFNAME "lo"\n\\+  IFLA_IFNAME "hi"\n'):
+            linkcap.golden(other, self.path)
+        linkcap.golden(other + self.capture, self.path, update=True, only=["getlink"])
+        linkcap.golden(other + self.capture, self.path, only=[18])
+
+    def test_faults_and_empty_captures(self) -> None:
+        with self.assertRaisesRegex(linkcap.Fault, "cut frame at 0"):
+            linkcap.golden(self.capture[:-1], self.path)
+        with self.assertRaisesRegex(linkcap.Fault, "refused body at 0: IFLA_MTU: a payload of 3 bytes at 32"):
+            linkcap.golden(REFUSED, self.path)
+        for update in (True, False):
+            with self.assertRaisesRegex(AssertionError, "empty"):
+                linkcap.golden(b"", self.path, update=update)
+            with self.assertRaisesRegex(AssertionError, "no message of these types"):
+                linkcap.golden(self.capture, self.path, update=update, only=["newlink"])
+        self.assertFalse(os.path.exists(self.path))
+
+    def test_formats(self) -> None:
+        shown = linkcap.lines(self.capture, numbers=False)
+        self.write(shown)
+        linkcap.golden(self.capture, self.path)
+        self.write("# linkcap lines, format 1\n" + shown.replace("lo", "hi"))
+        with self.assertRaisesRegex(AssertionError, "has lines of format 1, and this linkcap writes format 2"):
+            linkcap.golden(self.capture, self.path)
+
+    def test_format_is_that_of_linkshow(self) -> None:
+        self.assertIn(f"\n## 0.1.0 (form {linkcap.FORMAT})\n", read("CHANGELOG.md").decode())
+        self.assertIn(f"\n#define LINKCAP_FORMAT {linkcap.FORMAT}\n", read("bindings", "c", "linkcap.h").decode())
+
+    def test_line_ends(self) -> None:
+        linkcap.golden(self.capture, self.path, update=True)
+        self.write(self.written().replace("\n", "\r\n"))
+        with self.assertRaisesRegex(AssertionError, "CRLF"):
+            linkcap.golden(self.capture, self.path)
+        self.write(self.written().replace("\r\n", "\n").rstrip("\n"))
+        with self.assertRaisesRegex(AssertionError, "No newline at end of file"):
+            linkcap.golden(self.capture, self.path)
+        self.write("caf\u00e9\n")
+        with self.assertRaisesRegex(AssertionError, "(?s)isn't that of the golden file.*-caf"):
+            linkcap.golden(self.capture, self.path)
+
+    def test_frames_are_hidden(self) -> None:
+        class Inner(unittest.TestCase):
+            def runTest(inner) -> None:
+                linkcap.golden(self.capture, self.path)
+
+        result = unittest.TestResult()
+        Inner().run(result)
+        (_, told), = result.failures
+        self.assertIn("no golden file", told)
+        self.assertNotIn(os.path.join("linkcap", "_golden.py"), told)
+
+
+class Program(unittest.TestCase):
+    """`python -m linkcap`."""
+
+    def run_it(self, *arguments: str, given: bytes = b"") -> "subprocess.CompletedProcess[bytes]":
+        command = [sys.executable, "-m", "linkcap", *arguments]
+        return subprocess.run(command, input=given, stdout=subprocess.PIPE, stderr=subprocess.PIPE, check=False)
+
+    def test_program(self) -> None:
+        request, path = sample("req-veth.bin"), os.path.join(TOP, "samples", "req-veth.bin")
+        length, other = len(request), os.path.join(TOP, "samples", "lo-request.bin")
+        cases: List[Tuple[List[str], bytes, int, bytes, bytes]] = [
+            (["norm"], request, 0, request, b""),
+            (["norm", path], b"", 0, request, b""),
+            (["norm"], request + b"\x30\0\0\0", 2, request, f"cut frame at {length}\n".encode()),
+            (["norm"], REFUSED, 2, b"", b"refused body at 0: IFLA_MTU: a payload of 3 bytes at 32\n"),
+            (["same", path, "-"], request, 0, b"same\n", b""),
+            (["same", path, other], b"", 1, b"different\n", b""),
+            (["same", other, "-"], sample("lo-request.bin")[:-1], 2, b"", b"second: cut frame at 0\n"),
+            (["lines"], request, 0, sample("req-veth.lines"), b""),
+            (["lines", other], b"", 0, sample("lo-request.lines"), b""),
+            (["lines", "--only", "getlink,3", other], b"", 0, sample("lo-request.lines"), b""),
+            (["messages", other], b"", 0, b"0 48 18\n", b""),
+            (["norm", "--limit", "15"], b"", 3, b"", b"linkcap: a limit is a number from 16 to 4294967295\n"),
+        ]
+        for arguments, given, status, out, error in cases:
+            ran = self.run_it(*arguments, given=given)
+            self.assertEqual((ran.returncode, ran.stdout, ran.stderr), (status, out, error), arguments)
+
+    def test_usage(self) -> None:
+        wrong: List[List[str]] = [[], ["norn"], ["same", "one"], ["lines", "--only", "newlnk"]]
+        for arguments in wrong:
+            self.assertEqual(self.run_it(*arguments).returncode, 3, arguments)
+        self.assertEqual(self.run_it("norm", os.path.join(TOP, "missing")).returncode, 2)
+        told = self.run_it("--version").stdout.decode()
+        self.assertTrue(told.startswith(f"linkcap {linkcap.__version__} (interface 1, lines 2), library "), told)
+        self.assertIn(linkcap.LIBRARY_PATH, told)
+
+
+if __name__ == "__main__":
+    unittest.main()

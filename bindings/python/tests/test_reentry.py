@@ -1,0 +1,223 @@
+"""Calls that are interrupted, and entered again, keep their results: `python3 -m unittest` in this folder, or pytest."""
+import gc
+import os
+import signal
+import sys
+import time
+import types
+import unittest
+from typing import Any, Callable, List, Optional
+
+import linkcap
+from support import sample
+
+FOLDER = os.path.dirname(os.path.abspath(linkcap.__file__))
+REQUEST, OTHER = sample("req-veth.bin"), sample("lo-request.bin")
+# an IFLA_MTU of 3 bytes
+REFUSED = bytes.fromhex("28000000100000000000000000000000") + bytes(16) + bytes.fromhex("0700040001020300")
+
+Call = Callable[[], Any]
+
+
+def in_pieces(capture: bytes) -> bytes:
+    reader = linkcap.Reader()
+    return reader.feed(capture[:50]) + reader.feed(capture[50:]) + reader.finish()
+
+
+def fault_of(capture: bytes) -> str:
+    try:
+        linkcap.check(capture)
+    except linkcap.Fault as fault:
+        return str(fault)
+    return "legal"
+
+
+def calls(capture: bytes, other: bytes) -> List[Call]:
+    """Every call that may be interrupted, over a capture; `other` doesn't mean the same."""
+    return [
+        lambda: linkcap.check(capture),
+        lambda: linkcap.measure(capture),
+        lambda: linkcap.normalize(capture),
+        lambda: linkcap.normalize(bytearray(capture)),
+        lambda: linkcap.same(capture, other),
+        lambda: linkcap.same(capture, capture),
+        lambda: linkcap.lines(capture),
+        lambda: linkcap.lines(capture, numbers=False, only=["newlink", "getlink"]),
+        lambda: linkcap.messages(capture),
+        lambda: linkcap.why(REFUSED + capture),
+        lambda: fault_of(capture + capture[:20]),
+        lambda: fault_of(REFUSED + capture),
+        lambda: in_pieces(capture),
+    ]
+
+
+def use_all() -> None:
+    """What interrupts: each call with results that differ from those of the interrupted one."""
+    for call in calls(OTHER, REQUEST):
+        call()
+
+
+class Reentry(unittest.TestCase):
+    def setUp(self) -> None:
+        self.calls = calls(REQUEST, OTHER)
+        self.expected = [call() for call in self.calls]
+        self.assertEqual(self.expected[2], REQUEST)
+        self.assertEqual(self.expected[6], sample("req-veth.lines").decode())
+        self.assertEqual(self.expected[11], "refused body at 0: IFLA_MTU: a payload of 3 bytes at 32")
+
+    def test_at_each_instruction(self) -> None:
+        """A trace function calls everything before each instruction of the package."""
+        interrupted = [0]
+
+        def trace(frame: types.FrameType, event: str, argument: Any) -> Optional[Callable[..., Any]]:
+            if os.path.dirname(frame.f_code.co_filename) != FOLDER:
+                return None
+            frame.f_trace_opcodes = True
+            # Python 3.12.1 has no events of instructions in the first frame that is traced.
+            if event in ("line", "opcode"):
+                interrupted[0] += 1
+                use_all()
+            return trace
+
+        for call, expected in zip(self.calls, self.expected):
+            before = interrupted[0]
+            sys.settrace(trace)
+            try:
+                found = call()
+            finally:
+                sys.settrace(None)
+            self.assertEqual(found, expected)
+            self.assertGreater(interrupted[0], before)
+
+    def test_finaliser(self) -> None:
+        """The collector ends objects whose finalisers call everything."""
+        ended = [0]
+
+        class Connection:
+            def __init__(self) -> None:
+                self.itself = self
+
+            def __del__(self) -> None:
+                ended[0] += 1
+                use_all()
+
+        threshold = gc.get_threshold()
+        gc.set_threshold(5)
+        try:
+            for _ in range(300):
+                for call, expected in zip(self.calls, self.expected):
+                    Connection()
+                    self.assertEqual(call(), expected)
+        finally:
+            gc.set_threshold(*threshold)
+        gc.collect()
+        self.assertGreater(ended[0], 1000)
+
+    def test_signal_handler(self) -> None:
+        """A signal handler, which comes at various times of each call, calls everything."""
+        handled = [0]
+
+        def handle(number: int, frame: Optional[types.FrameType]) -> None:
+            handled[0] += 1
+            use_all()
+
+        previous, turn, end = signal.signal(signal.SIGALRM, handle), 0, time.monotonic() + 60
+        try:
+            while handled[0] < 1000 and time.monotonic() < end:
+                turn += 1
+                for call, expected in zip(self.calls, self.expected):
+                    signal.setitimer(signal.ITIMER_REAL, 0.00001 + 0.000002 * (turn % 40))
+                    self.assertEqual(call(), expected)
+        finally:
+            signal.setitimer(signal.ITIMER_REAL, 0)
+            signal.signal(signal.SIGALRM, previous)
+        self.assertGreaterEqual(handled[0], 1000)
+
+    def test_reader_in_use(self) -> None:
+        """A reader that is interrupted refuses calls, and goes on as if there had been none."""
+        reader, refused = linkcap.Reader(), [0]
+
+        def trace(frame: types.FrameType, event: str, argument: Any) -> Optional[Callable[..., Any]]:
+            if frame.f_code.co_name not in ("_feed", "_write", "_go_on"):
+                return None if os.path.dirname(frame.f_code.co_filename) != FOLDER else trace
+            frame.f_trace_opcodes = True
+            if event == "opcode":
+                try:
+                    reader.feed(OTHER)
+                except RuntimeError:
+                    refused[0] += 1
+            return trace
+
+        text = b""
+        for piece in (REQUEST[:10], REQUEST[10:70], REQUEST[70:]):
+            sys.settrace(trace)
+            try:
+                text += reader.feed(piece)
+            finally:
+                sys.settrace(None)
+        self.assertEqual(text + reader.finish(), REQUEST)
+        self.assertGreater(refused[0], 100)
+
+    def test_reader_that_was_interrupted(self) -> None:
+        """A reader in which a handler raised an exception gives no texts that lack some."""
+        seen = set()
+        for number in range(1, 600):
+            reader, at = linkcap.Reader(), [number]
+
+            def trace(frame: types.FrameType, event: str, argument: Any) -> Optional[Callable[..., Any]]:
+                if frame.f_code.co_name in ("_feed", "_write", "_go_on", "take"):
+                    frame.f_trace_opcodes = True
+                    at[0] -= event == "opcode"
+                    if at[0] == 0:
+                        raise KeyboardInterrupt
+                return trace if os.path.dirname(frame.f_code.co_filename) == FOLDER else None
+
+            text = reader.feed(REQUEST[:60])
+            sys.settrace(trace)
+            try:
+                text += reader.feed(REQUEST[60:])
+                seen.add("whole")
+            except KeyboardInterrupt:
+                seen.add("interrupted")
+                with self.assertRaises(ValueError):
+                    reader.finish()
+                continue
+            finally:
+                sys.settrace(None)
+            self.assertEqual(text + reader.finish(), REQUEST)
+            break
+        self.assertEqual(seen, {"interrupted", "whole"})
+
+    def test_interrupted_by_an_exception(self) -> None:
+        """An exception that a handler raises inside a call leaves nothing borrowed."""
+        capture, at = bytearray(REQUEST), [0]
+
+        def trace(frame: types.FrameType, event: str, argument: Any) -> Optional[Callable[..., Any]]:
+            if os.path.dirname(frame.f_code.co_filename) != FOLDER:
+                return None
+            frame.f_trace_opcodes = True
+            if event == "opcode":
+                at[0] -= 1
+                if at[0] == 0:
+                    raise KeyboardInterrupt
+            return trace
+
+        for number in range(1, 400):
+            at[0] = number
+            sys.settrace(trace)
+            try:
+                linkcap.normalize(capture)
+                break
+            except KeyboardInterrupt:
+                pass
+            finally:
+                sys.settrace(None)
+            # A borrowed bytearray can't be resized.
+            capture += b"\0\0\0\0"
+            del capture[-4:]
+        self.assertGreater(number, 20)
+        self.assertLess(number, 399)
+
+
+if __name__ == "__main__":
+    unittest.main()

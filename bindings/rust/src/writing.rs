@@ -1,0 +1,152 @@
+//! Calls that write texts, lines and words.
+
+use crate::{ffi, Error};
+
+/// Reserves room for `wanted` bytes after those of a vector.
+pub(crate) fn reserve(out: &mut Vec<u8>, wanted: usize) -> Result<(), Error> {
+    out.try_reserve(wanted).map_err(|_| Error::Memory)
+}
+
+/// A number of bytes in memory.
+pub(crate) fn count(number: u64) -> Result<usize, Error> {
+    usize::try_from(number).map_err(|_| Error::Memory)
+}
+
+/// What a call writes to a buffer, which has room for `wanted` bytes at first.
+fn write(
+    mut call: impl FnMut(*mut u8, usize, &mut u64, &mut ffi::Fault) -> u32,
+    mut wanted: usize,
+) -> Result<Vec<u8>, Error> {
+    let mut out: Vec<u8> = Vec::new();
+    loop {
+        let (mut written, mut fault) = (0, ffi::Fault::default());
+        reserve(&mut out, wanted)?;
+        let free = out.spare_capacity_mut();
+        let status = call(free.as_mut_ptr().cast(), free.len(), &mut written, &mut fault);
+        match status {
+            ffi::NO_ROOM => wanted = count(written)?,
+            ffi::OK | ffi::FAULT => {
+                // Safety: the call has written this many bytes.
+                unsafe { out.set_len(count(written)?) };
+                return if status == ffi::OK { Ok(out) } else { Err(Error::of(status, &fault, out)) };
+            }
+            _ => return Err(Error::of(status, &fault, Vec::new())),
+        }
+    }
+}
+
+/// Text of the library, which is ASCII.
+fn ascii(text: Vec<u8>) -> String {
+    String::from_utf8(text).unwrap_or_default()
+}
+
+/// The normal text of a legal capture.
+///
+/// # Errors
+///
+/// [`Error::Fault`] with the capture's first fault, whose `written` are the texts before it; [`Error::Limit`], or
+/// [`Error::Memory`].
+///
+/// ```
+/// use linkcap::{normalize, DEFAULT_LIMIT};
+///
+/// // The body of an NLMSG_NOOP means nothing.
+/// let noop = b"\x14\0\0\0\x01\0\0\0\x01\0\0\0\0\0\0\0\xaa\xbb\xcc\xdd";
+/// assert_eq!(normalize(noop, DEFAULT_LIMIT)?, b"\x10\0\0\0\x01\0\0\0\x01\0\0\0\0\0\0\0");
+/// # Ok::<(), linkcap::Error>(())
+/// ```
+pub fn normalize(capture: &[u8], limit: u32) -> Result<Vec<u8>, Error> {
+    // Safety: both pointers have the lengths that are given, and don't overlap.
+    let call = |out, room, written: &mut u64, fault: &mut ffi::Fault| unsafe {
+        ffi::linkcap_normalize(capture.as_ptr(), capture.len(), limit, out, room, written, fault)
+    };
+    write(call, capture.len() + 16)
+}
+
+/// What lines show of a capture.
+#[derive(Clone, Copy, Debug, Default, PartialEq, Eq)]
+pub struct LineOptions<'a> {
+    /// Leave out sequence and port numbers, which change from run to run.
+    pub without_numbers: bool,
+    /// Show messages of these types alone, as 16 for `RTM_NEWLINK`; of all if it is empty.
+    pub only: &'a [u16],
+}
+
+/// The lines of a legal capture, as `linkshow` writes them.
+///
+/// # Errors
+///
+/// [`Error::Fault`] with the capture's first fault, whose `written` are the lines before it; [`Error::Limit`], or
+/// [`Error::Memory`].
+///
+/// ```
+/// let noop = b"\x10\0\0\0\x01\0\0\0\x01\0\0\0\0\0\0\0";
+/// assert_eq!(linkcap::lines(noop, linkcap::DEFAULT_LIMIT)?, "NLMSG_NOOP flags 0x0 seq 1 port 0\n");
+/// # Ok::<(), linkcap::Error>(())
+/// ```
+pub fn lines(capture: &[u8], limit: u32) -> Result<String, Error> {
+    lines_with(capture, limit, LineOptions::default())
+}
+
+/// The lines of a legal capture that the options select.
+///
+/// # Errors
+///
+/// Those of [`lines`].
+pub fn lines_with(capture: &[u8], limit: u32, options: LineOptions<'_>) -> Result<String, Error> {
+    let LineOptions { without_numbers, only } = options;
+    let (at, length) = (capture.as_ptr(), capture.len());
+    // Safety: the pointers have the lengths that are given, and `out` doesn't overlap the others.
+    let call = |out, room, written: &mut u64, fault: &mut ffi::Fault| unsafe {
+        ffi::linkcap_show_with(at, length, limit, without_numbers, only.as_ptr(), only.len(), out, room, written, fault)
+    };
+    write(call, length.saturating_mul(4)).map(ascii)
+}
+
+/// What of a refused body isn't accepted. It is displayed as its words.
+#[derive(Clone, Debug, PartialEq, Eq)]
+pub struct Refusal {
+    /// The attribute's names from outside in, the reason, and the offset.
+    pub words: String,
+    /// Where the attribute begins, in bytes from the capture's start. `NLMSG_ERROR` and `NLMSG_DONE` have none.
+    pub offset: Option<u64>,
+}
+
+impl std::fmt::Display for Refusal {
+    fn fmt(&self, f: &mut std::fmt::Formatter<'_>) -> std::fmt::Result {
+        f.pad(&self.words)
+    }
+}
+
+/// What of a refused body isn't accepted, if a capture's first fault is [`Kind::Refused`](crate::Kind::Refused); else
+/// None.
+///
+/// # Errors
+///
+/// [`Error::Limit`], or [`Error::Memory`].
+///
+/// ```
+/// // An IFLA_MTU of 3 bytes.
+/// let request = b"\x28\0\0\0\x10\0\0\0\0\0\0\0\0\0\0\0\0\0\0\0\0\0\0\0\0\0\0\0\0\0\0\0\x07\0\x04\0\x01\x02\x03\0";
+/// let refusal = linkcap::why(request, linkcap::DEFAULT_LIMIT)?.expect("a refused body");
+/// assert_eq!(refusal.to_string(), "IFLA_MTU: a payload of 3 bytes at 32");
+/// assert_eq!(refusal.offset, Some(32));
+/// # Ok::<(), linkcap::Error>(())
+/// ```
+pub fn why(capture: &[u8], limit: u32) -> Result<Option<Refusal>, Error> {
+    let mut place = 0;
+    // Safety: both pointers have the lengths that are given, and don't overlap.
+    let call = |out, room, written: &mut u64, _: &mut ffi::Fault| unsafe {
+        match ffi::linkcap_why(capture.as_ptr(), capture.len(), limit, out, room, written, &mut place) {
+            ffi::OK => {
+                *written = 0;
+                ffi::OK
+            }
+            // Words, and no fault.
+            ffi::FAULT => ffi::OK,
+            status => status,
+        }
+    };
+    let words = write(call, 256).map(ascii)?;
+    Ok((!words.is_empty()).then(|| Refusal { words, offset: (place != u64::MAX).then_some(place) }))
+}

@@ -34,7 +34,7 @@ _linkrec() {
         return
     fi
     case ${COMP_WORDS[1]} in
-        run) _linkshow_words "--netns --setup --answers --output --attach --help" ;;
+        run) _linkshow_words "--quiet --netns --setup --answers --output --attach --help" ;;
         dump) _linkshow_words "--all --port --help" ;;
         watch) _linkshow_words "--all --time --port --help" ;;
         strace) _linkshow_words "--answers --output --help" ;;

@@ -113,15 +113,19 @@ wants "notes" 0 "$note"$'\n'"$note" "$linkdiff" --kernels v v < /dev/null
 wants "one type alone, of which there is none" 2 $'linkdiff: a: no messages\nlinkdiff: b: no messages' "$linkdiff" --only newlink a b < /dev/null
 wants "quiet" 1 "" "$linkdiff" -q a b < /dev/null
 wants "a file of lines" 0 "" "$linkdiff" a.lines a < /dev/null
-sed 's/ seq .*//' "$work/a.lines" > "$work/golden"
-wants "a file of lines without numbers" 0 "" "$linkdiff" golden later < /dev/null
+sed 's/ seq .*//' "$work/a.lines" > "$work/a.golden"
+wants "a file of lines without numbers" 0 "" "$linkdiff" a.golden later < /dev/null
 wants "one type alone of a file of lines" 0 "" "$linkdiff" --only getlink a.lines a < /dev/null
 ignored="linkdiff: the order of attributes is ignored, although kernels read some lists in their order"
 wants "another order, ignored" 0 "$ignored" "$linkdiff" --ignore-order a turned < /dev/null
-wants "a link by its index" 1 "" bash -c '"$0" v <(tail -c +1265 v) | grep ^@@ | head -n 1' "$linkdiff" < /dev/null
+# a link with an index and no name, under two masks
+for mask in 1 2; do
+    { printf '\x28\0\0\0\x12\0\1\0'; head -c 12 /dev/zero; printf '\7\0\0\0'; head -c 8 /dev/zero; printf "\\x8\\0\\x1d\\0\\$mask\\0\\0\\0"; } > "$work/mask$mask"
+done
+holds "a link by its index" bash -c '"$0" mask1 mask2 | grep -qx "@@ .* @@ RTM_GETLINK index 7"' "$linkdiff"
 holds "another order counts" bash -c '! "$0" -q a turned' "$linkdiff"
 holds "help" bash -c '"$0" --help | grep -q "linkdiff \[OPTION\]"' "$linkdiff"
-holds "standard input" bash -c '"$0" - a < b | grep -qx -- "--- -"; [ ${PIPESTATUS[0]} -eq 1 ]' "$linkdiff"
+holds "standard input" bash -c '"$0" - a < b | grep -x -- "--- -" > /dev/null; [ ${PIPESTATUS[0]} -eq 1 ]' "$linkdiff"
 holds "no program" bash -c 'LINKSHOW=/nowhere/linkshow "$0" a a 2>&1 | grep -q "no program"' "$linkdiff"
 for words in a "a a a" "--unknown a a" "- -"; do
     holds "usage: $words" bash -c '"$0" $1 2> usage; [ $? -eq 2 ] && grep -q "^usage: linkdiff" usage' "$linkdiff" "$words"
@@ -213,9 +217,9 @@ elif ! unshare --map-root-user --net strace -qq -o /dev/null true 2> /dev/null; 
 else
     holds "a command is recorded" bash -c '"$0" run --netns -o made -- ip link show dev lo && "$LINKSHOW" made | grep -q "IFLA_IFNAME \"lo\""' "$linkrec"
     holds "its replies too" bash -c '"$0" run --netns -o made --answers replies -- ip link show dev lo && "$LINKSHOW" replies | grep -q ^RTM_NEWLINK' "$linkrec"
-    holds "a setup isn't recorded" bash -c '"$0" run --setup "ip link set lo up" -o made -- ip link show up && ! "$LINKSHOW" made | grep -q ^RTM_NEWLINK' "$linkrec"
+    holds "a setup isn't recorded" bash -c '"$0" run --setup "ip link set lo up" -o made -- ip link show up && ! "$LINKSHOW" made | grep -q "index 1 "' "$linkrec"
     holds "a failing command's status" bash -c '"$0" run -o made -- sh -c "exit 7" 2> /dev/null; [ $? -eq 7 ]' "$linkrec"
-    holds "a refused request" bash -c '"$0" run --netns -o made -- ip link set dev lo mtu 1 2>&1 | grep -q "^linkrec: refused: RTM_NEWLINK: EINVAL"' "$linkrec"
+    holds "a refused request" bash -c '"$0" run --netns -o made -- ip link add v0 type no_such_kind 2>&1 | grep -q "^linkrec: refused: RTM_NEWLINK: EOPNOTSUPP (Operation not supported): Unknown device type"' "$linkrec"
     holds "no such command" bash -c '"$0" run -- no-such-command 2> /dev/null; [ $? -eq 127 ]' "$linkrec"
     holds "no command" bash -c '"$0" run 2> /dev/null; [ $? -eq 125 ]' "$linkrec"
     holds "a name with a space" bash -c 'mkdir -p "a b" && "$0" run --netns -o "a b/made" -- ip link && [ -s "a b/made" ]' "$linkrec"

@@ -46,7 +46,7 @@ done
 # options COMMAND..: the long options that a script's --help lists
 options() { "$@" --help | grep -oE -- '--[a-z][a-z-]+' | sort -u; }
 # documented OPTION PROGRAM: whether the manual has an option
-documented() { man -l "man/$2.1" | col -bx | grep -q -- "$1"; }
+documented() { man -l "man/$2.1" | col -bx | grep -- "$1" > /dev/null; }
 for program in linkdiff linkgold; do
     for option in $(options "scripts/$program"); do
         grep -qx -- "$option" <<< "$(offered "$program" --)" || fault "man/linkcap.bash: $program has $option"

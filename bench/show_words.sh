@@ -165,7 +165,7 @@ wants "the same from a pipe that waits" 2 "refused body at 65520: IFLA_MTU: a pa
 printf '\x12\0\0\0\3\0\0\0\0\0\0\0\0\0\0\0\0\0' > "$work/done"
 run "$work/done"
 wants "a refused body without a place" 2 "refused body at 0: a body of 2 bytes" "$work/nothing"
-pcap="linkshow: this is a pcap file: samples/pcap_to_capture.py makes a capture of it"
+pcap="linkshow: this is a pcap file: linkrec pcap FILE makes a capture of it"
 for magic in a1b2c3d4 d4c3b2a1 a1b23c4d 4d3cb2a1; do
     { printf "\\x${magic:0:2}\\x${magic:2:2}\\x${magic:4:2}\\x${magic:6:2}"; head -c 20 /dev/zero; } > "$work/pcap"
     run "$work/pcap"
@@ -177,5 +177,5 @@ run --limit 4294967295 "$work/pcap"
 wants "a pcap file under the greatest limit" 2 "cut frame at 0"$'\n'"$pcap" "$work/nothing"
 { printf '\n\r\r\n'; head -c 24 /dev/zero; } > "$work/pcapng"
 run "$work/pcapng"
-wants "a pcapng file" 2 "frame over the limit at 0"$'\n'"linkshow: this is a pcapng file: tshark -r FILE -F pcap -w OTHER makes a pcap file of it, and samples/pcap_to_capture.py a capture of that" "$work/nothing"
+wants "a pcapng file" 2 "frame over the limit at 0"$'\n'"linkshow: this is a pcapng file: linkrec pcap FILE makes a capture of it" "$work/nothing"
 exit $failed

@@ -24,5 +24,5 @@ is_pcapng first = bytes_eq first (10 ∷ 13 ∷ 13 ∷ 10 ∷ [])
 
 -- what helps where a capture with a fault begins with these bytes
 abbrev pub advice : List ℕ → List ℕ
-advice first = cond (is_pcap first) (codes "linkshow: this is a pcap file: samples/pcap_to_capture.py makes a capture of it" ++ 10 ∷ [])
-    (cond (is_pcapng first) (codes "linkshow: this is a pcapng file: tshark -r FILE -F pcap -w OTHER makes a pcap file of it, and samples/pcap_to_capture.py a capture of that" ++ 10 ∷ []) [])
+advice first = cond (is_pcap first) (codes "linkshow: this is a pcap file: linkrec pcap FILE makes a capture of it" ++ 10 ∷ [])
+    (cond (is_pcapng first) (codes "linkshow: this is a pcapng file: linkrec pcap FILE makes a capture of it" ++ 10 ∷ []) [])

@@ -41,7 +41,7 @@ on standard error with its place in bytes; the lines before it are written.
 
 Example, the links of this network namespace:
 
-  samples/dump_links.py > links.bin
+  linkrec dump > links.bin
   linkshow links.bin
 ";
 
@@ -81,10 +81,9 @@ pub fn advice(first: &[u8]) -> &'static str
     ensures { result.now ≡ advice first.now }
 {
     if is_pcap(first) {
-        "linkshow: this is a pcap file: samples/pcap_to_capture.py makes a capture of it\n"
+        "linkshow: this is a pcap file: linkrec pcap FILE makes a capture of it\n"
     } else if is_pcapng(first) {
-        "linkshow: this is a pcapng file: tshark -r FILE -F pcap -w OTHER makes a pcap file of it, \
-         and samples/pcap_to_capture.py a capture of that\n"
+        "linkshow: this is a pcapng file: linkrec pcap FILE makes a capture of it\n"
     } else {
         ""
     }

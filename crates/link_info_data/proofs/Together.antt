@@ -6,16 +6,16 @@ use Rattle.link_info_data.specs.Laws.{DataWithoutPeersHaveOneRule, NamesTellRule
 use Rattle.link_info_data.proofs.InForce as in_force
 use Rattle.link_info_data.proofs.WithoutPeers as without_peers
 
-names : NamesTellRules
+pub names : NamesTellRules
 names = in_force.names_tell_rules named-payload unlisted_names_hold_bytes
 
-port_names : PortNamesTellRules
+pub port_names : PortNamesTellRules
 port_names = in_force.port_names_tell_rules named-payload unlisted_names_hold_bytes
 
-data_alone : DataWithoutPeersHaveOneRule
+pub data_alone : DataWithoutPeersHaveOneRule
 data_alone = without_peers.data_without_peers rules_without_peers_are_one
 
-port_data_alone : PortDataHaveOneRule
+pub port_data_alone : PortDataHaveOneRule
 port_data_alone = without_peers.port_data rules_without_peers_are_one named-payload
 
 -- what the laws go by

@@ -1,3 +1,2 @@
 pub mod Telling
-pub mod Keeping
 pub mod Noting

@@ -2,14 +2,6 @@
 use Rattle.std.specs.Prelude.{ℕ, List, Option, None, Some, Result, Ok, Err}
 use Rattle.std.specs.declared.io.ErrorKind.{ErrorKind}
 use Rattle.link_capture_reader.specs.States.{SinkState, SourceState}
-use Rattle.linkshow_program.specs.declared.first_kept.FirstKept.{FirstKept}
-
--- the source that a `FirstKept` reads, and the first bytes that it gave
-abbrev pub kept_source : {S : Type 0} → FirstKept S → S
-kept_source s = s.source
-
-abbrev pub kept_first : {S : Type 0} → FirstKept S → List ℕ
-kept_first s = s.first.items
 
 -- why a file couldn't be opened, where it couldn't
 abbrev pub refusal_of : {File : Type 0} → Result File ErrorKind → Option ErrorKind
@@ -27,21 +19,19 @@ pub record Opening : Type 0 where
 abbrev pub opening : {F : Type 0} → (F → List ℕ → Option (List ℕ)) → (F → ℕ) → (F → Option ErrorKind) → F → F → Opening
 opening contents asked refusal before after = record { contents = contents before; asked = asked before; asks = asked after; refusal = refusal after }
 
--- One capture is shown: the source before and after, and the first bytes that it gave; the sink of its lines; and that of what is told.
+-- One capture is shown: the source before and after; the sink of its lines; and that of what is told.
 pub record Run : Type 0 where
   pub from : SourceState
   pub left : SourceState
-  pub first : List ℕ
   pub held : SinkState
   pub holds : SinkState
   pub told : SinkState
   pub tells : SinkState
 
-abbrev pub run_of : {S K E : Type 0} → (S → SourceState) → (K → SinkState) → (E → SinkState) → FirstKept S → FirstKept S → K → K → E → E → Run
+abbrev pub run_of : {S K E : Type 0} → (S → SourceState) → (K → SinkState) → (E → SinkState) → S → S → K → K → E → E → Run
 run_of source sink errors from left held holds told tells = record {
-  from = source (kept_source from);
-  left = source (kept_source left);
-  first = kept_first left;
+  from = source from;
+  left = source left;
   held = sink held;
   holds = sink holds;
   told = errors told;

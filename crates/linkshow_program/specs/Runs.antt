@@ -1,5 +1,5 @@
 -- What is told of a capture, and the program's status.
-use Rattle.std.specs.Prelude.{◌≡◌, ℕ, Bool, true, false, List, [], ◌∷◌, ◌++◌, ◌⊎◌, length, codes, cond, Option, None, Some, not, Result, Ok, Err, option_map, ⊤}
+use Rattle.std.specs.Prelude.{◌≡◌, ℕ, Bool, true, false, List, [], ◌∷◌, ◌++◌, ◌⊎◌, length, take, codes, cond, Option, None, Some, not, Result, Ok, Err, option_map, ⊤}
 use Rattle.std.specs.Io.KnownBytes.{Consumes}
 use Rattle.std.specs.declared.io.ErrorKind.{ErrorKind}
 use Rattle.link_capture_grammar.specs.declared.fault.CaptureFault.{CaptureFault}
@@ -13,7 +13,7 @@ use Rattle.link_capture_spelling_rows.specs.declared.placed.PlacedSpelling.{Plac
 use Rattle.link_capture_spelling_rows.specs.SpellingWords.{placed_text}
 use Rattle.link_capture_spellings.specs.Spellings.{spellings}
 use Rattle.link_lines.specs.Captures.{Choice}
-use Rattle.link_lines.specs.Outcomes.{Shows}
+use Rattle.link_lines.specs.Outcomes.{Shows, ShowsKeeping}
 use Rattle.link_lines.specs.Refused.{fault_words}
 use Rattle.link_lines.specs.declared.refused.ShowFault.{ShowFault}
 use Rattle.linkshow_words.specs.declared.words.Options.{Options}
@@ -62,13 +62,13 @@ unopened name kind = name_told (Some name) true ++ (cause kind ++ 10 ∷ [])
 abbrev pub chosen : Options → Choice
 chosen o = record { numbers = not o.without_numbers; only = option_map (λ types. types.items) o.only }
 
--- a capture was shown, and this is told of it, with this status
+-- a capture was shown, and this is told of it and of the first bytes that were read, with this status
 abbrev pub ShowAnswer : Choice → Run → Option (List ℕ) → ℕ → ℕ → Type 0
 ShowAnswer ch r file limit status =
-    (outcome : Result ⊤ ShowFault)
-    × Shows ch r.from.to_come r.left.to_come r.held.holds r.holds.holds (TellsItsEnd r.from.ends_told r.left.ends_told r.left.to_come)
+    (outcome : Result ⊤ ShowFault) × (first : List ℕ)
+    × ShowsKeeping first ch r.from.to_come r.left.to_come r.held.holds r.holds.holds (TellsItsEnd r.from.ends_told r.left.ends_told r.left.to_come)
     (Rises r.from.failures r.left.failures) (Rises r.held.failures r.holds.failures) limit outcome
-    × Tells r.told r.tells (told_of file r.first outcome) × (status ≡ status_of outcome)
+    × Tells r.told r.tells (told_of file first outcome) × (status ≡ status_of outcome)
 
 -- ---- with notes
 
@@ -90,9 +90,9 @@ abbrev pub NotesAnswer : Choice → Run → Type 0 → Option (List ℕ) → ℕ
 NotesAnswer ch r unwritten file limit status =
     (s : List ℕ) × Consumes r.from.to_come r.left.to_come s × (
     (TellsItsEnd r.from.ends_told r.left.ends_told r.left.to_come × ((outcome : Result ⊤ ShowFault) × ShowsWhole ch s r.held r.holds limit outcome
-    × TellsBoth r.told r.tells (notes_text (spellings limit s)) (told_of file r.first outcome) × (status ≡ status_of outcome)))
+    × TellsBoth r.told r.tells (notes_text (spellings limit s)) (told_of file (take 4 s) outcome) × (status ≡ status_of outcome)))
     ⊎ ((fault : CaptureFault) × ReadFault r.from.failures r.left.failures s fault.kind × (fault.offset ≡ length s) × unwritten
-    × Tells r.told r.tells (told_of file r.first (Err (record { fault = fault; refusal = None }))) × (status ≡ 2))
+    × Tells r.told r.tells (told_of file (take 4 s) (Err (record { fault = fault; refusal = None }))) × (status ≡ 2))
     )
 
 -- ---- the words
@@ -107,8 +107,8 @@ abbrev pub FileAnswer : {File : Type 0} → (File → SourceState) → Option (L
     → Bool → Choice → ℕ → ℕ → Type 0
 FileAnswer {File} state known refusal name held holds told tells unwritten kernels ch limit status =
     ((kind : ErrorKind) × (refusal ≡ Some kind) × unwritten × Tells told tells (unopened name kind) × (status ≡ 2))
-    ⊎ ((refusal ≡ None) × ((file after : File) × (first : List ℕ) × ((state file).to_come ≡ known)
-    × CaptureAnswer kernels ch (record { from = state file; left = state after; first = first; held = held; holds = holds; told = told; tells = tells }) unwritten (Some name) limit status))
+    ⊎ ((refusal ≡ None) × ((file after : File) × ((state file).to_come ≡ known)
+    × CaptureAnswer kernels ch (record { from = state file; left = state after; held = held; holds = holds; told = told; tells = tells }) unwritten (Some name) limit status))
 
 -- a text was printed, or told that it couldn't be, with this status
 abbrev pub PrintAnswer : SinkState → SinkState → SinkState → SinkState → List ℕ → ℕ → Type 0

@@ -9,7 +9,6 @@ ghost use Rattle.linkshow_program.specs.Devices.{opening, run_of};
 ghost use Rattle.linkshow_program.specs.Runs.{Answers, CaptureAnswer, FileAnswer, UsageAnswer, chosen};
 
 mod files;
-mod first_kept;
 mod lines;
 mod notes;
 mod printing;
@@ -18,7 +17,6 @@ mod showing;
 
 pub use files::Files;
 use files::HostFiles;
-pub use first_kept::FirstKept;
 use link_capture_commands::words;
 use link_capture_reader::{ReadSource, Sink, Source, WriteSink, tell};
 use linkshow_words::{Asked, HELP, Options, USAGE, VERSION, read_words};
@@ -42,7 +40,7 @@ fn answer_usage<E: Sink>(errors: &mut E) -> ExitCode
 /// Writes the lines of a capture, and where it is asked for notes of what kernels tell apart before them.
 fn answer_capture<S: Source, K: Sink, E: Sink>(
     alloc: Global,
-    source: &mut FirstKept<S>,
+    source: &mut S,
     sink: &mut K,
     errors: &mut E,
     options: &Options<'_>,
@@ -81,10 +79,7 @@ fn answer_file<F: Files, K: Sink, E: Sink>(
         (exit_status result) }
 {
     match files.open(name) {
-        Ok(file) => {
-            let mut source = FirstKept::new(file);
-            answer_capture(alloc, &mut source, sink, errors, options)
-        }
+        Ok(mut file) => answer_capture(alloc, &mut file, sink, errors, options),
         Err(kind) => {
             tell_unopened(errors, name, kind);
             ExitCode::from(2)
@@ -99,7 +94,7 @@ pub fn answer<F: Files, S: Source, K: Sink, E: Sink>(
     alloc: Global,
     words: &[String],
     files: &mut F,
-    source: &mut FirstKept<S>,
+    source: &mut S,
     sink: &mut K,
     errors: &mut E,
 ) -> ExitCode
@@ -127,7 +122,7 @@ pub fn answer<F: Files, S: Source, K: Sink, E: Sink>(
 pub fn outcome(rt: &HostRuntime) -> ExitCode {
     let wrong = [String::new(rt.alloc())];
     let words = words(rt);
-    let mut source = FirstKept::new(ReadSource::new(rt.reader()));
+    let mut source = ReadSource::new(rt.reader());
     let mut sink = WriteSink::new(io::writer(rt));
     let mut errors = WriteSink::new(rt.stderr());
     answer(

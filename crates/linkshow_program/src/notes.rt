@@ -7,10 +7,9 @@ ghost use Rattle.link_capture_reader.specs.States.{Tells, sink_state, source_sta
 ghost use Rattle.linkshow_program.specs.Devices.{run_of};
 ghost use Rattle.linkshow_program.specs.Runs.{chosen, notes_text, NotesAnswer};
 
-use super::first_kept::FirstKept;
 use super::lines::note;
 use super::showing::{line_options, report};
-use link_capture_reader::{Sink, SliceSource, Source, read_all, tell};
+use link_capture_reader::{FirstBytes, Sink, SliceSource, Source, read_all_keeping_first, tell};
 use link_capture_spellings::spelling;
 use link_lines::{ShowFault, show};
 use linkshow_words::Options;
@@ -41,7 +40,7 @@ fn tell_notes<E: Sink>(errors: &mut E, bytes: &[u8], limit: u32)
 /// A failed read, and want of memory for what is read, is told before any note or line.
 pub fn answer_notes<S: Source, K: Sink, E: Sink>(
     alloc: Global,
-    source: &mut FirstKept<S>,
+    source: &mut S,
     sink: &mut K,
     errors: &mut E,
     options: &Options<'_>,
@@ -53,7 +52,8 @@ pub fn answer_notes<S: Source, K: Sink, E: Sink>(
         errors.old errors.new) (sink.new ≡ sink.old) (option_map (λ name. name.now) options.now.file) options.now.limit
         (exit_status result) }
 {
-    match read_all(alloc, source) {
+    let mut first = FirstBytes::new();
+    match read_all_keeping_first(alloc, source, &mut first) {
         Ok(bytes) => {
             tell_notes(errors, bytes.as_slice(), options.limit);
             let mut whole = SliceSource::new(bytes.as_slice());
@@ -64,12 +64,12 @@ pub fn answer_notes<S: Source, K: Sink, E: Sink>(
                 options.limit,
                 line_options(options),
             );
-            report(errors, options.file, source.first(), outcome)
+            report(errors, options.file, first.as_slice(), outcome)
         }
         Err(fault) => report(
             errors,
             options.file,
-            source.first(),
+            first.as_slice(),
             Err(ShowFault::from(fault)),
         ),
     }

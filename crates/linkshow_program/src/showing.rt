@@ -8,12 +8,11 @@ ghost use Rattle.link_capture_reader.specs.States.{IsTold, Tells, sink_state, so
 ghost use Rattle.linkshow_program.specs.Devices.{run_of};
 ghost use Rattle.linkshow_program.specs.Runs.{chosen, fault_told, is_unread, name_told, nothing_read, told_of, ShowAnswer, unopened};
 
-use super::first_kept::FirstKept;
 use super::lines::tell_all;
 use super::refusals::tell_words;
 use link_capture_grammar::fault::FaultKind;
 use link_capture_reader::{Sink, Source, tell};
-use link_lines::{LineOptions, ShowFault, show};
+use link_lines::{FirstBytes, LineOptions, ShowFault, show_keeping_first};
 use linkshow_words::{Options, advice, cause};
 use std::alloc::Global;
 use std::io::ErrorKind;
@@ -116,7 +115,7 @@ pub(crate) fn line_options<'a>(options: &'a Options<'_>) -> LineOptions<'a>
 /// Writes the lines of all that a source has, and tells what went wrong. The answer is the program's status.
 pub fn answer_show<S: Source, K: Sink, E: Sink>(
     alloc: Global,
-    source: &mut FirstKept<S>,
+    source: &mut S,
     sink: &mut K,
     errors: &mut E,
     options: &Options<'_>,
@@ -128,6 +127,8 @@ pub fn answer_show<S: Source, K: Sink, E: Sink>(
         errors.old errors.new) (option_map (λ name. name.now) options.now.file) options.now.limit
         (exit_status result) }
 {
-    let outcome = show(alloc, source, sink, options.limit, line_options(options));
-    report(errors, options.file, source.first(), outcome)
+    let mut first = FirstBytes::new();
+    let shown = line_options(options);
+    let outcome = show_keeping_first(alloc, source, sink, options.limit, shown, &mut first);
+    report(errors, options.file, first.as_slice(), outcome)
 }

@@ -1,4 +1,4 @@
-use Rattle.std.proofs.Common.{◌≡◌, ℕ, List, Some, Err, refl, subst, ◌∙◌, inl, inr}
+use Rattle.std.proofs.Common.{◌≡◌, ℕ, List, Some, Err, take, refl, subst, ◌∙◌, inl, inr}
 use Rattle.std.specs.Prelude.{option_map}
 use Rattle.std.specs.Process.{exit_status}
 use Rattle.link_capture_commands.specs.Commands.{status_of}
@@ -6,7 +6,6 @@ use Rattle.link_capture_reader.specs.Devices.{Rises, TellsItsEnd}
 use Rattle.link_capture_spellings.specs.Spellings.{spellings}
 use Rattle.link_lines.specs.Outcomes.{Shows}
 use Rattle.link_capture_reader.specs.States.{Tells, sink_state}
-use Rattle.linkshow_program.specs.Devices.{kept_first}
 use Rattle.linkshow_program.specs.Runs.{chosen, notes_text, told_of}
 use Rattle.linkshow_program.proofs.notes.answer_notes.Goals as goal
 
@@ -35,7 +34,7 @@ returns-in-Ok g c =
           (
             sink_state g.E.Sink.holds g.E.Sink.failures c.tell_notes.new.errors,
             subst Noted noted c.tell_notes.ensures,
-            subst Told c.first.ensures c.report.ensures.told,
+            subst Told (c.as_slice-in-Ok-2.ensures.value ∙ read.3) c.report.ensures.told,
           ),
           c.report.ensures.status,
         ),
@@ -46,6 +45,6 @@ pub returns-in-Err : goal.returns-in-Err
 returns-in-Err g c =
     let read = c.in-Err.ensures in
     let file = option_map (λ name. name.now) c.args.options.now.file in
-    let told = subst (λ x. Tells (sink_state g.E.Sink.holds g.E.Sink.failures c.args.errors.now) (sink_state g.E.Sink.holds g.E.Sink.failures c.report-in-Err.new.errors) (told_of file x (Err c.from.result))) c.first-in-Err.ensures c.report-in-Err.ensures.told in
-    let alone = subst (λ e. Tells (sink_state g.E.Sink.holds g.E.Sink.failures c.args.errors.now) (sink_state g.E.Sink.holds g.E.Sink.failures c.report-in-Err.new.errors) (told_of file (kept_first c.read_all.new.source) (Err e))) c.from.ensures told in
+    let told = subst (λ x. Tells (sink_state g.E.Sink.holds g.E.Sink.failures c.args.errors.now) (sink_state g.E.Sink.holds g.E.Sink.failures c.report-in-Err.new.errors) (told_of file x (Err c.from.result))) (c.as_slice-in-Err.ensures.value ∙ read.3) c.report-in-Err.ensures.told in
+    let alone = subst (λ e. Tells (sink_state g.E.Sink.holds g.E.Sink.failures c.args.errors.now) (sink_state g.E.Sink.holds g.E.Sink.failures c.report-in-Err.new.errors) (told_of file (take 4 read.0) (Err e))) c.from.ensures told in
     (read.0, read.1, inr (c.in-Err.fault, read.2.0, read.2.1, refl, alone, subst (λ e. exit_status c.report-in-Err.result ≡ status_of (Err e)) c.from.ensures c.report-in-Err.ensures.status))

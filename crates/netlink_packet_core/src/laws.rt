@@ -1,4 +1,4 @@
-//! Facts of the definitions. No function here makes a call.
+//! Facts of the definitions. No function here calls a law.
 
 ghost use Rattle.netlink_packet_core.specs.Ethernet.{ProtocolsKeepNumbers, NumbersNameProtocols};
 
@@ -12,10 +12,10 @@ pub use netlink_packet_core_grammar::laws::{
 };
 pub use netlink_packet_core_messages::laws::{
     bodies_end_with_their_frame, bytes_past_a_frame_change_nothing, canonical_frames_are_stable,
-    cut_frames_are_refused, equal_messages_have_one_text, finalized_messages_tell,
-    finalized_twice_is_once, frames_are_tested, headers_are_written_back, headers_read_back,
-    messages_are_frames, messages_read_back, padding_ends_a_frame, read_frames_keep_their_header,
-    short_lengths_are_refused, texts_have_one_message,
+    constants_are_of_the_header, cut_frames_are_refused, equal_messages_have_one_text,
+    finalized_messages_tell, finalized_twice_is_once, frames_are_tested, headers_are_written_back,
+    headers_read_back, messages_are_frames, messages_read_back, padding_ends_a_frame,
+    read_frames_keep_their_header, short_lengths_are_refused, texts_have_one_message,
 };
 pub use netlink_packet_core_numbers::laws::numbers_are_told_by_their_bytes;
 

@@ -17,6 +17,8 @@ pub use Rattle.link_info_grammar.specs.Families
 pub use Rattle.link_info_grammar.specs.KindNames
 pub use Rattle.link_info_grammar.specs.Laws as GrammarLaws
 pub use Rattle.link_info_grammar.specs.LinkInfo as InfoGrammar
+pub use Rattle.link_info_types.specs.Laws as TypeLaws
+pub use Rattle.link_info_types.specs.TunnelLaws
 pub use Rattle.link_info_types.specs.IpVlanTypes
 pub use Rattle.link_info_types.specs.IpoibTypes
 pub use Rattle.link_info_types.specs.MacSecTypes

@@ -15,6 +15,7 @@ pub use link_info_grammar::laws::{
     info_grammar_is_lawful, info_is_a_payload, tables_are_listed, tables_pass,
 };
 pub use link_info_kinds::laws::{names_tell_kinds, names_tell_port_kinds};
+pub use link_info_types::laws::{constants_are_named, tunnel_constants_are_named};
 
 /// The canonical text of legal link info is legal, its own canonical text, and at most 77 times as
 /// long; two legal lists mean the same exactly where they have one canonical text.

@@ -1,10 +1,10 @@
-//! Facts of the definitions. No function here makes a call.
+//! Facts of the definitions. No function here calls a law.
 
 ghost use Rattle.netlink_packet_core.specs.Ethernet.{ProtocolsKeepNumbers, NumbersNameProtocols};
 
 pub use netlink_packet_core_attributes::laws::{
     lists_are_walked, others_end_in_a_fault, texts_are_read_back, texts_are_walked,
-    walks_are_short, walks_are_the_relation,
+    typed_rows_write_the_kind, walks_are_short, walks_are_the_relation,
 };
 pub use netlink_packet_core_grammar::laws::{
     attributes_are_cut_in_one_way, attributes_are_the_relation, first_attributes_are_viewed,
@@ -12,12 +12,12 @@ pub use netlink_packet_core_grammar::laws::{
 };
 pub use netlink_packet_core_messages::laws::{
     bodies_end_with_their_frame, bytes_past_a_frame_change_nothing, canonical_frames_are_stable,
-    cut_frames_are_refused, equal_messages_have_one_text, finalized_messages_tell,
-    finalized_twice_is_once, frames_are_tested, headers_are_written_back, headers_read_back,
-    messages_are_frames, messages_read_back, padding_ends_a_frame, read_frames_keep_their_header,
-    short_lengths_are_refused, texts_have_one_message,
+    constants_are_of_the_header, cut_frames_are_refused, equal_messages_have_one_text,
+    finalized_messages_tell, finalized_twice_is_once, frames_are_tested, headers_are_written_back,
+    headers_read_back, messages_are_frames, messages_read_back, padding_ends_a_frame,
+    read_frames_keep_their_header, short_lengths_are_refused, texts_have_one_message,
 };
-pub use netlink_packet_core_numbers::laws::numbers_are_told_by_their_bytes;
+pub use netlink_packet_core_numbers::laws::{numbers_are_told_by_their_bytes, numbers_have_sizes};
 
 /// The protocol of a number has that number.
 pub fn protocols_keep_their_numbers()

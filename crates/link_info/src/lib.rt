@@ -1,7 +1,8 @@
 //! Link info (if_link.h, IFLA_LINKINFO): kinds of links and of ports, their data, and lists of them
 //! under the kinds in force.
 //!
-//! This crate offers the items of its parts again, so nothing above it names a part.
+//! This crate offers the items of its parts again, for crates that work on values. Those that work on bytes name the parts
+//! that they need, so that they build no typed crate.
 #![tactic(auto)]
 
 mod infos;

@@ -4,7 +4,7 @@ ghost use Rattle.netlink_packet_core.specs.Ethernet.{ProtocolsKeepNumbers, Numbe
 
 pub use netlink_packet_core_attributes::laws::{
     lists_are_walked, others_end_in_a_fault, texts_are_read_back, texts_are_walked,
-    walks_are_short, walks_are_the_relation,
+    typed_rows_write_the_kind, walks_are_short, walks_are_the_relation,
 };
 pub use netlink_packet_core_grammar::laws::{
     attributes_are_cut_in_one_way, attributes_are_the_relation, first_attributes_are_viewed,
@@ -17,7 +17,7 @@ pub use netlink_packet_core_messages::laws::{
     headers_read_back, messages_are_frames, messages_read_back, padding_ends_a_frame,
     read_frames_keep_their_header, short_lengths_are_refused, texts_have_one_message,
 };
-pub use netlink_packet_core_numbers::laws::numbers_are_told_by_their_bytes;
+pub use netlink_packet_core_numbers::laws::{numbers_are_told_by_their_bytes, numbers_have_sizes};
 
 /// The protocol of a number has that number.
 pub fn protocols_keep_their_numbers()

@@ -1,6 +1,7 @@
 -- The laws of walks and of written attributes, as the functions of `laws` state them.
-use Rattle.std.specs.Prelude.{◌≡◌, ◌↔◌, ◌<◌, ◌≤◌, ◌+◌, ◌*◌, ℕ, List, [], ◌∷◌, ◌++◌, length, map, Option, Some, None}
-use Rattle.netlink_packet_core_grammar.specs.Attributes.{Attribute, attribute_text, list_text, attributes_of}
+use Rattle.std.specs.Prelude.{true, ◌≡◌, ◌↔◌, ◌<◌, ◌≤◌, ◌+◌, ◌*◌, ℕ, List, [], ◌∷◌, ◌++◌, length, map, Option, Some, None}
+use Rattle.netlink_packet_core_grammar.specs.Attributes.{Attribute, proper_kind, attribute_text, list_text, attributes_of}
+use Rattle.attribute_tables_grammar.specs.Lists.{Row, rewrite}
 use Rattle.netlink_packet_core_grammar.specs.AttributeViews.{viewed_attribute, IsAttribute, after_first}
 use Rattle.netlink_packet_core_attributes.specs.Walks.{IsWalk, attribute_walk}
 
@@ -33,3 +34,7 @@ pub record WalksGoBySteps : Type 0 where
   pub empty : (bytes : List ℕ) → length bytes ≡ 0 → attribute_walk bytes ≡ []
   pub attribute : (bytes : List ℕ) → IsAttribute bytes → attribute_walk bytes ≡ Some (viewed_attribute bytes) ∷ attribute_walk (after_first bytes)
   pub fault : (bytes : List ℕ) → 0 < length bytes → (IsAttribute bytes → ⊥) → attribute_walk bytes ≡ None ∷ []
+
+-- a typed row writes the same of an attribute and of one that has the kind without flags
+abbrev pub TypedRowsWriteTheKind : Type 0
+TypedRowsWriteTheKind = (r : Row) (e : Attribute) → r.is_typed ≡ true → rewrite r (record { kind = proper_kind e.kind; payload = e.payload }) ≡ rewrite r e

@@ -3,7 +3,7 @@
 
 ghost use Rattle.netlink_packet_core_attributes.specs.Laws.{WalkIsTheRelation, ListsAreWalked, OthersEndInAFault};
 ghost use Rattle.netlink_packet_core_attributes.specs.Laws.{TextsAreWalked, TextsAreReadBack, WalksAreShort};
-ghost use Rattle.netlink_packet_core_attributes.specs.Laws.{WalksGoBySteps};
+ghost use Rattle.netlink_packet_core_attributes.specs.Laws.{TypedRowsWriteTheKind, WalksGoBySteps};
 
 /// The walk that the function computes is the one of the relation.
 pub fn walks_are_the_relation()
@@ -39,4 +39,10 @@ pub fn walks_are_short()
 /// left, or in a fault where no attribute begins.
 pub fn walks_go_by_steps()
     ensures { WalksGoBySteps }
+{}
+
+/// What a typed row writes of an attribute has its kind without flags, whatever flags the attribute has.
+#[tactic(auto, using(crate::proofs::Families::families))]
+pub fn typed_rows_write_the_kind()
+    ensures { TypedRowsWriteTheKind }
 {}

@@ -1,5 +1,5 @@
--- The law of the numbers' bytes, as the function of `laws` states it.
-use Rattle.std.specs.Prelude.{◌≡◌, ℕ, ◌<◌, ◌^◌, List}
+-- The laws of the numbers' bytes, as the functions of `laws` state them.
+use Rattle.std.specs.Prelude.{◌≡◌, ℕ, ◌<◌, ◌^◌, List, length}
 use Rattle.netlink_packet_core_grammar.specs.Numbers.{le2, le4, le8, le16, be2, be4, be8, be16}
 
 -- numbers that have the same bytes are equal
@@ -19,3 +19,17 @@ pub record NumbersAreTold : Type 0 where
   pub be4_told : IsTold be4
   pub be8_told : IsTold be8
   pub be16_told : OneNumber 128 be16
+
+-- a number is written as this many bytes
+abbrev pub HasSize : ℕ → (ℕ → List ℕ) → Type 0
+HasSize size bytes_of = (n : ℕ) → length (bytes_of n) ≡ size
+
+pub record NumbersHaveSizes : Type 0 where
+  pub le2_size : HasSize 2 le2
+  pub le4_size : HasSize 4 le4
+  pub le8_size : HasSize 8 le8
+  pub le16_size : HasSize 16 le16
+  pub be2_size : HasSize 2 be2
+  pub be4_size : HasSize 4 be4
+  pub be8_size : HasSize 8 be8
+  pub be16_size : HasSize 16 be16

@@ -1,8 +1,14 @@
 //! Facts of the definitions. No function here makes a call.
 
-ghost use Rattle.netlink_packet_core_numbers.specs.Laws.{NumbersAreTold};
+ghost use Rattle.netlink_packet_core_numbers.specs.Laws.{NumbersAreTold, NumbersHaveSizes};
 
 /// A number is told by its bytes, in either order and at each size.
 pub fn numbers_are_told_by_their_bytes()
     ensures { NumbersAreTold }
+{}
+
+/// A number is written as 2, 4, 8 or 16 bytes, by its type.
+#[tactic(auto, using(netlink_packet_core_grammar::proofs::Sizes::sizes))]
+pub fn numbers_have_sizes()
+    ensures { NumbersHaveSizes }
 {}

@@ -4,7 +4,7 @@ use Rattle.std.specs.Prelude.{min, Bool, true, false, ◌&&◌, ◌↔◌, ◌�
 use Rattle.std.proofs.Math.Nat.{min-eq_left, min-eq_right, min-le_left}
 use Rattle.std.proofs.lemmas.Bool.{cases_lt, leb-true, le-leb}
 use Rattle.std.proofs.lemmas.List.{drop_all, length-replicate, take_all}
-use Rattle.std.proofs.lemmas.Nat.{from_le_bytes-to_le_bytes_4}
+use Rattle.netlink_packet_core_grammar.proofs.Numbers.{from_le4}
 use Rattle.netlink_packet_core.specs.Attributes.{Attribute, attribute_header, attribute_length, attribute_text, list_size, list_text, nla_align, zeros}
 use Rattle.netlink_packet_core.specs.Families.{attribute}
 use Rattle.netlink_packet_core.specs.Frames.{IsFrame, frame_length, frame_type, frame_body, frame_text}
@@ -13,9 +13,9 @@ use Rattle.netlink_packet_core.specs.Laws.{TextIsCut}
 use Rattle.netlink_packet_core.specs.Messages.{finalized, message_text}
 use Rattle.netlink_packet_core.specs.Numbers.{as_usize, u16_at, u32_at, be2, le2, le4}
 use Rattle.netlink_packet_core.specs.Payloads.{payload_entry}
-use Rattle.netlink_packet_core_messages.specs.declared.message.NetlinkMessage.{NetlinkMessage}
-use Rattle.netlink_packet_core_messages.specs.declared.payload.NetlinkPayload.{NetlinkPayload}
-use Rattle.netlink_packet_core_messages.specs.declared.payload.NetlinkPayload.TheVariants.{InnerMessage}
+use Rattle.netlink_packet_core.specs.NetlinkMessage.{NetlinkMessage}
+use Rattle.netlink_packet_core.specs.NetlinkPayload.{NetlinkPayload}
+use Rattle.netlink_packet_core.specs.NetlinkPayload.TheVariants.{InnerMessage}
 use Rattle.link_message.specs.AddressFamilies.{address_family_number}
 use Rattle.link_message.specs.Body.{link_body}
 use Rattle.link_message.specs.Headers.{link_header_bytes}
@@ -25,13 +25,13 @@ use Rattle.link_message.specs.TypeLaws.{HeadersAreSixteenBytes}
 use Rattle.link_message.specs.LinkAttributes.{link_attribute_entry}
 use Rattle.link_message.specs.LinkMessages.{link_message_text}
 use Rattle.link_message.specs.declared.message.LinkMessage.{LinkMessage}
-use Rattle.link_message_types.specs.declared.header.LinkHeader.{LinkHeader}
-use Rattle.link_capture_grammar.specs.declared.fault.CaptureFault.{CaptureFault}
-use Rattle.link_capture_grammar.specs.Bodies.{body_text, body_text_under, ruled_text}
+use Rattle.link_message.specs.LinkHeader.{LinkHeader}
+use Rattle.link_capture.specs.CaptureFault.{CaptureFault}
+use Rattle.link_capture.specs.Bodies.{body_text, body_text_under, ruled_text}
 use Rattle.link_capture.specs.Captures.{first_fault, raised, texts}
 use Rattle.link_capture.specs.Laws.{CapturesAreCounted, FramesAreJudged}
 use Rattle.link_capture.specs.Routes.{route_entry}
-use Rattle.link_capture_messages.specs.declared.route.RouteLink.{RouteLink}
+use Rattle.link_capture.specs.RouteLink.{RouteLink}
 use Rattle.examples.specs.declared.requests.RequestFault.{RequestFault}
 use Rattle.examples.specs.Requests.{request_text, new_link_text, IsNormal, NewLinksAreNormal, vxlan_attributes, vxlan_body, vxlan_info_text}
 
@@ -62,7 +62,7 @@ length-new_link_text s b = omega arith
 
 tells_length : (s : ℕ) (b : List ℕ) → 16 + length b < 2 ^ 32 → frame_length (new_link_text s b) ≡ 16 + length b
 unfolding u32_at header_text le4 le2
-tells_length s b h = from_le_bytes-to_le_bytes_4 (16 + length b) h
+tells_length s b h = from_le4 (16 + length b)
 
 tells_type : (s : ℕ) (b : List ℕ) → frame_type (new_link_text s b) ≡ 16
 unfolding u16_at header_text le4 le2

@@ -1,4 +1,5 @@
 pub use Rattle.link_capture_commands.specs.Commands
+pub use Rattle.link_capture_grammar.specs.Bodies
 pub use Rattle.link_capture_grammar.specs.Body
 pub use Rattle.link_capture_grammar.specs.Captures
 pub use Rattle.link_capture_grammar.specs.Faults
@@ -17,6 +18,8 @@ pub use Rattle.link_capture_messages.specs.Views
 pub use Rattle.link_capture_messages.specs.Routes
 pub use Rattle.link_capture_messages.specs.Texts
 pub use Rattle.link_capture_messages.specs.Messages
+pub use Rattle.link_capture_messages.specs.declared.route.RouteLink
+pub use Rattle.link_capture_grammar.specs.declared.fault.CaptureFault
 pub use Rattle.link_capture_reader.specs.Joined
 pub use Rattle.link_capture_spelling_rows.specs.SpellingWords
 pub use Rattle.link_capture_spelling_rows.specs.SpellingRows

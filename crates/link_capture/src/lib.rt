@@ -12,8 +12,8 @@ pub use link_capture_messages::{
 pub use link_capture_numbers::clear_numbers;
 pub use link_capture_numbers::laws::cleared_captures_have_cleared_texts;
 pub use link_capture_reader::{
-    CaptureReader, DeviceFailed, ReadSource, Sink, SliceSource, Source, VecSink, WriteSink,
-    normalize, normalize_bytes, read_all, write_all,
+    CaptureReader, DeviceFailed, FirstBytes, ReadSource, Sink, SliceSource, Source, VecSink,
+    WriteSink, normalize, normalize_bytes, read_all, read_all_keeping_first, write_all,
 };
 pub use link_capture_refusals::laws::{refused_bodies_are_told, refused_frames_stand_alone};
 pub use link_capture_refusals::{Reason, Refusal, why, why_frame};

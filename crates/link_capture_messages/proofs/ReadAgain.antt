@@ -6,7 +6,7 @@ use Rattle.std.proofs.lemmas.Slice.Eq.{bytes_eq-Decides}
 use Rattle.std.proofs.lemmas.Grind.{merely}
 use Rattle.link_message_grammar.specs.Body.{header_text, link_body, link_peer}
 use Rattle.link_message_grammar.specs.Laws.{BodiesAreHeadersAndAttributes}
-use Rattle.link_message_types.specs.AddressFamilies.{address_family_of}
+use Rattle.link_message.specs.AddressFamilies.{address_family_of}
 use Rattle.link_message.specs.declared.message.LinkMessage.{LinkMessage}
 use Rattle.link_message.specs.LinkMessages.{link_message_text, link_message_fits, link_message_names_row}
 use Rattle.link_message.specs.contracts.message.LinkMessageEq.TheImpl.Laws.{laws-law}

@@ -9,9 +9,9 @@ use Rattle.netlink_packet_core.specs.Headers.{header_of}
 use Rattle.netlink_packet_core.specs.Messages.{is_frame, read_message}
 use Rattle.netlink_packet_core.specs.Payloads.{read_payload, written_body}
 use Rattle.netlink_packet_core.specs.TypedBodies.{TypedBody}
-use Rattle.netlink_packet_core_messages.specs.declared.message.NetlinkMessage.{NetlinkMessage}
-use Rattle.netlink_packet_core_messages.specs.declared.payload.NetlinkPayload.{NetlinkPayload}
-use Rattle.netlink_packet_core_messages.specs.declared.payload.NetlinkPayload.TheVariants.{Done, Error, InnerMessage}
+use Rattle.netlink_packet_core.specs.NetlinkMessage.{NetlinkMessage}
+use Rattle.netlink_packet_core.specs.NetlinkPayload.{NetlinkPayload}
+use Rattle.netlink_packet_core.specs.NetlinkPayload.TheVariants.{Done, Error, InnerMessage}
 use Rattle.link_message_grammar.specs.Body.{link_body}
 use Rattle.link_capture_grammar.specs.Bodies.{done_text, error_text, ruled_text, is_link_type, body_text, body_text_under}
 use Rattle.link_capture_messages.specs.Routes.{reads_route, typed_text}

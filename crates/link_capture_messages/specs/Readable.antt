@@ -2,7 +2,7 @@
 use Rattle.std.specs.Prelude.{◌≡◌, ◌⊎◌, ℕ, ◌&&◌, Bool, true, false, List, Ok, bytes_eq, slice_index}
 use Rattle.link_capture_grammar.specs.Bodies.{ruled_text}
 use Rattle.link_message_grammar.specs.Body.{link_body}
-use Rattle.link_message_types.specs.AddressFamilies.{address_family_of}
+use Rattle.link_message.specs.AddressFamilies.{address_family_of}
 use Rattle.link_message.specs.declared.message.LinkMessage.{LinkMessage}
 use Rattle.link_message.specs.LinkMessages.{link_message_text, link_message_fits, link_message_names_row}
 use Rattle.link_message.specs.contracts.message.LinkMessagePartialEq.TheImpl as link_message_eq

@@ -2,7 +2,7 @@
 use Rattle.std.specs.Prelude.{◌≡◌, ℕ, List, Ok, Some}
 use Rattle.netlink_packet_core.specs.Frames.{frame_type, frame_body, frame_text}
 use Rattle.netlink_packet_core.specs.Messages.{message_text, message_value, read_message, finalized, unpadded_text}
-use Rattle.netlink_packet_core_messages.specs.declared.message.NetlinkMessage.{NetlinkMessage}
+use Rattle.netlink_packet_core.specs.NetlinkMessage.{NetlinkMessage}
 use Rattle.link_capture_grammar.specs.Bodies.{body_text}
 use Rattle.link_capture_grammar.specs.Captures.{first_frame}
 use Rattle.link_capture_messages.specs.declared.route.RouteLink.{RouteLink}

@@ -13,7 +13,7 @@ use super::fault::RouteFault;
 use super::types::ReadableLink;
 use link_capture_grammar::laws::bodies_are_normal;
 use link_message::LinkMessage;
-use link_message_checks::check;
+use link_message::check;
 use link_message_grammar::laws::bodies_are_headers_and_attributes;
 use netlink_packet_core::Emitable;
 use std::alloc::Global;

@@ -17,6 +17,11 @@ pub use Rattle.link_message_types.specs.VfTypes
 pub use Rattle.link_message_types.specs.VlanTypes
 pub use Rattle.link_message_types.specs.XdpTypes
 pub use Rattle.link_message_attributes.specs.LinkAttributes
+pub use Rattle.link_message_attributes.specs.declared.attributes.LinkAttribute
+pub use Rattle.link_message_types.specs.declared.address_family.AddressFamily
+pub use Rattle.link_message_types.specs.declared.header.LinkHeader
+pub use Rattle.link_message_types.specs.declared.link_flag.LinkFlags
+pub use Rattle.link_message_types.specs.declared.link_layer_type.LinkLayerType
 pub mod LinkMessages
 pub use Rattle.link_message_checks.specs.Tables as CheckTables
 pub use Rattle.link_message_grammar.specs.NestedTables

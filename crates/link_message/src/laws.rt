@@ -9,5 +9,6 @@ pub use link_message_grammar::laws::{
     short_bodies_fit,
 };
 pub use link_message_types::laws::{
-    headers_are_sixteen_bytes, layer_types_are_named, masks_are_kept, numbers_are_kept,
+    constants_are_named, headers_are_sixteen_bytes, layer_types_are_named, masks_are_kept,
+    numbers_are_kept,
 };

@@ -123,6 +123,7 @@ use netlink_packet_core::NLA_F_NESTED;
 use netlink_packet_core::Nla;
 use netlink_packet_core::NlaBuffer;
 use netlink_packet_core::Parseable;
+use netlink_packet_core::laws::typed_rows_write_the_kind;
 use netlink_packet_core::parse_string;
 use std::alloc::Global;
 
@@ -525,7 +526,6 @@ impl LinkAttribute {
     }
 
     // Reads one attribute, and may tell want of memory in front of a refusal.
-    #[tactic(auto, using(netlink_packet_core_attributes::proofs::Families::families))]
     fn read(
         alloc: Global,
         buf: &NlaBuffer<&[u8]>,
@@ -542,6 +542,7 @@ impl LinkAttribute {
         ensures memory { IfMemory result
             (link_attribute_may_want_memory (table_family family) (storage buf.now).now ≡ true) }
     {
+        typed_rows_write_the_kind();
         match Self::read_row(alloc, family, buf.kind(), buf.value()) {
             Ok(Some(value)) => Ok(value),
             Ok(None) => match buf.kind() {

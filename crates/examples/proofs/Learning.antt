@@ -5,10 +5,10 @@ use Rattle.std.specs.Prelude.{option_map, string_bytes}
 use Rattle.std.specs.BTreeMap.{IsUnchanged, is_at}
 use Rattle.std.specs.Map.{lookup}
 use Rattle.std.specs.Ordering.{nat_cmp}
-use Rattle.netlink_packet_core_grammar.specs.Attributes.{nla_align}
-use Rattle.netlink_packet_core_messages.specs.declared.message.NetlinkMessage.{NetlinkMessage}
-use Rattle.link_capture_messages.specs.declared.route.RouteLink.{RouteLink}
-use Rattle.link_capture_messages.specs.Texts.{GivesMessage}
+use Rattle.netlink_packet_core.specs.Attributes.{nla_align}
+use Rattle.netlink_packet_core.specs.NetlinkMessage.{NetlinkMessage}
+use Rattle.link_capture.specs.RouteLink.{RouteLink}
+use Rattle.link_capture.specs.Texts.{GivesMessage}
 use Rattle.examples.specs.declared.interfaces.Interface.{Interface}
 use Rattle.examples.specs.Interfaces.{AreMessages, Interfaces, Learns, LearnsAll}
 

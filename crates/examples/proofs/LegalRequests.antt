@@ -17,7 +17,7 @@ use Rattle.link_info.specs.Tables.{named, names_grammar, row_in, rule}
 use Rattle.link_message.specs.Body.{body_rule, is_listed, link_body, link_peer, list_rule_of}
 use Rattle.link_message.specs.LinkTables.{info, link_table, unspec}
 use Rattle.link_info.specs.Rules.{Rule}
-use Rattle.link_capture_grammar.specs.Bodies.{body_text_under, ruled_text}
+use Rattle.link_capture.specs.Bodies.{body_text_under, ruled_text}
 use Rattle.link_capture.specs.Routes.{reads_route, typed_text}
 use Rattle.examples.specs.Requests.{vxlan_attributes, vxlan_body, vxlan_info, vxlan_info_text, vxlan_settings}
 

@@ -13,9 +13,9 @@ use Rattle.netlink_packet_core.specs.Laws.{TextIsCut}
 use Rattle.netlink_packet_core.specs.Messages.{finalized, message_text}
 use Rattle.netlink_packet_core.specs.Numbers.{as_usize, u16_at, u32_at, be2, le2, le4}
 use Rattle.netlink_packet_core.specs.Payloads.{payload_entry}
-use Rattle.netlink_packet_core_messages.specs.declared.message.NetlinkMessage.{NetlinkMessage}
-use Rattle.netlink_packet_core_messages.specs.declared.payload.NetlinkPayload.{NetlinkPayload}
-use Rattle.netlink_packet_core_messages.specs.declared.payload.NetlinkPayload.TheVariants.{InnerMessage}
+use Rattle.netlink_packet_core.specs.NetlinkMessage.{NetlinkMessage}
+use Rattle.netlink_packet_core.specs.NetlinkPayload.{NetlinkPayload}
+use Rattle.netlink_packet_core.specs.NetlinkPayload.TheVariants.{InnerMessage}
 use Rattle.link_message.specs.AddressFamilies.{address_family_number}
 use Rattle.link_message.specs.Body.{link_body}
 use Rattle.link_message.specs.Headers.{link_header_bytes}
@@ -25,13 +25,13 @@ use Rattle.link_message.specs.TypeLaws.{HeadersAreSixteenBytes}
 use Rattle.link_message.specs.LinkAttributes.{link_attribute_entry}
 use Rattle.link_message.specs.LinkMessages.{link_message_text}
 use Rattle.link_message.specs.declared.message.LinkMessage.{LinkMessage}
-use Rattle.link_message_types.specs.declared.header.LinkHeader.{LinkHeader}
-use Rattle.link_capture_grammar.specs.declared.fault.CaptureFault.{CaptureFault}
-use Rattle.link_capture_grammar.specs.Bodies.{body_text, body_text_under, ruled_text}
+use Rattle.link_message.specs.LinkHeader.{LinkHeader}
+use Rattle.link_capture.specs.CaptureFault.{CaptureFault}
+use Rattle.link_capture.specs.Bodies.{body_text, body_text_under, ruled_text}
 use Rattle.link_capture.specs.Captures.{first_fault, raised, texts}
 use Rattle.link_capture.specs.Laws.{CapturesAreCounted, FramesAreJudged}
 use Rattle.link_capture.specs.Routes.{route_entry}
-use Rattle.link_capture_messages.specs.declared.route.RouteLink.{RouteLink}
+use Rattle.link_capture.specs.RouteLink.{RouteLink}
 use Rattle.examples.specs.declared.requests.RequestFault.{RequestFault}
 use Rattle.examples.specs.Requests.{request_text, new_link_text, IsNormal, NewLinksAreNormal, vxlan_attributes, vxlan_body, vxlan_info_text}
 

@@ -2,15 +2,15 @@
 use Rattle.std.specs.Prelude.{◌≡◌, ◌≢◌, ℕ, ◌+◌, Bool, true, false, List, [], ◌∷◌, drop, option_map, Option, None, Some, string_bytes}
 use Rattle.std.specs.BTreeMap.{get, BTreeMap}
 use Rattle.std.specs.Ordering.{nat_cmp}
-use Rattle.netlink_packet_core_grammar.specs.Attributes.{nla_align}
-use Rattle.netlink_packet_core_messages.specs.declared.message.NetlinkMessage.{NetlinkMessage}
-use Rattle.netlink_packet_core_messages.specs.declared.payload.NetlinkPayload.{NetlinkPayload}
-use Rattle.netlink_packet_core_messages.specs.declared.payload.NetlinkPayload.TheVariants.{InnerMessage}
-use Rattle.link_message_types.specs.declared.link_flag.LinkFlags.{LinkFlags}
-use Rattle.link_message_attributes.specs.declared.attributes.LinkAttribute.{LinkAttribute}
-use Rattle.link_capture_messages.specs.declared.route.RouteLink.{RouteLink}
-use Rattle.link_capture_messages.specs.Texts.{GivesMessage}
-use Rattle.link_capture_messages.specs.Views.{readable_message}
+use Rattle.netlink_packet_core.specs.Attributes.{nla_align}
+use Rattle.netlink_packet_core.specs.NetlinkMessage.{NetlinkMessage}
+use Rattle.netlink_packet_core.specs.NetlinkPayload.{NetlinkPayload}
+use Rattle.netlink_packet_core.specs.NetlinkPayload.TheVariants.{InnerMessage}
+use Rattle.link_message.specs.LinkFlags.{LinkFlags}
+use Rattle.link_message.specs.LinkAttribute.{LinkAttribute}
+use Rattle.link_capture.specs.RouteLink.{RouteLink}
+use Rattle.link_capture.specs.Texts.{GivesMessage}
+use Rattle.link_capture.specs.Views.{readable_message}
 use Rattle.examples.specs.declared.interfaces.Interface.{Interface}
 
 -- interfaces by their index

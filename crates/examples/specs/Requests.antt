@@ -6,7 +6,7 @@ use Rattle.netlink_packet_core.specs.Headers.{header_text}
 use Rattle.netlink_packet_core.specs.Numbers.{be2, le4}
 use Rattle.netlink_packet_core.specs.TypedBodies.{TypedBody}
 use Rattle.link_message.specs.Body.{link_body}
-use Rattle.link_capture_grammar.specs.Bodies.{ruled_text}
+use Rattle.link_capture.specs.Bodies.{ruled_text}
 use Rattle.link_capture.specs.Captures.{IsLegal, texts}
 
 -- the frame of a message with these flags and this sequence number, to the port 0, which is the kernel's (netlink.h, struct nlmsghdr)

@@ -7,7 +7,7 @@ ghost use Rattle.link_message.specs.LinkMessages.{link_message_text, link_messag
 ghost use Rattle.link_message.specs.Body.{link_body};
 ghost use Rattle.link_capture.specs.Readable.{IsReadable, ReadsAsAnother};
 ghost use Rattle.link_capture.specs.Routes.{route_entry};
-ghost use Rattle.link_capture_grammar.specs.Bodies.{ruled_text};
+ghost use Rattle.link_capture.specs.Bodies.{ruled_text};
 ghost use Rattle.examples.specs.Requests.{request_text, new_link_text, IsNormal, NewLinksAreNormal};
 ghost use Rattle.examples.specs.Requests.{vxlan_info_text, vxlan_body, vxlan_text};
 

@@ -5,6 +5,7 @@ ghost use Rattle.netlink_packet_core.specs.Attributes.{attribute_text};
 ghost use Rattle.netlink_packet_core.specs.Frames.{IsFrame};
 ghost use Rattle.netlink_packet_core.specs.Numbers.{le4, u32_at};
 
+use netlink_packet_core::laws::numbers_have_sizes;
 use netlink_packet_core::{DecodeError, Emitable, NetlinkBuffer, Nla, fill_u32};
 
 /// The kind of the attribute that holds a link's greatest packet size (if_link.h).
@@ -19,8 +20,8 @@ impl Nla for Mtu {
 
     ghost inside_fits = { λ _. true };
 
-    #[tactic(auto, using(netlink_packet_core_grammar::proofs::Sizes::sizes))]
     fn value_len(&self) -> usize {
+        numbers_have_sizes();
         4
     }
 
@@ -28,8 +29,8 @@ impl Nla for Mtu {
         IFLA_MTU
     }
 
-    #[tactic(auto, using(netlink_packet_core_grammar::proofs::Sizes::sizes))]
     fn emit_value(&self, buffer: &mut [u8]) {
+        numbers_have_sizes();
         fill_u32(buffer, self.0);
     }
 

@@ -1,8 +1,8 @@
 -- a message more, or none
 use Rattle.std.proofs.Common.{◌≡◌, ◌+◌, Some, drop, refl, sym, ap, subst, ◌∙◌, rules}
-use Rattle.netlink_packet_core_grammar.specs.Attributes.{nla_align}
-use Rattle.link_capture_messages.specs.Messages.{IsNext}
-use Rattle.link_capture_messages.specs.Texts.{GivesMessage}
+use Rattle.netlink_packet_core.specs.Attributes.{nla_align}
+use Rattle.link_capture.specs.Messages.{IsNext}
+use Rattle.link_capture.specs.Texts.{GivesMessage}
 use Rattle.examples.proofs.Learning.{LearnedTo, learned_none, learned_more, learned_all, unchanged}
 use Rattle.examples.proofs.interfaces.learn_all.Goals as goal
 

@@ -6,9 +6,9 @@ use Rattle.netlink_packet_core.specs.Numbers.{le4}
 use Rattle.link_info.specs.LinkInfo.{link_info_entry, link_info_fits}
 use Rattle.link_message.specs.LinkAttributes.{link_attribute_entry, link_attribute_fits}
 use Rattle.link_message.specs.LinkFlagTypes.{link_flags_bits}
-use Rattle.link_message_types.specs.declared.address_family.AddressFamily.{AddressFamily}
-use Rattle.link_message_types.specs.declared.header.LinkHeader.{LinkHeader}
-use Rattle.link_message_types.specs.declared.link_layer_type.LinkLayerType.{LinkLayerType}
+use Rattle.link_message.specs.AddressFamily.{AddressFamily}
+use Rattle.link_message.specs.LinkHeader.{LinkHeader}
+use Rattle.link_message.specs.LinkLayerType.{LinkLayerType}
 use Rattle.examples.proofs.RequestFrames.{all_three, header_of_zeros, name_fits}
 use Rattle.examples.specs.Requests.{vxlan_info_text}
 use Rattle.examples.proofs.requests.vxlan_message.Goals as goal

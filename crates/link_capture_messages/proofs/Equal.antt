@@ -29,8 +29,8 @@ stable false h = absurd (h refl)
 pub one_text : (m k : LinkMessage) → IsReadable m → IsReadable k → link_message_text m ≡ link_message_text k → equal_messages m k ≡ true
 one_text m k p q e =
     stable (equal_messages m k) (λ f. not_there p.again (λ x. not_there q.again (λ y.
-      let between = one_message messages_injective (link_message_text m) x.0 y.0 x.1 (subst (λ t. IsReadFrom t y.0) (sym e) y.1) in
-      differ _ (sym (laws-law.congr x.0 m k (equal_of m x.0 x.2)) ∙ laws-law.congr x.0 y.0 k between ∙ equal_of k y.0 y.2) f)))
+    let between = one_message messages_injective (link_message_text m) x.0 y.0 x.1 (subst (λ t. IsReadFrom t y.0) (sym e) y.1) in
+    differ _ (sym (laws-law.congr x.0 m k (equal_of m x.0 x.2)) ∙ laws-law.congr x.0 y.0 k between ∙ equal_of k y.0 y.2) f)))
 
 number : RouteLink → ℕ
 number (RouteLink.NewLink x) = 16

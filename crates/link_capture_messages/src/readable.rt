@@ -11,13 +11,12 @@ ghost use Rattle.link_capture_messages.specs.Routes.{TellsOf};
 use super::fault::RouteFault;
 use super::types::ReadableLink;
 use link_capture_grammar::laws::bodies_are_normal;
-use link_message::LinkMessage;
-use link_message::check;
+use link_message::{LinkMessage, check};
 use link_message_grammar::laws::bodies_are_headers_and_attributes;
+use link_message_laws::laws::equal_texts_mean_equal_messages;
 use netlink_packet_core::Emitable;
 use std::alloc::Global;
 use thiserror::Error;
-use link_message_laws::laws::equal_texts_mean_equal_messages;
 
 /// Why a message wasn't taken as a readable one.
 #[derive(Clone, Copy, Debug, PartialEq, Eq, Drop, Error)]

@@ -257,7 +257,7 @@ by_variant k m (Data.Xfrm x) (Data.Xfrm y) l i p q e = lists_injective _ xfrm_en
 by_variant k m (Data.MacSec x) (Data.MacSec y) l i p q e = lists_injective _ macsec_entry macsec_names_row macsec_injective x.items y.items p.1 q.1 e
 by_variant k m (Data.Hsr x) (Data.Hsr y) l i p q e = lists_injective _ raw_entry (λ _. Unit {0}) (raw_data_injective _ (record { fits = omega arith })) x.items y.items (λ _ _ _. tt) (λ _ _ _. tt) e
 by_variant k m (Data.Geneve x) (Data.Geneve y) l i p q e = lists_injective _ geneve_entry geneve_names_row geneve_injective x.items y.items p.1 q.1 e
-by_variant k m (Data.IpTunnel x) (Data.IpTunnel y) l i p q e = 
+by_variant k m (Data.IpTunnel x) (Data.IpTunnel y) l i p q e =
     let same_kind : k ≡ m = tunnels_equal k m l p.0 in
     lists_injective _ ip_tunnel_entry (ip_tunnel_names_row k) (ip_tunnel_injective k) x.items y.items p.1 (subst (λ h. All (ip_tunnel_names_row h) y.items) (sym same_kind) q.1) e
 by_variant k m (Data.Netkit x) (Data.Netkit y) l i p q e = lists_injective _ netkit_entry netkit_names_row netkit_injective x.items y.items p.1 q.1 e

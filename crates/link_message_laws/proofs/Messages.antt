@@ -60,5 +60,5 @@ messages_injective m n f p q e =
     let family = table_family m.header.interface_family in
     let q' = subst (λ a. All (link_attribute_names_row (table_family a)) n.attributes.items) (sym f) q in
     and_from _ _
-      (ap ((header_equality.ghosts).eq m.header) (sym h.header) ∙ header_laws.laws-law.refl m.header)
-      (lists_injective _ link_attribute_entry (link_attribute_names_row family) (attribute_injective family) m.attributes.items n.attributes.items p q' h.rest)
+    (ap ((header_equality.ghosts).eq m.header) (sym h.header) ∙ header_laws.laws-law.refl m.header)
+    (lists_injective _ link_attribute_entry (link_attribute_names_row family) (attribute_injective family) m.attributes.items n.attributes.items p q' h.rest)

@@ -1,5 +1,5 @@
 #!/usr/bin/env python3
-"""Puts proved programs, and the proved static library for C, into a folder.
+"""Puts proved programs, and the proved static library for C, into a folder, which is made if it isn't there.
 
     tools/build.py FOLDER CRATE..      as linkcap, linkshow (programs), linkcap_c (FOLDER/liblinkcap_c.a)
 
@@ -164,6 +164,7 @@ def main():
     parser.add_argument("folder", metavar="FOLDER")
     parser.add_argument("crates", nargs="+", metavar="CRATE")
     words, of = parser.parse_args(), crates()
+    os.makedirs(words.folder, exist_ok=True)
     for name in words.crates:
         if name not in of:
             parser.error("crates.txt has no crate " + name)

@@ -109,7 +109,7 @@ func TestMain(m *testing.M) {
 	}
 }
 
-// TestLinkAdd compares with golden files what netlink.LinkAdd itself sends, which strace shows.
+// TestLinkAdd compares with golden files what netlink.LinkAdd itself sends, which linkrec records.
 func TestLinkAdd(t *testing.T) {
 	if os.Geteuid() != 0 {
 		t.Skip("needs root, for a network namespace")
@@ -127,16 +127,15 @@ func TestLinkAdd(t *testing.T) {
 	}
 }
 
-// requestOf returns what this program sends where it adds a link.
+// requestOf returns what this program sends when it adds a link, in a network namespace of its own.
 func requestOf(t *testing.T, name string) []byte {
 	t.Helper()
-	trace := filepath.Join(t.TempDir(), "trace")
-	run := exec.Command("unshare", "-n", "strace", "-f", "-yy", "-e", "trace=sendmsg,sendto", "-e", "write=all", "-o", trace,
-		os.Args[0], "-add="+name)
+	file := filepath.Join(t.TempDir(), "capture")
+	run := exec.Command("../../../scripts/linkrec", "run", "--netns", "-o", file, "--", os.Args[0], "-add="+name)
 	if out, err := run.CombinedOutput(); err != nil {
 		t.Logf("%v: %s", err, out) // this kernel may lack the kind; the request was sent
 	}
-	capture, err := exec.Command("python3", "../../../samples/strace_to_capture.py", trace).Output()
+	capture, err := os.ReadFile(file)
 	if err != nil {
 		t.Fatal(err)
 	}

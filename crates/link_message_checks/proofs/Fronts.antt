@@ -13,8 +13,8 @@ use Rattle.attribute_tables_grammar.specs.Tables.{Payload.list, Table, rule}
 use Rattle.link_message_grammar.specs.Body.{attribute_bytes, body_rule, family, header_text, list_rule_of}
 use Rattle.link_message_grammar.specs.LinkMessage.{Family, link_table}
 use Rattle.link_message_grammar.specs.Laws.{BodiesAreHeadersAndAttributes}
-use Rattle.attribute_checks.specs.Fronts.{IsOwnFront, GoesOn}
-use Rattle.attribute_checks.specs.Measures.{rows_of}
+use Rattle.link_interpreter.specs.Fronts.{IsOwnFront, GoesOn}
+use Rattle.link_interpreter.specs.Measures.{rows_of}
 use Rattle.link_message_checks.specs.Fronts.{IsBodyFront}
 
 -- the attributes of a family are a list of the rows that are looked up

@@ -4,7 +4,7 @@ use Rattle.std.specs.Prelude.{bytes_eq, slice_index}
 use Rattle.std.proofs.lemmas.Bool.{false_from_ne_true}
 use Rattle.std.proofs.lemmas.List.{take_min}
 use Rattle.std.proofs.lemmas.Slice.Eq.{bytes_eq-Decides}
-use Rattle.attribute_checks.proofs.SameShapes.{behind_same}
+use Rattle.link_interpreter.proofs.SameShapes.{behind_same}
 use Rattle.link_message_grammar.specs.Body.{header_text, is_listed, layer_type_text}
 
 pub own_header : (b : List ℕ) → 16 ≤ length b → slice_index b 1 ≡ 0 → is_listed (slice_index b 2 + 256 * slice_index b 3) ≡ true → header_text b ≡ take 16 b

@@ -2,7 +2,7 @@
 use Rattle.std.specs.Prelude.{◌≡◌, ℕ, ◌-◌, ◌≤◌, List, length, take}
 use Rattle.attribute_tables_grammar.specs.Peers.{Peer}
 use Rattle.link_message_grammar.specs.Body.{attribute_bytes, family, header_text, list_rule_of}
-use Rattle.attribute_checks.specs.Fronts.{IsOwnFront}
+use Rattle.link_interpreter.specs.Fronts.{IsOwnFront}
 
 -- of a body under a rule of peers so many bytes in front are written as they stand: where these are 16 or more, the header and attributes behind it
 pub record IsBodyFront (p : Peer) (b : List ℕ) (n : ℕ) : Type 0 where

@@ -7,11 +7,12 @@ ghost use Rattle.netlink_packet_core_numbers.specs.Errors.{is_memory};
 ghost use Rattle.link_message_grammar.specs.LinkMessage.{family_of};
 ghost use Rattle.link_message_grammar.specs.Body.{attribute_row, attributes_rule};
 
-use crate::body::{MessageTables, table_of_family, walk_attributes};
+use crate::body::walk_attributes;
 use crate::peer::LinkPeer;
-use attribute_checks::{find, measure_held};
 use attribute_tables_grammar::laws::measures_tell_rules;
+use link_interpreter::{find, measure_held};
 use link_message_grammar::laws::kinds_are_looked_up;
+use link_tables::family_table;
 use netlink_packet_core_numbers::DecodeError;
 
 /// Whether an attribute's payload is accepted as what the row of its kind holds under an address
@@ -22,9 +23,8 @@ pub fn accepts_attribute(family: u8, kind: u16, payload: &[u8]) -> bool
 {
     measures_tell_rules();
     kinds_are_looked_up();
-    let tables = MessageTables(&LinkPeer);
-    let found = find(&tables, table_of_family(family), kind);
-    measure_held(&tables, found.held, payload).is_some()
+    let found = find(&LinkPeer, family_table(family), kind);
+    measure_held(&LinkPeer, found.held, payload).is_some()
 }
 
 /// Whether the bytes are attributes of an address family.

@@ -1,29 +1,22 @@
 //! Bodies of link messages and their attributes, over peers.
 
-ghost use Rattle.std.specs.Prelude.{◌≡◌, ◌≤◌, ◌<◌, ◌+◌, ◌-◌, ◌^◌, ◌++◌, ◌&&◌, nat_lt, true, cond, length, option_map, vec_capacity, IfSome};
+ghost use Rattle.std.specs.Prelude.{◌≡◌, ◌≤◌, ◌+◌, ◌-◌, ◌^◌, ◌++◌, ◌&&◌, nat_lt, true, cond, length, option_map, vec_capacity, IfSome};
 ghost use Rattle.attribute_tables_grammar.specs.Walks.{measure};
 ghost use Rattle.link_message_grammar.specs.Laws.{BodyLaws};
-ghost use Rattle.link_message_grammar.specs.LinkMessage.{family_of, info, link_table};
+ghost use Rattle.link_message_grammar.specs.LinkMessage.{family_of};
 ghost use Rattle.link_message_grammar.specs.Body.{body_rule, list_rule_of};
-ghost use Rattle.attribute_checks.specs.Measures.{view};
-ghost use Rattle.attribute_checks.specs.Fronts.{IsOwnFront};
+ghost use Rattle.link_interpreter.specs.Measures.{view};
+ghost use Rattle.link_interpreter.specs.Fronts.{IsOwnFront};
 ghost use Rattle.link_message_checks.specs.Fronts.{IsBodyFront};
-ghost use Rattle.link_message_checks.specs.Tables.{table_of};
-ghost use Rattle.attribute_checks.specs.Room.{HasRoom};
+ghost use Rattle.link_interpreter.specs.Room.{HasRoom};
 
 use crate::header::{HEADER_LEN, is_own_header, same_header, write_header};
-use crate::rows::TABLES;
-use attribute_checks::{
-    Form, Held, Measured, PeerSet, Row, TableSet, WritePeer, WriteSet, append, same_held, table_at,
-    walk_list, write_held,
-};
-use attribute_tables_grammar::laws::{
-    measures_tell_rules, rows_are_looked_up, sameness_goes_by_steps,
-};
-use link_info_checks::{measure_list, same_list_over, write_list};
+use attribute_tables_grammar::laws::{measures_tell_rules, rows_are_looked_up};
+use link_interpreter::{Measured, PeerSet, WritePeer, append, same_held, walk_list, write_held};
 use link_message_grammar::laws::{
     bodies_are_measured, bodies_are_small, body_laws_hold_for_any_peers,
 };
+use link_tables::{Form, Held, family_table};
 
 // What is known of bodies over these peers. It does nothing.
 pub(crate) fn body_laws_hold<P: PeerSet>(peers: &P)
@@ -31,88 +24,6 @@ pub(crate) fn body_laws_hold<P: PeerSet>(peers: &P)
 {
     body_laws_hold_for_any_peers();
     peers.peers_are_lawful();
-}
-
-// The tables of link messages, over peers.
-#[derive_where(Clone, Copy)]
-pub(crate) struct MessageTables<'p, P>(pub(crate) &'p P);
-
-impl<P: PeerSet> TableSet for MessageTables<'_, P> {
-    ghost tables = { table_of };
-
-    ghost count = { 19 };
-
-    ghost peer = { P.peer };
-
-    ghost info = { info };
-
-    fn table(&self, table: u8) -> &[Row] {
-        self.0.peers_are_lawful();
-        table_at(&TABLES, table)
-    }
-
-    fn measure_peer(&self, payload: &[u8]) -> Option<Measured> {
-        self.0.measure_peer(payload)
-    }
-
-    fn measure_info(&self, payload: &[u8]) -> Option<Measured> {
-        measures_tell_rules();
-        body_laws_hold(self.0);
-        if payload.is_empty() {
-            None
-        } else {
-            measure_list(self.0, payload)
-        }
-    }
-
-    fn same_peer(&self, left: &[u8], right: &[u8]) -> bool {
-        self.0.same_peer(left, right)
-    }
-
-    fn same_info(&self, left: &[u8], right: &[u8]) -> bool {
-        sameness_goes_by_steps();
-        body_laws_hold(self.0);
-        if left.is_empty() || right.is_empty() {
-            false
-        } else {
-            same_list_over(self.0, left, right)
-        }
-    }
-}
-
-impl<P: WritePeer> WriteSet for MessageTables<'_, P> {
-    fn write_peer(&self, payload: &[u8], out: &mut Vec<u8>) {
-        self.0.write_peer(payload, out);
-    }
-
-    fn write_info(&self, payload: &[u8], out: &mut Vec<u8>) {
-        body_laws_hold(self.0);
-        write_list(self.0, payload, out);
-    }
-}
-
-// The families of which tables are their own (socket.h).
-const AF_UNSPEC: u8 = 0;
-
-const AF_BRIDGE: u8 = 7;
-
-const AF_INET6: u8 = 10;
-
-// The number of a family's table.
-pub(crate) fn table_of_family(family: u8) -> u8
-    ensures known { result < 19 }
-    ensures table { table_of result ≡ link_table (family_of family) }
-{
-    if family == AF_UNSPEC {
-        return 15;
-    }
-    if family == AF_BRIDGE {
-        return 16;
-    }
-    if family == AF_INET6 {
-        return 17;
-    }
-    18
 }
 
 // Whether the bytes are attributes of a family over these peers, and their measure, which tells how far from their front
@@ -127,12 +38,7 @@ pub(crate) fn walk_attributes<P: PeerSet>(peers: &P, family: u8, bytes: &[u8]) -
         (λ m. IsOwnFront (list_rule_of P.peer (family_of family)) bytes.now m.front) }
 {
     rows_are_looked_up();
-    walk_list(
-        &MessageTables(peers),
-        Form::Any,
-        table_of_family(family),
-        bytes,
-    )
+    walk_list(peers, Form::Any, family_table(family), bytes)
 }
 
 // How far a body is its own text, whose attributes are so far.
@@ -178,8 +84,8 @@ pub(crate) fn walk_body_over<P: PeerSet>(peers: &P, bytes: &[u8]) -> Option<Meas
 fn same_attributes<P: PeerSet>(peers: &P, family: u8, left: &[u8], right: &[u8]) -> bool
     ensures { result ≡ (list_rule_of P.peer (family_of family)).same left.now right.now }
 {
-    let held = Held::List(Form::Any, table_of_family(family));
-    same_held(&MessageTables(peers), held, left, right)
+    let held = Held::List(Form::Any, family_table(family));
+    same_held(peers, held, left, right)
 }
 
 // Whether two bodies over these peers mean the same. Each has at least the bytes of a header.
@@ -202,8 +108,8 @@ fn write_attributes<P: WritePeer>(peers: &P, family: u8, bytes: &[u8], out: &mut
         ≡ out.old.items ++ (list_rule_of P.peer (family_of family)).canonical bytes.now }
     ensures room { vec_capacity out.old ≤ vec_capacity out.new }
 {
-    let held = Held::List(Form::Any, table_of_family(family));
-    write_held(&MessageTables(peers), held, bytes, out);
+    let held = Held::List(Form::Any, family_table(family));
+    write_held(peers, held, bytes, out);
 }
 
 // Appends the canonical text of an accepted body over these peers that fits, of which so many bytes in front are known to

@@ -5,8 +5,8 @@ ghost use Rattle.std.specs.Prelude.{slice_index, vec_capacity};
 ghost use Rattle.std.specs.List.{list_any};
 ghost use Rattle.link_message_grammar.specs.Body.{header_text, layer_type_text};
 
-use crate::rows::LAYER_TYPES;
-use attribute_checks::append;
+use crate::layer_types::LAYER_TYPES;
+use link_interpreter::append;
 
 /// The bytes of a body's header (if_link.h, struct ifinfomsg).
 pub(crate) const HEADER_LEN: usize = 16;

@@ -4,10 +4,9 @@
 mod attributes;
 mod body;
 mod header;
-mod lists;
+mod layer_types;
 mod message;
 mod peer;
-mod rows;
 
 pub use attributes::{accepts_attribute, accepts_attributes, attribute_error, attributes_error};
 pub use message::{BodyMeasure, check, same, walk_body, write_body, write_canonical};

@@ -7,15 +7,15 @@ ghost use Rattle.std.specs.Prelude.{is_ok, option_map, vec_capacity, IfSome, IfO
 ghost use Rattle.attribute_tables_grammar.specs.Walks.{measure};
 ghost use Rattle.netlink_packet_core_numbers.specs.Errors.{is_memory};
 ghost use Rattle.link_message_grammar.specs.Body.{link_body, link_peer};
-ghost use Rattle.attribute_checks.specs.Measures.{view};
+ghost use Rattle.link_interpreter.specs.Measures.{view};
 ghost use Rattle.link_message_checks.specs.Fronts.{IsBodyFront};
-ghost use Rattle.link_message_checks.specs.Tables.{IsBodyMeasure};
-ghost use Rattle.attribute_checks.specs.Room.{HasRoom};
+ghost use Rattle.link_message_checks.specs.Measures.{IsBodyMeasure};
+ghost use Rattle.link_interpreter.specs.Room.{HasRoom};
 
 use crate::body::{same_body_over, walk_body_over, write_body_over};
 use crate::peer::LinkPeer;
-use attribute_checks::Measured;
 use attribute_tables_grammar::laws::measures_tell_rules;
+use link_interpreter::Measured;
 use netlink_packet_core_numbers::DecodeError;
 use std::alloc::AllocError;
 

@@ -6,8 +6,8 @@ ghost use Rattle.link_message_grammar.specs.Body.{body_rule, link_peer};
 
 use crate::body::{body_laws_hold, same_body_over, walk_body_over, write_body_over};
 use crate::header::{HEADER_LEN, same_header};
-use attribute_checks::{BytesPeer, Measured, PeerMeasure, PeerRule, PeerSet, WritePeer};
 use attribute_tables_grammar::laws::measures_tell_rules;
+use link_interpreter::{BytesPeer, Measured, PeerMeasure, PeerRule, PeerSet, WritePeer};
 use link_message_grammar::laws::link_peer_is_lawful;
 use netlink_packet_core_numbers::DecodeError;
 use std::alloc::Global;

@@ -7,4 +7,4 @@ use Rattle.link_message_checks.proofs.body.same_attributes.Goals as goal
 
 pub returns : goal.returns
 unfolding list_of list_rule_of
-returns g c = c.same_held.ensures ∙ ap (λ t. (rule g.P.PeerSet.peer (list any t)).same c.args.left.now c.args.right.now) c.table_of_family.ensures.table
+returns g c = c.same_held.ensures ∙ ap (λ t. (rule g.P.PeerSet.peer (list any t)).same c.args.left.now c.args.right.now) c.family_table.ensures.table

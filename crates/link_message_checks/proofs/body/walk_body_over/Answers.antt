@@ -3,8 +3,8 @@ use Rattle.std.proofs.lemmas.List.{take_rest}
 use Rattle.std.proofs.lemmas.Bool.{and_parts}
 use Rattle.attribute_tables_grammar.specs.Walks.{measure}
 use Rattle.link_message_grammar.specs.Body.{behind_header, body_rule, family, list_rule_of}
-use Rattle.attribute_checks.specs.Measures.{view}
-use Rattle.attribute_checks.specs.Fronts.{IsOwnFront}
+use Rattle.link_interpreter.specs.Measures.{view}
+use Rattle.link_interpreter.specs.Fronts.{IsOwnFront}
 use Rattle.link_message_checks.specs.Fronts.{IsBodyFront}
 use Rattle.link_message_checks.proofs.Fronts.{body_front}
 use Rattle.link_message_checks.proofs.body.walk_body_over.Goals as goal

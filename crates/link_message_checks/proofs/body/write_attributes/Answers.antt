@@ -7,18 +7,18 @@ use Rattle.link_message_checks.proofs.body.write_attributes.Goals as goal
 
 pub write_held-requires-clause-accepted : goal.write_held-requires-clause-accepted
 unfolding list_of list_rule_of
-write_held-requires-clause-accepted g c = ap (λ t. (rule g.P.PeerSet.peer (list any t)).accepted c.args.bytes.now) c.table_of_family.ensures.table ∙ c.requires.accepted
+write_held-requires-clause-accepted g c = ap (λ t. (rule g.P.PeerSet.peer (list any t)).accepted c.args.bytes.now) c.family_table.ensures.table ∙ c.requires.accepted
 
 pub write_held-requires-clause-fits : goal.write_held-requires-clause-fits
 unfolding list_of list_rule_of
-write_held-requires-clause-fits g c = ap (λ t. (rule g.P.PeerSet.peer (list any t)).fits c.args.bytes.now) c.table_of_family.ensures.table ∙ c.requires.fits
+write_held-requires-clause-fits g c = ap (λ t. (rule g.P.PeerSet.peer (list any t)).fits c.args.bytes.now) c.family_table.ensures.table ∙ c.requires.fits
 
 pub write_held-requires-clause-room : goal.write_held-requires-clause-room
 unfolding list_of list_rule_of
 write_held-requires-clause-room g c =
-    let size = ap (λ t. length ((rule g.P.PeerSet.peer (list any t)).canonical c.args.bytes.now)) c.table_of_family.ensures.table in
+    let size = ap (λ t. length ((rule g.P.PeerSet.peer (list any t)).canonical c.args.bytes.now)) c.family_table.ensures.table in
     omega (arith, size, c.requires.room)
 
 pub returns-clause-text : goal.returns-clause-text
 unfolding list_of list_rule_of
-returns-clause-text g c = c.write_held.ensures.text ∙ ap (λ t. c.args.out.now.items ++ (rule g.P.PeerSet.peer (list any t)).canonical c.args.bytes.now) c.table_of_family.ensures.table
+returns-clause-text g c = c.write_held.ensures.text ∙ ap (λ t. c.args.out.now.items ++ (rule g.P.PeerSet.peer (list any t)).canonical c.args.bytes.now) c.family_table.ensures.table

@@ -1,6 +1,6 @@
 use Rattle.std.proofs.Common.{sym}
 use Rattle.link_message_grammar.specs.Body.{link_body}
-use Rattle.attribute_checks.specs.Measures.{view}
+use Rattle.link_interpreter.specs.Measures.{view}
 use Rattle.link_message_checks.proofs.message.check.Goals as goal
 
 pub returns-in_default-clause-ok : goal.returns-in_default-clause-ok

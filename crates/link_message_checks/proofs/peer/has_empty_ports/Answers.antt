@@ -1,5 +1,5 @@
 use Rattle.attribute_tables_grammar.specs.Peers.{bytes_peer}
-use Rattle.attribute_checks.specs.Measures.{view}
+use Rattle.link_interpreter.specs.Measures.{view}
 use Rattle.link_message_grammar.specs.Body.{body_rule}
 use Rattle.link_message_checks.proofs.peer.has_empty_ports.Goals as goal
 

@@ -1,9 +1,0 @@
-use Rattle.std.proofs.Common.{◌≡◌, true, drop}
-use Rattle.attribute_checks.specs.Names.{held_by_name, names_fit}
-use Rattle.attribute_checks.proofs.names.find_name.Given as goal
-
-abbrev pub invariant-loop-row : goal.invariant-loop-row
-invariant-loop-row l = record {
-  rest : held_by_name (drop l.row-index l.rows) l.name ≡ held_by_name l.rows l.name;
-  fit : names_fit (drop l.row-index l.rows) ≡ true;
-}

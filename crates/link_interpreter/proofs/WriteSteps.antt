@@ -1,0 +1,55 @@
+-- What is known where an attribute is written: header, payload and padding, one after another.
+use Rattle.std.proofs.Common.{◌≡◌, ℕ, ◌+◌, ◌-◌, ◌≤◌, ◌++◌, true, false, List, [], ◌∷◌, length, take, drop, refl, sym, ap, ◌∙◌, append_assoc, arith}
+use Rattle.std.proofs.lemmas.List.{length-append, take_at}
+use Rattle.std.proofs.Math.Seq.{drop-append_seam}
+use Rattle.netlink_packet_core_grammar.specs.Attributes.{nla_align, zeros, Attribute, attribute_header, attribute_text}
+use Rattle.attribute_tables_grammar.specs.Rules.{Rule}
+use Rattle.attribute_tables_grammar.specs.Lists.{Row, Grammar, rewrite, written_kind, list_rule}
+use Rattle.attribute_tables_grammar.specs.Walks.{IsWalked}
+use Rattle.attribute_tables_grammar.specs.Writing.{IsWritable}
+use Rattle.attribute_tables_grammar.specs.Laws.{MeasuresTellRules}
+use Rattle.link_tables.specs.declared.rows.Form.{Form}
+use Rattle.link_tables.specs.declared.rows.Form.TheVariants.{Any, OfKindOne, FirstAlone}
+use Rattle.link_tables.specs.Rows.{form_of}
+
+-- where the row's rule is known by another name, and there is more room
+pub writable_as : (r f : Rule) (p : List ℕ) (room more : ℕ) → f ≡ r → room ≤ more → IsWritable r p room → IsWritable f p more
+writable_as r f p room more e l w =
+    let n : length (f.canonical p) ≡ length (r.canonical p) = ap (λ r. length (r.canonical p)) e in
+    record {
+      accepted = ap (λ r. r.accepted p) e ∙ w.accepted;
+      fits = ap (λ r. r.fits p) e ∙ w.fits;
+      short = omega (arith, n, w.short);
+      within = omega (arith, n, w.within, l);
+    }
+
+-- an accepted payload isn't refused
+pub not_refused : (r f : Rule) (p : List ℕ) (room : ℕ) → f ≡ r → IsWritable r p room → f.accepted p ≡ false → ⊥
+not_refused r f p room e w h = cc (ap (λ r. r.accepted p) e)
+
+-- a header over the four bytes in front of a payload, and padding behind it, are the attribute's text
+pub three_parts : (kind : ℕ) (text out a b c new : List ℕ) (start size : ℕ) → start ≡ length out → size ≡ length text → a ≡ out ++ 0 ∷ 0 ∷ 0 ∷ 0 ∷ [] → b ≡ a ++ text → c ≡ take start b ++ (attribute_header (4 + size) kind ++ drop (start + 4) b) → new ≡ c ++ zeros (nla_align (4 + size) - (4 + size)) → new ≡ out ++ attribute_text (record { kind = kind; payload = text })
+unfolding attribute_text
+three_parts kind text out a b c new start size at n x y z w =
+    let h = attribute_header (4 + length text) kind in
+    let p = zeros (nla_align (4 + length text) - (4 + length text)) in
+    let whole : b ≡ out ++ (0 ∷ 0 ∷ 0 ∷ 0 ∷ text) = y ∙ ap (λ v. v ++ text) x ∙ append_assoc out (0 ∷ 0 ∷ 0 ∷ 0 ∷ []) text in
+    let front : take start b ≡ out = ap (λ n. take n b) at ∙ ap (take (length out)) whole ∙ take_at out (0 ∷ 0 ∷ 0 ∷ 0 ∷ text) (length out) refl in
+    let four : length a ≡ length out + 4 = ap length x ∙ length-append out (0 ∷ 0 ∷ 0 ∷ 0 ∷ []) in
+    let behind : drop (start + 4) b ≡ text = ap (λ n. drop (n + 4) b) at ∙ ap (λ n. drop n b) (sym four) ∙ ap (drop (length a)) y ∙ drop-append_seam a text in
+    w ∙ ap (λ m. c ++ zeros (nla_align (4 + m) - (4 + m))) n
+    ∙ ap (λ v. v ++ p) (z ∙ (λ i. front i ++ (attribute_header (4 + n i) kind ++ behind i)))
+    ∙ append_assoc out (h ++ text) p
+    ∙ ap (λ v. out ++ v) (append_assoc h text p)
+
+-- an attribute that was written by a look-up is the row's
+pub rewritten_as : (row : Row) (f : Rule) (e : Attribute) (kind : ℕ) (out new : List ℕ) → f ≡ row.rule → kind ≡ written_kind row e.kind → new ≡ out ++ attribute_text (record { kind = kind; payload = f.canonical e.payload }) → new ≡ out ++ attribute_text (rewrite row e)
+rewritten_as row f e kind out new r k h = h ∙ (λ i. out ++ attribute_text (record { kind = k i; payload = (r i).canonical e.payload }))
+
+-- an accepted list of another form is walked
+pub walked_if : MeasuresTellRules → (form : Form) (g : Grammar) (bytes : List ℕ) → (form ≡ FirstAlone → ⊥) → (list_rule (form_of form) g).accepted bytes ≡ true → IsWalked (form_of form) bytes
+walked_if law Any g bytes n a = tt
+walked_if law OfKindOne g bytes n a = tt
+walked_if law FirstAlone g bytes n a = absurd (n refl)
+walked_if law form g [] n a = absurd (cc (a, law.denies (list_rule (form_of form) g) [] (law.no_bytes (form_of form) g [] refl tt)))
+walked_if law form g (b ∷ bytes) n a = omega arith

@@ -1,0 +1,14 @@
+use Rattle.std.proofs.Common.{◌≡◌, ◌-◌, ◌++◌, length, take, sym, ap, ◌∙◌, append_assoc, arith}
+use Rattle.netlink_packet_core_grammar.specs.Attributes.{zeros}
+use Rattle.link_interpreter.proofs.SameShapes.{pad_in}
+use Rattle.link_interpreter.proofs.write_shapes.append_resized.Goals as goal
+
+pub returns-clause-text : goal.returns-clause-text
+returns-clause-text c =
+    let out = c.args.out.now.items in
+    let size = c.args.size in
+    let payload = c.args.payload.now in
+    let front : c.first-front.result.now ≡ take size payload = c.first-front.ensures in
+    c.append_zeros.ensures.text ∙ ap (λ x. x ++ zeros (size - length c.first-front.result.now)) c.append.ensures.text
+    ∙ append_assoc out c.first-front.result.now (zeros (size - length c.first-front.result.now))
+    ∙ ap (λ x. out ++ (x ++ zeros (size - length x))) front ∙ ap (λ x. out ++ x) (sym (pad_in size size payload (omega arith)))

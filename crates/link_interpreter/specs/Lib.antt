@@ -1,0 +1,5 @@
+pub mod Measures
+pub mod Fronts
+pub mod Sameness
+pub mod Peers
+pub mod Room

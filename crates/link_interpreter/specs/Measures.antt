@@ -1,0 +1,38 @@
+-- What a measure in code stands for.
+use Rattle.std.specs.Prelude.{◌≡◌, ℕ, List, length}
+use Rattle.attribute_tables_grammar.specs.Lists.{Grammar, any, list_rule, without_context}
+use Rattle.attribute_tables_grammar.specs.LookUps.{table_row}
+use Rattle.attribute_tables_grammar.specs.Peers.{Peer}
+use Rattle.attribute_tables_grammar.specs.Rules.{Rule}
+use Rattle.attribute_tables_grammar.specs.Tables.{Table, names_grammar}
+use Rattle.attribute_tables_grammar.specs.Walks.{Measure}
+use Rattle.link_info_grammar.specs.LinkInfo.{data_rule_under, port_data_rule_under}
+use Rattle.link_tables.specs.declared.rows.Form.{Form}
+use Rattle.link_tables.specs.Rows.{form_of}
+use Rattle.link_interpreter.specs.declared.link_info.ListMeasure.{ListMeasure}
+use Rattle.link_interpreter.specs.declared.shapes.Measured.{Measured}
+
+abbrev pub view : Measured → Measure
+view m = record { size = m.text_len; attributes = m.attributes; fits = m.fits; empty_ports = m.empty_ports }
+
+-- the rows that a look-up of each kind finds
+abbrev pub rows_of : Peer → Table → Grammar
+rows_of p t = without_context (table_row p t)
+
+-- a list of a form, under a table
+abbrev pub table_list : Peer → Table → Form → Rule
+table_list p t form = list_rule (form_of form) (rows_of p t)
+
+-- the rows of link info
+abbrev pub info_names : Peer → Grammar
+info_names p = names_grammar (data_rule_under p) (port_data_rule_under p)
+
+-- a list of link info
+abbrev pub info_list : Peer → Rule
+info_list p = list_rule any (info_names p)
+
+-- the numbers are those of the canonical text
+pub record IsListMeasure (r : Rule) (bytes : List ℕ) (m : ListMeasure) : Type 0 where
+  pub text_len : m.text_len ≡ length (r.canonical bytes)
+  pub attributes : m.attributes ≡ r.attributes bytes
+  pub fits : m.fits ≡ r.fits bytes

@@ -1,0 +1,50 @@
+//! Checks of data under a name, without memory and without a typed value; for the crates that read
+//! them.
+
+ghost use Rattle.std.specs.Prelude.{◌≡◌, false};
+ghost use Rattle.netlink_packet_core_numbers.specs.Errors.{is_memory};
+ghost use Rattle.link_info_grammar.specs.LinkInfo.{data_rule_under, port_data_rule_under};
+
+use crate::measure::measure_held;
+use crate::peers::PeerSet;
+use attribute_tables_grammar::laws::{measures_tell_rules, names_are_looked_up};
+use link_tables::{data_held, port_held};
+use netlink_packet_core_numbers::DecodeError;
+
+/// Whether the bytes of IFLA_INFO_DATA are accepted over these peers as the data under a kind's name.
+pub fn accepts_data<P: PeerSet>(peers: &P, name: &[u8], payload: &[u8]) -> bool
+    ensures { result ≡ (data_rule_under P.peer name.now).accepted payload.now }
+{
+    names_are_looked_up();
+    measures_tell_rules();
+    measure_held(peers, data_held(name), payload).is_some()
+}
+
+/// Whether the bytes of IFLA_INFO_SLAVE_DATA are accepted over these peers as the data under a port
+/// kind's name.
+pub fn accepts_port_data<P: PeerSet>(peers: &P, name: &[u8], payload: &[u8]) -> bool
+    ensures { result ≡ (port_data_rule_under P.peer name.now).accepted payload.now }
+{
+    names_are_looked_up();
+    measures_tell_rules();
+    measure_held(peers, port_held(name), payload).is_some()
+}
+
+/// What is told where data under a kind's name weren't read over these peers: want of memory where
+/// they are accepted, and a refusal where they aren't. The error may be want of memory in front of a
+/// refusal.
+pub fn data_error<P: PeerSet>(
+    peers: &P,
+    name: &[u8],
+    payload: &[u8],
+    error: DecodeError,
+) -> DecodeError
+    requires refused { is_memory error ≡ false
+        → (data_rule_under P.peer name.now).accepted payload.now ≡ false }
+    ensures { (data_rule_under P.peer name.now).accepted payload.now ≡ is_memory result }
+{
+    if error.is_memory() && !accepts_data(peers, name, payload) {
+        return DecodeError::from("no data of their kind");
+    }
+    error
+}

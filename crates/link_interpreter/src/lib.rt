@@ -1,0 +1,30 @@
+// Attributes of links judged, compared and written on their bytes, by one interpreter of the rows of their tables.
+#![tactic(auto)]
+
+mod attribute;
+mod data;
+mod info;
+mod link_info;
+mod measure;
+mod peers;
+mod room;
+mod same;
+mod same_shapes;
+mod shapes;
+mod tables;
+mod write;
+mod write_shapes;
+
+pub use attribute::{Attribute, KIND_BOUND, first_attribute};
+pub use data::{accepts_data, accepts_port_data, data_error};
+pub use link_info::{
+    ListMeasure, check_list, check_list_with, list_error_with, same_list, same_list_with,
+};
+pub use measure::{measure_held, walk_list};
+pub use peers::{BytesPeer, PeerMeasure, PeerRule, PeerSet, Ruled, WritePeer};
+pub use room::{append, append_zeros};
+pub use same::same_held;
+pub use shapes::{Measured, measure_shape};
+pub use tables::{Found, find};
+pub use write::write_held;
+pub use write_shapes::write_shape;

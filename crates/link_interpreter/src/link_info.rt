@@ -1,0 +1,114 @@
+//! Checks of link info, without memory and without a typed value.
+
+ghost use Rattle.std.specs.Prelude.{◌≡◌, true, false, is_ok, option_map, IfSome, IfOk, IfErr};
+ghost use Rattle.attribute_tables_grammar.specs.Walks.{measure};
+ghost use Rattle.netlink_packet_core_numbers.specs.Errors.{is_memory};
+ghost use Rattle.link_info_grammar.specs.LinkInfo.{info_rule, info_rule_under};
+ghost use Rattle.link_interpreter.specs.Measures.{view, IsListMeasure};
+
+use crate::measure::measure_info;
+use crate::peers::{BytesPeer, PeerRule, PeerSet, Ruled};
+use crate::same::same_info;
+use crate::shapes::Measured;
+use attribute_tables_grammar::laws::measures_tell_rules;
+use netlink_packet_core_numbers::DecodeError;
+
+/// What a list of link info is written as.
+#[derive(Clone, Copy, Debug, PartialEq, Eq)]
+pub struct ListMeasure {
+    /// The length of the canonical text in bytes.
+    pub text_len: u128,
+    /// The attribute headers, at all depths.
+    pub attributes: u64,
+    /// Whether each length in the text is at most 65535.
+    pub fits: bool,
+}
+
+// Whether the bytes are a list of link info over these peers, and what is found in one walk of them.
+fn measure_list<P: PeerSet>(peers: &P, bytes: &[u8]) -> Option<Measured>
+    ensures measure { option_map view result ≡ measure (info_rule_under P.peer) bytes.now }
+    ensures own { IfSome result
+        (λ m. m.is_own ≡ true → (info_rule_under P.peer).canonical bytes.now ≡ bytes.now) }
+{
+    measure_info(peers, bytes)
+}
+
+// Whether the bytes are a list of link info over these peers, and what it is written as.
+fn check_over<P: PeerSet>(peers: &P, bytes: &[u8]) -> Result<ListMeasure, DecodeError>
+    ensures ok { is_ok result ≡ (info_rule_under P.peer).accepted bytes.now }
+    ensures measure { IfOk result (λ m. IsListMeasure (info_rule_under P.peer) bytes.now m) }
+    ensures err { IfErr result (λ e. is_memory e ≡ false) }
+{
+    measures_tell_rules();
+    let Some(found) = measure_list(peers, bytes) else {
+        return Err(DecodeError::from("not a list of link info"));
+    };
+    Ok(ListMeasure {
+        text_len: found.text_len,
+        attributes: found.attributes,
+        fits: found.fits,
+    })
+}
+
+// Whether two lists of link info over these peers mean the same.
+#[tactic(auto, unfolding(link_info_grammar::specs::LinkInfo::info_rule_under, link_info_grammar::specs::LinkInfo::info_grammar_under, link_info_grammar::specs::LinkInfo::data_rule_under, link_info_grammar::specs::LinkInfo::port_data_rule_under))]
+fn same_list_over<P: PeerSet>(peers: &P, left: &[u8], right: &[u8]) -> bool
+    ensures { result ≡ (info_rule_under P.peer).same left.now right.now }
+{
+    same_info(peers, left, right)
+}
+
+/// Whether the bytes of IFLA_LINKINFO are a list of link info, and what it is written as. It takes
+/// no memory. A list that isn't accepted is refused; no bytes are the empty list.
+pub fn check_list(bytes: &[u8]) -> Result<ListMeasure, DecodeError>
+    ensures ok { is_ok result ≡ info_rule.accepted bytes.now }
+    ensures measure { IfOk result (λ m. IsListMeasure info_rule bytes.now m) }
+    ensures err { IfErr result (λ e. is_memory e ≡ false) }
+{
+    check_over(&BytesPeer, bytes)
+}
+
+/// Whether the bytes of IFLA_LINKINFO are a list of link info whose peers a rule accepts, and what
+/// it is written as, its peers by that rule. It takes no memory. A list that isn't accepted is
+/// refused; no bytes are the empty list. `check_list` is this under `BytesPeer`.
+pub fn check_list_with<R: PeerRule>(bytes: &[u8], rule: &R) -> Result<ListMeasure, DecodeError>
+    ensures ok { is_ok result ≡ (info_rule_under R.peer).accepted bytes.now }
+    ensures measure { IfOk result (λ m. IsListMeasure (info_rule_under R.peer) bytes.now m) }
+    ensures err { IfErr result (λ e. is_memory e ≡ false) }
+{
+    check_over(&Ruled(rule), bytes)
+}
+
+/// Whether two lists of link info mean the same: each attribute of the one that of the other, kinds
+/// and names, data and port data by the tables of the kinds in force, whatever bytes spell them. It
+/// takes no memory, and builds no value. It is of use where `check_list` accepts both.
+pub fn same_list(left: &[u8], right: &[u8]) -> bool
+    ensures { result ≡ info_rule.same left.now right.now }
+{
+    same_list_over(&BytesPeer, left, right)
+}
+
+/// Whether two lists of link info mean the same, their peers by a rule. It takes no memory, and
+/// builds no value. It is of use where `check_list_with` accepts both under that rule. `same_list`
+/// is this under `BytesPeer`.
+pub fn same_list_with<R: PeerRule>(left: &[u8], right: &[u8], rule: &R) -> bool
+    ensures { result ≡ (info_rule_under R.peer).same left.now right.now }
+{
+    same_list_over(&Ruled(rule), left, right)
+}
+
+/// What is told where link info wasn't read, its peers by a rule: want of memory where the list is
+/// accepted, and a refusal where it isn't. The error may be want of memory in front of a refusal.
+pub fn list_error_with<R: PeerRule>(bytes: &[u8], rule: &R, error: DecodeError) -> DecodeError
+    requires refused { is_memory error ≡ false
+        → (info_rule_under R.peer).accepted bytes.now ≡ false }
+    ensures { (info_rule_under R.peer).accepted bytes.now ≡ is_memory result }
+{
+    if !error.is_memory() {
+        return error;
+    }
+    match check_list_with(bytes, rule) {
+        Err(refusal) => refusal,
+        Ok(_) => error,
+    }
+}

@@ -1,0 +1,271 @@
+//! Measures of lists, without a typed value.
+
+ghost use Rattle.std.specs.Prelude.{◌≡◌, ◌<◌, ◌+◌, ◌*◌, ◌^◌, ◌&&◌, ℕ, true, false, cond, nat_lt, option_map, IfSome};
+ghost use Rattle.attribute_tables_grammar.specs.Lists.{is_kept, first_alone, list_rule};
+ghost use Rattle.attribute_tables_grammar.specs.LookUps.{payload_rule};
+ghost use Rattle.attribute_tables_grammar.specs.Walks.{measure, plus, with_header, dropped, closed};
+ghost use Rattle.link_interpreter.specs.Fronts.{IsOwnFront};
+ghost use Rattle.link_interpreter.specs.Measures.{view, rows_of, table_list, info_list};
+ghost use Rattle.link_interpreter.specs.Sameness.{attribute_of};
+ghost use Rattle.link_tables.specs.Rows.{form_of};
+ghost use Rattle.link_tables.specs.Tables.{held_rule, info_payload, table_of};
+
+use crate::attribute::{Attribute, KIND_BOUND, first_attribute, is_own_attribute};
+use crate::info::{info_is_a_list_inside, link_info_is_lawful, written_info_kind};
+use crate::peers::PeerSet;
+use crate::shapes::{Measured, NOTHING_YET, measure_shape};
+use crate::tables::find;
+use attribute_tables_grammar::laws::{
+    measures_go_by_steps, measures_tell_rules, own_texts_go_by_steps, rows_are_looked_up,
+};
+use link_tables::{Form, Held, NO_KINDS, Table, info_held, next_force};
+
+/// Whether a list of this form keeps an attribute.
+pub fn is_kept(form: Form, attribute: Attribute<'_>) -> bool
+    ensures { result ≡ is_kept (form_of form) (attribute_of attribute.entry) }
+{
+    match form {
+        Form::OfKindOne | Form::Ports => attribute.kind % KIND_BOUND == 1,
+        Form::Any | Form::NonEmpty | Form::FirstAlone => true,
+    }
+}
+
+/// One more attribute, around what was found in its payload.
+pub fn with_attribute(total: Measured, inside: Measured, is_own: bool) -> Measured
+    requires len { total.text_len + inside.text_len + 7 < 2 ^ 128 }
+    requires headers { total.attributes + inside.attributes + 1 < 2 ^ 64 }
+    ensures measure { view result ≡ plus (view total) (with_header (view inside)) }
+    ensures own { result.is_own ≡ total.is_own && (inside.is_own && is_own) }
+    ensures front { result.front ≡ 0 }
+{
+    let size = 4 + inside.text_len;
+    Measured {
+        text_len: total.text_len + (size + 3) / 4 * 4,
+        attributes: total.attributes + (1 + inside.attributes),
+        fits: total.fits & ((size <= 65535) & inside.fits),
+        empty_ports: total.empty_ports | inside.empty_ports,
+        is_own: total.is_own & (inside.is_own & is_own),
+        front: 0,
+    }
+}
+
+// One more attribute, which its list drops.
+fn with_dropped(total: Measured) -> Measured
+    requires { total.attributes + 1 < 2 ^ 64 }
+    ensures measure { view result ≡ plus (view total) dropped }
+    ensures own { result.is_own ≡ false }
+{
+    Measured {
+        text_len: total.text_len,
+        attributes: total.attributes + 1,
+        fits: total.fits,
+        empty_ports: total.empty_ports,
+        is_own: false,
+        front: 0,
+    }
+}
+
+// The measure of a whole list: ports that keep nothing are told.
+fn close(form: Form, total: Measured) -> Measured
+    ensures measure { view result ≡ closed (form_of form) (view total) }
+    ensures own { result.is_own ≡ total.is_own }
+{
+    match form {
+        Form::Ports => Measured {
+            text_len: total.text_len,
+            attributes: total.attributes,
+            fits: total.fits,
+            empty_ports: (total.text_len == 0) | total.empty_ports,
+            is_own: total.is_own,
+            front: 0,
+        },
+        _ => total,
+    }
+}
+
+/// Whether bytes are accepted as what a row holds, and their measure.
+#[cycle(measure)]
+#[inline(always)]
+pub fn measure_held<P: PeerSet>(peers: &P, held: Held, bytes: &[u8]) -> Option<Measured>
+    ensures measure { option_map view result
+        ≡ measure (held_rule P.peer held) bytes.now }
+    ensures own { IfSome result
+        (λ m. m.is_own ≡ true
+        → (held_rule P.peer held).canonical bytes.now ≡ bytes.now) }
+{
+    match held {
+        Held::Plain(shape) => measure_shape(shape, bytes),
+        // What is found of a shape stays in registers, since no call is given the place of the answer.
+        _ => match measure_inside(peers, held, bytes) {
+            Some(found) => Some(found),
+            None => None,
+        },
+    }
+}
+
+// The same, of a payload that holds attributes most often.
+#[cycle(measure)]
+#[inline(always)]
+fn measure_inside<P: PeerSet>(peers: &P, held: Held, bytes: &[u8]) -> Option<Measured>
+    ensures measure { option_map view result
+        ≡ measure (held_rule P.peer held) bytes.now }
+    ensures own { IfSome result
+        (λ m. m.is_own ≡ true
+        → (held_rule P.peer held).canonical bytes.now ≡ bytes.now) }
+{
+    rows_are_looked_up();
+    match held {
+        Held::Plain(shape) => measure_shape(shape, bytes),
+        Held::Peer => peers.measure_peer(bytes),
+        Held::LinkInfo => measure_link_info(peers, bytes),
+        Held::List(form, table) => walk_list(peers, form, table, bytes),
+    }
+}
+
+// How many bytes are left behind the front that is known to be its own text, which goes on as long as all is.
+fn left_behind(left: usize, is_own: bool, rest: usize) -> usize
+    ensures { result ≡ cond is_own rest left }
+{
+    if is_own { rest } else { left }
+}
+
+// The measure of a whole list, of which so much in front is known to be its own text; no front is told that is 4 GiB long.
+fn with_front(found: Measured, front: usize) -> Measured
+    ensures measure { view result ≡ view found }
+    ensures own { result.is_own ≡ found.is_own }
+    ensures front { result.front ≡ cond (nat_lt front (2 ^ 32)) front 0 }
+{
+    Measured {
+        front: if front < 0x1_0000_0000 {
+            front as u32
+        } else {
+            0
+        },
+        ..found
+    }
+}
+
+/// Whether bytes are a list of this form under a table, its measure, and how far from its front it is its own text.
+#[cycle(measure)]
+pub fn walk_list<P: PeerSet>(peers: &P, form: Form, table: Table, bytes: &[u8]) -> Option<Measured>
+    ensures measure { option_map view result
+        ≡ measure (table_list P.peer (table_of table.0) form) bytes.now }
+    ensures own { IfSome result
+        (λ m. m.is_own ≡ true
+        → (table_list P.peer (table_of table.0) form).canonical bytes.now ≡ bytes.now) }
+    ensures front { IfSome result
+        (λ m. IsOwnFront (table_list P.peer (table_of table.0) form) bytes.now m.front) }
+{
+    measures_go_by_steps();
+    measures_tell_rules();
+    own_texts_go_by_steps();
+    match form {
+        Form::FirstAlone => return measure_first(peers, table, bytes),
+        Form::NonEmpty | Form::Ports => {
+            if bytes.is_empty() {
+                return None;
+            }
+        }
+        Form::Any | Form::OfKindOne => {}
+    }
+    let mut total = NOTHING_YET;
+    let mut left = bytes.len();
+    let mut rest = bytes;
+    while !rest.is_empty() {
+        let Some((attribute, after)) = first_attribute(rest) else {
+            return None;
+        };
+        if is_kept(form, attribute) {
+            let found = find(peers, table, attribute.kind);
+            let Some(inside) = measure_held(peers, found.held, attribute.payload) else {
+                return None;
+            };
+            let is_own = is_own_attribute(rest, attribute, after);
+            total = with_attribute(total, inside, is_own & (found.kind == attribute.kind));
+            left = left_behind(left, total.is_own, after.len());
+        } else {
+            total = with_dropped(total);
+        }
+        rest = after;
+    }
+    let found = close(form, total);
+    match form {
+        Form::Any => Some(with_front(found, bytes.len() - left)),
+        _ => Some(with_front(found, 0)),
+    }
+}
+
+// Whether bytes begin with an attribute of a table, and the measure of that one alone.
+#[cycle(measure)]
+fn measure_first<P: PeerSet>(peers: &P, table: Table, bytes: &[u8]) -> Option<Measured>
+    ensures measure { option_map view result
+        ≡ measure (list_rule first_alone (rows_of P.peer (table_of table.0))) bytes.now }
+    ensures own { IfSome result
+        (λ m. m.is_own ≡ true
+        → (list_rule first_alone (rows_of P.peer (table_of table.0))).canonical bytes.now ≡ bytes.now) }
+    ensures front { IfSome result (λ m. m.front ≡ 0) }
+{
+    measures_go_by_steps();
+    measures_tell_rules();
+    own_texts_go_by_steps();
+    let Some((attribute, after)) = first_attribute(bytes) else {
+        return None;
+    };
+    let found = find(peers, table, attribute.kind);
+    let Some(inside) = measure_held(peers, found.held, attribute.payload) else {
+        return None;
+    };
+    let is_own = is_own_attribute(bytes, attribute, after);
+    let is_whole = is_own & ((found.kind == attribute.kind) & after.is_empty());
+    Some(with_attribute(NOTHING_YET, inside, is_whole))
+}
+
+// Whether a payload is accepted as link info, which has an attribute in it, and its measure.
+#[cycle(measure)]
+fn measure_link_info<P: PeerSet>(peers: &P, bytes: &[u8]) -> Option<Measured>
+    ensures measure { option_map view result ≡ measure (payload_rule P.peer info_payload) bytes.now }
+    ensures own { IfSome result
+        (λ m. m.is_own ≡ true
+        → (payload_rule P.peer info_payload).canonical bytes.now ≡ bytes.now) }
+{
+    measures_tell_rules();
+    info_is_a_list_inside(peers);
+    if bytes.is_empty() {
+        None
+    } else {
+        measure_info(peers, bytes)
+    }
+}
+
+/// Whether the bytes are a list of link info, and its measure.
+#[cycle(measure)]
+pub fn measure_info<P: PeerSet>(peers: &P, bytes: &[u8]) -> Option<Measured>
+    ensures measure { option_map view result ≡ measure (info_list P.peer) bytes.now }
+    ensures own { IfSome result
+        (λ m. m.is_own ≡ true → (info_list P.peer).canonical bytes.now ≡ bytes.now) }
+{
+    link_info_is_lawful(peers);
+    measures_go_by_steps();
+    own_texts_go_by_steps();
+    let mut rest = bytes;
+    let mut total = NOTHING_YET;
+    let mut force = NO_KINDS;
+    while !rest.is_empty() {
+        let Some((attribute, after)) = first_attribute(rest) else {
+            return None;
+        };
+        let kind = attribute.kind % KIND_BOUND;
+        let Some(held) = info_held(force, kind) else {
+            return None;
+        };
+        let Some(inside) = measure_held(peers, held, attribute.payload) else {
+            return None;
+        };
+        let is_own = is_own_attribute(rest, attribute, after);
+        let is_kept_so = is_own & (written_info_kind(attribute.kind) == attribute.kind);
+        total = with_attribute(total, inside, is_kept_so);
+        force = next_force(force, kind, attribute.payload);
+        rest = after;
+    }
+    Some(total)
+}

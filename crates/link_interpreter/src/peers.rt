@@ -1,0 +1,167 @@
+//! Peers: what a payload that describes the other end of a link means, by a rule that may be the
+//! caller's own.
+
+ghost use Rattle.std.specs.Prelude.{◌≡◌, ◌≤◌, ◌+◌, ◌++◌, true, false, length, is_ok, option_map, vec_capacity};
+ghost use Rattle.std.specs.Prelude.{IfSome, IfOk, IfErr, OnOk};
+ghost use Rattle.attribute_tables_grammar.specs.Peers.{Peer, LawfulPeer, bytes_peer, peer_rule};
+ghost use Rattle.attribute_tables_grammar.specs.Walks.{measure};
+ghost use Rattle.netlink_packet_core_numbers.specs.Errors.{is_memory};
+ghost use Rattle.link_interpreter.specs.Measures.{view};
+ghost use Rattle.link_interpreter.specs.Peers.{IsPeerMeasure};
+ghost use Rattle.link_interpreter.specs.Room.{HasRoom};
+
+use crate::shapes::{Measured, measure_shape};
+use crate::write_shapes::write_shape;
+use attribute_tables_grammar::laws::peers_that_are_bytes_are_lawful;
+use link_tables::Shape;
+use netlink_packet_core_numbers::DecodeError;
+use std::alloc::Global;
+
+/// What a peer's payload is written as.
+#[derive(Clone, Copy, Debug, PartialEq, Eq)]
+pub struct PeerMeasure {
+    /// The length of the canonical payload in bytes.
+    pub text_len: u128,
+    /// The attribute headers inside, at all depths.
+    pub attributes: u64,
+}
+
+/// A rule for the payloads of peers: which are accepted, which mean the same, how each is written,
+/// and how many attributes are in it. It has to be lawful: what a payload is written as is accepted,
+/// and written as itself; two payloads mean the same exactly where they are written alike; a payload
+/// is written at most 77 times as long; and it has four bytes or more for each attribute in it.
+pub trait PeerRule {
+    /// What is accepted, the same, canonical, and counted.
+    ghost peer: { Peer };
+
+    /// The rule is lawful. It does nothing.
+    fn rule_is_lawful(&self)
+        ensures { LawfulPeer peer };
+
+    /// Whether a peer's payload is accepted, and what it is written as. It takes no memory.
+    fn check(&self, payload: &[u8]) -> Result<PeerMeasure, DecodeError>
+        ensures ok { is_ok result ≡ peer.accepted payload.now }
+        ensures measure { IfOk result (λ m. IsPeerMeasure peer payload.now m) }
+        ensures err { IfErr result (λ e. is_memory e ≡ false) };
+
+    /// Whether two payloads mean the same. It takes no memory. It is of use where `check` accepts
+    /// both.
+    fn same(&self, left: &[u8], right: &[u8]) -> bool
+        ensures { result ≡ peer.same left.now right.now };
+
+    /// The payload that a peer is written with. It succeeds exactly where `check` does, memory
+    /// aside.
+    fn canonical(&self, alloc: Global, payload: &[u8]) -> Result<Vec<u8>, DecodeError>
+        ensures ok { OnOk result (peer.accepted payload.now ≡ true) }
+        ensures text { IfOk result (λ v. v.items ≡ peer.canonical payload.now) }
+        ensures err { IfErr result (λ e. peer.accepted payload.now ≡ is_memory e) };
+}
+
+/// Peers as a walk of a list meets them.
+pub trait PeerSet {
+    ghost peer: { Peer };
+
+    /// The rule is lawful. It does nothing.
+    fn peers_are_lawful(&self)
+        ensures { LawfulPeer peer };
+
+    /// Whether a peer's payload is accepted, and its measure.
+    fn measure_peer(&self, payload: &[u8]) -> Option<Measured>
+        ensures measure { option_map view result ≡ measure (peer_rule peer) payload.now }
+        ensures own { IfSome result
+            (λ m. m.is_own ≡ true → peer.canonical payload.now ≡ payload.now) };
+
+    /// Whether two peers' payloads mean the same.
+    fn same_peer(&self, left: &[u8], right: &[u8]) -> bool
+        ensures { result ≡ peer.same left.now right.now };
+}
+
+/// Peers that can be written without memory.
+pub trait WritePeer: PeerSet {
+    /// Appends a peer's canonical payload, for which there has to be room.
+    fn write_peer(&self, payload: &[u8], out: &mut Vec<u8>)
+        requires accepted { Self.peer.accepted payload.now ≡ true }
+        requires room { HasRoom out.old (Self.peer.canonical payload.now) }
+        ensures text { out.new.items ≡ out.old.items ++ Self.peer.canonical payload.now }
+        ensures room { vec_capacity out.old ≤ vec_capacity out.new };
+}
+
+/// Peers that are bytes: every payload is accepted, equal ones mean the same, and each is written
+/// as it is.
+#[derive(Clone, Copy, Debug, PartialEq, Eq)]
+pub struct BytesPeer;
+
+impl PeerRule for BytesPeer {
+    ghost peer = { bytes_peer };
+
+    fn rule_is_lawful(&self) {
+        peers_that_are_bytes_are_lawful();
+    }
+
+    fn check(&self, payload: &[u8]) -> Result<PeerMeasure, DecodeError> {
+        Ok(PeerMeasure {
+            text_len: payload.len() as u128,
+            attributes: 0,
+        })
+    }
+
+    fn same(&self, left: &[u8], right: &[u8]) -> bool {
+        left == right
+    }
+
+    fn canonical(&self, alloc: Global, payload: &[u8]) -> Result<Vec<u8>, DecodeError> {
+        Ok(Vec::from_slice(alloc, payload)?)
+    }
+}
+
+impl PeerSet for BytesPeer {
+    ghost peer = { bytes_peer };
+
+    fn peers_are_lawful(&self) {
+        peers_that_are_bytes_are_lawful();
+    }
+
+    fn measure_peer(&self, payload: &[u8]) -> Option<Measured> {
+        measure_shape(Shape::Raw, payload)
+    }
+
+    fn same_peer(&self, left: &[u8], right: &[u8]) -> bool {
+        left == right
+    }
+}
+
+impl WritePeer for BytesPeer {
+    fn write_peer(&self, payload: &[u8], out: &mut Vec<u8>) {
+        write_shape(Shape::Raw, payload, out);
+    }
+}
+
+/// Peers by a rule that a caller brings, which doesn't tell where a payload is its own text.
+#[derive_where(Clone, Copy)]
+pub struct Ruled<'r, R>(pub &'r R);
+
+impl<R: PeerRule> PeerSet for Ruled<'_, R> {
+    ghost peer = { R.peer };
+
+    fn peers_are_lawful(&self) {
+        self.0.rule_is_lawful();
+    }
+
+    fn measure_peer(&self, payload: &[u8]) -> Option<Measured> {
+        let Ok(found) = self.0.check(payload) else {
+            return None;
+        };
+        Some(Measured {
+            text_len: found.text_len,
+            attributes: found.attributes,
+            fits: true,
+            empty_ports: false,
+            is_own: false,
+            front: 0,
+        })
+    }
+
+    fn same_peer(&self, left: &[u8], right: &[u8]) -> bool {
+        self.0.same(left, right)
+    }
+}

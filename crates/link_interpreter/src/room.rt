@@ -1,0 +1,53 @@
+//! Bytes at the end of a vector that has room for them.
+
+ghost use Rattle.std.specs.Prelude.{◌≡◌, ◌≤◌, ◌+◌, ◌-◌, ◌++◌, length, take, drop, vec_capacity};
+ghost use Rattle.netlink_packet_core_grammar.specs.Attributes.{attribute_header, nla_align, zeros};
+ghost use Rattle.link_interpreter.specs.Room.{HasRoom};
+
+/// Appends bytes.
+pub fn append(bytes: &[u8], out: &mut Vec<u8>)
+    requires { HasRoom out.old bytes.now }
+    ensures text { out.new.items ≡ out.old.items ++ bytes.now }
+    ensures room { vec_capacity out.old ≤ vec_capacity out.new }
+{
+    if out.extend_from_slice(bytes).is_err() {
+        unreachable!();
+    }
+}
+
+/// Appends so many zeros.
+pub fn append_zeros(count: usize, out: &mut Vec<u8>)
+    requires { length out.old.items + count ≤ vec_capacity out.old }
+    ensures text { out.new.items ≡ out.old.items ++ zeros count }
+    ensures room { vec_capacity out.old ≤ vec_capacity out.new }
+{
+    if out.resize(out.len() + count, 0).is_err() {
+        unreachable!();
+    }
+}
+
+/// Writes the header of an attribute with a payload of this size over the four bytes at a place: length and kind, 2
+/// bytes each, lowest byte first (netlink.h, struct nlattr).
+pub fn write_header(at: usize, kind: u16, size: usize, out: &mut Vec<u8>)
+    requires place { at + 4 ≤ length out.old.items }
+    requires size { 4 + size ≤ 65535 }
+    ensures text { out.new.items
+        ≡ take at out.old.items ++ (attribute_header (4 + size) kind ++ drop (at + 4) out.old.items) }
+    ensures room { vec_capacity out.old ≤ vec_capacity out.new }
+{
+    let [a, b] = (4 + size as u16).to_le_bytes();
+    let [c, d] = kind.to_le_bytes();
+    out.as_mut_slice()[at..at + 4].copy_from_slice(&[a, b, c, d]);
+}
+
+/// Appends the zeros behind a payload of this size.
+pub fn append_padding(size: usize, out: &mut Vec<u8>)
+    requires size { 4 + size ≤ 65535 }
+    requires room { length out.old.items + (nla_align (4 + size) - (4 + size)) ≤ vec_capacity out.old }
+    ensures text { out.new.items ≡ out.old.items ++ zeros (nla_align (4 + size) - (4 + size)) }
+    ensures room { vec_capacity out.old ≤ vec_capacity out.new }
+{
+    if size % 4 != 0 {
+        append(&[0, 0, 0][..4 - size % 4], out);
+    }
+}

@@ -1,0 +1,83 @@
+//! Whether payloads that hold no attributes mean the same.
+
+ghost use Rattle.std.specs.Prelude.{◌≡◌, ◌==◌, take, map, bytes_eq};
+ghost use Rattle.attribute_tables_grammar.specs.Rules.{shape_rule};
+ghost use Rattle.attribute_tables_grammar.specs.Shapes.{number, id_and_truth, resized};
+ghost use Rattle.link_tables.specs.Rows.{shape_of};
+ghost use Rattle.link_interpreter.specs.Sameness.{mark_of};
+
+use link_tables::Shape;
+use netlink_packet_core_numbers::without_nul;
+
+/// The bytes in front, at most so many.
+pub fn first(bytes: &[u8], count: usize) -> &[u8]
+    ensures { result.now ≡ take count bytes.now }
+{
+    &bytes[..count.min(bytes.len())]
+}
+
+/// Whether all bytes are zero.
+pub fn is_zero(bytes: &[u8]) -> bool
+    ensures { result ≡ (number bytes.now == 0) }
+{
+    for byte in bytes {
+        if *byte != 0 {
+            return false;
+        }
+    }
+    true
+}
+
+// Whether two payloads are equally long, and pairwise both or neither are that byte.
+fn same_marks(byte: u8, left: &[u8], right: &[u8]) -> bool
+    ensures { result ≡ bytes_eq (map (mark_of byte) left.now) (map (mark_of byte) right.now) }
+{
+    let mut rest = left;
+    let mut other = right;
+    while let (Some((a, after)), Some((b, behind))) = (rest.split_first(), other.split_first()) {
+        if (*a == byte) != (*b == byte) {
+            return false;
+        }
+        rest = after;
+        other = behind;
+    }
+    rest.is_empty() && other.is_empty()
+}
+
+// Whether 4 bytes and the truth of the 4 behind them are the same.
+fn same_id_and_truth(left: &[u8], right: &[u8]) -> bool
+    ensures { result ≡ (shape_rule id_and_truth).same left.now right.now }
+{
+    let id = first(left, 4);
+    let other = first(right, 4);
+    let truth = first(&left[id.len()..], 4);
+    id == other && is_zero(truth) == is_zero(first(&right[other.len()..], 4))
+}
+
+// Whether two payloads are equal once they are cut or filled up with zeros to a size.
+fn same_resized(size: u16, left: &[u8], right: &[u8]) -> bool
+    ensures { result ≡ (shape_rule (resized size)).same left.now right.now }
+{
+    let left = first(left, size as usize);
+    let right = first(right, size as usize);
+    let common = left.len().min(right.len());
+    &left[..common] == &right[..common] && is_zero(&left[common..]) && is_zero(&right[common..])
+}
+
+/// Whether two payloads of a shape mean the same.
+pub fn same_shape(shape: Shape, left: &[u8], right: &[u8]) -> bool
+    ensures { result ≡ (shape_rule (shape_of shape)).same left.now right.now }
+{
+    match shape {
+        Shape::Exact(_) | Shape::Either(_, _) | Shape::AtMost(_) => left == right,
+        Shape::Raw | Shape::Never => left == right,
+        Shape::NonzeroByte => same_marks(0, left, right),
+        Shape::OneByte => same_marks(1, left, right),
+        Shape::TruthOfFour => is_zero(left) == is_zero(right),
+        Shape::Presence => true,
+        Shape::Text => without_nul(left) == without_nul(right),
+        Shape::FixedRecord(size, _) => first(left, size as usize) == first(right, size as usize),
+        Shape::IdAndTruth => same_id_and_truth(left, right),
+        Shape::Resized(size) => same_resized(size, left, right),
+    }
+}

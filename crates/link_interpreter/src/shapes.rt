@@ -1,0 +1,113 @@
+//! Payloads that hold no attributes.
+
+ghost use Rattle.std.specs.Prelude.{◌≡◌, true, option_map, IfSome};
+ghost use Rattle.attribute_tables_grammar.specs.Rules.{shape_rule};
+ghost use Rattle.attribute_tables_grammar.specs.Shapes.{accepts, text};
+ghost use Rattle.attribute_tables_grammar.specs.Walks.{measure};
+ghost use Rattle.link_tables.specs.Rows.{shape_of};
+ghost use Rattle.link_interpreter.specs.Measures.{view};
+
+use crate::same_shapes::is_zero;
+use link_tables::Shape;
+use netlink_packet_core_numbers::{is_text, without_nul};
+
+/// What is found of accepted bytes in one walk.
+#[derive(Clone, Copy)]
+pub struct Measured {
+    /// The length of the canonical text in bytes.
+    pub text_len: u128,
+    /// The attribute headers, at all depths.
+    pub attributes: u64,
+    /// Whether each length in the text is at most 65535.
+    pub fits: bool,
+    /// Whether ports inside keep nothing.
+    pub empty_ports: bool,
+    /// Whether the bytes are known to be their own canonical text; they may be so besides.
+    pub is_own: bool,
+    /// How many bytes in front of a list are known to be written as they stand, up to the end of an attribute. It is told
+    /// of whole lists alone.
+    pub front: u32,
+}
+
+/// The measure of no attributes.
+pub const NOTHING_YET: Measured = Measured {
+    text_len: 0,
+    attributes: 0,
+    fits: true,
+    empty_ports: false,
+    is_own: true,
+    front: 0,
+};
+
+fn measure_text(payload: &[u8]) -> Option<Measured>
+    ensures measure { option_map view result ≡ measure (shape_rule text) payload.now }
+    ensures own { IfSome result
+        (λ m. m.is_own ≡ true → (shape_rule text).canonical payload.now ≡ payload.now) }
+{
+    if !is_text(payload) {
+        return None;
+    }
+    let len = without_nul(payload).len();
+    Some(Measured {
+        text_len: len as u128 + 1,
+        attributes: 0,
+        fits: true,
+        empty_ports: false,
+        is_own: len < payload.len(),
+        front: 0,
+    })
+}
+
+// Whether an accepted payload is the canonical one of its shape; false where this is not looked into.
+fn is_own_spelling(shape: Shape, payload: &[u8]) -> bool
+    requires { accepts (shape_of shape) payload.now ≡ true }
+    ensures { result ≡ true → (shape_rule (shape_of shape)).canonical payload.now ≡ payload.now }
+{
+    match shape {
+        Shape::Exact(_) | Shape::Either(_, _) | Shape::AtMost(_) | Shape::Raw => true,
+        Shape::NonzeroByte | Shape::OneByte => payload[0] <= 1,
+        Shape::Presence => payload.is_empty(),
+        Shape::Resized(n) => payload.len() == n as usize,
+        Shape::FixedRecord(m, n) => payload.len() == n as usize && is_zero(&payload[m as usize..]),
+        Shape::TruthOfFour => payload[0] <= 1 && is_zero(&payload[1..]),
+        Shape::IdAndTruth => payload.len() == 8 && payload[4] <= 1 && is_zero(&payload[5..]),
+        Shape::Text | Shape::Never => false,
+    }
+}
+
+/// Whether a shape accepts a payload, and its measure.
+#[inline(always)]
+pub fn measure_shape(shape: Shape, payload: &[u8]) -> Option<Measured>
+    ensures measure { option_map view result ≡ measure (shape_rule (shape_of shape)) payload.now }
+    ensures own { IfSome result
+        (λ m. m.is_own ≡ true
+        → (shape_rule (shape_of shape)).canonical payload.now ≡ payload.now) }
+{
+    let len = payload.len();
+    let (is_accepted, text_len) = match shape {
+        Shape::Exact(n) => (len == n as usize, len),
+        Shape::Either(m, n) => (len == m as usize || len == n as usize, len),
+        Shape::AtMost(n) => (len <= n as usize, len),
+        Shape::NonzeroByte | Shape::OneByte => (len == 1, 1),
+        Shape::TruthOfFour => (len == 4, 4),
+        Shape::Presence => (true, 0),
+        Shape::Text => return measure_text(payload),
+        Shape::Raw => (true, len),
+        Shape::Never => (false, len),
+        Shape::FixedRecord(m, n) => (len >= m as usize, m.max(n) as usize),
+        Shape::IdAndTruth => (len >= 8, 8),
+        Shape::Resized(n) => (true, n as usize),
+    };
+    if is_accepted {
+        Some(Measured {
+            text_len: text_len as u128,
+            attributes: 0,
+            fits: true,
+            empty_ports: false,
+            is_own: is_own_spelling(shape, payload),
+            front: 0,
+        })
+    } else {
+        None
+    }
+}

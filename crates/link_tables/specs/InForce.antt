@@ -1,0 +1,39 @@
+-- What attributes of link info hold, by the kinds in force.
+use Rattle.std.specs.Prelude.{ℕ, zero, suc, List, Option, Some, None, option_map}
+use Rattle.attribute_tables_grammar.specs.Lists.{Context}
+use Rattle.link_tables.specs.Names.{held_by_name}
+use Rattle.link_tables.specs.declared.info.InForce.{InForce}
+use Rattle.link_tables.specs.declared.kinds.TheConstants.{KINDS, PORT_KINDS}
+use Rattle.link_tables.specs.declared.names.NameRow.{NameRow}
+use Rattle.link_tables.specs.declared.rows.Held.{Held}
+use Rattle.link_tables.specs.declared.rows.Held.TheVariants.{Plain}
+use Rattle.link_tables.specs.declared.rows.Shape.TheVariants.{Text, Raw}
+
+-- the context of the grammar, by the names that the code borrows
+abbrev pub in_force : InForce → Context
+in_force f = record { kind = option_map (λ b. b.now) f.kind; port_kind = option_map (λ b. b.now) f.port_kind }
+
+-- what data hold, if a name is in force
+abbrev pub held_under : List NameRow → Option (List ℕ) → Option Held
+held_under rows None = None
+held_under rows (Some n) = Some (held_by_name rows n)
+
+unfoldable pub data_under : Option (List ℕ) → Option Held
+data_under name = held_under KINDS name
+
+unfoldable pub port_data_under : Option (List ℕ) → Option Held
+port_data_under name = held_under PORT_KINDS name
+
+-- statistics are bytes, if a kind is in force
+abbrev pub statistics_under : Option (List ℕ) → Option Held
+statistics_under None = None
+statistics_under (Some n) = Some (Plain Raw)
+
+-- what an attribute of a kind without flag bits holds; nothing if that depends on a kind, and none is in force
+abbrev pub held_in_force : Context → ℕ → Option Held
+held_in_force c (suc zero) = Some (Plain Text)
+held_in_force c (suc (suc zero)) = data_under c.kind
+held_in_force c (suc (suc (suc zero))) = statistics_under c.kind
+held_in_force c (suc (suc (suc (suc zero)))) = Some (Plain Text)
+held_in_force c (suc (suc (suc (suc (suc zero))))) = port_data_under c.port_kind
+held_in_force c k = Some (Plain Raw)

@@ -1,0 +1,4 @@
+pub mod Rows
+pub mod Names
+pub mod Tables
+pub mod InForce

@@ -1,0 +1,19 @@
+// The tables of links' attributes as constant data: what an attribute holds, by its table, its kind and the kinds in force.
+#![tactic(auto)]
+
+mod info;
+mod info_lists;
+mod kinds;
+mod message_lists;
+mod names;
+mod rows;
+pub mod table;
+mod table_rows;
+
+pub use info::{
+    IFLA_INFO_DATA, IFLA_INFO_KIND, IFLA_INFO_SLAVE_DATA, IFLA_INFO_SLAVE_KIND, IFLA_INFO_XSTATS,
+    InForce, NO_KINDS, info_held, next_force,
+};
+pub use kinds::{data_held, port_held};
+pub use rows::{Form, Held, Row, Shape};
+pub use table::{Table, family_table, row_of};

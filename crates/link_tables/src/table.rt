@@ -1,0 +1,219 @@
+//! The tables of attributes, each under a name.
+
+ghost use Rattle.std.specs.Prelude.{◌≡◌, ℕ, true, [], get_or};
+ghost use Rattle.attribute_tables_grammar.specs.LookUps.{line_at};
+ghost use Rattle.attribute_tables_grammar.specs.Tables.{rows_bounded};
+ghost use Rattle.link_message_grammar.specs.LinkMessage.{family_of, link_table};
+ghost use Rattle.link_tables.specs.Rows.{are_dense, build, lists_of};
+ghost use Rattle.link_tables.specs.Tables.{family_table, info_payload, row_line, table_of};
+
+use crate::rows::{Row, look_up};
+use crate::table_rows::TABLES;
+
+/// A table of attributes. Each has a constant of this module as its name.
+#[derive(Clone, Copy)]
+pub struct Table(pub u8);
+
+/// IFLA_XDP_*, which IFLA_XDP holds.
+pub const XDP: Table = Table(0);
+
+/// The other names of a link, which IFLA_PROP_LIST holds.
+pub const PROPS: Table = Table(1);
+
+/// IFLA_PROTO_DOWN_REASON_*, which IFLA_PROTO_DOWN_REASON holds.
+pub const PROTOCOL_DOWN_REASON: Table = Table(2);
+
+/// DEVLINK_ATTR_*, which IFLA_DEVLINK_PORT holds.
+pub const DEVLINK_PORT: Table = Table(3);
+
+/// DPLL_A_PIN_*, which IFLA_DPLL_PIN holds.
+pub const DPLL_PIN: Table = Table(4);
+
+/// IFLA_MCTP_*, which AF_MCTP in IFLA_AF_SPEC holds.
+pub const MCTP: Table = Table(5);
+
+/// IFLA_INET_*, which AF_INET in IFLA_AF_SPEC holds.
+pub const INET: Table = Table(6);
+
+/// IFLA_INET6_*, which AF_INET6 in IFLA_AF_SPEC holds.
+pub const INET6: Table = Table(7);
+
+/// The address families (AF_*), which IFLA_AF_SPEC holds under AF_UNSPEC.
+pub const SPECIFIC: Table = Table(8);
+
+/// IFLA_VF_STATS_*, which IFLA_VF_STATS holds.
+pub const VF_STATS: Table = Table(9);
+
+/// IFLA_VF_VLAN_INFO, which IFLA_VF_VLAN_LIST holds.
+pub const VF_VLANS: Table = Table(10);
+
+/// IFLA_VF_*, which IFLA_VF_INFO holds.
+pub const VF: Table = Table(11);
+
+/// IFLA_VF_INFO, which IFLA_VFINFO_LIST holds.
+pub const VF_INFOS: Table = Table(12);
+
+/// IFLA_VF_PORT, which IFLA_VF_PORTS holds.
+pub const VF_PORTS: Table = Table(13);
+
+/// Attributes of which every one is raw, and has no name.
+pub const RAW: Table = Table(14);
+
+/// IFLA_* under AF_UNSPEC.
+pub const LINK_UNSPEC: Table = Table(15);
+
+/// IFLA_* under AF_BRIDGE.
+pub const LINK_BRIDGE: Table = Table(16);
+
+/// IFLA_* under AF_INET6.
+pub const LINK_INET6: Table = Table(17);
+
+/// IFLA_* under every other family.
+pub const LINK_OTHER: Table = Table(18);
+
+/// IFLA_INFO_*, which IFLA_LINKINFO holds. What its attributes hold depends on the kinds in force, so it has no rows
+/// here: see `info_held`.
+pub const LINK_INFO: Table = Table(19);
+
+/// IFLA_AMT_*.
+pub const AMT: Table = Table(20);
+
+/// IFLA_BAREUDP_*.
+pub const BAREUDP: Table = Table(21);
+
+/// IFLA_BATADV_*.
+pub const BATADV: Table = Table(22);
+
+/// IFLA_GENEVE_*.
+pub const GENEVE: Table = Table(23);
+
+/// IFLA_GRE_* over IPv4.
+pub const GRE: Table = Table(24);
+
+/// IFLA_GRE_* over IPv6.
+pub const GRE6: Table = Table(25);
+
+/// IFLA_GTP_*.
+pub const GTP: Table = Table(26);
+
+/// IFLA_IPOIB_*.
+pub const IPOIB: Table = Table(27);
+
+/// IFLA_IPVLAN_*.
+pub const IPVLAN: Table = Table(28);
+
+/// IFLA_IPTUN_* over IPv4.
+pub const IP4_TUNNEL: Table = Table(29);
+
+/// IFLA_IPTUN_* over IPv6.
+pub const IP6_TUNNEL: Table = Table(30);
+
+/// IFLA_MACVLAN_*.
+pub const MACVLAN: Table = Table(31);
+
+/// IFLA_MACVLAN_MACADDR, which IFLA_MACVLAN_MACADDR_DATA holds.
+pub const MACVLAN_ADDRESS: Table = Table(32);
+
+/// IFLA_MACSEC_*.
+pub const MACSEC: Table = Table(33);
+
+/// IFLA_NETKIT_*.
+pub const NETKIT: Table = Table(34);
+
+/// VETH_INFO_*.
+pub const VETH: Table = Table(35);
+
+/// IFLA_RMNET_*.
+pub const RMNET: Table = Table(36);
+
+/// IFLA_VRF_*, of a link and of its ports.
+pub const VRF: Table = Table(37);
+
+/// IFLA_WWAN_*.
+pub const WWAN: Table = Table(38);
+
+/// IFLA_XFRM_*.
+pub const XFRM: Table = Table(39);
+
+/// IFLA_VTI_*.
+pub const VTI: Table = Table(40);
+
+/// IFLA_VXLAN_*.
+pub const VXLAN: Table = Table(41);
+
+/// VXCAN_INFO_*.
+pub const VXCAN: Table = Table(42);
+
+/// IFLA_VLAN_*, all raw, as is each table from here on: their kinds have names, and no rows.
+pub const VLAN: Table = Table(43);
+
+/// IFLA_BR_*.
+pub const BRIDGE: Table = Table(44);
+
+/// IFLA_BOND_*.
+pub const BOND: Table = Table(45);
+
+/// IFLA_TUN_*.
+pub const TUN: Table = Table(46);
+
+/// IFLA_CAN_*.
+pub const CAN: Table = Table(47);
+
+/// IFLA_HSR_*.
+pub const HSR: Table = Table(48);
+
+/// IFLA_DSA_*.
+pub const DSA: Table = Table(49);
+
+/// IFLA_BRPORT_*: the port data of `bridge`, and what IFLA_PROTINFO holds under AF_BRIDGE.
+pub const BRIDGE_PORT: Table = Table(50);
+
+/// IFLA_BOND_SLAVE_*: the port data of `bond`.
+pub const BOND_PORT: Table = Table(51);
+
+/// IFLA_BRIDGE_*, which IFLA_AF_SPEC holds under AF_BRIDGE.
+pub const BRIDGE_SPECIFIC: Table = Table(52);
+
+/// IFLA_INET6_*, which IFLA_PROTINFO holds under AF_INET6.
+pub const INET6_PROTOCOL: Table = Table(53);
+
+// The families with tables of their own (socket.h).
+const AF_UNSPEC: u8 = 0;
+
+const AF_BRIDGE: u8 = 7;
+
+const AF_INET6: u8 = 10;
+
+/// The table of a link's attributes under an address family.
+pub fn family_table(family: u8) -> Table
+    ensures is { result ≡ family_table family }
+    ensures table { table_of result.0 ≡ link_table (family_of family) }
+{
+    if family == AF_UNSPEC {
+        LINK_UNSPEC
+    } else if family == AF_BRIDGE {
+        LINK_BRIDGE
+    } else if family == AF_INET6 {
+        LINK_INET6
+    } else {
+        LINK_OTHER
+    }
+}
+
+// The rows of a table; none of one that isn't among these.
+fn table_at<'a>(tables: &'a [&'a [Row]], table: Table) -> &'a [Row]
+    ensures { result.now ≡ get_or (lists_of tables.now) table.0 [] }
+{
+    match tables.get(table.0 as usize) {
+        Some(rows) => rows,
+        None => &[],
+    }
+}
+
+/// What a table says of a kind, which has no flag bits.
+pub fn row_of(table: Table, kind: u16) -> Row
+    ensures line { row_line result ≡ line_at (table_of table.0) kind }
+    ensures bounded { rows_bounded (table_of table.0) ≡ true }
+{
+    look_up(table_at(&TABLES, table), kind)
+}

@@ -1,0 +1,63 @@
+//! The rows of each table, at its index.
+
+use crate::constant_rows;
+use crate::rows::Form::{Any, OfKindOne, Ports};
+use crate::rows::Held::{LinkInfo, List, Peer, Plain};
+use crate::rows::Row;
+use crate::rows::Row::{Listed, Unlisted};
+use crate::rows::Shape::{
+    AtMost, Either, Exact, FixedRecord, IdAndTruth, NonzeroByte, OneByte, Presence, Raw, Resized,
+    Text, TruthOfFour,
+};
+use crate::table::{
+    BRIDGE_PORT, BRIDGE_SPECIFIC, DEVLINK_PORT, DPLL_PIN, INET, INET6, INET6_PROTOCOL,
+    MACVLAN_ADDRESS, MCTP, PROPS, PROTOCOL_DOWN_REASON, RAW, SPECIFIC, VF, VF_INFOS, VF_PORTS,
+    VF_STATS, VF_VLANS, XDP,
+};
+
+/// The tables that have rows, and those between.
+pub const TABLES: [&[Row]; 43] = [
+    &crate::xdp!(constant_rows),
+    &crate::props!(constant_rows),
+    &crate::protocol_down_reason!(constant_rows),
+    &crate::devlink_port!(constant_rows),
+    &crate::dpll_pin!(constant_rows),
+    &crate::mctp!(constant_rows),
+    &crate::inet!(constant_rows),
+    &crate::inet6!(constant_rows),
+    &crate::specific!(constant_rows),
+    &crate::vf_stats!(constant_rows),
+    &crate::vf_vlans!(constant_rows),
+    &crate::vf!(constant_rows),
+    &crate::vf_infos!(constant_rows),
+    &crate::vf_ports!(constant_rows),
+    &[],
+    &crate::link_unspec!(constant_rows),
+    &crate::link_bridge!(constant_rows),
+    &crate::link_inet6!(constant_rows),
+    &crate::link_other!(constant_rows),
+    &[],
+    &crate::amt!(constant_rows),
+    &crate::bareudp!(constant_rows),
+    &crate::batadv!(constant_rows),
+    &crate::geneve!(constant_rows),
+    &crate::gre!(constant_rows),
+    &crate::gre6!(constant_rows),
+    &crate::gtp!(constant_rows),
+    &crate::ipoib!(constant_rows),
+    &crate::ipvlan!(constant_rows),
+    &crate::ip4_tunnel!(constant_rows),
+    &crate::ip6_tunnel!(constant_rows),
+    &crate::macvlan!(constant_rows),
+    &crate::macvlan_address!(constant_rows),
+    &crate::macsec!(constant_rows),
+    &crate::netkit!(constant_rows),
+    &crate::veth!(constant_rows),
+    &crate::rmnet!(constant_rows),
+    &crate::vrf!(constant_rows),
+    &crate::wwan!(constant_rows),
+    &crate::xfrm!(constant_rows),
+    &crate::vti!(constant_rows),
+    &crate::vxlan!(constant_rows),
+    &crate::vxcan!(constant_rows),
+];

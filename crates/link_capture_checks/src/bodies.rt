@@ -10,7 +10,7 @@ ghost use Rattle.link_capture_grammar.specs.Same.{done_body};
 ghost use Rattle.link_capture_checks.specs.Measures.{IsBodyText, written};
 
 use crate::texts::MeasuredBody;
-use attribute_checks::append;
+use link_interpreter::append;
 use attribute_tables_grammar::laws::measures_tell_rules;
 use link_capture_grammar::fault::FaultKind;
 use link_capture_grammar::link_types::{RTM_NEWLINK, RTM_SETLINK};

@@ -12,7 +12,7 @@ ghost use Rattle.link_capture_checks.specs.Measures.{IsFrameText, LacksRoom, wri
 
 use crate::bodies::{measure_body, write_frame_body};
 use crate::texts::{MeasuredBody, MeasuredFrame};
-use attribute_checks::{append, append_zeros};
+use link_interpreter::{append, append_zeros};
 use link_capture_grammar::fault::FaultKind;
 use link_capture_grammar::laws::frames_are_judged;
 use netlink_packet_core::{NETLINK_HEADER_LEN, NetlinkBuffer, nla_align};

@@ -1,8 +1,8 @@
 -- The words of what is refused, and why a value is.
 use Rattle.std.specs.Prelude.{ℕ, List, ◌++◌, codes}
 use Rattle.std.specs.Fmt.{decimal}
-use Rattle.attribute_checks.specs.declared.rows.Shape.{Shape}
-use Rattle.attribute_checks.specs.declared.rows.Shape.TheVariants.{Text, Never}
+use Rattle.link_tables.specs.declared.rows.Shape.{Shape}
+use Rattle.link_tables.specs.declared.rows.Shape.TheVariants.{Text, Never}
 use Rattle.link_capture_refusal_rows.specs.declared.reason.Reason.{Reason}
 use Rattle.link_capture_refusal_rows.specs.declared.reason.Reason.TheVariants.{PayloadSize, NotUtf8, EmptyList, NoKind, NoPortKind, NoPayload, CutHeader, WrongLength, CutLink, EmptyPorts, Unfit, CutCode}
 

@@ -5,18 +5,16 @@ use Rattle.attribute_tables_grammar.specs.Lists.{any, Context, Grammar, is_kept,
 use Rattle.attribute_tables_grammar.specs.Peers.{Peer, bytes_peer, peer_rule}
 use Rattle.attribute_tables_grammar.specs.Rules.{Rule, raw_rule, shape_rule}
 use Rattle.attribute_tables_grammar.specs.Shapes.{never}
-use Rattle.attribute_checks.specs.Measures.{rows_of}
-use Rattle.attribute_checks.specs.Rows.{form_of, shape_of}
 use Rattle.link_info_grammar.specs.LinkInfo.{info_grammar_under}
-use Rattle.link_info_checks.specs.Tables.{table_of as data_table}
+use Rattle.link_interpreter.specs.Measures.{rows_of}
 use Rattle.link_message_grammar.specs.Body.{link_peer, list_rule_of}
 use Rattle.link_message_grammar.specs.LinkMessage.{family_of}
-use Rattle.link_message_checks.specs.Tables.{table_of as message_table}
+use Rattle.link_tables.specs.declared.table.Table.{Table}
+use Rattle.link_tables.specs.Rows.{form_of, shape_of}
+use Rattle.link_tables.specs.Tables.{family_table, is_link_info, table_of}
 use Rattle.link_capture_refusal_rows.specs.declared.tables.Inside.{Inside}
 use Rattle.link_capture_refusal_rows.specs.declared.tables.Inside.TheVariants as I
-use Rattle.link_capture_refusal_rows.specs.declared.tables.Table.{Table}
-use Rattle.link_capture_refusal_rows.specs.declared.tables.Table.TheVariants.{Message, Info, Data}
-use Rattle.link_capture_refusal_rows.specs.RefusalTables.{Listing, family_table, row_in}
+use Rattle.link_capture_refusal_rows.specs.RefusalTables.{Listing, row_in}
 
 -- peers are links' bodies, inside which peers are bytes
 abbrev pub peer_of : Bool → Peer
@@ -24,9 +22,7 @@ peer_of judged = cond judged link_peer bytes_peer
 
 -- the rows of a table, and what each attribute leaves in force
 unfoldable pub grammar_at : Bool → Table → Grammar
-grammar_at judged (Message t) = rows_of (peer_of judged) (message_table t)
-grammar_at judged Info = info_grammar_under (peer_of judged)
-grammar_at judged (Data t) = rows_of (peer_of judged) (data_table t)
+grammar_at judged t = cond (is_link_info t) (info_grammar_under (peer_of judged)) (rows_of (peer_of judged) (table_of t.0))
 
 abbrev pub grammar_of : Listing → Grammar
 grammar_of l = grammar_at l.judged l.table

@@ -8,4 +8,4 @@ mod rows;
 mod tables;
 
 pub use reason::{Reason, shape_reason};
-pub use tables::{Inside, Listed, Table, family_table, is_kept, next_list, row_in};
+pub use tables::{Inside, Listed, is_kept, next_list, row_in};

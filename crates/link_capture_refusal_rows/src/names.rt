@@ -5,13 +5,13 @@ ghost use Rattle.link_capture_refusal_rows.specs.RefusalTables.{all_said, find, 
 
 use crate::rows::NamedRow;
 
-/// The rows of the table with that number.
-pub(crate) fn rows_at<'a>(tables: &'a [&'a [NamedRow]], table: u8) -> &'a [NamedRow]
-    requires { table < length tables.now }
+/// The rows at an index.
+pub(crate) fn rows_at<'a>(tables: &'a [&'a [NamedRow]], index: u8) -> &'a [NamedRow]
+    requires { index < length tables.now }
     ensures { said (λ n. n.now) result.now
-        ≡ get_or (all_said (λ b. b.now) (λ n. n.now) tables.now) table [] }
+        ≡ get_or (all_said (λ b. b.now) (λ n. n.now) tables.now) index [] }
 {
-    tables[table as usize]
+    tables[index as usize]
 }
 
 /// The row of a kind, which has no flag bits.

@@ -4,8 +4,8 @@ ghost use Rattle.std.specs.Prelude.{◌≡◌, ◌+◌, ◌≤◌, Some, length}
 ghost use Rattle.link_capture_refusal_rows.specs.ReasonWords.{counted, words, shape_reason};
 
 use arrayvec::ArrayString;
-use attribute_checks::Shape;
 use itoa::Buffer;
+use link_tables::Shape;
 use std::fmt;
 
 /// Why something in a body is refused. Sizes and lengths are in bytes.

@@ -1,20 +1,22 @@
 //! The rows of links' tables with their names, a table after another.
 
 use crate::named_rows;
-use attribute_checks::Form::{Any, OfKindOne, Ports};
-use attribute_checks::Held;
-use attribute_checks::Held::{LinkInfo, List, Peer, Plain};
-use attribute_checks::Shape::{
+use link_tables::Form::{Any, OfKindOne, Ports};
+use link_tables::Held::{LinkInfo, List, Peer, Plain};
+use link_tables::Shape::{
     AtMost, Either, Exact, FixedRecord, IdAndTruth, NonzeroByte, OneByte, Presence, Raw, Resized,
     Text, TruthOfFour,
 };
-use link_info_checks::{
-    amt, bareudp, batadv, geneve, gre, gre6, gtp, ip4_tunnel, ip6_tunnel, ipoib, ipvlan, macsec,
-    macvlan, macvlan_address, netkit, rmnet, veth, vrf, vti, vxcan, vxlan, wwan, xfrm,
+use link_tables::table::{
+    BRIDGE_PORT, BRIDGE_SPECIFIC, DEVLINK_PORT, DPLL_PIN, INET, INET6, INET6_PROTOCOL,
+    MACVLAN_ADDRESS, MCTP, PROPS, PROTOCOL_DOWN_REASON, RAW, SPECIFIC, VF, VF_INFOS, VF_PORTS,
+    VF_STATS, VF_VLANS, XDP,
 };
-use link_message_checks::{
-    devlink_port, dpll_pin, inet, inet6, link_bridge, link_inet6, link_other, link_unspec, mctp,
-    props, protocol_down_reason, specific, vf, vf_infos, vf_ports, vf_stats, vf_vlans, xdp,
+use link_tables::{
+    Held, amt, bareudp, batadv, devlink_port, dpll_pin, geneve, gre, gre6, gtp, inet, inet6,
+    ip4_tunnel, ip6_tunnel, ipoib, ipvlan, link_bridge, link_inet6, link_other, link_unspec,
+    macsec, macvlan, macvlan_address, mctp, netkit, props, protocol_down_reason, rmnet, specific,
+    veth, vf, vf_infos, vf_ports, vf_stats, vf_vlans, vrf, vti, vxcan, vxlan, wwan, xdp, xfrm,
 };
 
 /// A kind, its name, and what its payload holds.
@@ -37,8 +39,8 @@ macro_rules! named_rows {
     };
 }
 
-/// The tables of link messages, by the number that `List` has in them.
-pub const MESSAGE_ROWS: [&[NamedRow]; 19] = [
+/// The rows of tables of link messages, at their index.
+pub const MESSAGE_ROWS: [&[NamedRow]; 20] = [
     &xdp!(named_rows),
     &props!(named_rows),
     &protocol_down_reason!(named_rows),
@@ -58,10 +60,11 @@ pub const MESSAGE_ROWS: [&[NamedRow]; 19] = [
     &link_bridge!(named_rows),
     &link_inet6!(named_rows),
     &link_other!(named_rows),
+    &[],
 ];
 
-/// The tables of link info, by the number that `List` has in them and in the names of kinds.
-pub const DATA_ROWS: [&[NamedRow]; 24] = [
+/// The rows of tables of data, at their index from the first one's on.
+pub const DATA_ROWS: [&[NamedRow]; 23] = [
     &amt!(named_rows),
     &bareudp!(named_rows),
     &batadv!(named_rows),
@@ -85,5 +88,4 @@ pub const DATA_ROWS: [&[NamedRow]; 24] = [
     &vti!(named_rows),
     &vxlan!(named_rows),
     &vxcan!(named_rows),
-    &[],
 ];

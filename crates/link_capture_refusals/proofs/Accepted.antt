@@ -7,15 +7,16 @@ use Rattle.attribute_tables_grammar.specs.Laws.{MeasuresGoBySteps, MeasuresTellR
 use Rattle.attribute_tables_grammar.specs.Lists.{any, Context, nothing, Grammar, first_alone, is_kept, list_rule, ListForm, row_of}
 use Rattle.attribute_tables_grammar.specs.Rules.{Rule}
 use Rattle.attribute_tables_grammar.specs.Walks.{closed, dropped, IsWalked, Measure, measure, MeasuredSoFar, none_yet, plus, with_header}
-use Rattle.attribute_checks.specs.Rows.{form_of}
-use Rattle.attribute_checks.specs.declared.rows.Form.{Form}
-use Rattle.attribute_checks.specs.declared.rows.Form.TheVariants.{Any, OfKindOne, FirstAlone}
+use Rattle.link_tables.specs.Rows.{form_of}
+use Rattle.link_tables.specs.declared.rows.Form.{Form}
+use Rattle.link_tables.specs.declared.rows.Form.TheVariants.{Any, OfKindOne, FirstAlone}
 use Rattle.link_message_grammar.specs.Body.{body_rule, family, list_rule_of}
 use Rattle.link_capture_refusal_rows.specs.declared.tables.Inside.{Inside}
 use Rattle.link_capture_refusal_rows.specs.declared.tables.Inside.TheVariants as I
-use Rattle.link_capture_refusal_rows.specs.declared.tables.Table.{Table}
+use Rattle.link_tables.specs.declared.table.Table.{Table}
 use Rattle.link_capture_refusal_rows.specs.declared.reason.Reason.TheVariants as R
-use Rattle.link_capture_refusal_rows.specs.RefusalTables.{Listing, family_table, row_in, whole}
+use Rattle.link_capture_refusal_rows.specs.RefusalTables.{Listing, row_in, whole}
+use Rattle.link_tables.specs.Tables.{family_table}
 use Rattle.link_capture_refusal_rows.specs.RowRules.{LinksAreTables, RowsAreTheTables, behind, grammar_at, is_accepted, peer_of, row_rule}
 use Rattle.link_capture_refusals.specs.Refusals.{Found, ListRefusal, attribute_refusal, found_at, goes_on, inside_refusal, link_refusal, list_refusal, named, next_refusal, or_else, refusal_within, row_refusal, whole_refusal}
 use Rattle.link_capture_refusals.specs.RefusalLaws.{LinksAreAccepted, ListsAreAccepted}

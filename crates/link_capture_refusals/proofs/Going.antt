@@ -2,8 +2,8 @@
 use Rattle.std.proofs.Common.{◌≡◌, ℕ, ◌+◌, ◌<◌, ◌≤◌, true, false, List, [], ◌∷◌, length, Option, Some, None, refl, sym, ap, ◌∙◌, arith}
 use Rattle.std.specs.Prelude.{is_some}
 use Rattle.netlink_packet_core_grammar.specs.Attributes.{Attribute, attribute_length, first_attribute, nla_align}
-use Rattle.attribute_checks.specs.declared.rows.Form.{Form}
-use Rattle.attribute_checks.specs.declared.rows.Form.TheVariants.{FirstAlone}
+use Rattle.link_tables.specs.declared.rows.Form.{Form}
+use Rattle.link_tables.specs.declared.rows.Form.TheVariants.{FirstAlone}
 use Rattle.link_capture_refusal_rows.specs.RefusalTables.{Listing}
 use Rattle.link_capture_refusal_rows.specs.RowRules.{behind}
 use Rattle.link_capture_refusals.specs.declared.refusal.Refusal.{Refusal}

@@ -3,13 +3,13 @@ use Rattle.std.specs.Prelude.{◌≡◌, ℕ, ◌+◌, ◌≤◌, Bool, cond, Li
 use Rattle.netlink_packet_core_grammar.specs.Attributes.{first_attribute}
 use Rattle.netlink_packet_core_grammar.specs.Frames.{IsFrame, frame_length, frame_type}
 use Rattle.attribute_tables_grammar.specs.Lists.{list_rule}
-use Rattle.attribute_checks.specs.Rows.{form_of}
-use Rattle.attribute_checks.specs.declared.rows.Form.{Form}
+use Rattle.link_tables.specs.Rows.{form_of}
+use Rattle.link_tables.specs.declared.rows.Form.{Form}
 use Rattle.link_message_grammar.specs.Body.{body_rule}
 use Rattle.link_capture_grammar.specs.Captures.{first_fault}
 use Rattle.link_capture_grammar.specs.Bodies.{is_link_type}
 use Rattle.link_capture_grammar.specs.declared.fault.FaultKind.TheVariants.{Refused}
-use Rattle.link_capture_refusal_rows.specs.declared.tables.Table.{Table}
+use Rattle.link_tables.specs.declared.table.Table.{Table}
 use Rattle.link_capture_refusal_rows.specs.RefusalTables.{Listing, whole}
 use Rattle.link_capture_refusal_rows.specs.RowRules.{grammar_at, peer_of}
 use Rattle.link_capture_refusals.specs.Refusals.{Found, frame_refusal, link_refusal, list_refusal, next_refusal, refusal, whole_refusal}

@@ -4,8 +4,8 @@ use Rattle.netlink_packet_core_grammar.specs.Attributes.{Attribute, attribute_le
 use Rattle.netlink_packet_core_grammar.specs.Frames.{frame_body, frame_type}
 use Rattle.netlink_packet_core_grammar.specs.Numbers.{u16_at}
 use Rattle.attribute_tables_grammar.specs.Peers.{bytes_peer}
-use Rattle.attribute_checks.specs.declared.rows.Form.{Form}
-use Rattle.attribute_checks.specs.declared.rows.Form.TheVariants.{Any, NonEmpty, OfKindOne, Ports, FirstAlone}
+use Rattle.link_tables.specs.declared.rows.Form.{Form}
+use Rattle.link_tables.specs.declared.rows.Form.TheVariants.{Any, NonEmpty, OfKindOne, Ports, FirstAlone}
 use Rattle.link_message_grammar.specs.Body.{body_rule}
 use Rattle.link_capture_grammar.specs.Bodies.{is_link_type}
 use Rattle.link_capture_grammar.specs.Captures.{first_fault}
@@ -16,7 +16,8 @@ use Rattle.link_capture_refusal_rows.specs.declared.reason.Reason.{Reason}
 use Rattle.link_capture_refusal_rows.specs.declared.reason.Reason.TheVariants as R
 use Rattle.link_capture_refusal_rows.specs.declared.tables.Inside.{Inside}
 use Rattle.link_capture_refusal_rows.specs.declared.tables.Inside.TheVariants as I
-use Rattle.link_capture_refusal_rows.specs.RefusalTables.{Listing, family_table, row_in, whole}
+use Rattle.link_capture_refusal_rows.specs.RefusalTables.{Listing, row_in, whole}
+use Rattle.link_tables.specs.Tables.{family_table}
 use Rattle.link_capture_refusal_rows.specs.ReasonWords.{shape_reason}
 use Rattle.link_capture_refusal_rows.specs.RowRules.{behind, is_accepted}
 

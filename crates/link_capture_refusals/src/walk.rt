@@ -1,11 +1,11 @@
 //! A walk to the first attribute that isn't accepted.
 
 ghost use Rattle.std.specs.Prelude.{◌≡◌, ◌≤◌, ◌<◌, ◌+◌, ◌^◌, cond, length, None, Some, IfSome};
-ghost use Rattle.attribute_checks.specs.Rows.{shape_of};
-ghost use Rattle.attribute_checks.specs.Sameness.{attribute_of};
+ghost use Rattle.link_tables.specs.Rows.{shape_of};
+ghost use Rattle.link_interpreter.specs.Sameness.{attribute_of};
 ghost use Rattle.attribute_tables_grammar.specs.Shapes.{accepts};
 ghost use Rattle.link_capture_refusal_rows.specs.ReasonWords.{shape_reason};
-ghost use Rattle.link_capture_refusal_rows.specs.RefusalTables.{IsInside, IsTable, depth, inside_depth, listing};
+ghost use Rattle.link_capture_refusal_rows.specs.RefusalTables.{depth, inside_depth, listing};
 ghost use Rattle.link_capture_refusal_rows.specs.RowRules.{inside_rule, peer_of};
 ghost use Rattle.link_capture_refusals.specs.Refusals.{attribute_refusal, found_at, goes_on, inside_refusal, link_refusal};
 ghost use Rattle.link_capture_refusals.specs.Refusals.{list_refusal, no_attribute, peer_refusal, whole_refusal};
@@ -13,15 +13,14 @@ ghost use Rattle.link_capture_refusals.specs.RefusalViews.{all_found};
 
 use crate::laws::{links_are_accepted, lists_are_accepted, lists_go_by_steps};
 use crate::refusal::Refusal;
-use attribute_checks::{
-    Attribute, Form, KIND_BOUND, PeerSet, Shape, first_attribute, measure_shape,
-};
 use attribute_tables_grammar::laws::measures_tell_rules;
 use link_capture_refusal_rows::laws::rows_are_the_tables;
 use link_capture_refusal_rows::{
-    Inside, Listed, Reason, family_table, is_kept, next_list, row_in, shape_reason,
+    Inside, Listed, Reason, is_kept, next_list, row_in, shape_reason,
 };
+use link_interpreter::{Attribute, KIND_BOUND, PeerSet, first_attribute, measure_shape};
 use link_message_checks::{LinkPeer, has_empty_ports};
+use link_tables::{Form, Shape, family_table};
 use netlink_packet_core::nla_align;
 use netlink_packet_core_attributes::view::read_u16;
 
@@ -92,12 +91,11 @@ fn peer_refusal(judged: bool, own: u64, payload: &[u8]) -> Option<Refusal>
 /// What of a list is refused, where the attribute that holds it begins at a place.
 #[cycle(refusal)]
 fn whole_refusal(list: Listed<'_>, own: u64, payload: &[u8]) -> Option<Refusal>
-    requires table { IsTable list.table }
     requires near { own + 4 + length payload.now < 2 ^ 63 }
     ensures found { all_found result
         ≡ whole_refusal list_refusal (listing list.entry) own payload.now }
     ensures room { IfSome result
-        (λ r. length r.path.items ≤ depth list.entry.judged list.entry.table) }
+        (λ r. length r.path.items ≤ depth list.entry.judged list.entry.table.0) }
 {
     if !payload.is_empty() {
         return list_refusal(list, own + 4, payload);
@@ -112,7 +110,6 @@ fn whole_refusal(list: Listed<'_>, own: u64, payload: &[u8]) -> Option<Refusal>
 /// What of a payload is refused, where the attribute begins at a place.
 #[cycle(refusal)]
 fn inside_refusal(judged: bool, inside: Inside, own: u64, payload: &[u8]) -> Option<Refusal>
-    requires inside { IsInside inside }
     requires near { own + 4 + length payload.now < 2 ^ 63 }
     ensures found { all_found result ≡ cond ((inside_rule judged inside).accepted payload.now) None
         (inside_refusal list_refusal judged inside own payload.now) }
@@ -130,12 +127,11 @@ fn inside_refusal(judged: bool, inside: Inside, own: u64, payload: &[u8]) -> Opt
 /// What of an attribute is refused, which begins at a place.
 #[cycle(refusal)]
 fn attribute_refusal(list: Listed<'_>, place: u64, attribute: Attribute<'_>) -> Option<Refusal>
-    requires table { IsTable list.table }
     requires near { place + 4 + length attribute.payload.now < 2 ^ 63 }
     ensures found { all_found result ≡ attribute_refusal list_refusal (listing list.entry) place
         (attribute_of attribute.entry) }
     ensures room { IfSome result
-        (λ r. length r.path.items ≤ depth list.entry.judged list.entry.table) }
+        (λ r. length r.path.items ≤ depth list.entry.judged list.entry.table.0) }
 {
     rows_are_the_tables();
     if !is_kept(list.form, attribute.kind) {
@@ -163,11 +159,10 @@ fn goes_on(form: Form, after: &[u8]) -> &[u8]
 /// What of a list is refused, whose bytes begin at a place.
 #[cycle(refusal)]
 fn list_refusal(list: Listed<'_>, place: u64, bytes: &[u8]) -> Option<Refusal>
-    requires table { IsTable list.table }
     requires near { place + length bytes.now < 2 ^ 63 }
     ensures found { all_found result ≡ list_refusal (listing list.entry) place bytes.now }
     ensures room { IfSome result
-        (λ r. length r.path.items ≤ depth list.entry.judged list.entry.table) }
+        (λ r. length r.path.items ≤ depth list.entry.judged list.entry.table.0) }
 {
     lists_go_by_steps();
     let mut list = list;

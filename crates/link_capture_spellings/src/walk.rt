@@ -9,7 +9,7 @@ ghost use Rattle.link_capture_spellings.specs.SpellingWalks.{one_told, levels_to
 
 use crate::laws::lists_go_by_steps;
 use arrayvec::ArrayVec;
-use attribute_checks::{KIND_BOUND, first_attribute};
+use link_interpreter::{KIND_BOUND, first_attribute};
 use link_capture_checks::frame_body;
 use link_capture_grammar::link_types::is_link_type;
 use link_capture_spelling_rows::{

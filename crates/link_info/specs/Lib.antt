@@ -12,7 +12,7 @@ pub use Rattle.attribute_tables_grammar.specs.Tables
 pub use Rattle.attribute_tables.specs.Beginnings
 pub use Rattle.attribute_tables.specs.Views
 pub use Rattle.attribute_tables.specs.Written
-pub use Rattle.attribute_checks.specs.Peers as PeerMeasures
+pub use Rattle.link_interpreter.specs.Peers as PeerMeasures
 pub use Rattle.link_info_grammar.specs.Families
 pub use Rattle.link_info_grammar.specs.KindNames
 pub use Rattle.link_info_grammar.specs.Laws as GrammarLaws
@@ -56,7 +56,7 @@ pub use Rattle.link_info_devices.specs.RawData
 pub use Rattle.link_info_kinds.specs.Kinds
 pub use Rattle.link_info_kinds.specs.Laws as KindLaws
 pub use Rattle.link_info_kinds.specs.PortKinds
-pub use Rattle.link_info_checks.specs.Tables as CheckTables
+pub use Rattle.link_interpreter.specs.Measures as ListMeasures
 pub use Rattle.link_info_data.specs.Data
 pub use Rattle.link_info_data.specs.Laws as DataLaws
 pub use Rattle.link_info_data.specs.PortData

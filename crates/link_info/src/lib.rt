@@ -8,9 +8,9 @@
 mod infos;
 pub mod laws;
 
-pub use attribute_checks::{BytesPeer, PeerMeasure, PeerRule};
+pub use link_interpreter::{BytesPeer, PeerMeasure, PeerRule};
 pub use infos::LinkInfo;
-pub use link_info_checks::{ListMeasure, check_list, check_list_with, same_list, same_list_with};
+pub use link_interpreter::{ListMeasure, check_list, check_list_with, same_list, same_list_with};
 pub use link_info_data::{InfoData, InfoPortData, InfoVrfPort, LinkXstats};
 pub use link_info_devices::{
     InfoBatAdv, InfoBond, InfoBondPort, InfoBridge, InfoBridgePort, InfoCan, InfoDsa, InfoHsr,

@@ -8,9 +8,9 @@ ghost use Rattle.attribute_tables.specs.Outcomes.{IfMemory, IsRefusedUnless, IsW
 
 use super::laws::{data_without_peers_have_one_rule, names_tell_rules};
 use crate::payloads::{emit_list, emit_one, list_len, one_len};
-use attribute_checks::PeerRule;
+use link_interpreter::PeerRule;
 use attribute_tables::{parse_bytes, parse_family, parse_first};
-use link_info_checks::{BytesPeer, PeerSet, Ruled, data_error};
+use link_interpreter::{BytesPeer, PeerSet, Ruled, data_error};
 use link_info_devices::{
     InfoBatAdv, InfoBond, InfoBridge, InfoCan, InfoDsa, InfoHsr, InfoIpVlan, InfoIpVtap, InfoIpoib,
     InfoMacSec, InfoMacVlan, InfoMacVtap, InfoNetkit, InfoRmNet, InfoTun, InfoVeth, InfoVlan,

@@ -2,7 +2,7 @@
 use Rattle.std.proofs.Common.{◌≡◌, ℕ, Bool, true, List, [], ◌∷◌, Some, refl}
 use Rattle.std.specs.Prelude.{◌&&◌}
 use Rattle.std.specs.List.{list_all}
-use Rattle.attribute_checks.proofs.LookUps.{all_at}
+use Rattle.link_tables.proofs.LookUps.{all_at}
 use Rattle.link_lines_values.specs.Values.{is_shown_on_a_line, tells_sized}
 use Rattle.link_lines_names.specs.declared.raw.RawBy.TheVariants as R
 use Rattle.link_lines_names.specs.Names.{Named, Titled, all_titles, has_name, names_apart}

@@ -1,11 +1,11 @@
 -- What stands behind an attribute's name.
 use Rattle.std.specs.Prelude.{ℕ, ◌+◌, Bool, true, cond, List, Option, Some, None}
-use Rattle.attribute_checks.specs.declared.names.NameRow.{NameRow}
-use Rattle.attribute_checks.specs.declared.rows.Held.{Held}
-use Rattle.attribute_checks.specs.declared.rows.Held.TheVariants.{List as HeldList}
-use Rattle.attribute_checks.specs.Names.{held_by_name}
+use Rattle.link_tables.specs.declared.names.NameRow.{NameRow}
+use Rattle.link_tables.specs.declared.rows.Held.{Held}
+use Rattle.link_tables.specs.declared.rows.Held.TheVariants.{List as HeldList}
+use Rattle.link_tables.specs.Names.{held_by_name}
 use Rattle.attribute_tables_grammar.specs.Lists.{Context}
-use Rattle.link_info_checks.specs.declared.rows.TheConstants.{KINDS, PORT_KINDS}
+use Rattle.link_tables.specs.declared.kinds.TheConstants.{KINDS, PORT_KINDS}
 use Rattle.link_lines_values.specs.declared.fields.FieldOf.{FieldOf}
 use Rattle.link_lines_values.specs.declared.values.ShownBy.{ShownBy}
 use Rattle.link_lines_values.specs.declared.values.ShownBy.TheVariants.{Bytes}

@@ -4,10 +4,10 @@ ghost use Rattle.std.specs.Prelude.{◌≡◌, option_map};
 ghost use Rattle.link_lines_names.specs.Behind.{data_inside, inside_of, known_inside, of_held, of_named, port_inside};
 ghost use Rattle.link_lines_names.specs.Views.{in_force};
 
-use attribute_checks::Form::Any;
-use attribute_checks::Held::List;
-use attribute_checks::{Form, Held, NameRow, held_by_name};
-use link_info_checks::{KINDS, PORT_KINDS};
+use link_interpreter::Form::Any;
+use link_interpreter::Held::List;
+use link_interpreter::{Form, Held, NameRow, held_by_name};
+use link_interpreter::{KINDS, PORT_KINDS};
 use link_lines_values::{Shown, ShownBy};
 
 /// What stands behind an attribute's name, with forms of that type.

@@ -6,13 +6,13 @@ use Rattle.std.proofs.lemmas.List.{append_cancel_left}
 use Rattle.std.proofs.lemmas.Option.{same_Some}
 use Rattle.netlink_packet_core_grammar.specs.Attributes.{Attribute, first_attribute, list_text, proper_kind}
 use Rattle.netlink_packet_core_grammar.proofs.Attributes.{first_attribute_text}
-use Rattle.attribute_checks.specs.declared.names.NameRow.{NameRow}
-use Rattle.attribute_checks.specs.declared.rows.Held.{Held}
-use Rattle.attribute_checks.specs.declared.rows.Held.TheVariants.{List as HeldList}
-use Rattle.attribute_checks.specs.Names.{held_by_name}
+use Rattle.link_tables.specs.declared.names.NameRow.{NameRow}
+use Rattle.link_tables.specs.declared.rows.Held.{Held}
+use Rattle.link_tables.specs.declared.rows.Held.TheVariants.{List as HeldList}
+use Rattle.link_tables.specs.Names.{held_by_name}
 use Rattle.attribute_tables_grammar.specs.Rules.{Rule}
 use Rattle.attribute_tables_grammar.specs.Lists.{Context, Grammar, ListForm, Row, list_rule, nothing, row_of, written_kind}
-use Rattle.link_info_checks.specs.declared.rows.TheConstants.{KINDS, PORT_KINDS}
+use Rattle.link_tables.specs.declared.kinds.TheConstants.{KINDS, PORT_KINDS}
 use Rattle.link_lines_values.specs.Bytes.{bytes_text}
 use Rattle.link_lines_values.specs.Indents.{indent}
 use Rattle.link_lines_values.specs.Laws.{Ends, IsLine}

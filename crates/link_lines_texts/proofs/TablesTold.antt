@@ -4,11 +4,11 @@ use Rattle.std.specs.Prelude.{◌==◌, ◌&&◌, ◌||◌, not, nat_le, take, b
 use Rattle.std.proofs.lemmas.Bool.{and_parts, eqb-true, leb-true, not-true, true≢false}
 use Rattle.std.proofs.lemmas.Slice.Eq.{bytes_eq-Decides}
 use Rattle.netlink_packet_core_grammar.specs.Attributes.{proper_kind}
-use Rattle.attribute_checks.specs.declared.names.NameRow.{NameRow}
-use Rattle.attribute_checks.specs.declared.rows.Held.{Held}
-use Rattle.attribute_checks.specs.declared.rows.Held.TheVariants.{List as HeldList, Plain}
-use Rattle.attribute_checks.specs.declared.rows.Shape.TheVariants.{Raw}
-use Rattle.attribute_checks.specs.Names.{held_by_name}
+use Rattle.link_tables.specs.declared.names.NameRow.{NameRow}
+use Rattle.link_tables.specs.declared.rows.Held.{Held}
+use Rattle.link_tables.specs.declared.rows.Held.TheVariants.{List as HeldList, Plain}
+use Rattle.link_tables.specs.declared.rows.Shape.TheVariants.{Raw}
+use Rattle.link_tables.specs.Names.{held_by_name}
 use Rattle.attribute_tables_grammar.specs.Rules.{Rule, shape_rule}
 use Rattle.attribute_tables_grammar.specs.Shapes.{Shape, never, raw, text}
 use Rattle.attribute_tables_grammar.specs.Lists.{Context, ListForm, Row, without_context}

@@ -4,7 +4,7 @@ use Rattle.std.specs.Prelude.{◌==◌, ◌||◌, not, nat_lt, get_or, bytes_eq}
 use Rattle.std.proofs.lemmas.Bool.{and_parts, eqb-true, le-ltb, ltb-false, true≢false}
 use Rattle.std.proofs.lemmas.List.{get_or_past}
 use Rattle.std.proofs.lemmas.Slice.Eq.{bytes_eq-Decides}
-use Rattle.attribute_checks.proofs.LookUps.{all_at}
+use Rattle.link_tables.proofs.LookUps.{all_at}
 use Rattle.link_lines_names.specs.Names.{Named, Titled, all_titles, has_name, names_apart}
 use Rattle.link_lines_names.specs.Raw.{Raw, geneve_titles, gre6_titles, gre_titles, link_titles as raw_link_titles, raw_lists, raw_name, raw_titles_of, table_titles, vf_titles, xfrm_titles}
 use Rattle.link_lines_names.proofs.Named.{apart_in, chosen, first_holds, found_in, name_of, others_hold}

@@ -1,7 +1,7 @@
 -- Whether rows of names cover tables: each row has a name, behind which stands a text that tells its payload, and each name has a row.
 use Rattle.std.specs.Prelude.{ℕ, ◌==◌, ◌&&◌, ◌||◌, not, nat_le, Bool, true, false, cond, List, [], ◌∷◌, take, Option, Some, None, bytes_eq}
 use Rattle.std.specs.List.{list_all}
-use Rattle.attribute_checks.specs.declared.names.NameRow.{NameRow}
+use Rattle.link_tables.specs.declared.names.NameRow.{NameRow}
 use Rattle.attribute_tables_grammar.specs.Shapes.{Shape, exact, either, at_most, nonzero_byte, one_byte, truth_of_four, presence, text, raw, never, fixed_record, id_and_truth, resized}
 use Rattle.attribute_tables_grammar.specs.Tables.{Payload, Payload.plain, Payload.peer, Payload.list, Payload.link_info, Table, Table.end, Table.row, Names, Names.others, Names.name, lacks_name}
 use Rattle.link_lines_values.specs.declared.fields.FieldShown.{FieldShown}
@@ -9,7 +9,7 @@ use Rattle.link_lines_values.specs.declared.fields.FieldShown.TheVariants as F
 use Rattle.link_lines_values.specs.declared.values.ShownBy.TheVariants as V
 use Rattle.link_lines_values.specs.Records.{Field, fields_tell, total_size}
 use Rattle.link_lines_values.specs.Values.{Shown}
-use Rattle.link_info_checks.specs.declared.rows.TheConstants.{KINDS, PORT_KINDS}
+use Rattle.link_tables.specs.declared.kinds.TheConstants.{KINDS, PORT_KINDS}
 use Rattle.link_lines_names.specs.declared.behind.TheConstants.{NAMED_KINDS, NAMED_PORT_KINDS}
 use Rattle.link_lines_names.specs.Behind.{Inside, Inside.Value, Inside.Peer, Inside.Nested, is_inside_on_a_line, of_name}
 use Rattle.link_lines_names.specs.Names.{Titled, all_titles}

@@ -12,7 +12,7 @@ ghost use Rattle.link_lines_texts.specs.Lists.{list_lines, next_in, own_lines, p
 use crate::laws::lists_go_by_steps;
 use crate::links::{LINK_HEADER_LEN, family_table, push_link_header};
 use crate::titles::title_of;
-use attribute_checks::{Attribute, KIND_BOUND, first_attribute};
+use link_interpreter::{Attribute, KIND_BOUND, first_attribute};
 use link_lines_names::{
     Behind, BehindBy, DATA, InForce, LINK_INFO, RAW_LISTS, known_behind, push_raw,
 };

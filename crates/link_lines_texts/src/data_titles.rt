@@ -2,8 +2,8 @@
 
 use crate::list_titles;
 use crate::titles::Title;
-use attribute_checks::Form::Any;
-use link_info_checks::{
+use link_interpreter::Form::Any;
+use link_interpreter::{
     amt, bareudp, batadv, geneve, gre, gre6, gtp, ip4_tunnel, ip6_tunnel, ipoib, ipvlan, macsec,
     macvlan, macvlan_address, netkit, rmnet, veth, vrf, vti, vxcan, vxlan, wwan, xfrm,
 };

@@ -2,7 +2,7 @@
 
 use crate::titles::Title;
 use crate::{bridge_titles, inet6_titles, list_titles, own_titles};
-use attribute_checks::Form::{Any, OfKindOne, Ports};
+use link_interpreter::Form::{Any, OfKindOne, Ports};
 use link_lines_names::BehindBy::{Data, LinkInfo, List, PortData, RawList, Value};
 use link_lines_names::{BRIDGE_PORT_LIST, BRIDGE_SPECIFIC_LIST, INET6_PROTOCOL_LIST};
 use link_lines_values::ShownBy::{

@@ -23,7 +23,7 @@ pub use Rattle.link_message_types.specs.declared.header.LinkHeader
 pub use Rattle.link_message_types.specs.declared.link_flag.LinkFlags
 pub use Rattle.link_message_types.specs.declared.link_layer_type.LinkLayerType
 pub mod LinkMessages
-pub use Rattle.link_message_checks.specs.Tables as CheckTables
+pub use Rattle.link_message_checks.specs.Measures as BodyMeasures
 pub use Rattle.link_message_grammar.specs.NestedTables
 pub use Rattle.link_message_nested.specs.AddressFamilies as SpecificFamilies
 pub use Rattle.link_message_nested.specs.InetSettings

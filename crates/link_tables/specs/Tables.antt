@@ -1,5 +1,5 @@
 -- The tables of the grammar, at the index of their names in code.
-use Rattle.std.specs.Prelude.{ℕ, ◌==◌, cond, List, [], ◌∷◌, Option, get_or}
+use Rattle.std.specs.Prelude.{ℕ, ◌==◌, Bool, cond, List, [], ◌∷◌, Option, get_or}
 use Rattle.attribute_tables_grammar.specs.LookUps.{Line, payload_rule}
 use Rattle.attribute_tables_grammar.specs.Peers.{Peer}
 use Rattle.attribute_tables_grammar.specs.Rules.{Rule}
@@ -11,7 +11,7 @@ use Rattle.link_message_grammar.specs.NestedTables.{devlink_port, dpll_pin, inet
 use Rattle.link_tables.specs.declared.rows.Held.{Held}
 use Rattle.link_tables.specs.declared.rows.Row.{Row}
 use Rattle.link_tables.specs.declared.table.Table.{Table as Named}
-use Rattle.link_tables.specs.declared.table.TheConstants.{LINK_UNSPEC, LINK_BRIDGE, LINK_INET6, LINK_OTHER}
+use Rattle.link_tables.specs.declared.table.TheConstants.{LINK_INFO, LINK_UNSPEC, LINK_BRIDGE, LINK_INET6, LINK_OTHER}
 use Rattle.link_tables.specs.Rows.{line_of, payload_of}
 
 -- those that have rows, and those between: no rows of raw attributes, nor of link info, whose rows depend on the kinds in force
@@ -45,3 +45,7 @@ row_line r = line_of table_of info_payload r
 -- the table of a link's attributes under an address family
 abbrev pub family_table : ℕ → Named
 family_table n = cond (n == 0) LINK_UNSPEC (cond (n == 7) LINK_BRIDGE (cond (n == 10) LINK_INET6 LINK_OTHER))
+
+-- what attributes of this table hold depends on the kinds in force
+abbrev pub is_link_info : Named → Bool
+is_link_info t = t.0 == LINK_INFO.0

@@ -5,7 +5,7 @@ ghost use Rattle.attribute_tables_grammar.specs.LookUps.{line_at};
 ghost use Rattle.attribute_tables_grammar.specs.Tables.{rows_bounded};
 ghost use Rattle.link_message_grammar.specs.LinkMessage.{family_of, link_table};
 ghost use Rattle.link_tables.specs.Rows.{are_dense, build, lists_of};
-ghost use Rattle.link_tables.specs.Tables.{family_table, info_payload, row_line, table_of};
+ghost use Rattle.link_tables.specs.Tables.{family_table, info_payload, is_link_info, row_line, table_of};
 
 use crate::rows::{Row, look_up};
 use crate::table_rows::TABLES;
@@ -13,6 +13,15 @@ use crate::table_rows::TABLES;
 /// A table of attributes. Each has a constant of this module as its name.
 #[derive(Clone, Copy)]
 pub struct Table(pub u8);
+
+impl Table {
+    /// Whether what an attribute holds depends on the kinds in force.
+    pub fn is_link_info(self) -> bool
+        ensures { result ≡ is_link_info self }
+    {
+        self.0 == LINK_INFO.0
+    }
+}
 
 /// IFLA_XDP_*, which IFLA_XDP holds.
 pub const XDP: Table = Table(0);

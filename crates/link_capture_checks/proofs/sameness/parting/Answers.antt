@@ -5,7 +5,7 @@ use Rattle.netlink_packet_core.specs.Frames.{frame_length}
 use Rattle.link_capture_grammar.specs.Captures.{first_fault, raised, IsLegal}
 use Rattle.link_capture_grammar.specs.Laws.{LegalFrame}
 use Rattle.link_capture_grammar.specs.Same.{SameFrame}
-use Rattle.attribute_checks.proofs.Loop.{some_bytes}
+use Rattle.link_interpreter.proofs.Loop.{some_bytes}
 use Rattle.link_capture_checks.proofs.Steps.{one_further}
 use Rattle.link_capture_checks.proofs.sameness.parting.Goals as goal
 

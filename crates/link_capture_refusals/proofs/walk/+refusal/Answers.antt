@@ -3,8 +3,8 @@ use Rattle.netlink_packet_core_grammar.specs.Attributes.{Attribute, attribute_le
 use Rattle.link_capture_refusal_rows.specs.RefusalTables.{Listing, listing}
 use Rattle.link_capture_refusal_rows.specs.RowRules.{behind}
 use Rattle.link_capture_refusals.specs.Refusals.{found_at, goes_on, list_refusal}
-use Rattle.attribute_checks.proofs.Loop.{some_bytes}
-use Rattle.attribute_checks.specs.Sameness.{attribute_of}
+use Rattle.link_interpreter.proofs.Loop.{some_bytes}
+use Rattle.link_interpreter.specs.Sameness.{attribute_of}
 use Rattle.link_capture_refusals.proofs.Going.{goes_shorter, here, passed, stopped}
 use Rattle.link_capture_refusals.proofs.walk.+refusal.Goals as goal
 

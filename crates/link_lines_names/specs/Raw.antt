@@ -10,6 +10,7 @@ use Rattle.link_lines_names.specs.declared.raw.RawBy.{RawBy}
 use Rattle.link_lines_names.specs.declared.raw.RawBy.TheVariants as R
 use Rattle.link_lines_names.specs.declared.raw_names.TheConstants.{VLAN_NAMES, BRIDGE_NAMES, BOND_NAMES, TUN_NAMES, CAN_NAMES, HSR_NAMES, DSA_NAMES, BRIDGE_PORT_NAMES, BOND_PORT_NAMES, BRIDGE_SPECIFIC_NAMES, INET6_PROTOCOL_NAMES, LINK_NAMES, VF_NAMES, GENEVE_NAMES, GRE_NAMES, GRE6_NAMES, XFRM_NAMES}
 use Rattle.link_lines_names.specs.Names.{Named, Titled, titles_in}
+use Rattle.link_tables.specs.declared.table.TheConstants.{GENEVE, GRE, GRE6, LINK_BRIDGE, LINK_INET6, LINK_OTHER, LINK_UNSPEC, VF, VLAN, XFRM}
 
 -- how a raw payload is shown
 abbrev pub Raw : Type 0
@@ -52,12 +53,12 @@ xfrm_titles = raw_said (λ n. n.now) (λ t. t.now) (λ r. r.now) XFRM_NAMES.now
 
 unfoldable pub table_titles : ℕ → List (Titled Raw)
 table_titles n =
-    cond (n == 11) vf_titles (cond (n == 15 || (n == 16 || (n == 17 || n == 18))) link_titles
-    (cond (n == 23) geneve_titles (cond (n == 24) gre_titles (cond (n == 25) gre6_titles (cond (n == 39) xfrm_titles [])))))
+    cond (n == VF.0) vf_titles (cond (n == LINK_UNSPEC.0 || (n == LINK_BRIDGE.0 || (n == LINK_INET6.0 || n == LINK_OTHER.0))) link_titles
+    (cond (n == GENEVE.0) geneve_titles (cond (n == GRE.0) gre_titles (cond (n == GRE6.0) gre6_titles (cond (n == XFRM.0) xfrm_titles [])))))
 
--- the names in a table, or in a list of raw attributes, which are numbered behind the tables
+-- the names in the table with this index; the tables of raw attributes come last
 unfoldable pub raw_titles_of : ℕ → List (Titled Raw)
-raw_titles_of n = cond (nat_lt n 44) (table_titles n) (get_or raw_lists (n - 44) [])
+raw_titles_of n = cond (nat_lt n VLAN.0) (table_titles n) (get_or raw_lists (n - VLAN.0) [])
 
 -- the name of a kind, of which all 16 bits count
 abbrev pub raw_name : ℕ → ℕ → Option (Named Raw)

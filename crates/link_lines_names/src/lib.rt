@@ -6,8 +6,5 @@ pub mod laws;
 mod raw;
 mod raw_names;
 
-pub use behind::{
-    BRIDGE_PORT_LIST, BRIDGE_SPECIFIC_LIST, Behind, BehindBy, DATA, INET6_PROTOCOL_LIST, InForce,
-    LINK, LINK_INFO, NAMED_KINDS, NAMED_PORT_KINDS, RAW_LISTS, known_behind,
-};
+pub use behind::{Behind, BehindBy, known_behind};
 pub use raw::push_raw;

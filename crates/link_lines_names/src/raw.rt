@@ -9,9 +9,10 @@ ghost use Rattle.link_lines_values.specs.Bytes.{bytes_text};
 ghost use Rattle.link_lines_values.specs.Digits.{four_digits};
 ghost use Rattle.link_lines_values.specs.Placed.{are_dense};
 
-use crate::behind::RAW_LISTS;
 use crate::raw_names;
 use link_lines_values::{Shown, look_up, push_bytes, push_four_digits, push_value};
+use link_tables::Table;
+use link_tables::table::VLAN;
 use std::alloc::AllocError;
 
 /// How the payload of a raw attribute is shown, with forms of that type.
@@ -54,9 +55,9 @@ macro_rules! raw_titles {
     };
 }
 
-/// The names in a list of raw attributes, by its number.
+/// The names in a table of raw attributes, by its index from the first one's on.
 #[tactic(auto, unfolding(crate::specs::Raw::raw_lists))]
-fn list_titles(list: usize) -> &'static [RawTitle]
+fn list_titles(list: u8) -> &'static [RawTitle]
     ensures titles { raw_said (λ b. b.now) (λ t. t.now) (λ r. r.now) result.now ≡ get_or raw_lists list [] }
     ensures dense { are_dense result.now ≡ true }
 {
@@ -78,7 +79,7 @@ fn list_titles(list: usize) -> &'static [RawTitle]
 
 /// The names of kinds for which a table has no row.
 #[tactic(auto, unfolding(crate::specs::Raw::table_titles))]
-fn table_titles(table: usize) -> &'static [RawTitle]
+fn table_titles(table: u8) -> &'static [RawTitle]
     ensures titles { raw_said (λ b. b.now) (λ t. t.now) (λ r. r.now) result.now ≡ table_titles table }
     ensures dense { are_dense result.now ≡ true }
 {
@@ -93,22 +94,22 @@ fn table_titles(table: usize) -> &'static [RawTitle]
     }
 }
 
-/// The names of raw attributes in a table, or in a list that holds nothing else.
+/// The names of the raw attributes in a table.
 #[tactic(auto, unfolding(crate::specs::Raw::raw_titles_of))]
-fn raw_titles_of(table: usize) -> &'static [RawTitle]
-    ensures titles { raw_said (λ b. b.now) (λ t. t.now) (λ r. r.now) result.now ≡ raw_titles_of table }
+fn raw_titles_of(table: Table) -> &'static [RawTitle]
+    ensures titles { raw_said (λ b. b.now) (λ t. t.now) (λ r. r.now) result.now ≡ raw_titles_of table.0 }
     ensures dense { are_dense result.now ≡ true }
 {
-    if table < RAW_LISTS {
-        table_titles(table)
+    if table.0 < VLAN.0 {
+        table_titles(table.0)
     } else {
-        list_titles(table - RAW_LISTS)
+        list_titles(table.0 - VLAN.0)
     }
 }
 
 /// The name of a raw attribute's kind, of which all 16 bits count.
-fn raw_name(table: usize, kind: u16) -> Option<RawName>
-    ensures { option_map (named_of (λ b. b.now) (raw_of (λ b. b.now) (λ t. t.now) (λ r. r.now))) result ≡ raw_name table kind }
+fn raw_name(table: Table, kind: u16) -> Option<RawName>
+    ensures { option_map (named_of (λ b. b.now) (raw_of (λ b. b.now) (λ t. t.now) (λ r. r.now))) result ≡ raw_name table.0 kind }
 {
     look_up(raw_titles_of(table), kind)
 }
@@ -144,12 +145,12 @@ fn push_unnamed(kind: u16, payload: &[u8], out: &mut Vec<u8>) -> Result<(), Allo
 /// bytes; or the kind as a number, and the bytes.
 #[tactic(auto, unfolding(crate::specs::Raw::raw_text))]
 pub fn push_raw(
-    table: usize,
+    table: Table,
     kind: u16,
     payload: &[u8],
     out: &mut Vec<u8>,
 ) -> Result<(), AllocError>
-    ensures ok { OnOk result (out.new.items ≡ out.old.items ++ raw_text table kind payload.now) }
+    ensures ok { OnOk result (out.new.items ≡ out.old.items ++ raw_text table.0 kind payload.now) }
 {
     match raw_name(table, kind) {
         Some((name, raw)) => {

@@ -14,7 +14,8 @@ use Rattle.link_lines_names.specs.Behind.{Inside.Peer as PeerInside, Inside.Nest
 use Rattle.link_lines_texts.specs.Coverage.{holds_shown}
 use Rattle.link_lines_texts.proofs.ShapesTold.{shapes_told}
 use Rattle.link_lines_texts.proofs.Told.{told}
-use Rattle.link_lines_texts.specs.Links.{family_table}
+use Rattle.link_tables.specs.declared.table.Table.{Table}
+use Rattle.link_tables.specs.declared.table.TheConstants.{LINK_BRIDGE, LINK_INET6, LINK_OTHER, LINK_UNSPEC}
 use Rattle.link_lines_texts.specs.Telling.{IsOwn, ListsAreTold}
 use Rattle.link_lines_texts.proofs.LinkBodiesTold.{FamiliesTold, IsOwnLink, link_part, link_told, own_link}
 use Rattle.link_lines_texts.proofs.ListsTold.{InsideTold, NestedTold, below}
@@ -25,18 +26,17 @@ abbrev PeersTold : Peer → Bool → Type 0
 PeersTold peer in_peer = InsideTold in_peer (peer_rule peer) (settled in_peer PeerInside)
 
 -- the attributes of a family, under its table of names
-family_told : (peer : Peer) (in_peer : Bool) → PeersTold peer in_peer → (f : Family) (m : ℕ) → holds_shown (Payload.list any (link_table f)) (Some (Nested m)) ≡ true → NestedTold (list_rule_of peer f) (record { table = m; is_in_peer = in_peer })
+family_told : (peer : Peer) (in_peer : Bool) → PeersTold peer in_peer → (f : Family) (m : Table) → holds_shown (Payload.list any (link_table f)) (Some (Nested m)) ≡ true → NestedTold (list_rule_of peer f) (record { table = m; is_in_peer = in_peer })
 unfolding list_rule_of
 family_told peer in_peer peers f m h level p q s t o u sx sy same = payload_told peer in_peer peers (Payload.list any (link_table f)) (Nested m) h level p q s t o u sx sy refl same
 
-by_family : (peer : Peer) (in_peer : Bool) → PeersTold peer in_peer → (a b c : Bool) → NestedTold (list_rule_of peer (cond a unspec (cond b bridge (cond c inet_6 other)))) (record { table = cond a 15 (cond b 16 (cond c 17 18)); is_in_peer = in_peer })
-by_family peer in_peer peers true b c = family_told peer in_peer peers unspec 15 told.unspec_told
-by_family peer in_peer peers false true c = family_told peer in_peer peers bridge 16 told.bridge_told
-by_family peer in_peer peers false false true = family_told peer in_peer peers inet_6 17 told.inet6_told
-by_family peer in_peer peers false false false = family_told peer in_peer peers other 18 told.other_told
+by_family : (peer : Peer) (in_peer : Bool) → PeersTold peer in_peer → (a b c : Bool) → NestedTold (list_rule_of peer (cond a unspec (cond b bridge (cond c inet_6 other)))) (record { table = cond a LINK_UNSPEC (cond b LINK_BRIDGE (cond c LINK_INET6 LINK_OTHER)); is_in_peer = in_peer })
+by_family peer in_peer peers true b c = family_told peer in_peer peers unspec LINK_UNSPEC told.unspec_told
+by_family peer in_peer peers false true c = family_told peer in_peer peers bridge LINK_BRIDGE told.bridge_told
+by_family peer in_peer peers false false true = family_told peer in_peer peers inet_6 LINK_INET6 told.inet6_told
+by_family peer in_peer peers false false false = family_told peer in_peer peers other LINK_OTHER told.other_told
 
 families_told : (peer : Peer) (in_peer : Bool) → PeersTold peer in_peer → FamiliesTold peer in_peer
-unfolding family_table
 families_told peer in_peer peers level n p q s t = by_family peer in_peer peers (n == 0) (n == 7) (n == 10) level p q s t
 
 -- ---- peers

@@ -6,20 +6,17 @@ use Rattle.std.proofs.lemmas.List.{append_cancel_left}
 use Rattle.std.proofs.lemmas.Option.{same_Some}
 use Rattle.netlink_packet_core_grammar.specs.Attributes.{Attribute, first_attribute, list_text, proper_kind}
 use Rattle.netlink_packet_core_grammar.proofs.Attributes.{first_attribute_text}
-use Rattle.link_tables.specs.declared.names.NameRow.{NameRow}
 use Rattle.link_tables.specs.declared.rows.Held.{Held}
 use Rattle.link_tables.specs.declared.rows.Held.TheVariants.{List as HeldList}
-use Rattle.link_tables.specs.Names.{held_by_name}
 use Rattle.attribute_tables_grammar.specs.Rules.{Rule}
 use Rattle.attribute_tables_grammar.specs.Lists.{Context, Grammar, ListForm, Row, list_rule, nothing, row_of, written_kind}
-use Rattle.link_tables.specs.declared.kinds.TheConstants.{KINDS, PORT_KINDS}
 use Rattle.link_lines_values.specs.Bytes.{bytes_text}
 use Rattle.link_lines_values.specs.Indents.{indent}
 use Rattle.link_lines_values.specs.Laws.{Ends, IsLine}
 use Rattle.link_lines_values.specs.Values.{value_text}
 use Rattle.link_lines_values.specs.declared.values.ShownBy.TheVariants.{Bytes}
-use Rattle.link_lines_names.specs.declared.behind.TheConstants.{NAMED_KINDS, NAMED_PORT_KINDS}
-use Rattle.link_lines_names.specs.Behind.{Inside, Inside.Value, Inside.Peer, Inside.Data, Inside.PortData, data_inside, is_inside_on_a_line, known_inside, of_held, of_name, of_named, port_inside}
+use Rattle.link_lines_names.specs.Behind.{Inside, Inside.Value, Inside.Peer, Inside.Data, Inside.PortData, inside_held, is_inside_on_a_line, known_inside, of_held}
+use Rattle.link_tables.specs.InForce.{data_under, port_data_under}
 use Rattle.link_lines_names.specs.Names.{Named}
 use Rattle.link_lines_names.specs.Raw.{Raw, named_text, raw_name, raw_payload, raw_text}
 use Rattle.link_lines_values.proofs.OneLine.{either_line, values_stand}
@@ -56,7 +53,7 @@ pub record NamesTold (m : ℕ) : Type 0 where
 
 -- where a row has a name, what stands behind it tells what the row holds
 pub record RowsTold (g : Grammar) (m : Place) : Type 0 where
-  pub titled : (c : Context) (k : ℕ) (t : Name) → k < 65536 → title_of m.table k ≡ Some t → ((g.row c k).is_typed ≡ true) × InsideTold m.is_in_peer (g.row c k).rule (known_inside m.is_in_peer c t.1)
+  pub titled : (c : Context) (k : ℕ) (t : Name) → k < 65536 → title_of m.table.0 k ≡ Some t → ((g.row c k).is_typed ≡ true) × InsideTold m.is_in_peer (g.row c k).rule (known_inside m.is_in_peer c t.1)
   pub next : (c : Context) (e : Attribute) → g.next c e ≡ next_in m.table c e
 
 -- ---- lines by attributes
@@ -82,20 +79,15 @@ held_line : (h : Held) → is_inside_on_a_line (of_held h) ≡ true
 held_line (HeldList form table) = refl
 held_line h = refl
 
-named_line : (n h : Held) → is_inside_on_a_line (of_named n h) ≡ true
-named_line (HeldList form list) h = refl
-named_line n h = held_line h
-
-name_line : (o : Option (List ℕ)) (named kinds : List NameRow) → is_inside_on_a_line (of_name o named kinds) ≡ true
-name_line None named kinds = refl
-name_line (Some n) named kinds = named_line (held_by_name named n) (held_by_name kinds n)
+name_line : (o : Option Held) → is_inside_on_a_line (inside_held o) ≡ true
+name_line None = refl
+name_line (Some h) = held_line h
 
 -- what names in force tell stands on a line
 known_line : (in_peer : Bool) (c : Context) (i : Inside) → is_inside_on_a_line i ≡ true → is_inside_on_a_line (known_inside in_peer c i) ≡ true
-unfolding data_inside port_inside
 known_line in_peer c Peer h = cond_both in_peer (Value Bytes) Peer (λ i. is_inside_on_a_line i ≡ true) (λ e. refl) (λ e. refl)
-known_line in_peer c Data h = name_line c.kind NAMED_KINDS KINDS
-known_line in_peer c PortData h = name_line c.port_kind NAMED_PORT_KINDS PORT_KINDS
+known_line in_peer c Data h = name_line (data_under c.kind)
+known_line in_peer c PortData h = name_line (port_data_under c.port_kind)
 known_line in_peer c i h = h
 
 inside_line : (i : Inside) (p : List ℕ) → is_inside_on_a_line i ≡ true → IsLine (inside_text i p)
@@ -108,8 +100,8 @@ inside_ends (Value v) p = space_ends (value_text v p) (values_stand.space v p)
 inside_ends Peer p = cond_both (nat_le 16 (length p)) [] (bytes_text p) Ends (λ e. record {}) (λ e. space_ends (bytes_text p) (values_stand.space Bytes p))
 inside_ends i p = record {}
 
-titled_line : (m : Place) (names : NamesTold m.table) (c : Context) (k : ℕ) (o : Option Name) (e : Attribute) → k < 65536 → title_of m.table k ≡ o → IsLine (titled_text m c o e)
-titled_line m names c k None e l h = raw_attributes_told.line m.table e.kind e.payload
+titled_line : (m : Place) (names : NamesTold m.table.0) (c : Context) (k : ℕ) (o : Option Name) (e : Attribute) → k < 65536 → title_of m.table.0 k ≡ o → IsLine (titled_text m c o e)
+titled_line m names c k None e l h = raw_attributes_told.line m.table.0 e.kind e.payload
 titled_line m names c k (Some t) e l h =
     lines_joined t.0 (inside_text (known_inside m.is_in_peer c t.1) e.payload) (word_line t.0 (names.word k t l h))
     (inside_line (known_inside m.is_in_peer c t.1) e.payload (known_line m.is_in_peer c t.1 (names.line k t h)))
@@ -118,9 +110,9 @@ raw_starts : (m k : ℕ) (p : List ℕ) (o : Option (Named Raw)) → raw_name m 
 raw_starts m k p None h = omega arith
 raw_starts m k p (Some n) h = starts_joined n.0 (raw_payload n.1 p) (name_of n.0 (raw_attributes_told.name m k n h)).1.0
 
-titled_starts : (m : Place) (names : NamesTold m.table) (c : Context) (k : ℕ) (o : Option Name) (e : Attribute) → k < 65536 → title_of m.table k ≡ o → Starts (titled_text m c o e)
+titled_starts : (m : Place) (names : NamesTold m.table.0) (c : Context) (k : ℕ) (o : Option Name) (e : Attribute) → k < 65536 → title_of m.table.0 k ≡ o → Starts (titled_text m c o e)
 unfolding raw_text
-titled_starts m names c k None e l h = raw_starts m.table e.kind e.payload (raw_name m.table e.kind) refl
+titled_starts m names c k None e l h = raw_starts m.table.0 e.kind e.payload (raw_name m.table.0 e.kind) refl
 titled_starts m names c k (Some t) e l h = starts_joined t.0 (inside_text (known_inside m.is_in_peer c t.1) e.payload) (names.upper k t l h).0
 
 small_kind : (k : ℕ) → proper_kind k < 65536
@@ -128,23 +120,23 @@ small_kind k = omega arith
 
 -- a line, and what stands behind it
 lines_are : (level : ℕ) (m : Place) (c : Context) (e : Attribute) (more : List ℕ) →
-    own_lines level m c e ++ more ≡ indent level ++ (titled_text m c (title_of m.table (proper_kind e.kind)) e ++ 10 ∷ (titled_header (level + 1) m c (title_of m.table (proper_kind e.kind)) e ++ more))
+    own_lines level m c e ++ more ≡ indent level ++ (titled_text m c (title_of m.table.0 (proper_kind e.kind)) e ++ 10 ∷ (titled_header (level + 1) m c (title_of m.table.0 (proper_kind e.kind)) e ++ more))
 unfolding own_lines
 lines_are level m c e more =
-    let own = titled_text m c (title_of m.table (proper_kind e.kind)) e in
-    let header = titled_header (level + 1) m c (title_of m.table (proper_kind e.kind)) e in
+    let own = titled_text m c (title_of m.table.0 (proper_kind e.kind)) e in
+    let header = titled_header (level + 1) m c (title_of m.table.0 (proper_kind e.kind)) e in
     append_assoc (indent level) (own ++ 10 ∷ header) more ∙ ap (λ z. indent level ++ z) (append_assoc own (10 ∷ header) more)
 
-lines_over : (level : ℕ) (m : Place) (names : NamesTold m.table) (c : Context) (e : Attribute) (more : List ℕ) → IsShallow (level + 1) (own_lines level m c e ++ more)
+lines_over : (level : ℕ) (m : Place) (names : NamesTold m.table.0) (c : Context) (e : Attribute) (more : List ℕ) → IsShallow (level + 1) (own_lines level m c e ++ more)
 lines_over level m names c e more =
-    let title = title_of m.table (proper_kind e.kind) in
+    let title = title_of m.table.0 (proper_kind e.kind) in
     let own = titled_text m c title e in
     let rest = 10 ∷ (titled_header (level + 1) m c title e ++ more) in
     let starts = starts_joined own rest (titled_starts m names c (proper_kind e.kind) title e (small_kind e.kind) refl) in
     subst (IsShallow (level + 1)) (sym (lines_are level m c e more)) (line_shallow level (own ++ rest) starts)
 
 -- what follows a line is shallow for what stands below it
-rest_over : (level : ℕ) (m : Place) (names : NamesTold m.table) (c : Context) (es : List Attribute) (s : List ℕ) → IsShallow level s → IsShallow (level + 1) (lines_of level m c es ++ s)
+rest_over : (level : ℕ) (m : Place) (names : NamesTold m.table.0) (c : Context) (es : List Attribute) (s : List ℕ) → IsShallow level s → IsShallow (level + 1) (lines_of level m c es ++ s)
 rest_over level m names c [] s h = shallower level s h
 rest_over level m names c (e ∷ es) s h =
     let inside = nested_lines (level + 1) (list_inside m c e) in
@@ -177,13 +169,13 @@ written_typed r k h = ap (λ t. cond t (proper_kind k + cond r.is_nested 0x8000 
 abbrev titled_below : ℕ → Place → Context → Option Name → Attribute → List ℕ
 titled_below level m c o e = titled_header level m c o e ++ nested_lines level (titled_list m c o e)
 
-module _ (g : Grammar) (m : Place) (names : NamesTold m.table) (rows : RowsTold g m) where
+module _ (g : Grammar) (m : Place) (names : NamesTold m.table.0) (rows : RowsTold g m) where
   same_kinds : (c : Context) (e f : Attribute) → (row_of g c e).is_typed ≡ true → OwnAttribute (row_of g c e) e → OwnAttribute (row_of g c f) f → proper_kind e.kind ≡ proper_kind f.kind → e.kind ≡ f.kind
   same_kinds c e f typed o u k =
       sym o.kind ∙ written_typed (row_of g c e) e.kind typed ∙ ap (λ n. n + cond (g.row c n).is_nested 0x8000 0) k
       ∙ sym (written_typed (row_of g c f) f.kind (ap (λ n. (g.row c n).is_typed) (sym k) ∙ typed)) ∙ u.kind
 
-  titled_told : (level : ℕ) (c : Context) (e f : Attribute) (x y : List ℕ) (t u : Name) → title_of m.table (proper_kind e.kind) ≡ Some t → title_of m.table (proper_kind f.kind) ≡ Some u →
+  titled_told : (level : ℕ) (c : Context) (e f : Attribute) (x y : List ℕ) (t u : Name) → title_of m.table.0 (proper_kind e.kind) ≡ Some t → title_of m.table.0 (proper_kind f.kind) ≡ Some u →
       OwnAttribute (row_of g c e) e → OwnAttribute (row_of g c f) f → IsShallow level x → IsShallow level y → titled_text m c (Some t) e ≡ titled_text m c (Some u) f →
       titled_below level m c (Some t) e ++ x ≡ titled_below level m c (Some u) f ++ y → (e ≡ f) × (x ≡ y)
   titled_told level c e f x y t u h i o v sx sy same under =
@@ -193,7 +185,7 @@ module _ (g : Grammar) (m : Place) (names : NamesTold m.table) (rows : RowsTold 
       let cut = cut_word t.0 u.0 (inside_text (known t) e.payload) (inside_text (known u) f.payload) (names.word k t (small_kind e.kind) h) (names.word l u (small_kind f.kind) i)
       (inside_ends (known t) e.payload) (inside_ends (known u) f.payload) same in
       let kinds : k ≡ l = names.apart k l t u (small_kind e.kind) (small_kind f.kind) h i cut.0 in
-      let one : t ≡ u = same_Some t u (sym h ∙ ap (title_of m.table) kinds ∙ i) in
+      let one : t ≡ u = same_Some t u (sym h ∙ ap (title_of m.table.0) kinds ∙ i) in
       let told = rows.titled c k t (small_kind e.kind) h in
       let own_f : IsOwn (g.row c k).rule f.payload = subst (λ n. IsOwn (g.row c n).rule f.payload) (sym kinds) v.payload in
       let text : inside_text (known t) e.payload ≡ inside_text (known t) f.payload = cut.1 ∙ ap (λ w. inside_text (known w) f.payload) (sym one) in
@@ -202,18 +194,18 @@ module _ (g : Grammar) (m : Place) (names : NamesTold m.table) (rows : RowsTold 
       let r = told.1 level e.payload f.payload x y o.payload own_f sx sy text lines in
       (same_attribute e f (same_kinds c e f told.0 o v kinds) r.0, r.1)
 
-  either_told : (level : ℕ) (c : Context) (e f : Attribute) (x y : List ℕ) (a b : Option Name) → title_of m.table (proper_kind e.kind) ≡ a → title_of m.table (proper_kind f.kind) ≡ b →
+  either_told : (level : ℕ) (c : Context) (e f : Attribute) (x y : List ℕ) (a b : Option Name) → title_of m.table.0 (proper_kind e.kind) ≡ a → title_of m.table.0 (proper_kind f.kind) ≡ b →
       OwnAttribute (row_of g c e) e → OwnAttribute (row_of g c f) f → IsShallow level x → IsShallow level y → titled_text m c a e ≡ titled_text m c b f →
       titled_below level m c a e ++ x ≡ titled_below level m c b f ++ y → (e ≡ f) × (x ≡ y)
   unfolding raw_text
   either_told level c e f x y None None h i o v sx sy same under =
-      let r = raw_attributes_told.told m.table e.kind f.kind e.payload f.payload o.small v.small o.payload.bytes v.payload.bytes same in
+      let r = raw_attributes_told.told m.table.0 e.kind f.kind e.payload f.payload o.small v.small o.payload.bytes v.payload.bytes same in
       (same_attribute e f r.0 r.1, under)
   either_told level c e f x y None (Some u) h i o v sx sy same under =
-      absurd (not_raw m.table f.kind e.kind names u (inside_text (known_inside m.is_in_peer c u.1) f.payload) e.payload (raw_name m.table e.kind) i h refl
+      absurd (not_raw m.table.0 f.kind e.kind names u (inside_text (known_inside m.is_in_peer c u.1) f.payload) e.payload (raw_name m.table.0 e.kind) i h refl
       (inside_ends (known_inside m.is_in_peer c u.1) f.payload) (sym same))
   either_told level c e f x y (Some t) None h i o v sx sy same under =
-      absurd (not_raw m.table e.kind f.kind names t (inside_text (known_inside m.is_in_peer c t.1) e.payload) f.payload (raw_name m.table f.kind) h i refl
+      absurd (not_raw m.table.0 e.kind f.kind names t (inside_text (known_inside m.is_in_peer c t.1) e.payload) f.payload (raw_name m.table.0 f.kind) h i refl
       (inside_ends (known_inside m.is_in_peer c t.1) e.payload) same)
   either_told level c e f x y (Some t) (Some u) h i o v sx sy same under = titled_told level c e f x y t u h i o v sx sy same under
 
@@ -222,8 +214,8 @@ module _ (g : Grammar) (m : Place) (names : NamesTold m.table) (rows : RowsTold 
       own_lines level m c e ++ (nested_lines (level + 1) (list_inside m c e) ++ x) ≡ own_lines level m c f ++ (nested_lines (level + 1) (list_inside m c f) ++ y) → (e ≡ f) × (x ≡ y)
   unfolding list_inside
   attribute_told level c e f x y o v sx sy same =
-      let a = title_of m.table (proper_kind e.kind) in
-      let b = title_of m.table (proper_kind f.kind) in
+      let a = title_of m.table.0 (proper_kind e.kind) in
+      let b = title_of m.table.0 (proper_kind f.kind) in
       let list_e = nested_lines (level + 1) (titled_list m c a e) in
       let list_f = nested_lines (level + 1) (titled_list m c b f) in
       let header_e = titled_header (level + 1) m c a e in
@@ -264,7 +256,7 @@ by_start : (level : ℕ) (m : Place) (p : List ℕ) (es : List Attribute) → p 
 by_start level m p es h = steps.start level m p ∙ ap (rest_lines level m nothing) h ∙ by_attributes level m nothing es
 
 -- lines tell a list whose rows they tell
-pub lists_told : (form : ListForm) (g : Grammar) (m : Place) → NamesTold m.table → RowsTold g m → NestedTold (list_rule form g) m
+pub lists_told : (form : ListForm) (g : Grammar) (m : Place) → NamesTold m.table.0 → RowsTold g m → NestedTold (list_rule form g) m
 lists_told form g m names rows level p q s t o u h k same =
     let a = own_list form g p o in
     let b = own_list form g q u in

@@ -16,10 +16,15 @@ use Rattle.attribute_tables_grammar.specs.Peers.{Peer, peer_rule}
 use Rattle.attribute_tables_grammar.specs.Tables.{Payload, Table, Names, info_next, info_row, lacks_name, named, names_grammar, row_in, row_in_force, rule}
 use Rattle.link_lines_values.specs.declared.values.ShownBy.TheVariants as V
 use Rattle.link_lines_values.specs.Values.{Shown}
-use Rattle.link_lines_names.specs.Behind.{Inside, Inside.Value, Inside.Peer as PeerInside, Inside.Nested, data_inside, known_inside, of_held, of_name, of_named, port_inside}
+use Rattle.link_lines_names.specs.Behind.{Inside, Inside.Value, Inside.Peer as PeerInside, Inside.Nested, inside_held, known_inside, of_held}
+use Rattle.link_tables.specs.declared.kinds.TheConstants.{KINDS, PORT_KINDS}
+use Rattle.link_tables.specs.declared.table.Table.{Table as Named}
+use Rattle.link_tables.specs.declared.table.TheConstants.{LINK_INFO}
+use Rattle.link_tables.specs.InForce.{data_under, held_under, port_data_under}
+use Rattle.link_tables.specs.Tables.{is_link_info}
 use Rattle.link_lines_names.specs.Names.{all_titles}
 use Rattle.link_lines_texts.specs.declared.attributes.Place.{Place}
-use Rattle.link_lines_texts.specs.Coverage.{Kinds, all_listed, behind, data_kinds, has_row, holds_shown, is_in, is_info_kind, kind_inside, kinds_listed, names_shown, port_kinds, rows_shown, shape_tells}
+use Rattle.link_lines_texts.specs.Coverage.{behind, has_row, holds_shown, is_in, is_info_kind, kind_inside, kinds_listed, names_shown, rows_shown, shape_tells}
 use Rattle.link_lines_texts.proofs.ShapesTold.{shapes_told}
 use Rattle.link_lines_texts.specs.Titles.{Name, info_titles, link_titles, own_titles, title_of, titles_of}
 use Rattle.link_lines_texts.proofs.ListsTold.{InsideTold, NestedTold, RowsTold, lists_told}
@@ -37,7 +42,7 @@ bytes_told in_peer = plain_told in_peer raw V.Bytes refl
 never_told : (in_peer : Bool) (i : Inside) → InsideTold in_peer (shape_rule never) i
 never_told in_peer i level p q x y o u sx sy same under = absurd (let no : false ≡ true = o.accepted in absurd cc)
 
-nested_told : (in_peer : Bool) (r : Rule) (n : ℕ) → NestedTold r (record { table = n; is_in_peer = in_peer }) → InsideTold in_peer r (Nested n)
+nested_told : (in_peer : Bool) (r : Rule) (n : Named) → NestedTold r (record { table = n; is_in_peer = in_peer }) → InsideTold in_peer r (Nested n)
 nested_told in_peer r n told level p q x y o u sx sy same under = told level p q x y o u sx sy under
 
 -- what stands behind a name that hangs on no name in force
@@ -84,10 +89,10 @@ module _ (peer : Peer) (in_peer : Bool) where
   -- ---- names of kinds
 
   -- the data under a name
-  abbrev NameTold : Names → Kinds → List ℕ → Type 0
+  abbrev NameTold : Names → List NameRow → List ℕ → Type 0
   NameTold ns kinds n = InsideTold in_peer (named peer ns n) (kind_inside kinds n)
 
-  name_by : (n m : List ℕ) (s : Payload) (ns : Names) (kinds : Kinds) (b : Bool) → bytes_eq n m ≡ b → InsideTold in_peer (rule peer s) (kind_inside kinds m) → (lacks_name n ns ≡ false → NameTold ns kinds n) →
+  name_by : (n m : List ℕ) (s : Payload) (ns : Names) (kinds : List NameRow) (b : Bool) → bytes_eq n m ≡ b → InsideTold in_peer (rule peer s) (kind_inside kinds m) → (lacks_name n ns ≡ false → NameTold ns kinds n) →
       (not b && lacks_name n ns) ≡ false → InsideTold in_peer (elim b [ true ↦ rule peer s | false ↦ named peer ns n ]) (kind_inside kinds n)
   name_by n m s ns kinds true h told more l = subst (λ z. InsideTold in_peer (rule peer s) (kind_inside kinds z)) (sym ((bytes_eq-Decides n m).0 h)) told
   name_by n m s ns kinds false h told more l = more l
@@ -113,13 +118,11 @@ unlisted (r ∷ kinds) ns n h l =
     let parts = and_parts (not (lacks_name (take r.0 r.1) ns)) (kinds_listed kinds ns) h in
     unlisted_by n r kinds ns (bytes_eq n (take r.0 r.1)) refl parts.0 l (unlisted kinds ns n parts.1 l)
 
--- a name that neither list of kinds has
-unlisted_inside : (kinds : Kinds) (ns : Names) (n : List ℕ) → all_listed kinds ns ≡ true → lacks_name n ns ≡ true → kind_inside kinds n ≡ Value V.Bytes
-unlisted_inside kinds ns n h l =
-    let parts = and_parts (kinds_listed kinds.named ns) (kinds_listed kinds.all ns) h in
-    λ i. of_named (unlisted kinds.named ns n parts.0 l i) (unlisted kinds.all ns n parts.1 l i)
+-- a name that the list of kinds lacks
+unlisted_inside : (kinds : List NameRow) (ns : Names) (n : List ℕ) → kinds_listed kinds ns ≡ true → lacks_name n ns ≡ true → kind_inside kinds n ≡ Value V.Bytes
+unlisted_inside kinds ns n h l = ap of_held (unlisted kinds ns n h l)
 
-any_name_by : (peer : Peer) (in_peer : Bool) (kinds : Kinds) (ns : Names) (n : List ℕ) (b : Bool) → lacks_name n ns ≡ b → all_listed kinds ns ≡ true → (lacks_name n ns ≡ false → NameTold peer in_peer ns kinds n) → NameTold peer in_peer ns kinds n
+any_name_by : (peer : Peer) (in_peer : Bool) (kinds : List NameRow) (ns : Names) (n : List ℕ) (b : Bool) → lacks_name n ns ≡ b → kinds_listed kinds ns ≡ true → (lacks_name n ns ≡ false → NameTold peer in_peer ns kinds n) → NameTold peer in_peer ns kinds n
 any_name_by peer in_peer kinds ns n false l h told = told l
 any_name_by peer in_peer kinds ns n true l h told =
     subst (λ r. InsideTold in_peer r (kind_inside kinds n)) (sym (other_name peer in_peer ns n l)) (subst (InsideTold in_peer (shape_rule raw)) (sym (unlisted_inside kinds ns n h l)) (bytes_told in_peer))
@@ -131,9 +134,9 @@ abbrev pub KnownTold : Bool → Rule → Context → Option Inside → Type 0
 KnownTold in_peer r c None = ⊤
 KnownTold in_peer r c (Some i) = InsideTold in_peer r (known_inside in_peer c i)
 
-info_kind : (k : ℕ) (t : Name) → title_of 19 k ≡ Some t → (1 ≤ k) × (k ≤ 5)
+info_kind : (k : ℕ) (t : Name) → title_of LINK_INFO.0 k ≡ Some t → (1 ≤ k) × (k ≤ 5)
 info_kind k t e =
-    let parts = and_parts (nat_le 1 k) (nat_le k 5) (found is_info_kind 19 k t info_is_named e) in
+    let parts = and_parts (nat_le 1 k) (nat_le k 5) (found is_info_kind LINK_INFO.0 k t info_is_named e) in
     (leb-true 1 k parts.0, leb-true k 5 parts.1)
 
 force_typed : (o : Option (List ℕ)) (f : List ℕ → Rule) → (row_in_force o f).is_typed ≡ true
@@ -146,28 +149,28 @@ force_raw in_peer (Some n) = bytes_told in_peer
 
 module _ (peer : Peer) (in_peer : Bool) where
   -- the data of all names are told
-  abbrev AllNamesTold : Names → Kinds → Type 0
+  abbrev AllNamesTold : Names → List NameRow → Type 0
   AllNamesTold ns kinds = (n : List ℕ) → NameTold peer in_peer ns kinds n
 
-  force_told : (ns : Names) (kinds : Kinds) (o : Option (List ℕ)) → AllNamesTold ns kinds → InsideTold in_peer (row_in_force o (named peer ns)).rule (of_name o kinds.named kinds.all)
+  force_told : (ns : Names) (kinds : List NameRow) (o : Option (List ℕ)) → AllNamesTold ns kinds → InsideTold in_peer (row_in_force o (named peer ns)).rule (inside_held (held_under kinds o))
   force_told ns kinds None told = never_told in_peer (Value V.Bytes)
   force_told ns kinds (Some n) told = told n
 
-  module _ (data' ports : Names) (data_told : AllNamesTold data' data_kinds) (ports_told : AllNamesTold ports port_kinds) where
+  module _ (data' ports : Names) (data_told : AllNamesTold data' KINDS) (ports_told : AllNamesTold ports PORT_KINDS) where
     abbrev info : Context → ℕ → Row
     info c k = info_row (named peer data') (named peer ports) c k
 
-    info_told : (c : Context) (k : ℕ) → 1 ≤ k → k ≤ 5 → ((info c k).is_typed ≡ true) × KnownTold in_peer (info c k).rule c (behind (title_of 19 k))
-    unfolding title_of titles_of link_titles own_titles info_titles data_inside port_inside
+    info_told : (c : Context) (k : ℕ) → 1 ≤ k → k ≤ 5 → ((info c k).is_typed ≡ true) × KnownTold in_peer (info c k).rule c (behind (title_of LINK_INFO.0 k))
+    unfolding title_of titles_of link_titles own_titles info_titles data_under port_data_under
     info_told c zero h l = absurd (omega arith)
     info_told c (suc zero) h l = (refl, plain_told in_peer text V.Text refl)
-    info_told c (suc (suc zero)) h l = (force_typed c.kind (named peer data'), force_told data' data_kinds c.kind data_told)
+    info_told c (suc (suc zero)) h l = (force_typed c.kind (named peer data'), force_told data' KINDS c.kind data_told)
     info_told c (suc (suc (suc zero))) h l = (force_typed c.kind (λ n. shape_rule raw), force_raw in_peer c.kind)
     info_told c (suc (suc (suc (suc zero)))) h l = (refl, plain_told in_peer text V.Text refl)
-    info_told c (suc (suc (suc (suc (suc zero))))) h l = (force_typed c.port_kind (named peer ports), force_told ports port_kinds c.port_kind ports_told)
+    info_told c (suc (suc (suc (suc (suc zero))))) h l = (force_typed c.port_kind (named peer ports), force_told ports PORT_KINDS c.port_kind ports_told)
     info_told c (suc (suc (suc (suc (suc (suc k)))))) h l = absurd (omega arith)
 
-    info_rows : RowsTold (names_grammar (named peer data') (named peer ports)) (record { table = 19; is_in_peer = in_peer })
+    info_rows : RowsTold (names_grammar (named peer data') (named peer ports)) (record { table = LINK_INFO; is_in_peer = in_peer })
     info_rows = record {
       titled = λ c k t l e.
           let b = info_kind k t e in
@@ -179,51 +182,50 @@ module _ (peer : Peer) (in_peer : Bool) where
 -- ---- tables
 
 module _ (peer : Peer) (in_peer : Bool) (peers : InsideTold in_peer (peer_rule peer) (settled in_peer PeerInside)) where
-  abbrev place : ℕ → Place
+  abbrev place : Named → Place
   place n = record { table = n; is_in_peer = in_peer }
 
-  table_rows : (m : ℕ) (table : Table) → (m == 19) ≡ false → all_titles (is_in table) (titles_of m) ≡ true → ((k : ℕ) (t : Name) → title_of m k ≡ Some t → has_row table k ≡ true → RowTold peer in_peer table k t) → RowsTold (without_context (row_in peer table)) (place m)
+  table_rows : (m : Named) (table : Table) → is_link_info m ≡ false → all_titles (is_in table) (titles_of m.0) ≡ true → ((k : ℕ) (t : Name) → title_of m.0 k ≡ Some t → has_row table k ≡ true → RowTold peer in_peer table k t) → RowsTold (without_context (row_in peer table)) (place m)
   table_rows m table five a rows = record {
-    titled = λ c k t l e. let r = rows k t e (row_is_there m k table t a e) in (r.0, r.1 c);
+    titled = λ c k t l e. let r = rows k t e (row_is_there m.0 k table t a e) in (r.0, r.1 c);
     next = λ c e. sym (ap (λ b. cond b (info_next c (proper_kind e.kind) e.payload) c) five);
   }
 
-  list_told : (form : ListForm) (table : Table) (n : ℕ) → (not (n == 19) && (all_titles (is_in table) (titles_of n) && rows_shown n table)) ≡ true →
-      (rows_shown n table ≡ true → (k : ℕ) (t : Name) → title_of n k ≡ Some t → has_row table k ≡ true → RowTold peer in_peer table k t) → InsideTold in_peer (rule peer (Payload.list form table)) (Nested n)
+  list_told : (form : ListForm) (table : Table) (n : Named) → (not (is_link_info n) && (all_titles (is_in table) (titles_of n.0) && rows_shown n.0 table)) ≡ true →
+      (rows_shown n.0 table ≡ true → (k : ℕ) (t : Name) → title_of n.0 k ≡ Some t → has_row table k ≡ true → RowTold peer in_peer table k t) → InsideTold in_peer (rule peer (Payload.list form table)) (Nested n)
   list_told form table n h rows =
-      let parts = and_parts (not (n == 19)) (all_titles (is_in table) (titles_of n) && rows_shown n table) h in
-      let more = and_parts (all_titles (is_in table) (titles_of n)) (rows_shown n table) parts.1 in
+      let parts = and_parts (not (is_link_info n)) (all_titles (is_in table) (titles_of n.0) && rows_shown n.0 table) h in
+      let more = and_parts (all_titles (is_in table) (titles_of n.0)) (rows_shown n.0 table) parts.1 in
       nested_told in_peer (rule peer (Payload.list form table)) n
-      (lists_told form (without_context (row_in peer table)) (place n) (names_told n) (table_rows n table (not-true (n == 19) parts.0) more.0 (rows more.1)))
+      (lists_told form (without_context (row_in peer table)) (place n) (names_told n.0) (table_rows n table (not-true (is_link_info n) parts.0) more.0 (rows more.1)))
 
-  info_list_told : (form : ListForm) (data' ports : Names) (n : ℕ) → ((n == 19) && ((names_shown data' data_kinds && all_listed data_kinds data') && (names_shown ports port_kinds && all_listed port_kinds ports))) ≡ true →
-      (names_shown data' data_kinds ≡ true → (m : List ℕ) → lacks_name m data' ≡ false → NameTold peer in_peer data' data_kinds m) → (names_shown ports port_kinds ≡ true → (m : List ℕ) → lacks_name m ports ≡ false → NameTold peer in_peer ports port_kinds m) →
+  info_is : (n : Named) → is_link_info n ≡ true → n ≡ LINK_INFO
+  info_is n h = ap (λ k. record { 0 = k }) (eqb-true n.0 LINK_INFO.0 h)
+
+  info_list_told : (form : ListForm) (data' ports : Names) (n : Named) → (is_link_info n && ((names_shown data' KINDS && kinds_listed KINDS data') && (names_shown ports PORT_KINDS && kinds_listed PORT_KINDS ports))) ≡ true →
+      (names_shown data' KINDS ≡ true → (m : List ℕ) → lacks_name m data' ≡ false → NameTold peer in_peer data' KINDS m) → (names_shown ports PORT_KINDS ≡ true → (m : List ℕ) → lacks_name m ports ≡ false → NameTold peer in_peer ports PORT_KINDS m) →
       InsideTold in_peer (rule peer (Payload.link_info form data' ports)) (Nested n)
   info_list_told form data' ports n h data_told ports_told =
-      let parts = and_parts (n == 19) _ h in
-      let both = and_parts (names_shown data' data_kinds && all_listed data_kinds data') (names_shown ports port_kinds && all_listed port_kinds ports) parts.1 in
-      let first = and_parts (names_shown data' data_kinds) (all_listed data_kinds data') both.0 in
-      let second = and_parts (names_shown ports port_kinds) (all_listed port_kinds ports) both.1 in
-      let data_all : AllNamesTold peer in_peer data' data_kinds = λ m. any_name_by peer in_peer data_kinds data' m (lacks_name m data') refl first.1 (data_told first.0 m) in
-      let ports_all : AllNamesTold peer in_peer ports port_kinds = λ m. any_name_by peer in_peer port_kinds ports m (lacks_name m ports) refl second.1 (ports_told second.0 m) in
-      let told = lists_told form (names_grammar (named peer data') (named peer ports)) (place 19) (names_told 19) (info_rows peer in_peer data' ports data_all ports_all) in
-      subst (λ k. InsideTold in_peer (rule peer (Payload.link_info form data' ports)) (Nested k)) (sym (eqb-true n 19 parts.0)) (nested_told in_peer (rule peer (Payload.link_info form data' ports)) 19 told)
+      let parts = and_parts (is_link_info n) _ h in
+      let both = and_parts (names_shown data' KINDS && kinds_listed KINDS data') (names_shown ports PORT_KINDS && kinds_listed PORT_KINDS ports) parts.1 in
+      let first = and_parts (names_shown data' KINDS) (kinds_listed KINDS data') both.0 in
+      let second = and_parts (names_shown ports PORT_KINDS) (kinds_listed PORT_KINDS ports) both.1 in
+      let data_all : AllNamesTold peer in_peer data' KINDS = λ m. any_name_by peer in_peer KINDS data' m (lacks_name m data') refl first.1 (data_told first.0 m) in
+      let ports_all : AllNamesTold peer in_peer ports PORT_KINDS = λ m. any_name_by peer in_peer PORT_KINDS ports m (lacks_name m ports) refl second.1 (ports_told second.0 m) in
+      let told = lists_told form (names_grammar (named peer data') (named peer ports)) (place LINK_INFO) (names_told LINK_INFO.0) (info_rows peer in_peer data' ports data_all ports_all) in
+      subst (λ k. InsideTold in_peer (rule peer (Payload.link_info form data' ports)) (Nested k)) (sym (info_is n parts.0)) (nested_told in_peer (rule peer (Payload.link_info form data' ports)) LINK_INFO told)
 
   -- data under a name are no peer
   held_alone : (h : Held) → settled in_peer (of_held h) ≡ of_held h
   held_alone (HeldList form table) = refl
   held_alone h = refl
 
-  named_alone : (n h : Held) → settled in_peer (of_named n h) ≡ of_named n h
-  named_alone (HeldList form list) h = refl
-  named_alone n h = held_alone h
-
   mutual
     pub payload_told : (s : Payload) (i : Inside) → holds_shown s (Some i) ≡ true → InsideTold in_peer (rule peer s) (settled in_peer i)
     payload_told (Payload.plain s) (Value v) h = plain_told in_peer s v h
     payload_told Payload.peer PeerInside h = peers
-    payload_told (Payload.list form table) (Nested n) h = list_told form table n h (rows_told n table)
-    payload_told (Payload.link_info form data' ports) (Nested n) h = info_list_told form data' ports n h (data_names_told data' data_kinds) (data_names_told ports port_kinds)
+    payload_told (Payload.list form table) (Nested n) h = list_told form table n h (rows_told n.0 table)
+    payload_told (Payload.link_info form data' ports) (Nested n) h = info_list_told form data' ports n h (data_names_told data' KINDS) (data_names_told ports PORT_KINDS)
     payload_told s i h = absurd cc
 
     rows_told : (m : ℕ) (table : Table) → rows_shown m table ≡ true → (k : ℕ) (t : Name) → title_of m k ≡ Some t → has_row table k ≡ true → RowTold peer in_peer table k t
@@ -232,8 +234,8 @@ module _ (peer : Peer) (in_peer : Bool) (peers : InsideTold in_peer (peer_rule p
         let parts = and_parts (holds_shown s (behind (title_of m l))) (rows_shown m table) h in
         row_by peer in_peer m k l nested s table t (k == l) refl parts.0 (payload_told s t.1) (rows_told m table parts.1 k t e) e r
 
-    data_names_told : (ns : Names) (kinds : Kinds) → names_shown ns kinds ≡ true → (n : List ℕ) → lacks_name n ns ≡ false → NameTold peer in_peer ns kinds n
+    data_names_told : (ns : Names) (kinds : List NameRow) → names_shown ns kinds ≡ true → (n : List ℕ) → lacks_name n ns ≡ false → NameTold peer in_peer ns kinds n
     data_names_told Names.others kinds h n l = absurd cc
     data_names_told (Names.name m s ns) kinds h n l =
         let parts = and_parts (holds_shown s (Some (kind_inside kinds m))) (names_shown ns kinds) h in
-        name_by peer in_peer n m s ns kinds (bytes_eq n m) refl (subst (InsideTold in_peer (rule peer s)) (named_alone (held_by_name kinds.named m) (held_by_name kinds.all m)) (payload_told s (kind_inside kinds m) parts.0)) (data_names_told ns kinds parts.1 n) l
+        name_by peer in_peer n m s ns kinds (bytes_eq n m) refl (subst (InsideTold in_peer (rule peer s)) (held_alone (held_by_name kinds m)) (payload_told s (kind_inside kinds m) parts.0)) (data_names_told ns kinds parts.1 n) l

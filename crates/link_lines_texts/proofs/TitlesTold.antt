@@ -66,7 +66,7 @@ no_rows : length data_titles ≡ 23
 unfolding data_titles
 no_rows = refl
 
-past_tables : (n : ℕ) → 44 ≤ n → titles_of n ≡ []
+past_tables : (n : ℕ) → 43 ≤ n → titles_of n ≡ []
 unfolding titles_of
 past_tables n h = rw (le-ltb n 15 (omega (arith, h)), le-ltb n 20 (omega (arith, h))) (get_or_past data_titles (n - 20) [] (omega (arith, h, no_rows)))
 
@@ -78,15 +78,15 @@ none_apart : (us : List (Titled Raw)) → are_apart [] us ≡ true
 none_apart [] = refl
 none_apart (u ∷ us) = none_by u us (none_apart us)
 
-either_apart : (m : ℕ) (b : Bool) → nat_lt m 44 ≡ b → are_apart (titles_of m) (cond b (table_titles m) (get_or raw_lists (m - 44) [])) ≡ true
+either_apart : (m : ℕ) (b : Bool) → nat_lt m 43 ≡ b → are_apart (titles_of m) (cond b (table_titles m) (get_or raw_lists (m - 43) [])) ≡ true
 either_apart m true h = in_tables m
 either_apart m false h =
-    let us = get_or raw_lists (m - 44) [] in
-    ap (λ ts. are_apart ts us) (past_tables m (ltb-false m 44 h)) ∙ none_apart us
+    let us = get_or raw_lists (m - 43) [] in
+    ap (λ ts. are_apart ts us) (past_tables m (ltb-false m 43 h)) ∙ none_apart us
 
 all_apart : (m : ℕ) → raw_apart m ≡ true
 unfolding raw_titles_of
-all_apart m = either_apart m (nat_lt m 44) refl
+all_apart m = either_apart m (nat_lt m 43) refl
 
 one_kind : (k l : ℕ) (n t : List ℕ) (b : Bool) → bytes_eq n t ≡ b → t ≡ n → (not b || (k == l)) ≡ true → k ≡ l
 one_kind k l n t true h e a = eqb-true k l a

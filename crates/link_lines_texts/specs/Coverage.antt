@@ -10,8 +10,9 @@ use Rattle.link_lines_values.specs.declared.values.ShownBy.TheVariants as V
 use Rattle.link_lines_values.specs.Records.{Field, fields_tell, total_size}
 use Rattle.link_lines_values.specs.Values.{Shown}
 use Rattle.link_tables.specs.declared.kinds.TheConstants.{KINDS, PORT_KINDS}
-use Rattle.link_lines_names.specs.declared.behind.TheConstants.{NAMED_KINDS, NAMED_PORT_KINDS}
-use Rattle.link_lines_names.specs.Behind.{Inside, Inside.Value, Inside.Peer, Inside.Nested, is_inside_on_a_line, of_name}
+use Rattle.link_tables.specs.Names.{held_by_name}
+use Rattle.link_tables.specs.Tables.{is_link_info}
+use Rattle.link_lines_names.specs.Behind.{Inside, Inside.Value, Inside.Peer, Inside.Nested, is_inside_on_a_line, of_held}
 use Rattle.link_lines_names.specs.Names.{Titled, all_titles}
 use Rattle.link_lines_names.specs.Raw.{Raw, raw_titles_of}
 use Rattle.link_lines_texts.specs.Titles.{Name, Title, data_titles, link_titles, nested_titles, title_of, titles_of}
@@ -151,37 +152,24 @@ abbrev pub kinds_listed : List NameRow → Names → Bool
 kinds_listed [] ns = true
 kinds_listed (r ∷ rs) ns = not (lacks_name (take r.0 r.1) ns) && kinds_listed rs ns
 
--- data of kinds: those that are raw and have names, and all kinds
-pub record Kinds : Type 0 where
-  pub named : List NameRow
-  pub all : List NameRow
-
-abbrev pub data_kinds : Kinds
-data_kinds = record { named = NAMED_KINDS; all = KINDS }
-
-abbrev pub port_kinds : Kinds
-port_kinds = record { named = NAMED_PORT_KINDS; all = PORT_KINDS }
-
-abbrev pub all_listed : Kinds → Names → Bool
-all_listed kinds ns = kinds_listed kinds.named ns && kinds_listed kinds.all ns
-
 -- what the data under a name hold, as it is shown
-abbrev pub kind_inside : Kinds → List ℕ → Inside
-kind_inside kinds n = of_name (Some n) kinds.named kinds.all
+abbrev pub kind_inside : List NameRow → List ℕ → Inside
+kind_inside kinds n = of_held (held_by_name kinds n)
 
 abbrev mutual
-  -- what stands behind a payload's name tells the payload: a value, a peer, or the attributes of its table; link info is table 19
+  -- what stands behind a payload's name determines the payload: a value, a peer, or the attributes of its table
   pub holds_shown : Payload → Option Inside → Bool
   holds_shown (plain s) (Some (Value v)) = shape_tells s v
   holds_shown peer (Some Peer) = true
-  holds_shown (list form t) (Some (Nested n)) = not (n == 19) && (all_titles (is_in t) (titles_of n) && rows_shown n t)
-  holds_shown (link_info form data' ports) (Some (Nested n)) = (n == 19) && ((names_shown data' data_kinds && all_listed data_kinds data') && (names_shown ports port_kinds && all_listed port_kinds ports))
+  holds_shown (list form t) (Some (Nested n)) = not (is_link_info n) && (all_titles (is_in t) (titles_of n.0) && rows_shown n.0 t)
+  holds_shown (link_info form data' ports) (Some (Nested n)) =
+      is_link_info n && ((names_shown data' KINDS && kinds_listed KINDS data') && (names_shown ports PORT_KINDS && kinds_listed PORT_KINDS ports))
   holds_shown s inside = false
 
   pub rows_shown : ℕ → Table → Bool
   rows_shown m end = true
   rows_shown m (row k nested s t) = holds_shown s (behind (title_of m k)) && rows_shown m t
 
-  pub names_shown : Names → Kinds → Bool
+  pub names_shown : Names → List NameRow → Bool
   names_shown others kinds = true
   names_shown (name m s ns) kinds = holds_shown s (Some (kind_inside kinds m)) && names_shown ns kinds

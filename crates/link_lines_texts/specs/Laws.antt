@@ -15,6 +15,7 @@ use Rattle.link_lines_texts.specs.Lists.{list_inside, list_lines, nested_lines, 
 use Rattle.link_lines_names.specs.Behind.{Inside.Nested}
 use Rattle.link_lines_names.specs.Names.{all_titles, has_name, names_apart}
 use Rattle.link_lines_texts.specs.Titles.{titles_of}
+use Rattle.link_tables.specs.declared.table.TheConstants.{GENEVE, GRE, GRE6, LINK_BRIDGE, LINK_INET6, LINK_INFO, LINK_OTHER, LINK_UNSPEC, VF, XFRM}
 use Rattle.link_capture_numbers.specs.Cleared.{numbers_cleared}
 use Rattle.link_lines_texts.specs.Captures.{Choice, everything, is_frame, lines, shown_lines, text_lines, without_numbers}
 
@@ -41,15 +42,15 @@ AcceptedFramesHaveLines = (limit : ℕ) (c : List ℕ) → limit < 2 ^ 32 → (0
 -- Each row of the tables of link messages, and of every table inside, has a name, behind which stands what tells the row's payload; each name is that of a row;
 -- no two names of a table are equal, and none is that of a raw attribute of another kind.
 pub record RowsAreTold : Type 0 where
-  pub unspec_told : holds_shown (Payload.list any (link_table unspec)) (Some (Nested 15)) ≡ true
-  pub bridge_told : holds_shown (Payload.list any (link_table bridge)) (Some (Nested 16)) ≡ true
-  pub inet6_told : holds_shown (Payload.list any (link_table inet_6)) (Some (Nested 17)) ≡ true
-  pub other_told : holds_shown (Payload.list any (link_table other)) (Some (Nested 18)) ≡ true
+  pub unspec_told : holds_shown (Payload.list any (link_table unspec)) (Some (Nested LINK_UNSPEC)) ≡ true
+  pub bridge_told : holds_shown (Payload.list any (link_table bridge)) (Some (Nested LINK_BRIDGE)) ≡ true
+  pub inet6_told : holds_shown (Payload.list any (link_table inet_6)) (Some (Nested LINK_INET6)) ≡ true
+  pub other_told : holds_shown (Payload.list any (link_table other)) (Some (Nested LINK_OTHER)) ≡ true
   pub named : in_each (all_titles has_name) ≡ true
   pub on_lines : in_each (all_titles has_line) ≡ true
-  pub info_named : all_titles is_info_kind (titles_of 19) ≡ true
+  pub info_named : all_titles is_info_kind (titles_of LINK_INFO.0) ≡ true
   pub apart : in_each names_apart ≡ true
-  pub raw : list_all raw_apart (11 ∷ 15 ∷ 16 ∷ 17 ∷ 18 ∷ 23 ∷ 24 ∷ 25 ∷ 39 ∷ []) ≡ true
+  pub raw : list_all raw_apart (VF.0 ∷ LINK_UNSPEC.0 ∷ LINK_BRIDGE.0 ∷ LINK_INET6.0 ∷ LINK_OTHER.0 ∷ GENEVE.0 ∷ GRE.0 ∷ GRE6.0 ∷ XFRM.0 ∷ []) ≡ true
 
 -- Two captures have the same lines exactly where they have the same texts: for legal captures, where their normal texts are equal.
 abbrev pub LinesTellTexts : Type 0

@@ -19,10 +19,6 @@ link_flag_names = texts_of (λ n. n.now) LINK_FLAGS.now
 abbrev pub labelled : List ℕ → List ℕ → List ℕ
 labelled label text = label ++ text
 
--- the table of the attributes of a link of an address family
-unfoldable pub family_table : ℕ → ℕ
-family_table n = cond (n == 0) 15 (cond (n == 7) 16 (cond (n == 10) 17 18))
-
 -- family, type and index
 unfoldable pub link_numbers : List ℕ → List ℕ
 link_numbers b =

@@ -10,12 +10,14 @@ use Rattle.link_lines_values.specs.Values.{value_text}
 use Rattle.link_lines_names.specs.Behind.{Inside, Inside.Value, Inside.Peer, Inside.Nested, known_inside}
 use Rattle.link_lines_names.specs.Raw.{raw_text}
 use Rattle.link_lines_texts.specs.declared.attributes.Place.{Place}
-use Rattle.link_lines_texts.specs.Links.{family_table, link_header_line}
+use Rattle.link_lines_texts.specs.Links.{link_header_line}
+use Rattle.link_tables.specs.declared.table.Table.{Table}
+use Rattle.link_tables.specs.Tables.{family_table, is_link_info}
 use Rattle.link_lines_texts.specs.Titles.{Name, title_of}
 
--- what is in force after an attribute: in link info, which is table 19, its names
-abbrev pub next_in : ℕ → Context → Attribute → Context
-next_in table c e = cond (table == 19) (info_next c (proper_kind e.kind) e.payload) c
+-- the kinds in force after an attribute, which those of link info change
+abbrev pub next_in : Table → Context → Attribute → Context
+next_in table c e = cond (is_link_info table) (info_next c (proper_kind e.kind) e.payload) c
 
 -- where the attributes of a link stand, of a message or of a peer
 abbrev pub of_link : Bool → List ℕ → Place
@@ -36,7 +38,7 @@ abbrev pub peer_list : List ℕ → Option (Place × List ℕ)
 peer_list p = cond (nat_le 16 (length p)) (Some (of_link true p, drop 16 p)) None
 
 -- the table of the list in it
-abbrev pub inside_table : Inside → Option ℕ
+abbrev pub inside_table : Inside → Option Table
 inside_table (Nested t) = Some t
 inside_table inside = None
 
@@ -48,7 +50,7 @@ inside_list in_peer inside p = None
 
 -- an attribute without a row is told as a raw one
 abbrev pub titled_text : Place → Context → Option Name → Attribute → List ℕ
-titled_text m c None e = raw_text m.table e.kind e.payload
+titled_text m c None e = raw_text m.table.0 e.kind e.payload
 titled_text m c (Some t) e = t.0 ++ inside_text (known_inside m.is_in_peer c t.1) e.payload
 
 abbrev pub titled_header : ℕ → Place → Context → Option Name → Attribute → List ℕ
@@ -58,7 +60,7 @@ titled_header level m c (Some t) e = header_inside level (known_inside m.is_in_p
 -- the line of an attribute itself, and that of a peer's header below it
 unfoldable pub own_lines : ℕ → Place → Context → Attribute → List ℕ
 own_lines level m c e =
-    let title = title_of m.table (proper_kind e.kind) in
+    let title = title_of m.table.0 (proper_kind e.kind) in
     indent level ++ (titled_text m c title e ++ 10 ∷ titled_header (level + 1) m c title e)
 
 abbrev pub titled_list : Place → Context → Option Name → Attribute → Option (Place × List ℕ)
@@ -67,7 +69,7 @@ titled_list m c (Some t) e = inside_list m.is_in_peer (known_inside m.is_in_peer
 
 -- the list in it, where it holds one
 unfoldable pub list_inside : Place → Context → Attribute → Option (Place × List ℕ)
-list_inside m c e = titled_list m c (title_of m.table (proper_kind e.kind)) e
+list_inside m c e = titled_list m c (title_of m.table.0 (proper_kind e.kind)) e
 
 -- the lines of what an attribute holds, by the lines of lists
 abbrev pub inside_lines : (ℕ → Place → Context → List ℕ → List ℕ) → ℕ → Option (Place × List ℕ) → List ℕ

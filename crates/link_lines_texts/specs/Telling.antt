@@ -10,7 +10,7 @@ use Rattle.link_capture_grammar.specs.Bodies.{body_text}
 use Rattle.link_lines_values.specs.Values.{Shown, value_text}
 use Rattle.link_lines_texts.specs.Coverage.{shape_tells}
 use Rattle.link_lines_texts.specs.Frames.{frame_lines}
-use Rattle.link_lines_texts.specs.Links.{family_table}
+use Rattle.link_tables.specs.Tables.{family_table}
 use Rattle.link_lines_values.specs.Indents.{indent}
 use Rattle.link_lines_texts.specs.declared.attributes.Place.{Place}
 use Rattle.link_lines_texts.specs.Lists.{list_lines}

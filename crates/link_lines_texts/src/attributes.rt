@@ -1,62 +1,37 @@
 //! The lines of attributes.
 
 ghost use Rattle.std.specs.Prelude.{◌≡◌, ◌<◌, ◌≤◌, ◌+◌, ◌^◌, ◌++◌, ◌∷◌, [], true, length, replicate, option_map, IfOk, OnOk};
-ghost use Rattle.netlink_packet_core_grammar.specs.Attributes.{proper_kind};
-ghost use Rattle.attribute_tables_grammar.specs.Tables.{info_next};
 ghost use Rattle.link_lines_values.specs.Indents.{indent};
 ghost use Rattle.link_lines_names.specs.Behind.{Inside, Inside.Peer, inside_of, known_inside};
-ghost use Rattle.link_lines_names.specs.Views.{attribute_of, in_force};
+ghost use Rattle.link_lines_names.specs.Views.{attribute_of};
 ghost use Rattle.link_lines_texts.specs.Lists.{header_inside, inside_list, inside_table, inside_text, list_inside};
 ghost use Rattle.link_lines_texts.specs.Lists.{list_lines, next_in, own_lines, peer_list};
+ghost use Rattle.link_tables.specs.InForce.{in_force};
 
 use crate::laws::lists_go_by_steps;
-use crate::links::{LINK_HEADER_LEN, family_table, push_link_header};
+use crate::links::{LINK_HEADER_LEN, push_link_header};
 use crate::titles::title_of;
 use link_interpreter::{Attribute, KIND_BOUND, first_attribute};
-use link_lines_names::{
-    Behind, BehindBy, DATA, InForce, LINK_INFO, RAW_LISTS, known_behind, push_raw,
-};
+use link_lines_names::{Behind, BehindBy, known_behind, push_raw};
 use link_lines_values::{push_bytes, push_indent, push_value};
-use netlink_packet_core_numbers::without_nul;
+use link_tables::table::LINK_INFO;
+use link_tables::{InForce, NO_KINDS, Table, family_table, next_force};
 use std::alloc::AllocError;
 
 /// Where attributes stand: the table of their kinds, and whether they are a peer's.
 #[derive(Clone, Copy)]
 pub(crate) struct Place {
-    pub(crate) table: usize,
+    pub(crate) table: Table,
     pub(crate) is_in_peer: bool,
 }
 
-/// What is in force after an attribute of link info.
-fn next_names<'a>(force: InForce<'a>, kind: u16, payload: &'a [u8]) -> InForce<'a>
-    ensures { in_force result.kind result.port_kind
-        ≡ info_next (in_force force.entry.kind force.entry.port_kind) kind payload.now }
-{
-    match kind {
-        1 => InForce {
-            kind: Some(without_nul(payload)),
-            port_kind: force.port_kind,
-        },
-        4 => InForce {
-            kind: force.kind,
-            port_kind: Some(without_nul(payload)),
-        },
-        5 => InForce {
-            kind: force.kind,
-            port_kind: None,
-        },
-        _ => force,
-    }
-}
-
-/// What is in force after an attribute of a table.
-fn next_force<'a>(table: usize, force: InForce<'a>, attribute: Attribute<'a>) -> InForce<'a>
-    ensures { in_force result.kind result.port_kind
-        ≡ next_in table (in_force force.entry.kind force.entry.port_kind)
+/// The kinds in force after an attribute of a table.
+fn force_after<'a>(table: Table, force: InForce<'a>, attribute: Attribute<'a>) -> InForce<'a>
+    ensures { in_force result ≡ next_in table (in_force force.entry)
         (attribute_of attribute.entry.kind attribute.entry.payload) }
 {
-    if table == LINK_INFO {
-        next_names(force, attribute.kind % KIND_BOUND, attribute.payload)
+    if table.is_link_info() {
+        next_force(force, attribute.kind % KIND_BOUND, attribute.payload)
     } else {
         force
     }
@@ -96,13 +71,11 @@ fn open_peer<'a>(
 }
 
 /// The table of the list behind a name, where one stands there.
-fn table_behind(behind: Behind) -> Option<usize>
+fn table_behind(behind: Behind) -> Option<Table>
     ensures { result ≡ inside_table (inside_of (λ b. b.now) (λ t. t.now) (λ r. r.now) behind.entry) }
 {
     match behind {
-        BehindBy::List(_, table) => Some(usize::from(table)),
-        BehindBy::DataList(_, table) => Some(DATA + usize::from(table)),
-        BehindBy::RawList(list) => Some(RAW_LISTS + usize::from(list)),
+        BehindBy::List(_, table) => Some(table),
         BehindBy::LinkInfo => Some(LINK_INFO),
         _ => None,
     }
@@ -165,10 +138,10 @@ fn push_attribute<'a>(
 ) -> Result<Option<(Place, &'a [u8])>, AllocError>
     requires { level < 2 ^ 63 }
     ensures ok { OnOk result (out.new.items ≡ out.old.items
-        ++ own_lines level place (in_force force.entry.kind force.entry.port_kind)
+        ++ own_lines level place (in_force force.entry)
         (attribute_of attribute.entry.kind attribute.entry.payload)) }
     ensures list { IfOk result (λ found. option_map (λ f. (f.0, f.1.now)) found
-        ≡ list_inside place (in_force force.entry.kind force.entry.port_kind)
+        ≡ list_inside place (in_force force.entry)
         (attribute_of attribute.entry.kind attribute.entry.payload)) }
 {
     push_indent(level, out)?;
@@ -200,13 +173,10 @@ pub(crate) fn push_list(
 {
     lists_go_by_steps();
     let mut rest = bytes;
-    let mut force = InForce {
-        kind: None,
-        port_kind: None,
-    };
+    let mut force = NO_KINDS;
     while let Some((attribute, after)) = first_attribute(rest) {
         let found = push_attribute(level, place, force, attribute, out)?;
-        force = next_force(place.table, force, attribute);
+        force = force_after(place.table, force, attribute);
         rest = after;
         if let Some((inside, list)) = found {
             push_list(level + 1, inside, list, out)?;

@@ -2,12 +2,13 @@
 
 use crate::list_titles;
 use crate::titles::Title;
-use link_interpreter::Form::Any;
-use link_interpreter::{
+use link_tables::Form::Any;
+use link_tables::table::MACVLAN_ADDRESS;
+use link_tables::{
     amt, bareudp, batadv, geneve, gre, gre6, gtp, ip4_tunnel, ip6_tunnel, ipoib, ipvlan, macsec,
     macvlan, macvlan_address, netkit, rmnet, veth, vrf, vti, vxcan, vxlan, wwan, xfrm,
 };
-use link_lines_names::BehindBy::{DataList as List, Peer, Value};
+use link_lines_names::BehindBy::{List, Peer, Value};
 use link_lines_values::ShownBy::{
     Address, BigEndian, BigEndianFlags, Flags, FlagsAndMask, FlagsBySize, HardwareAddress, Number,
     OptionalByte, PortRange, Presence, Signed, Text, Truth,
@@ -17,7 +18,6 @@ use link_lines_values::{
     MAC_VLAN_MODE, NETKIT_MODE, NETKIT_POLICY, NETKIT_SCRUB, PLAIN, TUNNEL_ENCAP_TYPE, VXLAN_DF,
 };
 
-// By the number that the interpreter's `List` has.
 pub const AMT_TITLES: &[Title] = &amt!(list_titles);
 
 pub const BAREUDP_TITLES: &[Title] = &bareudp!(list_titles);

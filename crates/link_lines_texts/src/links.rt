@@ -4,7 +4,7 @@ ghost use Rattle.std.specs.Prelude.{◌≡◌, ◌<◌, ◌≤◌, ◌^◌, ◌+
 ghost use Rattle.link_lines_values.specs.Flags.{named_flags};
 ghost use Rattle.link_lines_values.specs.Indents.{indent};
 ghost use Rattle.link_lines_values.specs.Names.{named_number, texts_of};
-ghost use Rattle.link_lines_texts.specs.Links.{family_table, labelled, link_flag_names, link_flags, link_header_line, link_numbers};
+ghost use Rattle.link_lines_texts.specs.Links.{labelled, link_flag_names, link_flags, link_header_line, link_numbers};
 
 use link_lines_values::{
     ADDRESS_FAMILY, FlagName, LINK_FLAGS, LINK_LAYER_TYPE, NumberText, push_decimal, push_flags,
@@ -55,19 +55,6 @@ pub(crate) fn push_labelled_flags(
 {
     out.extend_from_slice(label)?;
     push_flags(names, flags as u64, out)
-}
-
-/// The table of the attributes of a link of an address family, by the interpreter's number.
-#[tactic(auto, unfolding(crate::specs::Links::family_table))]
-pub(crate) fn family_table(family: u8) -> usize
-    ensures { result ≡ family_table family }
-{
-    match family {
-        0 => 15,
-        7 => 16,
-        10 => 17,
-        _ => 18,
-    }
 }
 
 /// Appends the family, the type and the index of a link (rtnetlink.h, `struct ifinfomsg`).

@@ -1,10 +1,8 @@
 //! The titles of link messages and of link info.
 
 use crate::titles::Title;
-use crate::{bridge_titles, inet6_titles, list_titles, own_titles};
-use link_interpreter::Form::{Any, OfKindOne, Ports};
-use link_lines_names::BehindBy::{Data, LinkInfo, List, PortData, RawList, Value};
-use link_lines_names::{BRIDGE_PORT_LIST, BRIDGE_SPECIFIC_LIST, INET6_PROTOCOL_LIST};
+use crate::{list_titles, own_titles};
+use link_lines_names::BehindBy::{Data, LinkInfo, List, PortData, Value};
 use link_lines_values::ShownBy::{
     Address, Bytes, Flags, HardwareAddress, NamedFlags, Number, Record as Fields, Signed,
     SparseRecord, Text,
@@ -14,7 +12,12 @@ use link_lines_values::{
     LINK_EXTENT_MASK, LINK_MODE, MAP, MCTP_PHYS_BINDING, PLAIN, STATE, STATS, STATS64,
     VF_BROADCAST, VF_LINK_STATE, VF_MAC, VF_RATE, VF_SETTING, VF_TX_RATE, VF_VLAN, VF_VLAN_INFO,
 };
-use link_message_checks::{
+use link_tables::Form::{Any, OfKindOne, Ports};
+use link_tables::table::{
+    BRIDGE_PORT, BRIDGE_SPECIFIC, DEVLINK_PORT, DPLL_PIN, INET, INET6, INET6_PROTOCOL, MCTP, PROPS,
+    PROTOCOL_DOWN_REASON, RAW, SPECIFIC, VF, VF_INFOS, VF_PORTS, VF_STATS, VF_VLANS, XDP,
+};
+use link_tables::{
     devlink_port, dpll_pin, inet, inet6, link, link_bridge, link_inet6, link_other, link_unspec,
     mctp, props, protocol_down_reason, specific, vf, vf_infos, vf_ports, vf_stats, vf_vlans, xdp,
 };
@@ -62,9 +65,9 @@ pub const LINK_TITLES: &[Title] = &link!(
 // Those rows: of links of no family, of bridges, of IPv6, and of every other family.
 pub const UNSPEC_OWN: &[Title] = &link_unspec!(own_titles);
 
-pub const BRIDGE_OWN: &[Title] = &link_bridge!(bridge_titles);
+pub const BRIDGE_OWN: &[Title] = &link_bridge!(own_titles);
 
-pub const INET6_OWN: &[Title] = &link_inet6!(inet6_titles);
+pub const INET6_OWN: &[Title] = &link_inet6!(own_titles);
 
 pub const OTHER_OWN: &[Title] = &link_other!(own_titles);
 

@@ -6,8 +6,10 @@ ghost use Rattle.link_lines_texts.specs.Titles.{data_titles, info_titles, link_r
 ghost use Rattle.link_lines_texts.specs.Titles.{said, title_of, titles_of, viewed};
 
 use crate::{data_titles, message_titles};
-use link_lines_names::{Behind, DATA, LINK, LINK_INFO};
+use link_lines_names::Behind;
 use link_lines_values::look_up;
+use link_tables::Table;
+use link_tables::table::{AMT, LINK_INFO, LINK_UNSPEC};
 
 /// A name, and what stands behind it.
 pub type Name = (&'static [u8], Behind);
@@ -69,53 +71,9 @@ macro_rules! own_title {
     };
 }
 
-/// Those of bridges, whose attributes are raw and have the names of ports and of bridges.
-#[macro_export]
-macro_rules! bridge_titles {
-    ($($kind:tt $(-> $name:literal, $held:expr)? $(=> $nested_name:literal, $nested:expr)? $(, $said:expr)*;)*) => {
-        [$($crate::bridge_title!($kind $(-> $name)?),)*]
-    };
-}
-
-/// The title of a kind of bridges, where it goes by the family.
-#[macro_export]
-macro_rules! bridge_title {
-    (12 -> $name:literal) => {
-        $crate::title!(12 -> $name, RawList(BRIDGE_PORT_LIST))
-    };
-    (26 -> $name:literal) => {
-        $crate::title!(26 -> $name, RawList(BRIDGE_SPECIFIC_LIST))
-    };
-    ($kind:tt $(-> $name:literal)?) => {
-        ($kind, None)
-    };
-}
-
-/// Those of IPv6, where what IFLA_PROTINFO holds is raw and has names.
-#[macro_export]
-macro_rules! inet6_titles {
-    ($($kind:tt $(-> $name:literal, $held:expr)? $(=> $nested_name:literal, $nested:expr)? $(, $said:expr)*;)*) => {
-        [$($crate::inet6_title!($kind $(-> $name)? $(, $said)*),)*]
-    };
-}
-
-/// The title of a kind of IPv6, where it goes by the family.
-#[macro_export]
-macro_rules! inet6_title {
-    (12 -> $name:literal) => {
-        $crate::title!(12 -> $name, RawList(INET6_PROTOCOL_LIST))
-    };
-    (26, $name:expr, $shape:expr, $shown:expr) => {
-        (26, Some(($name, Value($shown))))
-    };
-    ($kind:tt $($said:tt)*) => {
-        ($kind, None)
-    };
-}
-
 /// The titles of one of the tables of what attributes of links hold.
 #[tactic(auto, unfolding(crate::specs::Titles::nested_titles))]
-fn nested_table(table: usize) -> &'static [Title]
+fn nested_table(table: u8) -> &'static [Title]
     ensures titles { said (λ b. b.now) (λ t. t.now) (λ r. r.now) result.now ≡ get_or nested_titles table [] }
     ensures dense { are_dense result.now ≡ true }
 {
@@ -140,7 +98,7 @@ fn nested_table(table: usize) -> &'static [Title]
 
 /// The titles of one of the tables of data.
 #[tactic(auto, unfolding(crate::specs::Titles::data_titles))]
-fn data_table(table: usize) -> &'static [Title]
+fn data_table(table: u8) -> &'static [Title]
     ensures titles { said (λ b. b.now) (λ t. t.now) (λ r. r.now) result.now ≡ get_or data_titles table [] }
     ensures dense { are_dense result.now ≡ true }
 {
@@ -174,7 +132,7 @@ fn data_table(table: usize) -> &'static [Title]
 
 /// The titles that go by the family, of one of the tables of links.
 #[tactic(auto, unfolding(crate::specs::Titles::own_titles))]
-fn own_table(table: usize) -> &'static [Title]
+fn own_table(table: u8) -> &'static [Title]
     ensures titles { said (λ b. b.now) (λ t. t.now) (λ r. r.now) result.now ≡ get_or own_titles table [] }
     ensures dense { are_dense result.now ≡ true }
 {
@@ -205,7 +163,7 @@ fn info_titles() -> &'static [Title]
 }
 
 /// The name of a kind of a link.
-fn link_title(family: usize, kind: u16) -> Option<Name>
+fn link_title(family: u8, kind: u16) -> Option<Name>
     requires { family < 4 }
     ensures { option_map (viewed (λ b. b.now) (λ t. t.now) (λ r. r.now)) result ≡ find kind (get_or link_titles family []) }
 {
@@ -217,26 +175,26 @@ fn link_title(family: usize, kind: u16) -> Option<Name>
 
 /// The titles of a table that isn't of links.
 #[tactic(auto, unfolding(crate::specs::Titles::titles_of))]
-fn titles_of(table: usize) -> &'static [Title]
-    requires { table < 15 ⊎ 19 ≤ table }
-    ensures titles { said (λ b. b.now) (λ t. t.now) (λ r. r.now) result.now ≡ titles_of table }
+fn titles_of(table: Table) -> &'static [Title]
+    requires { table.0 < 15 ⊎ 19 ≤ table.0 }
+    ensures titles { said (λ b. b.now) (λ t. t.now) (λ r. r.now) result.now ≡ titles_of table.0 }
     ensures dense { are_dense result.now ≡ true }
 {
-    if table < LINK {
-        nested_table(table)
-    } else if table == LINK_INFO {
+    if table.0 < LINK_UNSPEC.0 {
+        nested_table(table.0)
+    } else if table.is_link_info() {
         info_titles()
     } else {
-        data_table(table - DATA)
+        data_table(table.0 - AMT.0)
     }
 }
 
 /// The name of a kind, which has no flag bits, in a table, and what stands behind it.
-pub fn title_of(table: usize, kind: u16) -> Option<Name>
-    ensures { option_map (viewed (λ b. b.now) (λ t. t.now) (λ r. r.now)) result ≡ title_of table kind }
+pub fn title_of(table: Table, kind: u16) -> Option<Name>
+    ensures { option_map (viewed (λ b. b.now) (λ t. t.now) (λ r. r.now)) result ≡ title_of table.0 kind }
 {
-    if LINK <= table && table < LINK_INFO {
-        link_title(table - LINK, kind)
+    if LINK_UNSPEC.0 <= table.0 && table.0 < LINK_INFO.0 {
+        link_title(table.0 - LINK_UNSPEC.0, kind)
     } else {
         look_up(titles_of(table), kind)
     }

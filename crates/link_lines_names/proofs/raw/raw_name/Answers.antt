@@ -4,5 +4,5 @@ use Rattle.link_lines_names.proofs.raw.raw_name.Goals as goal
 
 pub returns : goal.returns
 returns c =
-    at_kind (λ b. b.now) (raw_of (λ b. b.now) (λ t. t.now) (λ r. r.now)) c.args.kind c.look_up.result c.raw_titles_of.result.now (raw_titles_of c.args.table)
+    at_kind (λ b. b.now) (raw_of (λ b. b.now) (λ t. t.now) (λ r. r.now)) c.args.kind c.look_up.result c.raw_titles_of.result.now (raw_titles_of c.args.table.0)
     c.look_up.ensures c.raw_titles_of.ensures.titles

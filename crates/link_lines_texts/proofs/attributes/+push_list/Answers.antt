@@ -1,6 +1,6 @@
 use Rattle.std.proofs.Common.{◌≡◌, ◌+◌, ◌++◌, List, ℕ, Option, Some, None, option_map, Bor, ap, sym, ◌∙◌, append-nil, arith, rules}
 use Rattle.netlink_packet_core_grammar.specs.Attributes.{Attribute}
-use Rattle.link_lines_names.specs.Views.{in_force}
+use Rattle.link_tables.specs.InForce.{in_force}
 use Rattle.link_lines_texts.specs.declared.attributes.Place.{Place}
 use Rattle.link_lines_texts.specs.Lists.{list_inside, list_lines, nested_lines, own_lines, rest_lines}
 use Rattle.link_lines_texts.proofs.ListSteps.{going, list_shorter}
@@ -13,7 +13,7 @@ viewed o = option_map (λ f. (f.0, f.1.now)) o
 pub push_list-requires : goal.push_list-requires
 push_list-requires t c =
     let e : Attribute = record { kind = c.in-Some.attribute.kind; payload = c.in-Some.attribute.payload.now } in
-    let now = in_force c.loop-attribute.force.kind c.loop-attribute.force.port_kind in
+    let now = in_force c.loop-attribute.force in
     let tells : list_inside c.args.place now e ≡ Some (c.in-Some-found.inside, c.in-Some-found.list.now) = sym c.in_ok-found.ensures.list ∙ ap viewed c.in-Some-found.is in
     let s = list_shorter c.args.place now c.loop-attribute.rest.now e (c.in-Some-found.inside, c.in-Some-found.list.now) c.in-Some.ensures.within tells in
     (omega (arith, s, c.loop-attribute.invariant.within), omega (arith, s, c.loop-attribute.invariant.within, c.requires))
@@ -21,7 +21,7 @@ push_list-requires t c =
 pub loop-attribute-preserved-in-Continue-branch-2 : goal.loop-attribute-preserved-in-Continue-branch-2
 loop-attribute-preserved-in-Continue-branch-2 t c =
     let e : Attribute = record { kind = c.in-Some.attribute.kind; payload = c.in-Some.attribute.payload.now } in
-    let now = in_force c.loop-attribute.force.kind c.loop-attribute.force.port_kind in
+    let now = in_force c.loop-attribute.force in
     let before = c.loop-attribute.out.items in
     let lines = list_lines (c.args.level + 1) c.in-Some-found.inside c.in-Some-found.list.now in
     let own : c.push_attribute.new.out.items ≡ before ++ own_lines c.args.level c.args.place now e = c.in_ok-found.ensures.ok in
@@ -30,7 +30,7 @@ loop-attribute-preserved-in-Continue-branch-2 t c =
     record {
       within = omega (arith, c.in-Some.ensures.within, c.in-Some.ensures.behind);
       so_far =
-          ap (λ d. c.push_list.new.out.items ++ rest_lines c.args.level c.args.place d c.in-Some.after.now) c.next_force-force.ensures
+          ap (λ d. c.push_list.new.out.items ++ rest_lines c.args.level c.args.place d c.in-Some.after.now) c.force_after-force.ensures
           ∙ going c.args.level c.args.place now c.loop-attribute.rest.now e c.in-Some.after.now before c.push_list.new.out.items _ c.in-Some.ensures.first c.loop-attribute.invariant.so_far
           (inside ∙ ap (λ z. z ++ lines) own ∙ ap (λ o. (before ++ own_lines c.args.level c.args.place now e) ++ nested_lines (c.args.level + 1) o) (sym tells));
     }
@@ -38,7 +38,7 @@ loop-attribute-preserved-in-Continue-branch-2 t c =
 pub loop-attribute-preserved : goal.loop-attribute-preserved
 loop-attribute-preserved t c =
     let e : Attribute = record { kind = c.in-Some.attribute.kind; payload = c.in-Some.attribute.payload.now } in
-    let now = in_force c.loop-attribute.force.kind c.loop-attribute.force.port_kind in
+    let now = in_force c.loop-attribute.force in
     let before = c.loop-attribute.out.items in
     let own : c.push_attribute.new.out.items ≡ before ++ own_lines c.args.level c.args.place now e = c.in_ok-found.ensures.ok in
     let nothing : c.in_ok-found.found ≡ None = search rules in
@@ -46,7 +46,7 @@ loop-attribute-preserved t c =
     record {
       within = omega (arith, c.in-Some.ensures.within, c.in-Some.ensures.behind);
       so_far =
-          ap (λ d. c.push_attribute.new.out.items ++ rest_lines c.args.level c.args.place d c.in-Some.after.now) c.next_force-force.ensures
+          ap (λ d. c.push_attribute.new.out.items ++ rest_lines c.args.level c.args.place d c.in-Some.after.now) c.force_after-force.ensures
           ∙ going c.args.level c.args.place now c.loop-attribute.rest.now e c.in-Some.after.now before c.push_attribute.new.out.items _ c.in-Some.ensures.first c.loop-attribute.invariant.so_far
           (own ∙ sym (append-nil (before ++ own_lines c.args.level c.args.place now e))
           ∙ ap (λ o. (before ++ own_lines c.args.level c.args.place now e) ++ nested_lines (c.args.level + 1) o) (sym tells));

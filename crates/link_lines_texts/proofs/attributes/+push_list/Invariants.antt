@@ -1,6 +1,6 @@
 use Rattle.std.proofs.Common.{◌≡◌, ◌≤◌, ◌++◌, length}
 use Rattle.link_lines_texts.specs.Lists.{list_lines, rest_lines}
-use Rattle.link_lines_names.specs.Views.{in_force}
+use Rattle.link_tables.specs.InForce.{in_force}
 use Rattle.link_lines_texts.proofs.attributes.+push_list.Given as goal
 
 abbrev pub decreases-push_list : goal.decreases-push_list
@@ -9,7 +9,7 @@ decreases-push_list l = length l.bytes.now
 abbrev pub invariant-loop-attribute : goal.invariant-loop-attribute
 invariant-loop-attribute l = record {
   within : length l.rest ≤ length l.fn.bytes;
-  so_far : l.out.items ++ rest_lines l.level l.place (in_force l.force.kind l.force.port_kind) l.rest ≡ l.fn.out.items ++ list_lines l.fn.level l.fn.place l.fn.bytes;
+  so_far : l.out.items ++ rest_lines l.level l.place (in_force l.force) l.rest ≡ l.fn.out.items ++ list_lines l.fn.level l.fn.place l.fn.bytes;
 }
 
 abbrev pub decreases-loop-attribute : goal.decreases-loop-attribute

@@ -38,7 +38,7 @@ titled_within place c (Some t) e = inside_within place.is_in_peer (known_inside 
 
 pub list_within : (place : Place) (c : Context) (e : Attribute) → Within (length e.payload) (list_inside place c e)
 unfolding list_inside
-list_within place c e = titled_within place c (title_of place.table (proper_kind e.kind)) e
+list_within place c e = titled_within place c (title_of place.table.0 (proper_kind e.kind)) e
 
 rest_shorter : (bytes : List ℕ) (e : Attribute) (rest : List ℕ) → first_attribute bytes ≡ Some (e, rest) → 4 + length rest ≤ length bytes
 rest_shorter bytes e rest h =

@@ -2,12 +2,6 @@
 
 use crate::list_titles;
 use crate::titles::Title;
-use link_tables::Form::Any;
-use link_tables::table::MACVLAN_ADDRESS;
-use link_tables::{
-    amt, bareudp, batadv, geneve, gre, gre6, gtp, ip4_tunnel, ip6_tunnel, ipoib, ipvlan, macsec,
-    macvlan, macvlan_address, netkit, rmnet, veth, vrf, vti, vxcan, vxlan, wwan, xfrm,
-};
 use link_lines_names::BehindBy::{List, Peer, Value};
 use link_lines_values::ShownBy::{
     Address, BigEndian, BigEndianFlags, Flags, FlagsAndMask, FlagsBySize, HardwareAddress, Number,
@@ -16,6 +10,12 @@ use link_lines_values::ShownBy::{
 use link_lines_values::{
     AMT_MODE, ER_SPAN_DIR, ETHERNET_PROTOCOL, GENEVE_DF, GRE_ENCAP_TYPE, GTP_ROLE, IP_VLAN_MODE,
     MAC_VLAN_MODE, NETKIT_MODE, NETKIT_POLICY, NETKIT_SCRUB, PLAIN, TUNNEL_ENCAP_TYPE, VXLAN_DF,
+};
+use link_tables::Form::Any;
+use link_tables::table::MACVLAN_ADDRESS;
+use link_tables::{
+    amt, bareudp, batadv, geneve, gre, gre6, gtp, ip4_tunnel, ip6_tunnel, ipoib, ipvlan, macsec,
+    macvlan, macvlan_address, netkit, rmnet, veth, vrf, vti, vxcan, vxlan, wwan, xfrm,
 };
 
 pub const AMT_TITLES: &[Title] = &amt!(list_titles);

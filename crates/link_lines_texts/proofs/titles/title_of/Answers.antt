@@ -5,10 +5,10 @@ use Rattle.link_lines_texts.proofs.Joined.{of_family}
 use Rattle.link_lines_texts.proofs.RowFacts.{at_kind}
 use Rattle.link_lines_texts.proofs.titles.title_of.Goals as goal
 
-pub returns-else-table-ge-LINK : goal.returns-else-table-ge-LINK
+pub returns-else-table : goal.returns-else-table
 unfolding title_of
-returns-else-table-ge-LINK c = at_kind c.args.kind c.look_up.result c.titles_of.result.now (titles_of c.args.table.0) c.look_up.ensures c.titles_of.ensures.titles
+returns-else-table c = at_kind c.args.kind c.look_up.result c.titles_of.result.now (titles_of c.args.table.0) c.look_up.ensures c.titles_of.ensures.titles
 
-pub returns-then-table-lt-LINK_INFO : goal.returns-then-table-lt-LINK_INFO
+pub returns-then-table-2 : goal.returns-then-table-2
 unfolding title_of
-returns-then-table-lt-LINK_INFO c = c.link_title.ensures ∙ ap (find c.args.kind) (sym (of_family c.args.table.0 c.if-table-ge-LINK.true c.if-table-lt-LINK_INFO.true))
+returns-then-table-2 c = c.link_title.ensures ∙ ap (find c.args.kind) (sym (of_family c.args.table.0 c.if-table.true c.if-table-2.true))

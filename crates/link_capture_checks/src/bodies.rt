@@ -10,10 +10,10 @@ ghost use Rattle.link_capture_grammar.specs.Same.{done_body};
 ghost use Rattle.link_capture_checks.specs.Measures.{IsBodyText, written};
 
 use crate::texts::MeasuredBody;
-use link_interpreter::append;
 use attribute_tables_grammar::laws::measures_tell_rules;
 use link_capture_grammar::fault::FaultKind;
 use link_capture_grammar::link_types::{RTM_NEWLINK, RTM_SETLINK};
+use link_interpreter::append;
 use link_message_checks::{walk_body, write_body};
 use netlink_packet_core::{NLMSG_DONE, NLMSG_ERROR, NLMSG_NOOP};
 

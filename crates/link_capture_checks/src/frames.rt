@@ -12,9 +12,9 @@ ghost use Rattle.link_capture_checks.specs.Measures.{IsFrameText, LacksRoom, wri
 
 use crate::bodies::{measure_body, write_frame_body};
 use crate::texts::{MeasuredBody, MeasuredFrame};
-use link_interpreter::{append, append_zeros};
 use link_capture_grammar::fault::FaultKind;
 use link_capture_grammar::laws::frames_are_judged;
+use link_interpreter::{append, append_zeros};
 use netlink_packet_core::{NETLINK_HEADER_LEN, NetlinkBuffer, nla_align};
 
 /// Judges the header of the frame in front of these bytes. The answer is its length.

@@ -15,9 +15,7 @@ use crate::laws::{links_are_accepted, lists_are_accepted, lists_go_by_steps};
 use crate::refusal::Refusal;
 use attribute_tables_grammar::laws::measures_tell_rules;
 use link_capture_refusal_rows::laws::rows_are_the_tables;
-use link_capture_refusal_rows::{
-    Inside, Listed, Reason, is_kept, next_list, row_in, shape_reason,
-};
+use link_capture_refusal_rows::{Inside, Listed, Reason, is_kept, next_list, row_in, shape_reason};
 use link_interpreter::{Attribute, KIND_BOUND, PeerSet, first_attribute, measure_shape};
 use link_message_checks::{LinkPeer, has_empty_ports};
 use link_tables::{Form, Shape, family_table};

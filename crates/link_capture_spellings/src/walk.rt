@@ -9,13 +9,13 @@ ghost use Rattle.link_capture_spellings.specs.SpellingWalks.{one_told, levels_to
 
 use crate::laws::lists_go_by_steps;
 use arrayvec::ArrayVec;
-use link_interpreter::{KIND_BOUND, first_attribute};
 use link_capture_checks::frame_body;
 use link_capture_grammar::link_types::is_link_type;
 use link_capture_spelling_rows::{
     Listed, PlacedSpelling, Spelling, Table, attribute_spellings, family_table, header_spelling,
     inside, next_list,
 };
+use link_interpreter::{KIND_BOUND, first_attribute};
 use netlink_packet_core::{NETLINK_HEADER_LEN, NetlinkBuffer, nla_align};
 use std::default::Default;
 

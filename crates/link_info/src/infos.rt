@@ -18,14 +18,13 @@ ghost use Rattle.link_info.specs.LinkInfo.{link_info_entry, link_info_fits, link
 ghost use Rattle.attribute_tables.specs.Outcomes.{IsRefusedUnless, IsWrittenBy, ListIsReadAs, ListIsWrittenBy, SucceedsWhere};
 
 use super::laws::{names_tell_rules, port_data_have_one_rule, port_names_tell_rules};
-use link_interpreter::{BytesPeer, PeerRule};
 use attribute_tables_grammar::laws::{
     contexts_go_by_steps, readings_go_by_steps, readings_tell_rules,
 };
-use link_interpreter::list_error_with;
 use link_info_data::{InfoData, InfoPortData, LinkXstats};
 use link_info_grammar::laws::info_grammar_is_lawful;
 use link_info_kinds::{InfoKind, InfoPortKind};
+use link_interpreter::{BytesPeer, PeerRule, list_error_with};
 use netlink_packet_core::{
     DecodeError, DefaultNla, Emitable, Nla, NlaBuffer, Parseable, parse_str, skip_first,
 };

@@ -8,9 +8,7 @@
 mod infos;
 pub mod laws;
 
-pub use link_interpreter::{BytesPeer, PeerMeasure, PeerRule};
 pub use infos::LinkInfo;
-pub use link_interpreter::{ListMeasure, check_list, check_list_with, same_list, same_list_with};
 pub use link_info_data::{InfoData, InfoPortData, InfoVrfPort, LinkXstats};
 pub use link_info_devices::{
     InfoBatAdv, InfoBond, InfoBondPort, InfoBridge, InfoBridgePort, InfoCan, InfoDsa, InfoHsr,
@@ -29,4 +27,8 @@ pub use link_info_types::{
     MacSecCipherId, MacSecOffload, MacSecValidate, MacVlanFlags, MacVlanMacAddressMode,
     MacVlanMode, MacVtapFlags, MacVtapMacAddressMode, MacVtapMode, NetkitMode, NetkitPolicy,
     NetkitScrub, RmNetFlags, TunnelEncapFlags, TunnelEncapType, VxlanDf,
+};
+pub use link_interpreter::{
+    BytesPeer, ListMeasure, PeerMeasure, PeerRule, check_list, check_list_with, same_list,
+    same_list_with,
 };

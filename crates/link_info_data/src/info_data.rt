@@ -8,9 +8,7 @@ ghost use Rattle.attribute_tables.specs.Outcomes.{IfMemory, IsRefusedUnless, IsW
 
 use super::laws::{data_without_peers_have_one_rule, names_tell_rules};
 use crate::payloads::{emit_list, emit_one, list_len, one_len};
-use link_interpreter::PeerRule;
 use attribute_tables::{parse_bytes, parse_family, parse_first};
-use link_interpreter::{BytesPeer, PeerSet, Ruled, data_error};
 use link_info_devices::{
     InfoBatAdv, InfoBond, InfoBridge, InfoCan, InfoDsa, InfoHsr, InfoIpVlan, InfoIpVtap, InfoIpoib,
     InfoMacSec, InfoMacVlan, InfoMacVtap, InfoNetkit, InfoRmNet, InfoTun, InfoVeth, InfoVlan,
@@ -22,6 +20,7 @@ use link_info_tunnels::{
     InfoAmt, InfoBareUdp, InfoGeneve, InfoGre, InfoGre6, InfoGtp, InfoIpTunnel, InfoVti, InfoVxlan,
     InfoXfrm, parse_ip_tunnel,
 };
+use link_interpreter::{BytesPeer, PeerRule, PeerSet, Ruled, data_error};
 use netlink_packet_core::{DecodeError, Nla, fits_all};
 use std::alloc::Global;
 

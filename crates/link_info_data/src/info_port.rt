@@ -8,9 +8,9 @@ ghost use Rattle.attribute_tables.specs.Outcomes.{IfMemory, IsRefusedUnless, IsW
 use super::laws::port_names_tell_rules;
 use crate::payloads::{emit_list, list_len};
 use attribute_tables::{parse_bytes, parse_family};
-use link_interpreter::{BytesPeer, accepts_port_data};
 use link_info_devices::{InfoBondPort, InfoBridgePort, InfoTeamPort, InfoVrf};
 use link_info_kinds::InfoPortKind;
+use link_interpreter::{BytesPeer, accepts_port_data};
 use netlink_packet_core::{DecodeError, Nla, fits_all};
 use std::alloc::Global;
 

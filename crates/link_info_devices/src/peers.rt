@@ -21,11 +21,11 @@ ghost use Rattle.attribute_tables.specs.Outcomes.{ListIsReadAs, ListIsWrittenBy,
 
 use super::netkit::InfoNetkit;
 use super::veth::PairData;
-use link_interpreter::PeerRule;
 use attribute_tables::{Reader, parse_first_by, parse_list};
 use attribute_tables_grammar::laws::{
     rows_are_looked_up, rows_without_lists_fit, rules_without_peers_are_one,
 };
+use link_interpreter::PeerRule;
 use netlink_packet_core::{DecodeError, Family, NlaBuffer, read_attribute};
 use netlink_packet_core_grammar::laws::first_attributes_are_viewed;
 use std::alloc::Global;

@@ -6,9 +6,9 @@ ghost use Rattle.link_capture_grammar.specs.declared.fault.FaultKind.{FaultKind}
 ghost use Rattle.link_capture_refusals.specs.RefusalViews.{all_found};
 ghost use Rattle.link_lines.specs.Refused.{StandsIn, alone, fault_words, refusal_told};
 
-use link_interpreter::append;
 use link_capture_grammar::fault::{CaptureFault, FaultKind};
 use link_capture_refusals::{Refusal, why_frame};
+use link_interpreter::append;
 use std::alloc::AllocError;
 use std::fmt;
 

@@ -11,9 +11,26 @@ ghost use Rattle.link_lines_values.specs.Placed.{are_dense};
 
 use crate::raw_names;
 use link_lines_values::{Shown, look_up, push_bytes, push_four_digits, push_value};
-use link_tables::Table;
-use link_tables::table::VLAN;
+use link_tables::{Table, table};
 use std::alloc::AllocError;
+
+// The indexes of tables whose rows leave out kinds that have names.
+const VF: u8 = table::VF.0;
+
+const LINK_UNSPEC: u8 = table::LINK_UNSPEC.0;
+
+const LINK_OTHER: u8 = table::LINK_OTHER.0;
+
+const GENEVE: u8 = table::GENEVE.0;
+
+const GRE: u8 = table::GRE.0;
+
+const GRE6: u8 = table::GRE6.0;
+
+const XFRM: u8 = table::XFRM.0;
+
+// The index of the first table of raw attributes.
+const VLAN: u8 = table::VLAN.0;
 
 /// How the payload of a raw attribute is shown, with forms of that type.
 #[derive(Clone, Copy)]
@@ -84,12 +101,12 @@ fn table_titles(table: u8) -> &'static [RawTitle]
     ensures dense { are_dense result.now ≡ true }
 {
     match table {
-        11 => raw_names::VF_NAMES,
-        15..=18 => raw_names::LINK_NAMES,
-        23 => raw_names::GENEVE_NAMES,
-        24 => raw_names::GRE_NAMES,
-        25 => raw_names::GRE6_NAMES,
-        39 => raw_names::XFRM_NAMES,
+        VF => raw_names::VF_NAMES,
+        LINK_UNSPEC..=LINK_OTHER => raw_names::LINK_NAMES,
+        GENEVE => raw_names::GENEVE_NAMES,
+        GRE => raw_names::GRE_NAMES,
+        GRE6 => raw_names::GRE6_NAMES,
+        XFRM => raw_names::XFRM_NAMES,
         _ => &[],
     }
 }
@@ -100,10 +117,10 @@ fn raw_titles_of(table: Table) -> &'static [RawTitle]
     ensures titles { raw_said (λ b. b.now) (λ t. t.now) (λ r. r.now) result.now ≡ raw_titles_of table.0 }
     ensures dense { are_dense result.now ≡ true }
 {
-    if table.0 < VLAN.0 {
+    if table.0 < VLAN {
         table_titles(table.0)
     } else {
-        list_titles(table.0 - VLAN.0)
+        list_titles(table.0 - VLAN)
     }
 }
 

@@ -18,6 +18,8 @@ PAGE = TOP / "docs" / "architecture.md"
 PLACE = re.compile(r"(<!-- written by tools/layers\.py -->\n```\n).*?(\n```\n)", re.S)
 COLUMNS = ["netlink_packet_core", "attribute", "link_info", "link_message", "link_capture", "link_lines"]
 OTHERS = "programs, users, tests"
+# Crates that have another column than their names say.
+ELSEWHERE = {"link_tables": "attribute", "link_interpreter": "attribute"}
 # Those of which the depth is told below the picture.
 TOLD = ["netlink_packet_core", "link_info", "link_message", "link_capture", "link_lines", "linkcap", "linkshow"]
 
@@ -44,7 +46,7 @@ def depths(below):
 
 
 def column_of(name):
-    return next((column for column in COLUMNS if name == column or name.startswith(column + "_")), OTHERS)
+    return ELSEWHERE.get(name) or next((column for column in COLUMNS if name == column or name.startswith(column + "_")), OTHERS)
 
 
 def told(name):

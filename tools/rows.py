@@ -4,8 +4,8 @@
     tools/rows.py            writes the page
     tools/rows.py --check    ends with 1 where the page isn't what the lists say
 
-The lists are src/lists.rt of link_info_checks and link_message_checks, and the numbers of tables the order of TABLES in
-src/rows.rt beside them, which has the names of kinds too. A row's variant is that of its type's enum whose docstring begins
+The lists are src/message_lists.rt and src/info_lists.rt of link_tables, their order that of src/table_rows.rt, and the names of
+kinds those of src/kinds.rt there. A row's variant is that of its type's enum whose docstring begins
 with the row's name, or that `field` gives its constant. Only Python is needed.
 """
 import glob
@@ -17,7 +17,7 @@ TOP = os.path.join(os.path.dirname(os.path.abspath(__file__)), "..")
 PAGE = os.path.join(TOP, "docs", "rows.md")
 HEAD = """# The rows of all tables
 
-`tools/rows.py` writes this page from the source: kinds, names and payloads from `src/lists.rt` of `link_info_checks` and `link_message_checks`, the variants of a table's type from its `enum`. A kind that a table doesn't list is a raw attribute, `Other(DefaultNla)`: any payload is accepted, and all 16 bits of the kind are kept. A table has its type, the prefix of its names and their header, then its kinds, each with name and variant, and behind a colon type and payload. Numbers are little-endian unless told. [shapes.md](shapes.md) has what the payloads mean, [attributes.md](attributes.md) what a list, ports and a peer are; *written nested* is a kind that is written with the nested bit. A record is a struct of its name, whose docstring has its bytes.
+`tools/rows.py` writes this page from the source: kinds, names and payloads from `src/message_lists.rt` and `src/info_lists.rt` of `link_tables`, the variants of a table's type from its `enum`. A kind that a table doesn't list is a raw attribute, `Other(DefaultNla)`: any payload is accepted, and all 16 bits of the kind are kept. A table has its type, the prefix of its names and their header, then its kinds, each with name and variant, and behind a colon type and payload. Numbers are little-endian unless told. [shapes.md](shapes.md) has what the payloads mean, [attributes.md](attributes.md) what a list, ports and a peer are; *written nested* is a kind that is written with the nested bit. A record is a struct of its name, whose docstring has its bytes.
 """
 # The payload behind its type, where the type doesn't say it.
 SHAPES = {
@@ -82,8 +82,8 @@ def words(held, tables):
         return SHAPES[held]
     name, numbers = shape[1], shape[2].split(", ")
     if name == "List":
-        inside = tables[int(numbers[1])]
-        return FORMS[numbers[0]] + (f" of `{inside}`" if inside else " of raw attributes")
+        inside = numbers[1].lower()
+        return FORMS[numbers[0]] + (f" of `{inside}`" if inside in tables else " of raw attributes")
     if name == "Exact":
         return "1 byte" if numbers == ["1"] else f"{numbers[0]} bytes"
     return {
@@ -146,9 +146,13 @@ def payload_of(row, kinds, tables):
     return out + (", written nested" if nested else "")
 
 
-def lists_of(crate):
-    """Each list by its name: its comment and its text."""
-    text = open(os.path.join(TOP, "crates", crate, "src", "lists.rt"), encoding="utf-8").read()
+def source(name):
+    return open(os.path.join(TOP, "crates", "link_tables", "src", name), encoding="utf-8").read()
+
+
+def lists_of(name):
+    """Each list of a file by its name: its comment and its text."""
+    text = source(name)
     found = re.findall(
         r"((?:/// [^\n]*\n)+)#\[macro_export\]\nmacro_rules! (\w+) \{\n    \(\$write:ident.*?\) => \{\n(.*?)\n    \};\n\}", text, re.S
     )
@@ -181,20 +185,17 @@ def rows_of(name, lists):
         yield told[1], told[3], held, shown, told[2] == " =>"
 
 
-def tables_of(crate):
-    """The names of lists by the number of their table, and None for the table without rows."""
-    text = open(os.path.join(TOP, "crates", crate, "src", "rows.rt"), encoding="utf-8").read()
-    array = re.search(r"pub const TABLES.*?= \[(.*?)\n\];", text, re.S)[1]
-    return [name or None for name in re.findall(r"&(?:crate::(\w+)!|\[\])", array)]
+def tables_of(lists):
+    """The names of these lists, in the order of their tables."""
+    return [name for name in re.findall(r"&crate::(\w+)!", source("table_rows.rt")) if name in lists]
 
 
-def kinds_of(crate):
-    """The names of kinds, and of kinds of ports, by the number of their table."""
-    text = open(os.path.join(TOP, "crates", crate, "src", "rows.rt"), encoding="utf-8").read()
+def kinds_of():
+    """The names of kinds, and of kinds of ports, by the name of their table."""
     found = {}
-    for array, ports in re.findall(r"pub const (PORT_)?KINDS: .*?= \[(.*?)\n\];", text, re.S):
-        for name, number in re.findall(r'NameRow\(\d+, \*b"([a-z0-9_]+).*?List\(\w+, (\d+)\)', ports):
-            found.setdefault(int(number), []).append(f"`{name}`" + (" (port)" if array else ""))
+    for array, ports in re.findall(r"pub const (PORT_)?KINDS: .*?= \[(.*?)\n\];", source("kinds.rt"), re.S):
+        for name, table in re.findall(r'NameRow\(\d+, \*b"([a-z0-9_]+).*?List\(\w+, (\w+)\)', ports):
+            found.setdefault(table.lower(), []).append(f"`{name}`" + (" (port)" if array else ""))
     return found
 
 
@@ -224,22 +225,21 @@ def lines_of(name, called, comment, rows, tables, of_all):
 
 
 def page():
-    out, of_all = [HEAD], enums()
-    for title, crate in (("Link messages", "link_message_checks"), ("Data of links and of ports", "link_info_checks")):
-        lists, tables, kinds = lists_of(crate), tables_of(crate), kinds_of(crate)
+    out, of_all, kinds = [HEAD], enums(), kinds_of()
+    for title, file in (("Link messages", "message_lists.rt"), ("Data of links and of ports", "info_lists.rt")):
+        lists = lists_of(file)
+        tables = tables_of(lists)
         out.append(f"## {title}\n")
-        for number, name in enumerate(tables):
-            if not name:
-                continue
+        for name in tables:
             rows = list(rows_of(name, lists))
             other = list(rows_of(AS_OF[name], lists)) if name in AS_OF else []
             own = [row for row in rows if row not in other]
-            called = ", ".join(kinds.get(number, [f"`{name}`"]))
+            called = ", ".join(kinds.get(name, [f"`{name}`"]))
             out += lines_of(name, called, lists[name][0], own, tables, of_all) if own else [f"- `{name}`"]
             if other:
                 without = [row[0] for row in other if row[0] not in [each[0] for each in rows]]
                 but = f", without {', '.join(without)}" if without else ""
-                called = ", ".join(kinds.get(tables.index(AS_OF[name]), [f"`{AS_OF[name]}`"]))
+                called = ", ".join(kinds.get(AS_OF[name], [f"`{AS_OF[name]}`"]))
                 out.append(f"  - all others as {called}{but}")
         out.append("")
     return "\n".join(out)

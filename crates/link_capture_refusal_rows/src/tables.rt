@@ -2,7 +2,7 @@
 
 ghost use Rattle.std.specs.Prelude.{◌≡◌, ◌<◌, ◌≤◌, ◌-◌, [], get_or, ℕ, List, option_map, IfSome};
 ghost use Rattle.attribute_tables_grammar.specs.Lists as Lists;
-ghost use Rattle.link_tables.specs.declared.table.TheConstants.{LINK_INFO};
+ghost use Rattle.link_tables.specs.declared.table.TheConstants.{AMT, LINK_INFO, VLAN};
 ghost use Rattle.link_tables.specs.InForce.{held_in_force, in_force};
 ghost use Rattle.link_tables.specs.Rows.{form_of};
 ghost use Rattle.link_capture_refusal_rows.specs.RefusalTables.{IsLower, data_rows, find, info_inside, info_row, inside_of};
@@ -98,7 +98,7 @@ fn info_row(force: InForce<'_>, kind: u16) -> Option<(&'static str, Inside)>
 
 /// The row of a kind in a table of link messages.
 fn message_row(table: Table, kind: u16) -> Option<NamedRow>
-    requires { table.0 < 20 }
+    requires { table.0 < AMT.0 }
     ensures { option_map (λ r. (r.0, r.1.now, r.2)) result ≡ find kind (get_or message_rows table.0 []) }
 {
     find(rows_at(&MESSAGE_ROWS, table.0), kind)
@@ -106,9 +106,9 @@ fn message_row(table: Table, kind: u16) -> Option<NamedRow>
 
 /// The row of a kind in a table of data.
 fn data_row(table: Table, kind: u16) -> Option<NamedRow>
-    requires from { 20 ≤ table.0 }
-    requires below { table.0 < 43 }
-    ensures { option_map (λ r. (r.0, r.1.now, r.2)) result ≡ find kind (get_or data_rows (table.0 - 20) []) }
+    requires from { AMT.0 ≤ table.0 }
+    requires below { table.0 < VLAN.0 }
+    ensures { option_map (λ r. (r.0, r.1.now, r.2)) result ≡ find kind (get_or data_rows (table.0 - AMT.0) []) }
 {
     find(rows_at(&DATA_ROWS, table.0 - AMT.0), kind)
 }

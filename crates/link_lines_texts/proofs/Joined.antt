@@ -3,6 +3,7 @@ use Rattle.std.proofs.Common.{◌≡◌, ℕ, zero, suc, ◌-◌, ◌<◌, ◌�
 use Rattle.std.specs.Prelude.{◌==◌, ◌&&◌, nat_lt}
 use Rattle.std.proofs.lemmas.Bool.{and_parts, eqb-true, le-ltb, lt-ltb}
 use Rattle.link_lines_values.specs.Placed.{find}
+use Rattle.link_tables.specs.declared.table.TheConstants.{AMT, LINK_INFO, LINK_UNSPEC}
 use Rattle.link_lines_texts.specs.Titles.{Name, Title, data_titles, first_name, info_titles, joined, link_rows, link_titles, nested_titles, own_titles, titles_of}
 
 abbrev alike : List Title → List Title → Bool
@@ -44,13 +45,13 @@ pub link_found : (k n : ℕ) → n < 4 → find k (get_or link_titles n []) ≡ 
 link_found k n h = ap (find k) (link_is n h) ∙ find_joined k (get_or own_titles n []) link_rows (are_alike n h)
 
 -- the titles of a link's table
-pub of_family : (n : ℕ) → 15 ≤ n → n < 19 → titles_of n ≡ get_or link_titles (n - 15) []
+pub of_family : (n : ℕ) → LINK_UNSPEC.0 ≤ n → n < LINK_INFO.0 → titles_of n ≡ get_or link_titles (n - LINK_UNSPEC.0) []
 unfolding titles_of
 of_family n h l =
-    ap (λ b. cond b (get_or nested_titles n []) (cond (nat_lt n 20) (get_or link_titles (n - 15) []) (get_or data_titles (n - 20) []))) (le-ltb n 15 h)
-    ∙ ap (λ b. cond b (get_or link_titles (n - 15) []) (get_or data_titles (n - 20) [])) (lt-ltb n 20 (omega (arith, l)))
+    ap (λ b. cond b (get_or nested_titles n []) (cond (nat_lt n AMT.0) (get_or link_titles (n - LINK_UNSPEC.0) []) (get_or data_titles (n - AMT.0) []))) (le-ltb n LINK_UNSPEC.0 h)
+    ∙ ap (λ b. cond b (get_or link_titles (n - LINK_UNSPEC.0) []) (get_or data_titles (n - AMT.0) [])) (lt-ltb n AMT.0 (omega (arith, l)))
 
 -- those of link info
-pub of_info : (n : ℕ) → n ≡ 19 → info_titles ≡ titles_of n
+pub of_info : (n : ℕ) → n ≡ LINK_INFO.0 → info_titles ≡ titles_of n
 unfolding titles_of link_titles own_titles
 of_info n h = ap titles_of (sym h)

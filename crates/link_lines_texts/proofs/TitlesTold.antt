@@ -8,6 +8,7 @@ use Rattle.link_tables.proofs.LookUps.{all_at}
 use Rattle.link_lines_names.specs.Names.{Named, Titled, all_titles, has_name, names_apart}
 use Rattle.link_lines_names.specs.Raw.{Raw, geneve_titles, gre6_titles, gre_titles, link_titles as raw_link_titles, raw_lists, raw_name, raw_titles_of, table_titles, vf_titles, xfrm_titles}
 use Rattle.link_lines_names.proofs.Named.{apart_in, chosen, first_holds, found_in, name_of, others_hold}
+use Rattle.link_tables.specs.declared.table.TheConstants.{AMT, GENEVE, GRE, GRE6, LINK_BRIDGE, LINK_INET6, LINK_OTHER, LINK_UNSPEC, VF, VLAN, XFRM}
 use Rattle.link_lines_texts.specs.Coverage.{are_apart, has_line, in_each, raw_apart}
 use Rattle.link_lines_texts.specs.Titles.{Name, Title, data_titles, title_of, titles_of}
 use Rattle.link_lines_texts.proofs.LineCuts.{IsWord, Starts}
@@ -46,29 +47,29 @@ picked_or m n false c x y e h k = k
 in_tables : (m : ℕ) → are_apart (titles_of m) (table_titles m) ≡ true
 unfolding raw_titles_of table_titles
 in_tables m =
-    let a = and_parts (raw_apart 11) _ all_raw_apart in
-    let b = and_parts (raw_apart 15) _ a.1 in
-    let c = and_parts (raw_apart 16) _ b.1 in
-    let d = and_parts (raw_apart 17) _ c.1 in
-    let e = and_parts (raw_apart 18) _ d.1 in
-    let f = and_parts (raw_apart 23) _ e.1 in
-    let g = and_parts (raw_apart 24) _ f.1 in
-    let h = and_parts (raw_apart 25) _ g.1 in
-    let i = and_parts (raw_apart 39) _ h.1 in
-    picked m 11 (m == 11) vf_titles _ refl a.0
-    (picked_or m 15 (m == 15) _ raw_link_titles _ refl b.0 (picked_or m 16 (m == 16) _ raw_link_titles _ refl c.0
-    (picked_or m 17 (m == 17) _ raw_link_titles _ refl d.0 (picked m 18 (m == 18) raw_link_titles _ refl e.0
-    (picked m 23 (m == 23) geneve_titles _ refl f.0 (picked m 24 (m == 24) gre_titles _ refl g.0
-    (picked m 25 (m == 25) gre6_titles _ refl h.0 (picked m 39 (m == 39) xfrm_titles [] refl i.0 refl))))))))
+    let a = and_parts (raw_apart VF.0) _ all_raw_apart in
+    let b = and_parts (raw_apart LINK_UNSPEC.0) _ a.1 in
+    let c = and_parts (raw_apart LINK_BRIDGE.0) _ b.1 in
+    let d = and_parts (raw_apart LINK_INET6.0) _ c.1 in
+    let e = and_parts (raw_apart LINK_OTHER.0) _ d.1 in
+    let f = and_parts (raw_apart GENEVE.0) _ e.1 in
+    let g = and_parts (raw_apart GRE.0) _ f.1 in
+    let h = and_parts (raw_apart GRE6.0) _ g.1 in
+    let i = and_parts (raw_apart XFRM.0) _ h.1 in
+    picked m VF.0 (m == VF.0) vf_titles _ refl a.0
+    (picked_or m LINK_UNSPEC.0 (m == LINK_UNSPEC.0) _ raw_link_titles _ refl b.0 (picked_or m LINK_BRIDGE.0 (m == LINK_BRIDGE.0) _ raw_link_titles _ refl c.0
+    (picked_or m LINK_INET6.0 (m == LINK_INET6.0) _ raw_link_titles _ refl d.0 (picked m LINK_OTHER.0 (m == LINK_OTHER.0) raw_link_titles _ refl e.0
+    (picked m GENEVE.0 (m == GENEVE.0) geneve_titles _ refl f.0 (picked m GRE.0 (m == GRE.0) gre_titles _ refl g.0
+    (picked m GRE6.0 (m == GRE6.0) gre6_titles _ refl h.0 (picked m XFRM.0 (m == XFRM.0) xfrm_titles [] refl i.0 refl))))))))
 
 -- behind the tables stand lists, which have no rows
 no_rows : length data_titles ≡ 23
 unfolding data_titles
 no_rows = refl
 
-past_tables : (n : ℕ) → 43 ≤ n → titles_of n ≡ []
+past_tables : (n : ℕ) → VLAN.0 ≤ n → titles_of n ≡ []
 unfolding titles_of
-past_tables n h = rw (le-ltb n 15 (omega (arith, h)), le-ltb n 20 (omega (arith, h))) (get_or_past data_titles (n - 20) [] (omega (arith, h, no_rows)))
+past_tables n h = rw (le-ltb n LINK_UNSPEC.0 (omega (arith, h)), le-ltb n AMT.0 (omega (arith, h))) (get_or_past data_titles (n - AMT.0) [] (omega (arith, h, no_rows)))
 
 none_by : (u : Titled Raw) (us : List (Titled Raw)) → are_apart [] us ≡ true → are_apart [] (u ∷ us) ≡ true
 none_by (k, None) us h = h
@@ -78,15 +79,15 @@ none_apart : (us : List (Titled Raw)) → are_apart [] us ≡ true
 none_apart [] = refl
 none_apart (u ∷ us) = none_by u us (none_apart us)
 
-either_apart : (m : ℕ) (b : Bool) → nat_lt m 43 ≡ b → are_apart (titles_of m) (cond b (table_titles m) (get_or raw_lists (m - 43) [])) ≡ true
+either_apart : (m : ℕ) (b : Bool) → nat_lt m VLAN.0 ≡ b → are_apart (titles_of m) (cond b (table_titles m) (get_or raw_lists (m - VLAN.0) [])) ≡ true
 either_apart m true h = in_tables m
 either_apart m false h =
-    let us = get_or raw_lists (m - 43) [] in
-    ap (λ ts. are_apart ts us) (past_tables m (ltb-false m 43 h)) ∙ none_apart us
+    let us = get_or raw_lists (m - VLAN.0) [] in
+    ap (λ ts. are_apart ts us) (past_tables m (ltb-false m VLAN.0 h)) ∙ none_apart us
 
 all_apart : (m : ℕ) → raw_apart m ≡ true
 unfolding raw_titles_of
-all_apart m = either_apart m (nat_lt m 43) refl
+all_apart m = either_apart m (nat_lt m VLAN.0) refl
 
 one_kind : (k l : ℕ) (n t : List ℕ) (b : Bool) → bytes_eq n t ≡ b → t ≡ n → (not b || (k == l)) ≡ true → k ≡ l
 one_kind k l n t true h e a = eqb-true k l a

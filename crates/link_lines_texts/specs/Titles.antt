@@ -8,6 +8,7 @@ use Rattle.link_lines_names.specs.Names.{Named, Titled, named_of, titles_in}
 use Rattle.link_lines_texts.specs.declared.data_titles.TheConstants.{AMT_TITLES, BAREUDP_TITLES, BATADV_TITLES, GENEVE_TITLES, GRE_TITLES, GRE6_TITLES, GTP_TITLES, IPOIB_TITLES, IPVLAN_TITLES, IP4_TUNNEL_TITLES, IP6_TUNNEL_TITLES, MACVLAN_TITLES, MACVLAN_ADDRESS_TITLES, MACSEC_TITLES, NETKIT_TITLES, VETH_TITLES, RMNET_TITLES, VRF_TITLES, WWAN_TITLES, XFRM_TITLES, VTI_TITLES, VXLAN_TITLES, VXCAN_TITLES}
 use Rattle.link_lines_texts.specs.declared.message_titles.TheConstants.{XDP_TITLES, PROPS_TITLES, PROTOCOL_DOWN_REASON_TITLES, DEVLINK_PORT_TITLES, DPLL_PIN_TITLES, MCTP_TITLES, AF_INET_TITLES, AF_INET6_TITLES, SPECIFIC_TITLES, VF_STATS_TITLES, VF_VLANS_TITLES, VF_TITLES, VF_INFOS_TITLES, VF_PORTS_TITLES, LINK_TITLES, UNSPEC_OWN, BRIDGE_OWN, INET6_OWN, OTHER_OWN, INFO_TITLES}
 use Rattle.link_lines_values.specs.Placed.{find}
+use Rattle.link_tables.specs.declared.table.TheConstants.{AMT, LINK_UNSPEC}
 
 -- a name, and what stands behind it
 abbrev pub Name : Type 0
@@ -68,7 +69,8 @@ link_titles = map (λ own. joined own link_rows) own_titles ++ info_titles ∷ [
 
 -- the titles of a table
 unfoldable pub titles_of : ℕ → List Title
-titles_of n = cond (nat_lt n 15) (get_or nested_titles n []) (cond (nat_lt n 20) (get_or link_titles (n - 15) []) (get_or data_titles (n - 20) []))
+titles_of n =
+    cond (nat_lt n LINK_UNSPEC.0) (get_or nested_titles n []) (cond (nat_lt n AMT.0) (get_or link_titles (n - LINK_UNSPEC.0) []) (get_or data_titles (n - AMT.0) []))
 
 -- the name of a kind without flag bits
 unfoldable pub title_of : ℕ → ℕ → Option Name

@@ -3,6 +3,7 @@
 ghost use Rattle.std.specs.Prelude.{◌≡◌, ◌<◌, ◌≤◌, ◌⊎◌, true, [], get_or, option_map};
 ghost use Rattle.link_lines_values.specs.Placed.{are_dense, find};
 ghost use Rattle.link_lines_texts.specs.Titles.{data_titles, info_titles, link_rows, link_titles, nested_titles, own_titles};
+ghost use Rattle.link_tables.specs.declared.table.TheConstants.{LINK_INFO, LINK_UNSPEC};
 ghost use Rattle.link_lines_texts.specs.Titles.{said, title_of, titles_of, viewed};
 
 use crate::{data_titles, message_titles};
@@ -176,7 +177,7 @@ fn link_title(family: u8, kind: u16) -> Option<Name>
 /// The titles of a table that isn't of links.
 #[tactic(auto, unfolding(crate::specs::Titles::titles_of))]
 fn titles_of(table: Table) -> &'static [Title]
-    requires { table.0 < 15 ⊎ 19 ≤ table.0 }
+    requires { table.0 < LINK_UNSPEC.0 ⊎ LINK_INFO.0 ≤ table.0 }
     ensures titles { said (λ b. b.now) (λ t. t.now) (λ r. r.now) result.now ≡ titles_of table.0 }
     ensures dense { are_dense result.now ≡ true }
 {

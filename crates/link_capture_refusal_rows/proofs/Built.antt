@@ -23,7 +23,7 @@ use Rattle.link_info_grammar.specs.LinkInfo.{info_grammar_under}
 use Rattle.link_message_checks.specs.Tables as message_tables
 use Rattle.link_message_grammar.specs.Body.{list_rule_of}
 use Rattle.link_message_grammar.specs.LinkMessage.{bridge, family_of, inet_6, info, link_table, other, unspec}
-use Rattle.link_message_grammar.specs.NestedTables.{settings}
+use Rattle.link_message_grammar.specs.NestedTables.{resized}
 use Rattle.link_capture_refusal_rows.specs.RefusalTables.{NamedRow, data_inside, data_rows, family_number, find, info_row, kind_inside, message_inside, message_rows, port_inside, row_in, statistics_inside}
 use Rattle.link_capture_refusal_rows.specs.RowRules.{LinksAreTables, RowsAreTheTables, grammar_at, inside_rule, peer_of, row_rule}
 use Rattle.link_capture_refusal_rows.specs.declared.tables.Inside.{Inside}
@@ -69,7 +69,7 @@ module _ (tables : ℕ → Rows) (p : Payload) where
 -- ---- these rows are the tables
 
 message_paired : (n : ℕ) → paired_rows message_tables.table_of info (get_or message_rows n []) ≡ paired (message_tables.table_of n)
-unfolding message_tables.table_of message_rows settings
+unfolding message_tables.table_of message_rows resized
 message_paired n = paired_at message_tables.table_of info message_rows message_tables.all_tables n refl
 
 data_paired : (n : ℕ) → paired_rows data_tables.table_of (plain shapes.raw) (get_or data_rows n []) ≡ paired (data_tables.table_of n)

@@ -5,7 +5,7 @@ use Rattle.attribute_tables_grammar.specs.Tables.{Table.end, rows_bounded}
 use Rattle.attribute_checks.specs.declared.rows.Row.{Row}
 use Rattle.attribute_checks.specs.Rows.{build, are_dense, are_known}
 use Rattle.attribute_checks.proofs.LookUps.{all_at}
-use Rattle.link_message_grammar.specs.NestedTables.{settings}
+use Rattle.link_message_grammar.specs.NestedTables.{resized}
 use Rattle.link_message_grammar.specs.LinkMessage.{info}
 use Rattle.link_message_checks.specs.declared.rows.TheConstants.{TABLES}
 use Rattle.link_message_checks.specs.Tables.{all_tables, table_of}
@@ -21,9 +21,9 @@ pub known : (t : ℕ) → are_known 19 (get_or lists t []) ≡ true
 known t = all_at (are_known 19) lists t [] refl refl
 
 pub built : (t : ℕ) → build table_of info (get_or lists t []) ≡ table_of t
-unfolding table_of settings
+unfolding table_of resized
 built t = sym (get_or-map (build table_of info) lists t [])
 
 pub bounded : (t : ℕ) → rows_bounded (table_of t) ≡ true
-unfolding table_of settings
+unfolding table_of resized
 bounded t = all_at rows_bounded all_tables t end refl refl

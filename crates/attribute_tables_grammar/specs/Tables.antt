@@ -34,22 +34,24 @@ abbrev pub row_in_force : Option (List ℕ) → (List ℕ → Rule) → Row
 row_in_force None f = typed (shape_rule never)
 row_in_force (Some n) f = typed (f n)
 
+-- the row of a kind of IFLA_INFO_* (if_link.h), from the rules of data and of port data by name
 abbrev pub info_row : (List ℕ → Rule) → (List ℕ → Rule) → Context → ℕ → Row
 info_row data' ports c zero = raw_row
-info_row data' ports c (suc zero) = typed (shape_rule text)
-info_row data' ports c (suc (suc zero)) = row_in_force c.kind data'
-info_row data' ports c (suc (suc (suc zero))) = row_in_force c.kind (λ n. shape_rule raw)
-info_row data' ports c (suc (suc (suc (suc zero)))) = typed (shape_rule text)
-info_row data' ports c (suc (suc (suc (suc (suc zero))))) = row_in_force c.port_kind ports
+info_row data' ports c (suc zero) = typed (shape_rule text)  -- 1, IFLA_INFO_KIND
+info_row data' ports c (suc (suc zero)) = row_in_force c.kind data'  -- 2, IFLA_INFO_DATA
+info_row data' ports c (suc (suc (suc zero))) = row_in_force c.kind (λ n. shape_rule raw)  -- 3, IFLA_INFO_XSTATS
+info_row data' ports c (suc (suc (suc (suc zero)))) = typed (shape_rule text)  -- 4, IFLA_INFO_SLAVE_KIND
+info_row data' ports c (suc (suc (suc (suc (suc zero))))) = row_in_force c.port_kind ports  -- 5, IFLA_INFO_SLAVE_DATA
 info_row data' ports c (suc (suc (suc (suc (suc (suc k)))))) = raw_row
 
+-- what an attribute of a kind leaves in force
 abbrev pub info_next : Context → ℕ → List ℕ → Context
 info_next c zero p = c
-info_next c (suc zero) p = record { kind = Some (without_nul p); port_kind = c.port_kind }
+info_next c (suc zero) p = record { kind = Some (without_nul p); port_kind = c.port_kind }  -- 1, IFLA_INFO_KIND
 info_next c (suc (suc zero)) p = c
 info_next c (suc (suc (suc zero))) p = c
-info_next c (suc (suc (suc (suc zero)))) p = record { kind = c.kind; port_kind = Some (without_nul p) }
-info_next c (suc (suc (suc (suc (suc zero))))) p = record { kind = c.kind; port_kind = None }
+info_next c (suc (suc (suc (suc zero)))) p = record { kind = c.kind; port_kind = Some (without_nul p) }  -- 4, IFLA_INFO_SLAVE_KIND
+info_next c (suc (suc (suc (suc (suc zero))))) p = record { kind = c.kind; port_kind = None }  -- 5, IFLA_INFO_SLAVE_DATA
 info_next c (suc (suc (suc (suc (suc (suc k)))))) p = c
 
 -- the rows of link info, from the rules of data and of port data by name

@@ -80,7 +80,10 @@ fn data_are_read_by_their_kind(rt: HostRuntime) -> Result<(), Fail> {
     assert!(rt; data_of(rt.alloc(), &InfoKind::Dummy, &NUMBER)? == (true, true));
     for (name, bytes) in &DATA {
         let kind = InfoKind::from_name(rt.alloc(), name)?;
-        assert!(rt; data_of(rt.alloc(), &kind, bytes)? == (true, false));
+        assert_eq!(rt;
+            (name, data_of(rt.alloc(), &kind, bytes)?),
+            (name, (true, false))
+        );
     }
     Ok(())
 }
@@ -89,7 +92,10 @@ fn data_are_read_by_their_kind(rt: HostRuntime) -> Result<(), Fail> {
 fn port_data_are_read_by_their_kind(rt: HostRuntime) -> Result<(), Fail> {
     for (name, bytes) in &PORT_DATA {
         let kind = InfoPortKind::from_name(rt.alloc(), name)?;
-        assert!(rt; port_data_of(rt.alloc(), &kind, bytes)? == (true, false));
+        assert_eq!(rt;
+            (name, port_data_of(rt.alloc(), &kind, bytes)?),
+            (name, (true, false))
+        );
     }
     Ok(())
 }

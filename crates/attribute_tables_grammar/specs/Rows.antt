@@ -8,7 +8,6 @@ infixr 12 ◌↪◌
 infixr 12 ◌↠◌
 infixr 12 ◌⇉◌
 infixr 10 ◌⸴◌
-
 -- a kind whose payload has a shape, as `4 ↪ exact 2`; a byte order concerns typed values alone
 abbrev pub ◌↪◌ : ℕ → Shape → Table → Table
 k ↪ s = λ t. row k false (plain s) t

@@ -49,15 +49,15 @@ vrf =
 -- macsec: IFLA_MACSEC_*
 abbrev pub macsec : Table
 macsec =
-    1 ↪ exact 8 ⸴   -- IFLA_MACSEC_SCI
-    2 ↪ exact 2 ⸴   -- IFLA_MACSEC_PORT
-    3 ↪ exact 1 ⸴   -- IFLA_MACSEC_ICV_LEN
-    4 ↪ exact 8 ⸴   -- IFLA_MACSEC_CIPHER_SUITE
-    5 ↪ exact 4 ⸴   -- IFLA_MACSEC_WINDOW
-    6 ↪ exact 1 ⸴   -- IFLA_MACSEC_ENCODING_SA
-    7 ↪ exact 1 ⸴   -- IFLA_MACSEC_ENCRYPT
-    8 ↪ exact 1 ⸴   -- IFLA_MACSEC_PROTECT
-    9 ↪ exact 1 ⸴   -- IFLA_MACSEC_INC_SCI
+    1 ↪ exact 8 ⸴  -- IFLA_MACSEC_SCI
+    2 ↪ exact 2 ⸴  -- IFLA_MACSEC_PORT
+    3 ↪ exact 1 ⸴  -- IFLA_MACSEC_ICV_LEN
+    4 ↪ exact 8 ⸴  -- IFLA_MACSEC_CIPHER_SUITE
+    5 ↪ exact 4 ⸴  -- IFLA_MACSEC_WINDOW
+    6 ↪ exact 1 ⸴  -- IFLA_MACSEC_ENCODING_SA
+    7 ↪ exact 1 ⸴  -- IFLA_MACSEC_ENCRYPT
+    8 ↪ exact 1 ⸴  -- IFLA_MACSEC_PROTECT
+    9 ↪ exact 1 ⸴  -- IFLA_MACSEC_INC_SCI
     10 ↪ exact 1 ⸴  -- IFLA_MACSEC_ES
     11 ↪ exact 1 ⸴  -- IFLA_MACSEC_SCB
     12 ↪ exact 1 ⸴  -- IFLA_MACSEC_REPLAY_PROTECT
@@ -82,97 +82,97 @@ ipvlan =
 -- netkit: IFLA_NETKIT_*
 abbrev pub netkit : Table
 netkit =
-    1 ↠ peer ⸴           -- IFLA_NETKIT_PEER_INFO
-    2 ↪ nonzero_byte ⸴   -- IFLA_NETKIT_PRIMARY
-    3 ↪ exact 4 ⸴        -- IFLA_NETKIT_POLICY
-    4 ↪ exact 4 ⸴        -- IFLA_NETKIT_PEER_POLICY
-    5 ↪ exact 4 ⸴        -- IFLA_NETKIT_MODE
+    1 ↠ peer ⸴  -- IFLA_NETKIT_PEER_INFO
+    2 ↪ nonzero_byte ⸴  -- IFLA_NETKIT_PRIMARY
+    3 ↪ exact 4 ⸴  -- IFLA_NETKIT_POLICY
+    4 ↪ exact 4 ⸴  -- IFLA_NETKIT_PEER_POLICY
+    5 ↪ exact 4 ⸴  -- IFLA_NETKIT_MODE
     6 ↪ truth_of_four ⸴  -- IFLA_NETKIT_SCRUB
     7 ↪ truth_of_four ⸴  -- IFLA_NETKIT_PEER_SCRUB
-    8 ↪ exact 2 ⸴        -- IFLA_NETKIT_HEADROOM
-    9 ↪ exact 2 ⸴        -- IFLA_NETKIT_TAILROOM
+    8 ↪ exact 2 ⸴  -- IFLA_NETKIT_HEADROOM
+    9 ↪ exact 2 ⸴  -- IFLA_NETKIT_TAILROOM
     end
 
 -- vxlan: IFLA_VXLAN_*
 abbrev pub vxlan : Table
 vxlan =
-    1 ↪ exact 4 ⸴        -- IFLA_VXLAN_ID
-    2 ↪ exact 4 ⸴        -- IFLA_VXLAN_GROUP
-    3 ↪ exact 4 ⸴        -- IFLA_VXLAN_LINK
-    4 ↪ exact 4 ⸴        -- IFLA_VXLAN_LOCAL
-    5 ↪ exact 1 ⸴        -- IFLA_VXLAN_TTL
-    6 ↪ exact 1 ⸴        -- IFLA_VXLAN_TOS
-    7 ↪ nonzero_byte ⸴   -- IFLA_VXLAN_LEARNING
-    8 ↪ exact 4 ⸴        -- IFLA_VXLAN_AGEING
-    9 ↪ exact 4 ⸴        -- IFLA_VXLAN_LIMIT
-    10 ↪ exact 4 ⸴       -- IFLA_VXLAN_PORT_RANGE
+    1 ↪ exact 4 ⸴  -- IFLA_VXLAN_ID
+    2 ↪ exact 4 ⸴  -- IFLA_VXLAN_GROUP
+    3 ↪ exact 4 ⸴  -- IFLA_VXLAN_LINK
+    4 ↪ exact 4 ⸴  -- IFLA_VXLAN_LOCAL
+    5 ↪ exact 1 ⸴  -- IFLA_VXLAN_TTL
+    6 ↪ exact 1 ⸴  -- IFLA_VXLAN_TOS
+    7 ↪ nonzero_byte ⸴  -- IFLA_VXLAN_LEARNING
+    8 ↪ exact 4 ⸴  -- IFLA_VXLAN_AGEING
+    9 ↪ exact 4 ⸴  -- IFLA_VXLAN_LIMIT
+    10 ↪ exact 4 ⸴  -- IFLA_VXLAN_PORT_RANGE
     11 ↪ nonzero_byte ⸴  -- IFLA_VXLAN_PROXY
     12 ↪ nonzero_byte ⸴  -- IFLA_VXLAN_RSC
     13 ↪ nonzero_byte ⸴  -- IFLA_VXLAN_L2MISS
     14 ↪ nonzero_byte ⸴  -- IFLA_VXLAN_L3MISS
-    15 ↪ exact 2 ⸴       -- IFLA_VXLAN_PORT
-    16 ↪ exact 16 ⸴      -- IFLA_VXLAN_GROUP6
-    17 ↪ exact 16 ⸴      -- IFLA_VXLAN_LOCAL6
+    15 ↪ exact 2 ⸴  -- IFLA_VXLAN_PORT
+    16 ↪ exact 16 ⸴  -- IFLA_VXLAN_GROUP6
+    17 ↪ exact 16 ⸴  -- IFLA_VXLAN_LOCAL6
     18 ↪ nonzero_byte ⸴  -- IFLA_VXLAN_UDP_CSUM
     19 ↪ nonzero_byte ⸴  -- IFLA_VXLAN_UDP_ZERO_CSUM6_TX
     20 ↪ nonzero_byte ⸴  -- IFLA_VXLAN_UDP_ZERO_CSUM6_RX
     21 ↪ nonzero_byte ⸴  -- IFLA_VXLAN_REMCSUM_TX
     22 ↪ nonzero_byte ⸴  -- IFLA_VXLAN_REMCSUM_RX
-    23 ↪ presence ⸴      -- IFLA_VXLAN_GBP
-    24 ↪ presence ⸴      -- IFLA_VXLAN_REMCSUM_NOPARTIAL
+    23 ↪ presence ⸴  -- IFLA_VXLAN_GBP
+    24 ↪ presence ⸴  -- IFLA_VXLAN_REMCSUM_NOPARTIAL
     25 ↪ nonzero_byte ⸴  -- IFLA_VXLAN_COLLECT_METADATA
-    26 ↪ exact 4 ⸴       -- IFLA_VXLAN_LABEL
-    27 ↪ presence ⸴      -- IFLA_VXLAN_GPE
-    28 ↪ at_most 1 ⸴     -- IFLA_VXLAN_TTL_INHERIT
-    29 ↪ exact 1 ⸴       -- IFLA_VXLAN_DF
+    26 ↪ exact 4 ⸴  -- IFLA_VXLAN_LABEL
+    27 ↪ presence ⸴  -- IFLA_VXLAN_GPE
+    28 ↪ at_most 1 ⸴  -- IFLA_VXLAN_TTL_INHERIT
+    29 ↪ exact 1 ⸴  -- IFLA_VXLAN_DF
     30 ↪ nonzero_byte ⸴  -- IFLA_VXLAN_VNIFILTER
     31 ↪ nonzero_byte ⸴  -- IFLA_VXLAN_LOCALBYPASS
-    32 ↪ exact 4 ⸴       -- IFLA_VXLAN_LABEL_POLICY
-    33 ↪ exact 8 ⸴       -- IFLA_VXLAN_RESERVED_BITS
+    32 ↪ exact 4 ⸴  -- IFLA_VXLAN_LABEL_POLICY
+    33 ↪ exact 8 ⸴  -- IFLA_VXLAN_RESERVED_BITS
     34 ↪ nonzero_byte ⸴  -- IFLA_VXLAN_MC_ROUTE
     end
 
 -- geneve: IFLA_GENEVE_*
 abbrev pub geneve : Table
 geneve =
-    1 ↪ exact 4 ⸴        -- IFLA_GENEVE_ID
-    2 ↪ exact 4 ⸴        -- IFLA_GENEVE_REMOTE
-    3 ↪ exact 1 ⸴        -- IFLA_GENEVE_TTL
-    4 ↪ exact 1 ⸴        -- IFLA_GENEVE_TOS
-    5 ↪ exact 2 ⸴        -- IFLA_GENEVE_PORT
-    6 ↪ presence ⸴       -- IFLA_GENEVE_COLLECT_METADATA
-    7 ↪ exact 16 ⸴       -- IFLA_GENEVE_REMOTE6
-    8 ↪ nonzero_byte ⸴   -- IFLA_GENEVE_UDP_CSUM
-    9 ↪ nonzero_byte ⸴   -- IFLA_GENEVE_UDP_ZERO_CSUM6_TX
+    1 ↪ exact 4 ⸴  -- IFLA_GENEVE_ID
+    2 ↪ exact 4 ⸴  -- IFLA_GENEVE_REMOTE
+    3 ↪ exact 1 ⸴  -- IFLA_GENEVE_TTL
+    4 ↪ exact 1 ⸴  -- IFLA_GENEVE_TOS
+    5 ↪ exact 2 ⸴  -- IFLA_GENEVE_PORT
+    6 ↪ presence ⸴  -- IFLA_GENEVE_COLLECT_METADATA
+    7 ↪ exact 16 ⸴  -- IFLA_GENEVE_REMOTE6
+    8 ↪ nonzero_byte ⸴  -- IFLA_GENEVE_UDP_CSUM
+    9 ↪ nonzero_byte ⸴  -- IFLA_GENEVE_UDP_ZERO_CSUM6_TX
     10 ↪ nonzero_byte ⸴  -- IFLA_GENEVE_UDP_ZERO_CSUM6_RX
-    11 ↪ exact 4 ⸴       -- IFLA_GENEVE_LABEL
+    11 ↪ exact 4 ⸴  -- IFLA_GENEVE_LABEL
     12 ↪ nonzero_byte ⸴  -- IFLA_GENEVE_TTL_INHERIT
-    13 ↪ exact 1 ⸴       -- IFLA_GENEVE_DF
-    14 ↪ presence ⸴      -- IFLA_GENEVE_INNER_PROTO_INHERIT
-    17 ↪ exact 4 ⸴       -- IFLA_GENEVE_LOCAL
-    18 ↪ exact 16 ⸴      -- IFLA_GENEVE_LOCAL6
+    13 ↪ exact 1 ⸴  -- IFLA_GENEVE_DF
+    14 ↪ presence ⸴  -- IFLA_GENEVE_INNER_PROTO_INHERIT
+    17 ↪ exact 4 ⸴  -- IFLA_GENEVE_LOCAL
+    18 ↪ exact 16 ⸴  -- IFLA_GENEVE_LOCAL6
     end
 
 -- bareudp: IFLA_BAREUDP_*
 abbrev pub bareudp : Table
 bareudp =
-    1 ↪ exact 2 ⸴   -- IFLA_BAREUDP_PORT
-    2 ↪ exact 2 ⸴   -- IFLA_BAREUDP_ETHERTYPE
-    3 ↪ exact 2 ⸴   -- IFLA_BAREUDP_SRCPORT_MIN
+    1 ↪ exact 2 ⸴  -- IFLA_BAREUDP_PORT
+    2 ↪ exact 2 ⸴  -- IFLA_BAREUDP_ETHERTYPE
+    3 ↪ exact 2 ⸴  -- IFLA_BAREUDP_SRCPORT_MIN
     4 ↪ presence ⸴  -- IFLA_BAREUDP_MULTIPROTO_MODE
     end
 
 -- gtp: IFLA_GTP_*
 abbrev pub gtp : Table
 gtp =
-    1 ↪ exact 4 ⸴       -- IFLA_GTP_FD0
-    2 ↪ exact 4 ⸴       -- IFLA_GTP_FD1
-    3 ↪ exact 4 ⸴       -- IFLA_GTP_PDP_HASHSIZE
-    4 ↪ exact 4 ⸴       -- IFLA_GTP_ROLE
+    1 ↪ exact 4 ⸴  -- IFLA_GTP_FD0
+    2 ↪ exact 4 ⸴  -- IFLA_GTP_FD1
+    3 ↪ exact 4 ⸴  -- IFLA_GTP_PDP_HASHSIZE
+    4 ↪ exact 4 ⸴  -- IFLA_GTP_ROLE
     5 ↪ nonzero_byte ⸴  -- IFLA_GTP_CREATE_SOCKETS
-    6 ↪ exact 1 ⸴       -- IFLA_GTP_RESTART_COUNT
-    7 ↪ exact 4 ⸴       -- IFLA_GTP_LOCAL
-    8 ↪ exact 16 ⸴      -- IFLA_GTP_LOCAL6
+    6 ↪ exact 1 ⸴  -- IFLA_GTP_RESTART_COUNT
+    7 ↪ exact 4 ⸴  -- IFLA_GTP_LOCAL
+    8 ↪ exact 16 ⸴  -- IFLA_GTP_LOCAL6
     end
 
 -- ipoib: IFLA_IPOIB_*
@@ -195,55 +195,55 @@ rmnet =
 -- ipip, sit, ip6tnl: IFLA_IPTUN_*; the kind of link determines the shape of the flags
 abbrev pub ip_tunnel : Shape → Table
 ip_tunnel flags =
-    1 ↪ exact 4 ⸴        -- IFLA_IPTUN_LINK
-    2 ↪ either 4 16 ⸴    -- IFLA_IPTUN_LOCAL
-    3 ↪ either 4 16 ⸴    -- IFLA_IPTUN_REMOTE
-    4 ↪ exact 1 ⸴        -- IFLA_IPTUN_TTL
-    5 ↪ exact 1 ⸴        -- IFLA_IPTUN_TOS
-    6 ↪ exact 1 ⸴        -- IFLA_IPTUN_ENCAP_LIMIT
-    7 ↪ exact 4 ⸴        -- IFLA_IPTUN_FLOWINFO
-    8 ↪ flags ⸴          -- IFLA_IPTUN_FLAGS
-    9 ↪ exact 1 ⸴        -- IFLA_IPTUN_PROTO
+    1 ↪ exact 4 ⸴  -- IFLA_IPTUN_LINK
+    2 ↪ either 4 16 ⸴  -- IFLA_IPTUN_LOCAL
+    3 ↪ either 4 16 ⸴  -- IFLA_IPTUN_REMOTE
+    4 ↪ exact 1 ⸴  -- IFLA_IPTUN_TTL
+    5 ↪ exact 1 ⸴  -- IFLA_IPTUN_TOS
+    6 ↪ exact 1 ⸴  -- IFLA_IPTUN_ENCAP_LIMIT
+    7 ↪ exact 4 ⸴  -- IFLA_IPTUN_FLOWINFO
+    8 ↪ flags ⸴  -- IFLA_IPTUN_FLAGS
+    9 ↪ exact 1 ⸴  -- IFLA_IPTUN_PROTO
     10 ↪ nonzero_byte ⸴  -- IFLA_IPTUN_PMTUDISC
-    11 ↪ exact 16 ⸴      -- IFLA_IPTUN_6RD_PREFIX
-    12 ↪ exact 4 ⸴       -- IFLA_IPTUN_6RD_RELAY_PREFIX
-    13 ↪ exact 2 ⸴       -- IFLA_IPTUN_6RD_PREFIXLEN
-    14 ↪ exact 2 ⸴       -- IFLA_IPTUN_6RD_RELAY_PREFIXLEN
-    15 ↪ exact 2 ⸴       -- IFLA_IPTUN_ENCAP_TYPE
-    16 ↪ exact 2 ⸴       -- IFLA_IPTUN_ENCAP_FLAGS
-    17 ↪ exact 2 ⸴       -- IFLA_IPTUN_ENCAP_SPORT
-    18 ↪ exact 2 ⸴       -- IFLA_IPTUN_ENCAP_DPORT
-    19 ↪ presence ⸴      -- IFLA_IPTUN_COLLECT_METADATA
-    20 ↪ exact 4 ⸴       -- IFLA_IPTUN_FWMARK
+    11 ↪ exact 16 ⸴  -- IFLA_IPTUN_6RD_PREFIX
+    12 ↪ exact 4 ⸴  -- IFLA_IPTUN_6RD_RELAY_PREFIX
+    13 ↪ exact 2 ⸴  -- IFLA_IPTUN_6RD_PREFIXLEN
+    14 ↪ exact 2 ⸴  -- IFLA_IPTUN_6RD_RELAY_PREFIXLEN
+    15 ↪ exact 2 ⸴  -- IFLA_IPTUN_ENCAP_TYPE
+    16 ↪ exact 2 ⸴  -- IFLA_IPTUN_ENCAP_FLAGS
+    17 ↪ exact 2 ⸴  -- IFLA_IPTUN_ENCAP_SPORT
+    18 ↪ exact 2 ⸴  -- IFLA_IPTUN_ENCAP_DPORT
+    19 ↪ presence ⸴  -- IFLA_IPTUN_COLLECT_METADATA
+    20 ↪ exact 4 ⸴  -- IFLA_IPTUN_FWMARK
     end
 
 -- IFLA_GRE_*, up to the kinds that depend on what is tunnelled over, with the size of an address
 abbrev pub gre_ends : ℕ → Table → Table
 gre_ends size more =
-    1 ↪ exact 4 ⸴     -- IFLA_GRE_LINK
-    2 ↪ exact 2 ⸴     -- IFLA_GRE_IFLAGS
-    3 ↪ exact 2 ⸴     -- IFLA_GRE_OFLAGS
-    4 ↪ exact 4 ⸴     -- IFLA_GRE_IKEY
-    5 ↪ exact 4 ⸴     -- IFLA_GRE_OKEY
+    1 ↪ exact 4 ⸴  -- IFLA_GRE_LINK
+    2 ↪ exact 2 ⸴  -- IFLA_GRE_IFLAGS
+    3 ↪ exact 2 ⸴  -- IFLA_GRE_OFLAGS
+    4 ↪ exact 4 ⸴  -- IFLA_GRE_IKEY
+    5 ↪ exact 4 ⸴  -- IFLA_GRE_OKEY
     6 ↪ exact size ⸴  -- IFLA_GRE_LOCAL
     7 ↪ exact size ⸴  -- IFLA_GRE_REMOTE
-    8 ↪ exact 1 ⸴     -- IFLA_GRE_TTL
-    9 ↪ exact 1 ⸴     -- IFLA_GRE_TOS
+    8 ↪ exact 1 ⸴  -- IFLA_GRE_TTL
+    9 ↪ exact 1 ⸴  -- IFLA_GRE_TOS
     more
 
 -- IFLA_GRE_*, after the kinds that depend on it
 abbrev pub gre_wrapping : Table
 gre_wrapping =
-    14 ↪ exact 2 ⸴   -- IFLA_GRE_ENCAP_TYPE
-    15 ↪ exact 2 ⸴   -- IFLA_GRE_ENCAP_FLAGS
-    16 ↪ exact 2 ⸴   -- IFLA_GRE_ENCAP_SPORT
-    17 ↪ exact 2 ⸴   -- IFLA_GRE_ENCAP_DPORT
+    14 ↪ exact 2 ⸴  -- IFLA_GRE_ENCAP_TYPE
+    15 ↪ exact 2 ⸴  -- IFLA_GRE_ENCAP_FLAGS
+    16 ↪ exact 2 ⸴  -- IFLA_GRE_ENCAP_SPORT
+    17 ↪ exact 2 ⸴  -- IFLA_GRE_ENCAP_DPORT
     18 ↪ presence ⸴  -- IFLA_GRE_COLLECT_METADATA
-    20 ↪ exact 4 ⸴   -- IFLA_GRE_FWMARK
-    21 ↪ exact 4 ⸴   -- IFLA_GRE_ERSPAN_INDEX
-    22 ↪ exact 1 ⸴   -- IFLA_GRE_ERSPAN_VER
-    23 ↪ exact 1 ⸴   -- IFLA_GRE_ERSPAN_DIR
-    24 ↪ exact 2 ⸴   -- IFLA_GRE_ERSPAN_HWID
+    20 ↪ exact 4 ⸴  -- IFLA_GRE_FWMARK
+    21 ↪ exact 4 ⸴  -- IFLA_GRE_ERSPAN_INDEX
+    22 ↪ exact 1 ⸴  -- IFLA_GRE_ERSPAN_VER
+    23 ↪ exact 1 ⸴  -- IFLA_GRE_ERSPAN_DIR
+    24 ↪ exact 2 ⸴  -- IFLA_GRE_ERSPAN_HWID
     end
 
 -- gre, gretap, erspan: IFLA_GRE_* over IPv4, where path MTU discovery is on for the byte 1 alone
@@ -264,12 +264,12 @@ gre6 =
 -- vti, vti6: IFLA_VTI_*
 abbrev pub vti : Table
 vti =
-    1 ↪ exact 4 ⸴      -- IFLA_VTI_LINK
-    2 ↪ exact 4 ⸴      -- IFLA_VTI_IKEY
-    3 ↪ exact 4 ⸴      -- IFLA_VTI_OKEY
+    1 ↪ exact 4 ⸴  -- IFLA_VTI_LINK
+    2 ↪ exact 4 ⸴  -- IFLA_VTI_IKEY
+    3 ↪ exact 4 ⸴  -- IFLA_VTI_OKEY
     4 ↪ either 4 16 ⸴  -- IFLA_VTI_LOCAL
     5 ↪ either 4 16 ⸴  -- IFLA_VTI_REMOTE
-    6 ↪ exact 4 ⸴      -- IFLA_VTI_FWMARK
+    6 ↪ exact 4 ⸴  -- IFLA_VTI_FWMARK
     end
 
 -- ---- headers of one kind: amt.h, batman_adv.h, veth.h, wwan.h
@@ -277,14 +277,14 @@ vti =
 -- amt: IFLA_AMT_*
 abbrev pub amt : Table
 amt =
-    1 ↪ exact 4 ⸴      -- IFLA_AMT_MODE
-    2 ↪ exact 2 ⸴      -- IFLA_AMT_RELAY_PORT
-    3 ↪ exact 2 ⸴      -- IFLA_AMT_GATEWAY_PORT
-    4 ↪ exact 4 ⸴      -- IFLA_AMT_LINK
+    1 ↪ exact 4 ⸴  -- IFLA_AMT_MODE
+    2 ↪ exact 2 ⸴  -- IFLA_AMT_RELAY_PORT
+    3 ↪ exact 2 ⸴  -- IFLA_AMT_GATEWAY_PORT
+    4 ↪ exact 4 ⸴  -- IFLA_AMT_LINK
     5 ↪ either 4 16 ⸴  -- IFLA_AMT_LOCAL_IP
     6 ↪ either 4 16 ⸴  -- IFLA_AMT_REMOTE_IP
     7 ↪ either 4 16 ⸴  -- IFLA_AMT_DISCOVERY_IP
-    8 ↪ exact 4 ⸴      -- IFLA_AMT_MAX_TUNNELS
+    8 ↪ exact 4 ⸴  -- IFLA_AMT_MAX_TUNNELS
     end
 
 -- batadv: IFLA_BATADV_*
@@ -322,8 +322,8 @@ each_of s (n ∷ names) ns = name n s (each_of s names ns)
 abbrev pub kinds : Names
 kinds =
     each_of (list any untyped)
-        (codes "bridge" ∷ codes "tun" ∷ codes "vlan" ∷ codes "bond" ∷ codes "wireguard" ∷ codes "hsr" ∷ codes "can" ∷
-        codes "dsa" ∷ [])
+    (codes "bridge" ∷ codes "tun" ∷ codes "vlan" ∷ codes "bond" ∷ codes "wireguard" ∷ codes "hsr" ∷ codes "can" ∷
+    codes "dsa" ∷ [])
     (each_of (list any ipvlan) (codes "ipvlan" ∷ codes "ipvtap" ∷ [])
     (each_of (list any vti) (codes "vti" ∷ codes "vti6" ∷ [])
     (name (codes "vrf") (list any vrf)

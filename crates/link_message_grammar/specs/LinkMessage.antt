@@ -51,69 +51,69 @@ with_protocol other t = t
 -- the rows before IFLA_PROTINFO, and others after them
 abbrev pub below_protocol : Table → Table
 below_protocol t =
-    1 ↪ raw ⸴         -- IFLA_ADDRESS
-    2 ↪ raw ⸴         -- IFLA_BROADCAST
-    3 ↪ text ⸴        -- IFLA_IFNAME
-    4 ↪ exact 4 ⸴     -- IFLA_MTU
-    5 ↪ exact 4 ⸴     -- IFLA_LINK
-    6 ↪ text ⸴        -- IFLA_QDISC
+    1 ↪ raw ⸴  -- IFLA_ADDRESS
+    2 ↪ raw ⸴  -- IFLA_BROADCAST
+    3 ↪ text ⸴  -- IFLA_IFNAME
+    4 ↪ exact 4 ⸴  -- IFLA_MTU
+    5 ↪ exact 4 ⸴  -- IFLA_LINK
+    6 ↪ text ⸴  -- IFLA_QDISC
     7 ↠ resized 96 ⸴  -- IFLA_STATS
-    10 ↪ exact 4 ⸴    -- IFLA_MASTER
+    10 ↪ exact 4 ⸴  -- IFLA_MASTER
     t
 
 -- the rows after IFLA_PROTINFO
 abbrev pub above_protocol : Family → Table
 above_protocol f =
-    13 ↪ exact 4 ⸴                        -- IFLA_TXQLEN
-    14 ↪ fixed_record 28 32 ⸴             -- IFLA_MAP
-    16 ↪ exact 1 ⸴                        -- IFLA_OPERSTATE
-    17 ↪ exact 1 ⸴                        -- IFLA_LINKMODE
-    18 ↠ info ⸴                           -- IFLA_LINKINFO
-    19 ↪ exact 4 ⸴                        -- IFLA_NET_NS_PID
-    20 ↪ text ⸴                           -- IFLA_IFALIAS
-    21 ↪ exact 4 ⸴                        -- IFLA_NUM_VF
-    22 ↠ list of_kind_one vf_infos ⸴      -- IFLA_VFINFO_LIST
-    23 ↠ resized 200 ⸴                    -- IFLA_STATS64
-    24 ↠ list ports vf_ports ⸴            -- IFLA_VF_PORTS
-    25 ↠ raw_list ⸴                       -- IFLA_PORT_SELF
-    26 ↠ family_payload f ⸴               -- IFLA_AF_SPEC
-    27 ↪ exact 4 ⸴                        -- IFLA_GROUP
-    28 ↪ exact 4 ⸴                        -- IFLA_NET_NS_FD
-    29 ↪ exact 4 ⸴                        -- IFLA_EXT_MASK
-    30 ↪ exact 4 ⸴                        -- IFLA_PROMISCUITY
-    31 ↪ exact 4 ⸴                        -- IFLA_NUM_TX_QUEUES
-    32 ↪ exact 4 ⸴                        -- IFLA_NUM_RX_QUEUES
-    33 ↪ exact 1 ⸴                        -- IFLA_CARRIER
-    34 ↪ raw ⸴                            -- IFLA_PHYS_PORT_ID
-    35 ↪ exact 4 ⸴                        -- IFLA_CARRIER_CHANGES
-    36 ↪ raw ⸴                            -- IFLA_PHYS_SWITCH_ID
-    37 ↪ exact 4 ⸴                        -- IFLA_LINK_NETNSID
-    38 ↪ text ⸴                           -- IFLA_PHYS_PORT_NAME
-    39 ↪ exact 1 ⸴                        -- IFLA_PROTO_DOWN
-    40 ↪ exact 4 ⸴                        -- IFLA_GSO_MAX_SEGS
-    41 ↪ exact 4 ⸴                        -- IFLA_GSO_MAX_SIZE
-    43 ↠ list any xdp ⸴                   -- IFLA_XDP
-    44 ↪ exact 4 ⸴                        -- IFLA_EVENT
-    45 ↪ exact 4 ⸴                        -- IFLA_NEW_NETNSID
-    46 ↪ exact 4 ⸴                        -- IFLA_IF_NETNSID
-    47 ↪ exact 4 ⸴                        -- IFLA_CARRIER_UP_COUNT
-    48 ↪ exact 4 ⸴                        -- IFLA_CARRIER_DOWN_COUNT
-    49 ↪ exact 4 ⸴                        -- IFLA_NEW_IFINDEX
-    50 ↪ exact 4 ⸴                        -- IFLA_MIN_MTU
-    51 ↪ exact 4 ⸴                        -- IFLA_MAX_MTU
-    52 ⇉ list any props ⸴                 -- IFLA_PROP_LIST
-    54 ↪ raw ⸴                            -- IFLA_PERM_ADDRESS
+    13 ↪ exact 4 ⸴  -- IFLA_TXQLEN
+    14 ↪ fixed_record 28 32 ⸴  -- IFLA_MAP
+    16 ↪ exact 1 ⸴  -- IFLA_OPERSTATE
+    17 ↪ exact 1 ⸴  -- IFLA_LINKMODE
+    18 ↠ info ⸴  -- IFLA_LINKINFO
+    19 ↪ exact 4 ⸴  -- IFLA_NET_NS_PID
+    20 ↪ text ⸴  -- IFLA_IFALIAS
+    21 ↪ exact 4 ⸴  -- IFLA_NUM_VF
+    22 ↠ list of_kind_one vf_infos ⸴  -- IFLA_VFINFO_LIST
+    23 ↠ resized 200 ⸴  -- IFLA_STATS64
+    24 ↠ list ports vf_ports ⸴  -- IFLA_VF_PORTS
+    25 ↠ raw_list ⸴  -- IFLA_PORT_SELF
+    26 ↠ family_payload f ⸴  -- IFLA_AF_SPEC
+    27 ↪ exact 4 ⸴  -- IFLA_GROUP
+    28 ↪ exact 4 ⸴  -- IFLA_NET_NS_FD
+    29 ↪ exact 4 ⸴  -- IFLA_EXT_MASK
+    30 ↪ exact 4 ⸴  -- IFLA_PROMISCUITY
+    31 ↪ exact 4 ⸴  -- IFLA_NUM_TX_QUEUES
+    32 ↪ exact 4 ⸴  -- IFLA_NUM_RX_QUEUES
+    33 ↪ exact 1 ⸴  -- IFLA_CARRIER
+    34 ↪ raw ⸴  -- IFLA_PHYS_PORT_ID
+    35 ↪ exact 4 ⸴  -- IFLA_CARRIER_CHANGES
+    36 ↪ raw ⸴  -- IFLA_PHYS_SWITCH_ID
+    37 ↪ exact 4 ⸴  -- IFLA_LINK_NETNSID
+    38 ↪ text ⸴  -- IFLA_PHYS_PORT_NAME
+    39 ↪ exact 1 ⸴  -- IFLA_PROTO_DOWN
+    40 ↪ exact 4 ⸴  -- IFLA_GSO_MAX_SEGS
+    41 ↪ exact 4 ⸴  -- IFLA_GSO_MAX_SIZE
+    43 ↠ list any xdp ⸴  -- IFLA_XDP
+    44 ↪ exact 4 ⸴  -- IFLA_EVENT
+    45 ↪ exact 4 ⸴  -- IFLA_NEW_NETNSID
+    46 ↪ exact 4 ⸴  -- IFLA_IF_NETNSID
+    47 ↪ exact 4 ⸴  -- IFLA_CARRIER_UP_COUNT
+    48 ↪ exact 4 ⸴  -- IFLA_CARRIER_DOWN_COUNT
+    49 ↪ exact 4 ⸴  -- IFLA_NEW_IFINDEX
+    50 ↪ exact 4 ⸴  -- IFLA_MIN_MTU
+    51 ↪ exact 4 ⸴  -- IFLA_MAX_MTU
+    52 ⇉ list any props ⸴  -- IFLA_PROP_LIST
+    54 ↪ raw ⸴  -- IFLA_PERM_ADDRESS
     55 ⇉ list any protocol_down_reason ⸴  -- IFLA_PROTO_DOWN_REASON
-    56 ↪ text ⸴                           -- IFLA_PARENT_DEV_NAME
-    57 ↪ text ⸴                           -- IFLA_PARENT_DEV_BUS_NAME
-    58 ↪ exact 4 ⸴                        -- IFLA_GRO_MAX_SIZE
-    59 ↪ exact 4 ⸴                        -- IFLA_TSO_MAX_SIZE
-    60 ↪ exact 4 ⸴                        -- IFLA_TSO_MAX_SEGS
-    61 ↪ exact 4 ⸴                        -- IFLA_ALLMULTI
-    62 ⇉ list any devlink_port ⸴          -- IFLA_DEVLINK_PORT
-    63 ↪ exact 4 ⸴                        -- IFLA_GSO_IPV4_MAX_SIZE
-    64 ↪ exact 4 ⸴                        -- IFLA_GRO_IPV4_MAX_SIZE
-    65 ⇉ list any dpll_pin ⸴              -- IFLA_DPLL_PIN
+    56 ↪ text ⸴  -- IFLA_PARENT_DEV_NAME
+    57 ↪ text ⸴  -- IFLA_PARENT_DEV_BUS_NAME
+    58 ↪ exact 4 ⸴  -- IFLA_GRO_MAX_SIZE
+    59 ↪ exact 4 ⸴  -- IFLA_TSO_MAX_SIZE
+    60 ↪ exact 4 ⸴  -- IFLA_TSO_MAX_SEGS
+    61 ↪ exact 4 ⸴  -- IFLA_ALLMULTI
+    62 ⇉ list any devlink_port ⸴  -- IFLA_DEVLINK_PORT
+    63 ↪ exact 4 ⸴  -- IFLA_GSO_IPV4_MAX_SIZE
+    64 ↪ exact 4 ⸴  -- IFLA_GRO_IPV4_MAX_SIZE
+    65 ⇉ list any dpll_pin ⸴  -- IFLA_DPLL_PIN
     end
 
 -- IFLA_* under a family; a kind that isn't listed is a raw attribute

@@ -35,14 +35,14 @@ inet =
 -- IFLA_AF_SPEC, of IPv6: IFLA_INET6_*
 abbrev pub inet6 : Table
 inet6 =
-    1 ↪ exact 4 ⸴             -- IFLA_INET6_FLAGS
-    2 ↠ resized 236 ⸴         -- IFLA_INET6_CONF
-    3 ↠ resized 304 ⸴         -- IFLA_INET6_STATS
+    1 ↪ exact 4 ⸴  -- IFLA_INET6_FLAGS
+    2 ↠ resized 236 ⸴  -- IFLA_INET6_CONF
+    3 ↠ resized 304 ⸴  -- IFLA_INET6_STATS
     5 ↪ fixed_record 16 16 ⸴  -- IFLA_INET6_CACHEINFO
-    6 ↠ resized 56 ⸴          -- IFLA_INET6_ICMP6STATS
-    7 ↪ exact 16 ⸴            -- IFLA_INET6_TOKEN
-    8 ↪ exact 1 ⸴             -- IFLA_INET6_ADDR_GEN_MODE
-    9 ↪ exact 4 ⸴             -- IFLA_INET6_RA_MTU
+    6 ↠ resized 56 ⸴  -- IFLA_INET6_ICMP6STATS
+    7 ↪ exact 16 ⸴  -- IFLA_INET6_TOKEN
+    8 ↪ exact 1 ⸴  -- IFLA_INET6_ADDR_GEN_MODE
+    9 ↪ exact 4 ⸴  -- IFLA_INET6_RA_MTU
     end
 
 -- IFLA_VF_STATS: IFLA_VF_STATS_*
@@ -67,16 +67,16 @@ vf_vlans =
 -- IFLA_VF_INFO, of one virtual function: IFLA_VF_*
 abbrev pub vf : Table
 vf =
-    1 ↪ fixed_record 36 36 ⸴   -- IFLA_VF_MAC
-    2 ↪ fixed_record 12 12 ⸴   -- IFLA_VF_VLAN
-    3 ↪ fixed_record 8 8 ⸴     -- IFLA_VF_TX_RATE
-    4 ↪ id_and_truth ⸴         -- IFLA_VF_SPOOFCHK
-    5 ↪ fixed_record 8 8 ⸴     -- IFLA_VF_LINK_STATE
-    6 ↪ fixed_record 12 12 ⸴   -- IFLA_VF_RATE
-    7 ↪ id_and_truth ⸴         -- IFLA_VF_RSS_QUERY_EN
-    8 ↠ list any vf_stats ⸴    -- IFLA_VF_STATS
-    9 ↪ id_and_truth ⸴         -- IFLA_VF_TRUST
-    12 ↠ list any vf_vlans ⸴   -- IFLA_VF_VLAN_LIST
+    1 ↪ fixed_record 36 36 ⸴  -- IFLA_VF_MAC
+    2 ↪ fixed_record 12 12 ⸴  -- IFLA_VF_VLAN
+    3 ↪ fixed_record 8 8 ⸴  -- IFLA_VF_TX_RATE
+    4 ↪ id_and_truth ⸴  -- IFLA_VF_SPOOFCHK
+    5 ↪ fixed_record 8 8 ⸴  -- IFLA_VF_LINK_STATE
+    6 ↪ fixed_record 12 12 ⸴  -- IFLA_VF_RATE
+    7 ↪ id_and_truth ⸴  -- IFLA_VF_RSS_QUERY_EN
+    8 ↠ list any vf_stats ⸴  -- IFLA_VF_STATS
+    9 ↪ id_and_truth ⸴  -- IFLA_VF_TRUST
+    12 ↠ list any vf_vlans ⸴  -- IFLA_VF_VLAN_LIST
     13 ↪ fixed_record 32 32 ⸴  -- IFLA_VF_BROADCAST
     end
 
@@ -117,8 +117,8 @@ mctp =
 -- IFLA_DEVLINK_PORT: DEVLINK_ATTR_* (devlink.h)
 abbrev pub devlink_port : Table
 devlink_port =
-    1 ↪ text ⸴     -- DEVLINK_ATTR_BUS_NAME
-    2 ↪ text ⸴     -- DEVLINK_ATTR_DEV_NAME
+    1 ↪ text ⸴  -- DEVLINK_ATTR_BUS_NAME
+    2 ↪ text ⸴  -- DEVLINK_ATTR_DEV_NAME
     3 ↪ exact 4 ⸴  -- DEVLINK_ATTR_PORT_INDEX
     end
 
@@ -131,7 +131,7 @@ dpll_pin =
 -- IFLA_AF_SPEC under AF_UNSPEC: a list for each address family, by its number (AF_*, linux/socket.h)
 abbrev pub specific : Table
 specific =
-    2 ↠ list any inet ⸴    -- AF_INET
+    2 ↠ list any inet ⸴  -- AF_INET
     10 ↠ list any inet6 ⸴  -- AF_INET6
-    45 ↠ list any mctp ⸴   -- AF_MCTP
+    45 ↠ list any mctp ⸴  -- AF_MCTP
     end

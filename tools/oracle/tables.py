@@ -258,7 +258,7 @@ def in_force(words, at, rows):
 
 
 def row(words, context=None):
-    """The row that a column of rows.tsv tells."""
+    """The row of a column of rows.tsv."""
     name, *more = words.split(" ")
     if name == "raw_list":
         return ListRow(TABLES["raw"], context)

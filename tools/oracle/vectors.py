@@ -39,7 +39,7 @@ def labelled():
         if not space or kind not in KINDS:
             raise ValueError(at + "no kind of case: %s" % line[:60])
         if KINDS.index(kind) < KINDS.index(last):
-            raise ValueError(at + "%s behind %s" % (kind, last))
+            raise ValueError(at + "%s after %s" % (kind, last))
         if label is None or of not in (None, kind):
             raise ValueError(at + "a case of %s without a label" % kind)
         last = of = kind
@@ -64,9 +64,9 @@ def shown(told):
 
 def place(number):
     """(number of its line, label) of the case whose answer has a line of crates/vectors/stdout; None past the last."""
-    told = (answer for kind in KINDS for answer in answers(kind))
+    results = (answer for kind in KINDS for answer in answers(kind))
     for line, label, _, _ in labelled():
-        number -= next(told, "").count("\n")
+        number -= next(results, "").count("\n")
         if number <= 0:
             return line, label
     return None

@@ -7,7 +7,7 @@ use Rattle.attribute_tables_grammar.specs.Lists.{any}
 use Rattle.attribute_tables_grammar.specs.Tables.{Payload, Payload.plain, Payload.list, Table, Table.end}
 use Rattle.attribute_tables_grammar.specs.Rows.{◌↪◌, ◌↠◌, ◌⸴◌, raw_list}
 
--- a payload of the shape `resized n`, which a check unfolds only where it is told to: its rule shows n zeros
+-- a payload of the shape `resized n`, unfolded only by proofs that ask for it, since its rule shows n zeros
 unfoldable pub resized : ℕ → Payload
 resized n = plain (shapes.resized n)
 

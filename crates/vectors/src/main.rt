@@ -1,5 +1,5 @@
-// vectors: answers cases on standard input, one in a line behind the word of its kind, in groups that each follow a line
-// with their label. What is answered otherwise by another call, or in pieces, ends the program.
+// vectors: computes the results of cases on standard input, one a line after the word of its kind, in groups that each
+// follow a line with their label. A case with another result by another call, or in pieces, ends the program.
 #![tactic(auto)]
 
 mod cases;
@@ -31,8 +31,8 @@ fn answer_line<W: Write>(alloc: Global, line: &str, out: &mut W) -> io::Result<(
 fn reason(error: &io::Error) -> &'static str {
     match error.kind() {
         ErrorKind::InvalidInput => "not a case",
-        ErrorKind::InvalidData => "another call answers otherwise",
-        _ => "can't be answered",
+        ErrorKind::InvalidData => "another call has another result",
+        _ => "no result",
     }
 }
 

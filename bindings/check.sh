@@ -51,10 +51,11 @@ block() {
     awk -v fence="\`\`\`$1" '$0 == fence { inside = 1; next } inside && $0 == "```" { exit } inside' "$page"
 }
 
-# Cuts the stored cases and answers of a kind out into files. Answers of `show`, the last kind, have several lines.
+# Writes the stored cases and results of a kind to files, without labels (lines of `# `). Results of `show`, the last
+# kind, have several lines.
 cut_vectors() {
     local kind=$1 first last='$'
-    first=$(($(sed "/^$kind /,\$d" crates/vectors/stdin | wc -l) + 1))
+    first=$(($(sed "/^$kind /,\$d; /^# /d" crates/vectors/stdin | wc -l) + 1))
     sed -n "s/^$kind //p" crates/vectors/stdin > "$work/$kind.cases"
     [ "$kind" = show ] || last=$((first - 1 + $(wc -l < "$work/$kind.cases")))
     sed -n "$first,${last}p" crates/vectors/stdout > "$work/$kind.answers"

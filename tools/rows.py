@@ -2,7 +2,8 @@
 """Writes docs/rows.md, the rows of all tables, from the lists that the interpreter and linkshow are made of.
 
     tools/rows.py            writes the page
-    tools/rows.py --check    ends with 1 where the page isn't what the lists say
+    tools/rows.py --check    ends with 1 if the page isn't what the lists say, or a comment of the grammar names
+                             another attribute than the list
 
 The lists are src/message_lists.rt and src/info_lists.rt of link_tables, their order that of src/table_rows.rt, and the names of
 kinds those of src/kinds.rt there. A row's variant is that of its type's enum whose docstring begins
@@ -17,34 +18,27 @@ TOP = os.path.join(os.path.dirname(os.path.abspath(__file__)), "..")
 PAGE = os.path.join(TOP, "docs", "rows.md")
 HEAD = """# The rows of all tables
 
-`tools/rows.py` writes this page from the source: kinds, names and payloads from `src/message_lists.rt` and `src/info_lists.rt` of `link_tables`, the variants of a table's type from its `enum`. A kind that a table doesn't list is a raw attribute, `Other(DefaultNla)`: any payload is accepted, and all 16 bits of the kind are kept. A table has its type, the prefix of its names and their header, then its kinds, each with name and variant, and behind a colon type and payload. Numbers are little-endian unless told. [shapes.md](shapes.md) has what the payloads mean, [attributes.md](attributes.md) what a list, ports and a peer are; *written nested* is a kind that is written with the nested bit. A record is a struct of its name, whose docstring has its bytes.
+`tools/rows.py` writes this page from the source: kinds, names and payloads from `src/message_lists.rt` and `src/info_lists.rt` of `link_tables`, the variants of a table's type from its `enum`. A kind that a table doesn't list is a raw attribute, `Other(DefaultNla)`: any payload is accepted, and all 16 bits of the kind are kept. A table has its type, the prefix of its names and their header, then its kinds, each with name and variant, and after a colon its type and, where the type doesn't determine it, the [shape](shapes.md) of its payload. Numbers are little-endian unless it says big-endian. [attributes.md](attributes.md) has what a list, ports and a peer are; *written nested* is a kind that is written with the nested bit. A record is a struct of its name, whose docstring has its bytes.
 """
-# The payload behind its type, where the type doesn't say it.
-SHAPES = {
-    "NonzeroByte": "a truth of 1 byte",
-    "OneByte": "1 byte, of which 1 alone is true",
-    "TruthOfFour": "a truth of 4 bytes",
-    "Presence": "presence",
-    "Text": "text",
-    "Raw": "any bytes",
-    "IdAndTruth": "4 bytes and a truth of 4",
+# Payloads without a shape.
+PAYLOADS = {
     "Peer": "a peer",
     "LinkInfo": "[link info](link_info.md), not empty",
 }
 FORMS = {"Any": "a list", "OfKindOne": "a list of kind 1", "Ports": "ports", "NonEmpty": "a list with an attribute"}
-# The types whose values tell the size of the payload themselves.
-SIZED = {
-    "u8": "1 byte",
-    "u16": "2 bytes",
-    "u32": "4 bytes",
-    "i32": "4 bytes",
-    "u64": "8 bytes",
-    "[u8; 6]": "6 bytes",
-    "Ipv4Addr": "4 bytes",
-    "Ipv6Addr": "16 bytes",
-    "IpAddr": "4 or 16 bytes",
+# The types that determine the shape.
+SHAPES = {
+    "u8": "exact 1",
+    "u16": "exact 2",
+    "u32": "exact 4",
+    "i32": "exact 4",
+    "u64": "exact 8",
+    "[u8; 6]": "exact 6",
+    "Ipv4Addr": "exact 4",
+    "Ipv6Addr": "exact 16",
+    "IpAddr": "either 4 16",
     "String": "text",
-    "Vec<u8>": "any bytes",
+    "Vec<u8>": "raw",
 }
 # The types of tables whose lists have another name.
 TYPES = {
@@ -77,21 +71,15 @@ AS_OF = {"ip6_tunnel": "ip4_tunnel", "macvlan_address": "macvlan", "link_bridge"
 
 
 def words(held, tables):
-    shape = re.fullmatch(r"(\w+)\((.*)\)", held)
-    if not shape:
-        return SHAPES[held]
-    name, numbers = shape[1], shape[2].split(", ")
+    """What a payload holds: a list, or its shape as the specs write it."""
+    if held in PAYLOADS:
+        return PAYLOADS[held]
+    name, numbers = re.fullmatch(r"(\w+)(?:\((.*)\))?", held).groups()
+    numbers = numbers.split(", ") if numbers else []
     if name == "List":
         inside = numbers[1].lower()
         return FORMS[numbers[0]] + (f" of `{inside}`" if inside in tables else " of raw attributes")
-    if name == "Exact":
-        return "1 byte" if numbers == ["1"] else f"{numbers[0]} bytes"
-    return {
-        "Either": "{0} or {1} bytes",
-        "AtMost": "at most {0} byte",
-        "FixedRecord": "at least {0} bytes, written as {1}",
-        "Resized": "{0} bytes, cut or filled up",
-    }[name].format(*numbers)
+    return f"`{' '.join([re.sub('(?<!^)(?=[A-Z])', '_', name).lower(), *numbers])}`"
 
 
 def enums():
@@ -137,7 +125,7 @@ def payload_of(row, kinds, tables):
     out = " or ".join(f"`{kind}`" if kind else "none" for kind in types)
     if out == "none":
         out = told
-    elif not types or not all(SIZED.get(kind) == told for kind in types):
+    elif not types or not all(f"`{SHAPES.get(kind)}`" == told for kind in types):
         out = ", ".join(part for part in (out, told) if part)
     if re.match("BigEndian|PortRange", shown) or (shown == "FlagsBySize" and held == "Exact(2)"):
         out += ", big-endian"
@@ -224,6 +212,53 @@ def lines_of(name, called, comment, rows, tables, of_all):
         yield f"  - {names}: {payload}"
 
 
+# The definitions of the grammar whose rows make up a list, where there is not one of its name.
+PARTS = {
+    "gre": ("gre_ends", "gre", "gre_wrapping"),
+    "gre6": ("gre_ends", "gre6", "gre_wrapping"),
+    "ip4_tunnel": ("ip_tunnel",),
+    "ip6_tunnel": ("ip_tunnel",),
+    "link_bridge": ("below_protocol", "with_protocol", "above_protocol"),
+    "link_inet6": ("below_protocol", "with_protocol", "above_protocol"),
+    "link_other": ("below_protocol", "above_protocol"),
+    "link_unspec": ("below_protocol", "above_protocol"),
+    "macvlan": ("macvlan_before_addresses", "macvlan", "macvlan_after_addresses"),
+    "macvlan_address": ("macvlan_before_addresses", "macvlan_after_addresses"),
+    "veth": ("pair",),
+    "vxcan": ("pair",),
+}
+
+
+def grammar_of(crate):
+    """The kind and the comment of each row of each definition in a crate's specs."""
+    found = {}
+    for path in glob.glob(os.path.join(TOP, "crates", crate, "specs", "*.antt")):
+        name = None
+        for line in open(path, encoding="utf-8"):
+            name = (re.match(r"abbrev pub (\w+) :", line) or [None, name])[1]
+            row = re.match(r"    (\d+) [↪↠⇉] .* ⸴(?:\s+-- (.*))?$", line)
+            if row:
+                found.setdefault(name, set()).add((row[1], row[2]))
+    return found
+
+
+def misnamed(file, grammar_crate):
+    """What the comments of the grammar's rows name otherwise than the lists of a file."""
+    lists, grammar = lists_of(file), grammar_of(grammar_crate)
+    for name in tables_of(lists):
+        listed = {(kind, title) for kind, title, *_ in rows_of(name, lists)}
+        named = {
+            (kind, title)
+            for part in PARTS.get(name, (name,))
+            for kind, titles in grammar.get(part, ())
+            for title in (titles or "no name").split(", ")
+        }
+        # the data of veth and vxcan are one table, whose row has both names
+        named = {row for row in named if row in listed or name not in ("veth", "vxcan")}
+        for kind, title in sorted(listed ^ named):
+            yield f"{grammar_crate}: {name}, kind {kind}: {title} is in {'the list' if (kind, title) in listed else 'a comment'} alone"
+
+
 def page():
     out, of_all, kinds = [HEAD], enums(), kinds_of()
     for title, file in (("Link messages", "message_lists.rt"), ("Data of links and of ports", "info_lists.rt")):
@@ -248,7 +283,11 @@ def page():
 def main():
     wanted = page()
     if sys.argv[1:] == ["--check"]:
-        sys.exit(0 if open(PAGE, encoding="utf-8").read() == wanted else 1)
+        wrong = [*misnamed("message_lists.rt", "link_message_grammar"), *misnamed("info_lists.rt", "link_info_grammar")]
+        if open(PAGE, encoding="utf-8").read() != wanted:
+            wrong.append("docs/rows.md isn't what the lists say: tools/rows.py writes it")
+        print("\n".join(wrong), end="\n" if wrong else "")
+        sys.exit(1 if wrong else 0)
     with open(PAGE, "w", encoding="utf-8") as file:
         file.write(wanted)
 

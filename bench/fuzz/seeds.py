@@ -35,7 +35,7 @@ def captures():
 
 def dictionary():
     """Entries of libFuzzer's dictionaries."""
-    for name in sorted(tables.KIND_DATA):
+    for name in sorted(tables.DATA_ROWS):
         yield name.encode()
         yield name.encode() + b"\0"
     for kind in range(1, 80):

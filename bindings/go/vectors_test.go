@@ -28,15 +28,19 @@ var outcome = regexp.MustCompile(`^(legal|[a-z][a-z0-9 ]* at [0-9]+)\n$`)
 // kind, have several lines.
 func vectorsOf(t *testing.T, kind string) []vector {
 	t.Helper()
-	cases := strings.Split(string(read(t, "crates/vectors/stdin")), "\n")
+	lines := strings.Split(string(read(t, "crates/vectors/stdin")), "\n")
 	answers := strings.SplitAfter(string(read(t, "crates/vectors/stdout")), "\n")
 	var found []vector
-	start := 0
-	for i, line := range cases {
+	start, cases := 0, 0
+	for _, line := range lines {
 		words := strings.Split(line, " ")
+		if words[0] == "#" {
+			continue
+		}
+		cases++
 		if words[0] == kind {
 			found = append(found, vectorOf(t, kind, words[1:]))
-			start = i + 1 - len(found)
+			start = cases - len(found)
 		}
 	}
 	if len(found) == 0 {

@@ -3,11 +3,14 @@
 
     tools/oracle/answers.py
     tools/oracle/answers.py --check [KIND..]
+    tools/oracle/answers.py --line N
 
-Reads crates/vectors/stdin, a case in a line behind the word of its kind, and writes
-crates/vectors/stdout. With --check it writes nothing, and says what differs from
-what is stored: of these kinds, or of all. The status is 1 where something differs,
-and 2 for a line that is no case.
+Reads crates/vectors/stdin, a case in a line behind the word of its kind, after a line
+with its label, and writes crates/vectors/stdout. With --check it writes nothing, and
+says what differs from what is stored: of these kinds, or of all. With --line it says
+which case has line N of crates/vectors/stdout, which the gate names if the program's
+results differ. The status is 1 if something differs, or there is no such line, and 2
+for a line that is no case.
 """
 import argparse
 import os
@@ -91,12 +94,12 @@ ANSWERS = {"norm": norm, "same": same, "spelling": spelling, "refusal": refusal,
 
 
 def answer_all(kinds):
-    """(case, answer) of each case of these kinds, where one that is none raises ValueError with its line."""
-    for number, kind, case in vectors.numbered():
+    """(place, answer) of each case of these kinds, where one that is none raises ValueError with its line."""
+    for number, label, kind, case in vectors.labelled():
         if kind not in kinds:
             continue
         try:
-            yield case, ANSWERS[kind](case) + "\n"
+            yield "crates/vectors/stdin:%d: %s" % (number, label), ANSWERS[kind](case) + "\n"
         except ValueError as error:
             raise ValueError("crates/vectors/stdin:%d: %s" % (number, error)) from error
 
@@ -105,13 +108,12 @@ def differences(kind):
     """Words on each case whose stored answer is another one, to the first byte that differs."""
     stored = vectors.answers(kind)
     number = 0
-    for number, (case, answer) in enumerate(answer_all([kind]), 1):
+    for number, (place, answer) in enumerate(answer_all([kind]), 1):
         there = stored[number - 1] if number <= len(stored) else ""
         if there == answer:
             continue
         at = len(os.path.commonprefix([there, answer]))
-        yield "%s: case %d, %s.. differs at byte %d: %r is stored, %r would be made" % (
-            kind, number, case[:60], at, there[at:at + 60], answer[at:at + 60])
+        yield "%s: %r is stored, %r would be made, from byte %d on" % (place, there[at:at + 60], answer[at:at + 60], at)
     if len(stored) > number:
         yield "%s: %d answers are stored behind the last case" % (kind, len(stored) - number)
 
@@ -132,9 +134,16 @@ def write():
     print("%d answers written" % len(answers))
 
 
+def tell_place(line):
+    found = vectors.place(line)
+    print("crates/vectors/stdin:%d: %s" % found if found else "crates/vectors/stdout has no line %d" % line)
+    return found is not None
+
+
 def main():
     parser = argparse.ArgumentParser(description=__doc__, formatter_class=argparse.RawDescriptionHelpFormatter)
     parser.add_argument("--check", action="store_true", help="compare, and write nothing")
+    parser.add_argument("--line", type=int, metavar="N", help="say which case has line N of crates/vectors/stdout")
     parser.add_argument("kind", nargs="*", metavar="KIND", help=", ".join(ANSWERS))
     words = parser.parse_args()
     for kind in words.kind:
@@ -143,6 +152,8 @@ def main():
     if words.kind and not words.check:
         parser.error("kinds stand behind --check: all answers are written at once")
     try:
+        if words.line:
+            return 0 if tell_place(words.line) else 1
         if words.check:
             return 0 if all([check(kind) for kind in words.kind or ANSWERS]) else 1
         write()

@@ -28,13 +28,13 @@ use Rattle.std.specs.Str.{is_utf8, chars}
 use lib.Utf8.{encode}
 use Rattle.netlink_packet_core_grammar.specs.Attributes.{attribute_text, list_text, first_attribute, attributes_within}
 use Rattle.attribute_tables_grammar.specs.Lists.{all_accepted, some_empty_ports, rewritten, all_fit, attributes_inside, all_same}
-use Rattle.link_message_grammar.specs.NestedTables.{settings}
+use Rattle.link_message_grammar.specs.NestedTables.{resized}
 use Rattle.link_message_grammar.specs.Body.{body_rule, is_listed, link_body, link_peer, list_rule_of}
 
 -- all that has to compute
 everything : ℕ
 unfolding is_utf8 chars encode attribute_text list_text first_attribute attributes_within all_accepted some_empty_ports \
-rewritten all_fit attributes_inside all_same is_listed list_rule_of body_rule link_peer settings
+rewritten all_fit attributes_inside all_same is_listed list_rule_of body_rule link_peer resized
 everything = 0
 """
 

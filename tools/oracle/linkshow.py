@@ -1,6 +1,6 @@
 #!/usr/bin/env python3
-"""Lines of a capture, by the form that lines.md says.  Stands on linkoracle.py,
-and on names.tsv for what tables and records are called.
+"""Lines of a capture, in the format of lines.md.  Rests on linkoracle.py, and on
+rows.tsv for names, formats of values, records and texts of numbers.
 
     python3 linkshow.py [--limit N] [--without-numbers] [--only TYPE,..] < CAPTURE
 
@@ -16,46 +16,24 @@ HERE = os.path.dirname(os.path.abspath(__file__))
 sys.path.insert(0, HERE)
 import linkoracle as o      # noqa: E402
 
-ROWS = {}                   # (table, kind) -> (name, show)
-NAMED = {}                  # (list of bytes, kind) -> (name, show, size)
-RECORDS = {}                # record -> [(field, size, show)]
-NUMBERS = {}                # number type -> {number: text}
-FLAGS = {}                  # flag set -> [(bit, text)]
-TYPES = {}                  # message type -> name
+from tables import DATA, FLAGS, NUMBERS, TYPES      # noqa: E402
 
 
-def load():
-    for line in open(os.path.join(HERE, "names.tsv"), encoding="utf-8"):
-        line = line.rstrip("\n")
-        if not line or line.startswith("#"):
-            continue
-        what, *rest = line.split("\t")
-        if what == "row":
-            table, kind, name, show = rest
-            ROWS[table, int(kind)] = (name, show)
-        elif what == "named":
-            table, kind, name, show, size = rest
-            NAMED[table, int(kind)] = (name, show, int(size))
-        elif what == "record":
-            record, fields = rest
-            RECORDS[record] = [tuple(f.split(":")) for f in fields.split()]
-        elif what == "number":
-            name, texts = rest
-            NUMBERS[name] = {int(n, 0): t for n, t in
-                             (p.split("=", 1) for p in texts.split())}
-        elif what == "flags":
-            name, texts = rest
-            FLAGS[name] = [(int(n, 0), t) for n, t in
-                           (p.split("=", 1) for p in texts.split())]
-        elif what == "types":
-            for p in rest[0].split():
-                n, t = p.split("=")
-                TYPES[int(n)] = t
-        else:
-            raise ValueError(line)
+def named_size(held):
+    """The size that the kernel's attribute has, of the shape `exact n`; None for any."""
+    return None if held == "raw" else int(held.split(" ")[1])
 
 
-load()
+def fields(words):
+    """name:bytes or name:bytes:how of each field, as (name, bytes, how)."""
+    return [(name, int(size), *(how or ["number"])) for name, size, *how in (f.split(":") for f in words.split(" "))]
+
+
+# (table, kind) -> (name, how it is shown)
+ROWS = {(table, int(kind)): (name, show) for table, kind, name, _, show in DATA["row"]}
+# (list of bytes, kind) -> (name, how it is shown, its size)
+NAMED = {(table, int(kind)): (name, show, named_size(held)) for table, kind, name, held, show in DATA["named"]}
+RECORDS = {name: fields(words) for name, words in DATA["record"]}
 
 
 def quoted(p):
@@ -92,12 +70,13 @@ def flag_names(name, n):
 
 
 def number(show, p):
-    """u U i x X, perhaps with :TYPE behind."""
-    code, _, kind = show.partition(":")
-    n = int.from_bytes(p, "big" if code in "UX" else "little", signed=code == "i")
-    if code in "xX":
-        return "0x%x%s" % (n, flag_names(kind, n) if kind in FLAGS else "")
-    text = NUMBERS.get(kind, {}).get(n) if kind else None
+    """A number or a set of flags, perhaps with the name of its type."""
+    how, _, kind = show.partition(" ")
+    n = int.from_bytes(p, "big" if how.startswith("big_endian") else "little", signed=how == "signed")
+    if how.endswith("flags"):
+        return "0x%x%s" % (n, flag_names(kind, n) if kind else "")
+    assert how in ("number", "big_endian", "signed"), show
+    text = NUMBERS[kind].get(n) if kind else None
     return "%d%s" % (n, " (%s)" % text if text else "")
 
 
@@ -109,19 +88,23 @@ def padded_address(p):
     return colons(p[:n])
 
 
+def truth(p):
+    return "on" if any(p) else "off"
+
+
 def field(show, p):
-    if show == "m":
+    if show == "padded_address":
         return padded_address(p)
-    if show == "t":
-        return "on" if any(p) else "off"
+    if show == "truth":
+        return truth(p)
     return number(show, p)
 
 
 def record(name, p, sparse):
     out, at = [], 0
     for title, size, show in RECORDS[name]:
-        part = p[at:at + int(size)]
-        at += int(size)
+        part = p[at:at + size]
+        at += size
         if sparse and not any(part):
             continue
         out.append("%s=%s" % (title, field(show, part)))
@@ -129,31 +112,36 @@ def record(name, p, sparse):
     return " ".join(out)
 
 
+def port_range(p):
+    return "%d %d" % (int.from_bytes(p[:2], "big"), int.from_bytes(p[2:], "big"))
+
+
+def flags_by_size(p):
+    """IFLA_IPTUN_FLAGS: 2 bytes of ipip and sit, 4 of ip6tnl."""
+    return number("flags" if len(p) == 4 else "big_endian_flags", p)
+
+
+VALUES = {
+    "presence": lambda p: "",
+    "bytes": bytes.hex,
+    "hardware_address": colons,
+    "text": quoted,
+    "address": address,
+    "truth": truth,
+    "optional_byte": lambda p: str(p[0]) if p else "",
+    "port_range": port_range,
+    "flags_by_size": flags_by_size,
+    "flags_and_mask": lambda p: "%s mask %s" % (number("flags", p[:4]), number("flags", p[4:])),
+}
+
+
 def value(show, p):
-    """What stands behind the name, of a canonical payload."""
-    code = show.partition(":")[0]
-    if code == "f":
-        return ""
-    if code == "r":
-        return p.hex()
-    if code == "h":
-        return colons(p)
-    if code == "z":
-        return quoted(p)
-    if code == "a":
-        return address(p)
-    if code == "t":
-        return "on" if any(p) else "off"
-    if code == "e":
-        return str(p[0]) if p else ""
-    if code == "2U":
-        return "%d %d" % (int.from_bytes(p[:2], "big"), int.from_bytes(p[2:], "big"))
-    if code == "2x":
-        return "%s mask %s" % (number("x:" + show.partition(":")[2], p[:4]), number("x:" + show.partition(":")[2], p[4:]))
-    if code == "rec":
-        return record(show.partition(":")[2], p, False)
-    if code == "arr":
-        return record(show.partition(":")[2], p, True)
+    """What follows the name, of a canonical payload."""
+    how, _, kind = show.partition(" ")
+    if how in VALUES:
+        return VALUES[how](p)
+    if how in ("fields", "sparse_record"):
+        return record(kind, p, how == "sparse_record")
     return number(show, p)
 
 
@@ -168,7 +156,7 @@ def named_bytes(table, e):
     if (table, e.kind) not in NAMED:
         return "kind 0x%04x" % e.kind, e.payload.hex()
     name, show, size = NAMED[table, e.kind]
-    if show == "r":
+    if size is None:
         return name, e.payload.hex()
     if len(e.payload) != size:
         return name, ("bytes " + e.payload.hex()).rstrip()
@@ -178,7 +166,7 @@ def named_bytes(table, e):
 def bytes_table(table, context, e):
     """Whose names the attributes of a list of bytes have."""
     kind, port_kind, family = context
-    if table == "linkinfo":
+    if table == "link_info":
         return "data " + kind if o.proper(e.kind) == 2 else "port " + port_kind
     if table == "link":
         return "family %d kind %d" % (family, o.proper(e.kind))
@@ -192,15 +180,13 @@ def entry_lines(depth, table, e, context):
     name, show = ROWS[table, kind]
     if o.nested(e):
         inside = e.row.table.name
-        if inside == "attributes":
+        if inside == "raw":
             inside = bytes_table(table, context, e)
         return [line(depth, name)] + list_lines(depth + 1, inside, o.kept(e), context[2])
     if e.row is o.PEER:
         return [line(depth, name)] + body_lines(depth + 1, e.inside)
-    if e.row.code == "r" and show not in ("r", "h"):     # held as bytes here
-        show = "r"
-    if show == "by_size":       # iptunnel 8: N2 of ipip and sit, n4 of ip6tnl
-        show = "x" if len(e.payload) == 4 else "X"
+    if e.row.words == "raw" and show != "hardware_address":     # held as bytes here
+        show = "bytes"
     return [line(depth, name, value(show, e.row.canonical(e.payload)))]
 
 
@@ -208,7 +194,7 @@ def list_lines(depth, table, entries, family):
     out, kind, port_kind = [], None, None
     for e in entries:
         out += entry_lines(depth, table, e, (kind, port_kind, family))
-        if table == "linkinfo" and e.row.code == "z":
+        if table == "link_info" and e.row.words == "text":
             if o.proper(e.kind) == 1:
                 kind = o.as_text(e.payload)
             else:
@@ -219,10 +205,10 @@ def list_lines(depth, table, entries, family):
 def body_lines(depth, body):
     layer = o.layer_written(body.layer)
     head = "family %s type %s index %d flags %s change %s" % (
-        number("u:AddressFamily", bytes([body.family])),
-        number("u:LinkLayerType", o.p16(layer)), body.index,
-        number("x:LinkFlags", o.p32(body.flags)),
-        number("x:LinkFlags", o.p32(body.mask)))
+        number("number AddressFamily", bytes([body.family])),
+        number("number LinkLayerType", o.p16(layer)), body.index,
+        number("named_flags LinkFlags", o.p32(body.flags)),
+        number("named_flags LinkFlags", o.p32(body.mask)))
     return [line(depth, "ifinfomsg", head)] + list_lines(depth, "link", body.entries, body.family)
 
 
@@ -234,7 +220,7 @@ def flag_set(kind):
 
 
 def frame_lines(f, numbers=True):
-    flags = number("x:NlmFlags" + flag_set(f.type), o.p16(f.flags))
+    flags = number("named_flags NlmFlags" + flag_set(f.type), o.p16(f.flags))
     told = "flags %s seq %d port %d" % (flags, f.sequence, f.port)
     out = [line(0, TYPES.get(f.type, "type %d" % f.type),
                 told if numbers else "flags " + flags)]
@@ -247,7 +233,7 @@ def frame_lines(f, numbers=True):
         if f.type == o.ERROR and len(rest) >= 16:   # the request's header
             kind, size = o.u16(rest, 4), o.u32(rest, 0)
             asked = "length %d %s flags %s" % (size, TYPES.get(kind, "type %d" % kind),
-                                               number("x:NlmFlags" + flag_set(kind), rest[6:8]))
+                                               number("named_flags NlmFlags" + flag_set(kind), rest[6:8]))
             told = " seq %d port %d" % (o.u32(rest, 8), o.u32(rest, 12))
             out.append(line(1, "request", asked + (told if numbers else "")))
             rest = rest[16:]
@@ -311,7 +297,7 @@ def why_payload(rules, row, payload, at, family):
     if isinstance(row, o.Shape):
         if row is o.REFUSED:
             return [], None, "no payload is accepted under this kind of link"
-        if row.code == "z":
+        if row.words == "text":
             return [], None, "a text that isn't UTF-8"
         return [], None, "a payload of %d bytes" % len(payload)
     if isinstance(row, o.ListRow):

@@ -36,7 +36,7 @@ PAYLOADS = {
     ("link", 14): ("IFLA_MAP under 32 bytes", lambda p: len(p) < 32),
 }
 for _table, _kinds in (("vxlan", (23, 24, 27)), ("geneve", (6, 14)), ("gre", (18,)),
-                       ("gre6", (18,)), ("iptunnel", (19,)), ("bareudp", (4,))):
+                       ("gre6", (18,)), ("ip_tunnel", (19,)), ("bareudp", (4,))):
     for _kind in _kinds:
         PAYLOADS[_table, _kind] = ("flag with a payload", lambda p: p != b"")
 for _row in (("vxlan", 31), ("vxlan", 34), ("netkit", 6), ("netkit", 7)):
@@ -78,7 +78,7 @@ def of_list(rules, table, context, family, b, at):
     for place, kind, payload in placed(b, at):
         here = (kind_in_force, port_kind) if table is o.LINK_INFO else context
         proper = o.proper(kind)
-        if table.name == "vfinfolist" and proper != table.keeps:
+        if table.name == "vf_infos" and proper != table.keeps:
             yield "foreign entry in IFLA_VFINFO_LIST", place
             continue
         for words in of_attribute(table.name, family, kind, payload):

@@ -1,4 +1,5 @@
-"""The stored cases of crates/vectors (docs/vectors.md), and their answers. ValueError says where they have another form."""
+"""The stored cases of crates/vectors (docs/vectors.md), their labels and their answers. ValueError says where they have
+another form."""
 import os
 import re
 import sys
@@ -25,21 +26,28 @@ def lines(name):
     return text[:-1].split("\n")
 
 
-def numbered():
-    """(number of its line, kind, case) of each case."""
-    before = 0
+def labelled():
+    """(number of its line, label of its group, kind, case) of each case. A label is a line that begins with `# `, and
+    holds for the cases of one kind up to the next label."""
+    label, of, last = None, None, KINDS[0]
     for number, line in enumerate(lines("stdin"), 1):
+        at = "crates/vectors/stdin:%d: " % number
+        if line.startswith("# "):
+            label, of = line[2:], None
+            continue
         kind, space, case = line.partition(" ")
         if not space or kind not in KINDS:
-            raise ValueError("crates/vectors/stdin:%d: no kind of case: %s" % (number, line[:60]))
-        if KINDS.index(kind) < before:
-            raise ValueError("crates/vectors/stdin:%d: %s behind %s" % (number, kind, KINDS[before]))
-        before = KINDS.index(kind)
-        yield number, kind, case
+            raise ValueError(at + "no kind of case: %s" % line[:60])
+        if KINDS.index(kind) < KINDS.index(last):
+            raise ValueError(at + "%s after %s" % (kind, last))
+        if label is None or of not in (None, kind):
+            raise ValueError(at + "a case of %s without a label" % kind)
+        last = of = kind
+        yield number, label, kind, case
 
 
 def cases(kind):
-    return [case for _, other, case in numbered() if other == kind]
+    return [case for _, _, other, case in labelled() if other == kind]
 
 
 def shown(told):
@@ -54,9 +62,19 @@ def shown(told):
         yield begun
 
 
+def place(number):
+    """(number of its line, label) of the case whose answer has a line of crates/vectors/stdout; None past the last."""
+    results = (answer for kind in KINDS for answer in answers(kind))
+    for line, label, _, _ in labelled():
+        number -= next(results, "").count("\n")
+        if number <= 0:
+            return line, label
+    return None
+
+
 def answers(kind):
     """The stored answers of a kind, each with its newline."""
-    kinds = [other for _, other, _ in numbered()]
+    kinds = [other for _, _, other, _ in labelled()]
     start = sum(KINDS.index(other) < KINDS.index(kind) for other in kinds)
     told = lines("stdout")[start:]
     if kind == KINDS[-1]:

@@ -21,12 +21,17 @@ fn hex(bytes: &[u8]) -> String {
     bytes.iter().map(|byte| format!("{byte:02x}")).collect()
 }
 
+/// The lines that are cases: `# ` begins one with the label of those that follow.
+fn cases_of(stdin: &str) -> impl Iterator<Item = &str> {
+    stdin.lines().filter(|line| !line.starts_with("# "))
+}
+
 /// The stored cases of a kind, and the lines of their answers: one each, but of `show`, the last kind.
 fn stored(kind: &str) -> (Vec<String>, Vec<String>) {
     let (stdin, stdout) = (text("crates/vectors/stdin"), text("crates/vectors/stdout"));
     let word = format!("{kind} ");
-    let before = stdin.lines().take_while(|line| !line.starts_with(&word)).count();
-    let cases: Vec<String> = stdin.lines().filter_map(|line| line.strip_prefix(&word)).map(String::from).collect();
+    let before = cases_of(&stdin).take_while(|line| !line.starts_with(&word)).count();
+    let cases: Vec<String> = cases_of(&stdin).filter_map(|line| line.strip_prefix(&word)).map(String::from).collect();
     assert!(!cases.is_empty());
     let count = if kind == "show" { usize::MAX } else { cases.len() };
     let answers: Vec<String> = stdout.lines().skip(before).take(count).map(String::from).collect();

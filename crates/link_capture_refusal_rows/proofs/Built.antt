@@ -15,7 +15,7 @@ use Rattle.link_info_grammar.specs.LinkInfo.{info_grammar_under}
 use Rattle.link_interpreter.specs.Measures.{rows_of}
 use Rattle.link_message_grammar.specs.Body.{list_rule_of}
 use Rattle.link_message_grammar.specs.LinkMessage.{bridge, family_of, inet_6, link_table, other, unspec}
-use Rattle.link_message_grammar.specs.NestedTables.{settings}
+use Rattle.link_message_grammar.specs.NestedTables.{resized}
 use Rattle.link_tables.proofs.Built.{kinds_built, port_kinds_built}
 use Rattle.link_tables.proofs.NameRows.{found_name, held_all}
 use Rattle.link_tables.specs.declared.kinds.TheConstants.{KINDS, PORT_KINDS}
@@ -72,7 +72,7 @@ paired_at ls ts n e = sym (get_or-map paired_rows ls n []) ∙ ap (λ ps. get_or
 
 -- these rows are the tables
 all_paired : (n : ℕ) → paired_rows (get_or table_rows n []) ≡ paired (table_of n)
-unfolding table_of table_rows R.message_rows R.data_rows info_payload settings
+unfolding table_of table_rows R.message_rows R.data_rows info_payload resized
 all_paired n = paired_at table_rows all_tables n refl
 
 -- ---- rules

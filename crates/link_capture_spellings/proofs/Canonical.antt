@@ -20,7 +20,7 @@ use Rattle.attribute_tables_grammar.proofs.Attributes.{proper_kind-written}
 use Rattle.link_info_grammar.specs.Families.{vxlan, geneve, gre, gre6, ip_tunnel, bareudp, batadv, netkit, pair}
 use Rattle.link_message_grammar.specs.Body.{attribute_row_under, header_text}
 use Rattle.link_message_grammar.specs.LinkMessage.{Family, unspec, bridge}
-use Rattle.link_message_grammar.specs.NestedTables.{inet, xdp, settings, vf_infos}
+use Rattle.link_message_grammar.specs.NestedTables.{inet, xdp, resized, vf_infos}
 use Rattle.link_capture_spelling_rows.specs.declared.placed.Spelling.{Spelling}
 use Rattle.link_capture_spelling_rows.specs.declared.placed.Spelling.TheVariants.{NestedPortSettings, PathDiscoveryOverOne, LongAlias, NameWithoutNul, FlagWithPayload, TruthOverOne, StrayNestedBit, ShortMap}
 use Rattle.link_capture_spelling_rows.specs.declared.tables.Data.{Data}
@@ -195,7 +195,7 @@ resized-size b =
     ap (λ n. eqb n 132) (length-take-le 132 (b ++ zeros 132) (omega (arith, s)))
 
 inet-payload : (p : Peer) (k : ℕ) (b : List ℕ) → Untold (payload_spelling Inet k ((table_row p inet k).rule.canonical b))
-unfolding settings
+unfolding resized
 inet-payload p k b = no _ _ (and-no _ _ (λ e. at_kind (λ n. not (eqb (length ((table_row p inet n).rule.canonical b)) 132) ≡ false) k 1 e (ap not (resized-size b))))
 
 programs-bit : (p : Peer) (k : ℕ) → Untold (bit_spelling Programs (written_kind (table_row p xdp (proper_kind k)) k))

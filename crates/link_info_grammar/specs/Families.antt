@@ -1,149 +1,329 @@
--- The tables of link info (if_link.h, IFLA_INFO_*): the data of each kind of link, and of each port kind.
+-- What the data of links of each kind hold, and of ports: IFLA_INFO_DATA and IFLA_INFO_SLAVE_DATA (if_link.h).
+-- A table has a row in a line, in the order of its header: the kind, its payload, and the kernel's name of the kind,
+-- which `tools/rows.py --check` compares with the name that linkshow prints. A kind without a row is a raw attribute.
 use Rattle.std.specs.Prelude.{ℕ, List, [], ◌∷◌, codes}
-use Rattle.attribute_tables_grammar.specs.Shapes.{Shape, exact, at_most, one_byte, truth_of_four}
+use Rattle.attribute_tables_grammar.specs.Shapes.{Shape, exact, either, at_most, nonzero_byte, one_byte, truth_of_four}
+use Rattle.attribute_tables_grammar.specs.Shapes.{presence, text}
 use Rattle.attribute_tables_grammar.specs.Lists.{any, first_alone}
-use Rattle.attribute_tables_grammar.specs.Tables.{Payload, Payload.plain, Payload.peer, Payload.list, Table, Table.end, Names, Names.others, Names.name}
-use Rattle.attribute_tables_grammar.specs.Rows.{◌↪◌, ◌⸴◌, octets, address, truth, flag, string}
+use Rattle.attribute_tables_grammar.specs.Tables.{Payload, Payload.peer, Payload.list, Table, Table.end}
+use Rattle.attribute_tables_grammar.specs.Tables.{Names, Names.others, Names.name}
+use Rattle.attribute_tables_grammar.specs.Rows.{◌↪◌, ◌↠◌, ◌⸴◌}
 
--- ---- families: a kind and what its payload holds
+-- ---- if_link.h
 
--- IFLA_AMT_*: mode, relay's and gateway's port, link, local, remote and discovery address, most tunnels
-abbrev pub amt : Table
-amt = 1 ↪ octets 4 ⸴ 2 ↪ octets 2 ⸴ 3 ↪ octets 2 ⸴ 4 ↪ octets 4 ⸴ 5 ↪ address ⸴ 6 ↪ address ⸴ 7 ↪ address ⸴ 8 ↪ octets 4 ⸴ end
-
--- IFLA_BAREUDP_*: port, ethertype, least source port, multiprotocol mode
-abbrev pub bareudp : Table
-bareudp = 1 ↪ octets 2 ⸴ 2 ↪ octets 2 ⸴ 3 ↪ octets 2 ⸴ 4 ↪ flag ⸴ end
-
--- IFLA_BATADV_*: the name of the algorithm
-abbrev pub batadv : Table
-batadv = 1 ↪ string ⸴ end
-
--- IFLA_GENEVE_*: network, remote address, hop limit, type of service, port, settings by packet, remote IPv6 address, three truths of UDP
--- checksums, flow label, inherited hop limit, DF bit, inner protocol, local addresses
-abbrev pub geneve : Table
-geneve =
-    1 ↪ octets 4 ⸴ 2 ↪ octets 4 ⸴ 3 ↪ octets 1 ⸴ 4 ↪ octets 1 ⸴ 5 ↪ octets 2 ⸴ 6 ↪ flag ⸴ 7 ↪ octets 16 ⸴ 8 ↪ truth ⸴ 9 ↪ truth ⸴
-    10 ↪ truth ⸴ 11 ↪ octets 4 ⸴ 12 ↪ truth ⸴ 13 ↪ octets 1 ⸴ 14 ↪ flag ⸴ 17 ↪ octets 4 ⸴ 18 ↪ octets 16 ⸴ end
-
--- IFLA_GRE_*: link, flags in and out, keys in and out, local and remote address of so many bytes, hop limit, type of service
-abbrev pub gre_ends : ℕ → Table → Table
-gre_ends size more =
-    1 ↪ octets 4 ⸴ 2 ↪ octets 2 ⸴ 3 ↪ octets 2 ⸴ 4 ↪ octets 4 ⸴ 5 ↪ octets 4 ⸴ 6 ↪ octets size ⸴ 7 ↪ octets size ⸴ 8 ↪ octets 1 ⸴ 9 ↪ octets 1 ⸴ more
-
--- IFLA_GRE_*: encapsulation with its flags, source and destination port, settings by packet, firewall mark, index, version, direction and
--- hardware number of ERSPAN
-abbrev pub gre_wrapping : Table
-gre_wrapping =
-    14 ↪ octets 2 ⸴ 15 ↪ octets 2 ⸴ 16 ↪ octets 2 ⸴ 17 ↪ octets 2 ⸴ 18 ↪ flag ⸴ 20 ↪ octets 4 ⸴ 21 ↪ octets 4 ⸴ 22 ↪ octets 1 ⸴ 23 ↪ octets 1 ⸴
-    24 ↪ octets 2 ⸴ end
-
--- over IPv4, with path MTU discovery, which the byte 1 alone turns on
-abbrev pub gre : Table
-gre = gre_ends 4 (10 ↪ plain one_byte ⸴ gre_wrapping)
-
--- over IPv6, with encapsulation limit and flow label
-abbrev pub gre6 : Table
-gre6 = gre_ends 16 (11 ↪ octets 1 ⸴ 12 ↪ octets 4 ⸴ gre_wrapping)
-
--- IFLA_GTP_*: sockets of version 0 and 1, places of the table, role, sockets made by the kernel, restart counter, local addresses
-abbrev pub gtp : Table
-gtp = 1 ↪ octets 4 ⸴ 2 ↪ octets 4 ⸴ 3 ↪ octets 4 ⸴ 4 ↪ octets 4 ⸴ 5 ↪ truth ⸴ 6 ↪ octets 1 ⸴ 7 ↪ octets 4 ⸴ 8 ↪ octets 16 ⸴ end
-
--- IFLA_IPOIB_*: partition key, mode, user multicast
-abbrev pub ipoib : Table
-ipoib = 1 ↪ octets 2 ⸴ 2 ↪ octets 2 ⸴ 3 ↪ octets 2 ⸴ end
-
--- IFLA_IPTUN_*, where the kind of the link tells what the flags hold: link, local and remote address, hop limit, type of service, encapsulation
--- limit, flow information, flags, protocol, path MTU discovery, 6rd prefix and relay prefix with their lengths, encapsulation with its flags,
--- source and destination port, settings by packet, firewall mark
-abbrev pub ip_tunnel : Shape → Table
-ip_tunnel flags =
-    1 ↪ octets 4 ⸴ 2 ↪ address ⸴ 3 ↪ address ⸴ 4 ↪ octets 1 ⸴ 5 ↪ octets 1 ⸴ 6 ↪ octets 1 ⸴ 7 ↪ octets 4 ⸴ 8 ↪ plain flags ⸴ 9 ↪ octets 1 ⸴
-    10 ↪ truth ⸴ 11 ↪ octets 16 ⸴ 12 ↪ octets 4 ⸴ 13 ↪ octets 2 ⸴ 14 ↪ octets 2 ⸴ 15 ↪ octets 2 ⸴ 16 ↪ octets 2 ⸴ 17 ↪ octets 2 ⸴
-    18 ↪ octets 2 ⸴ 19 ↪ flag ⸴ 20 ↪ octets 4 ⸴ end
-
--- IFLA_IPVLAN_*, of ipvlan and ipvtap: mode, flags
-abbrev pub ipvlan : Table
-ipvlan = 1 ↪ octets 2 ⸴ 2 ↪ octets 2 ⸴ end
-
--- a list of raw attributes, for whose kinds there is no row
-abbrev pub untyped : Table
-untyped = end
-
--- IFLA_MACSEC_*: secure channel, port, size of the check value, cipher suite, window, encoding association, six truths of frames, validation,
--- offload
-abbrev pub macsec : Table
-macsec =
-    1 ↪ octets 8 ⸴ 2 ↪ octets 2 ⸴ 3 ↪ octets 1 ⸴ 4 ↪ octets 8 ⸴ 5 ↪ octets 4 ⸴ 6 ↪ octets 1 ⸴ 7 ↪ octets 1 ⸴ 8 ↪ octets 1 ⸴ 9 ↪ octets 1 ⸴
-    10 ↪ octets 1 ⸴ 11 ↪ octets 1 ⸴ 12 ↪ octets 1 ⸴ 13 ↪ octets 1 ⸴ 15 ↪ octets 1 ⸴ end
-
--- IFLA_MACVLAN_*, of macvlan and macvtap: mode, flags, change of the source addresses, a source address
+-- IFLA_MACVLAN_*, up to the list of source addresses
 abbrev pub macvlan_before_addresses : Table → Table
-macvlan_before_addresses t = 1 ↪ octets 4 ⸴ 2 ↪ octets 2 ⸴ 3 ↪ octets 4 ⸴ 4 ↪ octets 6 ⸴ t
+macvlan_before_addresses t =
+    1 ↪ exact 4 ⸴  -- IFLA_MACVLAN_MODE
+    2 ↪ exact 2 ⸴  -- IFLA_MACVLAN_FLAGS
+    3 ↪ exact 4 ⸴  -- IFLA_MACVLAN_MACADDR_MODE
+    4 ↪ exact 6 ⸴  -- IFLA_MACVLAN_MACADDR
+    t
 
--- number of source addresses, length of the broadcast queue as wanted and as used, threshold of broadcasts
+-- IFLA_MACVLAN_*, after the list of source addresses
 abbrev pub macvlan_after_addresses : Table
-macvlan_after_addresses = 6 ↪ octets 4 ⸴ 7 ↪ octets 4 ⸴ 8 ↪ octets 4 ⸴ 9 ↪ octets 4 ⸴ end
+macvlan_after_addresses =
+    6 ↪ exact 4 ⸴  -- IFLA_MACVLAN_MACADDR_COUNT
+    7 ↪ exact 4 ⸴  -- IFLA_MACVLAN_BC_QUEUE_LEN
+    8 ↪ exact 4 ⸴  -- IFLA_MACVLAN_BC_QUEUE_LEN_USED
+    9 ↪ exact 4 ⸴  -- IFLA_MACVLAN_BC_CUTOFF
+    end
 
--- inside the list of source addresses, which holds no such list again
+-- a list of source addresses, which holds no such list again
 abbrev pub macvlan_address : Table
 macvlan_address = macvlan_before_addresses macvlan_after_addresses
 
+-- macvlan, macvtap: IFLA_MACVLAN_*
 abbrev pub macvlan : Table
-macvlan = macvlan_before_addresses (5 ↪ list any macvlan_address ⸴ macvlan_after_addresses)
+macvlan =
+    macvlan_before_addresses (
+    5 ↠ list any macvlan_address ⸴  -- IFLA_MACVLAN_MACADDR_DATA
+    macvlan_after_addresses)
 
--- IFLA_NETKIT_*: peer, whether this end is the primary one, policy and the peer's, mode, scrubbing and the peer's, room before and behind packets
+-- vrf: IFLA_VRF_*; as a port kind, of which kind 1 is IFLA_VRF_PORT_TABLE, IFLA_VRF_PORT_*
+abbrev pub vrf : Table
+vrf =
+    1 ↪ exact 4 ⸴  -- IFLA_VRF_TABLE
+    end
+
+-- macsec: IFLA_MACSEC_*
+abbrev pub macsec : Table
+macsec =
+    1 ↪ exact 8 ⸴  -- IFLA_MACSEC_SCI
+    2 ↪ exact 2 ⸴  -- IFLA_MACSEC_PORT
+    3 ↪ exact 1 ⸴  -- IFLA_MACSEC_ICV_LEN
+    4 ↪ exact 8 ⸴  -- IFLA_MACSEC_CIPHER_SUITE
+    5 ↪ exact 4 ⸴  -- IFLA_MACSEC_WINDOW
+    6 ↪ exact 1 ⸴  -- IFLA_MACSEC_ENCODING_SA
+    7 ↪ exact 1 ⸴  -- IFLA_MACSEC_ENCRYPT
+    8 ↪ exact 1 ⸴  -- IFLA_MACSEC_PROTECT
+    9 ↪ exact 1 ⸴  -- IFLA_MACSEC_INC_SCI
+    10 ↪ exact 1 ⸴  -- IFLA_MACSEC_ES
+    11 ↪ exact 1 ⸴  -- IFLA_MACSEC_SCB
+    12 ↪ exact 1 ⸴  -- IFLA_MACSEC_REPLAY_PROTECT
+    13 ↪ exact 1 ⸴  -- IFLA_MACSEC_VALIDATION
+    15 ↪ exact 1 ⸴  -- IFLA_MACSEC_OFFLOAD
+    end
+
+-- xfrm: IFLA_XFRM_*
+abbrev pub xfrm : Table
+xfrm =
+    1 ↪ exact 4 ⸴  -- IFLA_XFRM_LINK
+    2 ↪ exact 4 ⸴  -- IFLA_XFRM_IF_ID
+    end
+
+-- ipvlan, ipvtap: IFLA_IPVLAN_*
+abbrev pub ipvlan : Table
+ipvlan =
+    1 ↪ exact 2 ⸴  -- IFLA_IPVLAN_MODE
+    2 ↪ exact 2 ⸴  -- IFLA_IPVLAN_FLAGS
+    end
+
+-- netkit: IFLA_NETKIT_*
 abbrev pub netkit : Table
 netkit =
-    1 ↪ peer ⸴ 2 ↪ truth ⸴ 3 ↪ octets 4 ⸴ 4 ↪ octets 4 ⸴ 5 ↪ octets 4 ⸴ 6 ↪ plain truth_of_four ⸴ 7 ↪ plain truth_of_four ⸴ 8 ↪ octets 2 ⸴
-    9 ↪ octets 2 ⸴ end
+    1 ↠ peer ⸴  -- IFLA_NETKIT_PEER_INFO
+    2 ↪ nonzero_byte ⸴  -- IFLA_NETKIT_PRIMARY
+    3 ↪ exact 4 ⸴  -- IFLA_NETKIT_POLICY
+    4 ↪ exact 4 ⸴  -- IFLA_NETKIT_PEER_POLICY
+    5 ↪ exact 4 ⸴  -- IFLA_NETKIT_MODE
+    6 ↪ truth_of_four ⸴  -- IFLA_NETKIT_SCRUB
+    7 ↪ truth_of_four ⸴  -- IFLA_NETKIT_PEER_SCRUB
+    8 ↪ exact 2 ⸴  -- IFLA_NETKIT_HEADROOM
+    9 ↪ exact 2 ⸴  -- IFLA_NETKIT_TAILROOM
+    end
 
--- VETH_INFO_* and VXCAN_INFO_*: the peer
-abbrev pub pair : Table
-pair = 1 ↪ peer ⸴ end
-
--- IFLA_RMNET_*: multiplexer, flags with their mask
-abbrev pub rmnet : Table
-rmnet = 1 ↪ octets 2 ⸴ 2 ↪ octets 8 ⸴ end
-
--- IFLA_VRF_*, and IFLA_VRF_PORT_* of its ports: the routing table
-abbrev pub vrf : Table
-vrf = 1 ↪ octets 4 ⸴ end
-
--- IFLA_VTI_*: link, input key, output key, local and remote address, firewall mark
-abbrev pub vti : Table
-vti = 1 ↪ octets 4 ⸴ 2 ↪ octets 4 ⸴ 3 ↪ octets 4 ⸴ 4 ↪ address ⸴ 5 ↪ address ⸴ 6 ↪ octets 4 ⸴ end
-
--- IFLA_VXLAN_*: network, group, link, local address, hop limit, type of service, learning, ageing, most addresses, range of source ports,
--- four truths, port, IPv6 group and local address, five truths of checksums, group policy, no partial checksums, settings by packet, flow label,
--- generic protocol extension, inherited hop limit, DF bit, two truths, policy of the flow label, reserved bits, multicast routing
+-- vxlan: IFLA_VXLAN_*
 abbrev pub vxlan : Table
 vxlan =
-    1 ↪ octets 4 ⸴ 2 ↪ octets 4 ⸴ 3 ↪ octets 4 ⸴ 4 ↪ octets 4 ⸴ 5 ↪ octets 1 ⸴ 6 ↪ octets 1 ⸴ 7 ↪ truth ⸴ 8 ↪ octets 4 ⸴ 9 ↪ octets 4 ⸴
-    10 ↪ octets 4 ⸴ 11 ↪ truth ⸴ 12 ↪ truth ⸴ 13 ↪ truth ⸴ 14 ↪ truth ⸴ 15 ↪ octets 2 ⸴ 16 ↪ octets 16 ⸴ 17 ↪ octets 16 ⸴ 18 ↪ truth ⸴
-    19 ↪ truth ⸴ 20 ↪ truth ⸴ 21 ↪ truth ⸴ 22 ↪ truth ⸴ 23 ↪ flag ⸴ 24 ↪ flag ⸴ 25 ↪ truth ⸴ 26 ↪ octets 4 ⸴ 27 ↪ flag ⸴
-    28 ↪ plain (at_most 1) ⸴ 29 ↪ octets 1 ⸴ 30 ↪ truth ⸴ 31 ↪ truth ⸴ 32 ↪ octets 4 ⸴ 33 ↪ octets 8 ⸴ 34 ↪ truth ⸴ end
+    1 ↪ exact 4 ⸴  -- IFLA_VXLAN_ID
+    2 ↪ exact 4 ⸴  -- IFLA_VXLAN_GROUP
+    3 ↪ exact 4 ⸴  -- IFLA_VXLAN_LINK
+    4 ↪ exact 4 ⸴  -- IFLA_VXLAN_LOCAL
+    5 ↪ exact 1 ⸴  -- IFLA_VXLAN_TTL
+    6 ↪ exact 1 ⸴  -- IFLA_VXLAN_TOS
+    7 ↪ nonzero_byte ⸴  -- IFLA_VXLAN_LEARNING
+    8 ↪ exact 4 ⸴  -- IFLA_VXLAN_AGEING
+    9 ↪ exact 4 ⸴  -- IFLA_VXLAN_LIMIT
+    10 ↪ exact 4 ⸴  -- IFLA_VXLAN_PORT_RANGE
+    11 ↪ nonzero_byte ⸴  -- IFLA_VXLAN_PROXY
+    12 ↪ nonzero_byte ⸴  -- IFLA_VXLAN_RSC
+    13 ↪ nonzero_byte ⸴  -- IFLA_VXLAN_L2MISS
+    14 ↪ nonzero_byte ⸴  -- IFLA_VXLAN_L3MISS
+    15 ↪ exact 2 ⸴  -- IFLA_VXLAN_PORT
+    16 ↪ exact 16 ⸴  -- IFLA_VXLAN_GROUP6
+    17 ↪ exact 16 ⸴  -- IFLA_VXLAN_LOCAL6
+    18 ↪ nonzero_byte ⸴  -- IFLA_VXLAN_UDP_CSUM
+    19 ↪ nonzero_byte ⸴  -- IFLA_VXLAN_UDP_ZERO_CSUM6_TX
+    20 ↪ nonzero_byte ⸴  -- IFLA_VXLAN_UDP_ZERO_CSUM6_RX
+    21 ↪ nonzero_byte ⸴  -- IFLA_VXLAN_REMCSUM_TX
+    22 ↪ nonzero_byte ⸴  -- IFLA_VXLAN_REMCSUM_RX
+    23 ↪ presence ⸴  -- IFLA_VXLAN_GBP
+    24 ↪ presence ⸴  -- IFLA_VXLAN_REMCSUM_NOPARTIAL
+    25 ↪ nonzero_byte ⸴  -- IFLA_VXLAN_COLLECT_METADATA
+    26 ↪ exact 4 ⸴  -- IFLA_VXLAN_LABEL
+    27 ↪ presence ⸴  -- IFLA_VXLAN_GPE
+    28 ↪ at_most 1 ⸴  -- IFLA_VXLAN_TTL_INHERIT
+    29 ↪ exact 1 ⸴  -- IFLA_VXLAN_DF
+    30 ↪ nonzero_byte ⸴  -- IFLA_VXLAN_VNIFILTER
+    31 ↪ nonzero_byte ⸴  -- IFLA_VXLAN_LOCALBYPASS
+    32 ↪ exact 4 ⸴  -- IFLA_VXLAN_LABEL_POLICY
+    33 ↪ exact 8 ⸴  -- IFLA_VXLAN_RESERVED_BITS
+    34 ↪ nonzero_byte ⸴  -- IFLA_VXLAN_MC_ROUTE
+    end
 
--- IFLA_WWAN_*: the link's number at its device
+-- geneve: IFLA_GENEVE_*
+abbrev pub geneve : Table
+geneve =
+    1 ↪ exact 4 ⸴  -- IFLA_GENEVE_ID
+    2 ↪ exact 4 ⸴  -- IFLA_GENEVE_REMOTE
+    3 ↪ exact 1 ⸴  -- IFLA_GENEVE_TTL
+    4 ↪ exact 1 ⸴  -- IFLA_GENEVE_TOS
+    5 ↪ exact 2 ⸴  -- IFLA_GENEVE_PORT
+    6 ↪ presence ⸴  -- IFLA_GENEVE_COLLECT_METADATA
+    7 ↪ exact 16 ⸴  -- IFLA_GENEVE_REMOTE6
+    8 ↪ nonzero_byte ⸴  -- IFLA_GENEVE_UDP_CSUM
+    9 ↪ nonzero_byte ⸴  -- IFLA_GENEVE_UDP_ZERO_CSUM6_TX
+    10 ↪ nonzero_byte ⸴  -- IFLA_GENEVE_UDP_ZERO_CSUM6_RX
+    11 ↪ exact 4 ⸴  -- IFLA_GENEVE_LABEL
+    12 ↪ nonzero_byte ⸴  -- IFLA_GENEVE_TTL_INHERIT
+    13 ↪ exact 1 ⸴  -- IFLA_GENEVE_DF
+    14 ↪ presence ⸴  -- IFLA_GENEVE_INNER_PROTO_INHERIT
+    17 ↪ exact 4 ⸴  -- IFLA_GENEVE_LOCAL
+    18 ↪ exact 16 ⸴  -- IFLA_GENEVE_LOCAL6
+    end
+
+-- bareudp: IFLA_BAREUDP_*
+abbrev pub bareudp : Table
+bareudp =
+    1 ↪ exact 2 ⸴  -- IFLA_BAREUDP_PORT
+    2 ↪ exact 2 ⸴  -- IFLA_BAREUDP_ETHERTYPE
+    3 ↪ exact 2 ⸴  -- IFLA_BAREUDP_SRCPORT_MIN
+    4 ↪ presence ⸴  -- IFLA_BAREUDP_MULTIPROTO_MODE
+    end
+
+-- gtp: IFLA_GTP_*
+abbrev pub gtp : Table
+gtp =
+    1 ↪ exact 4 ⸴  -- IFLA_GTP_FD0
+    2 ↪ exact 4 ⸴  -- IFLA_GTP_FD1
+    3 ↪ exact 4 ⸴  -- IFLA_GTP_PDP_HASHSIZE
+    4 ↪ exact 4 ⸴  -- IFLA_GTP_ROLE
+    5 ↪ nonzero_byte ⸴  -- IFLA_GTP_CREATE_SOCKETS
+    6 ↪ exact 1 ⸴  -- IFLA_GTP_RESTART_COUNT
+    7 ↪ exact 4 ⸴  -- IFLA_GTP_LOCAL
+    8 ↪ exact 16 ⸴  -- IFLA_GTP_LOCAL6
+    end
+
+-- ipoib: IFLA_IPOIB_*
+abbrev pub ipoib : Table
+ipoib =
+    1 ↪ exact 2 ⸴  -- IFLA_IPOIB_PKEY
+    2 ↪ exact 2 ⸴  -- IFLA_IPOIB_MODE
+    3 ↪ exact 2 ⸴  -- IFLA_IPOIB_UMCAST
+    end
+
+-- rmnet: IFLA_RMNET_*, of which kind 2 holds flags and their mask
+abbrev pub rmnet : Table
+rmnet =
+    1 ↪ exact 2 ⸴  -- IFLA_RMNET_MUX_ID
+    2 ↪ exact 8 ⸴  -- IFLA_RMNET_FLAGS
+    end
+
+-- ---- if_tunnel.h
+
+-- ipip, sit, ip6tnl: IFLA_IPTUN_*; the kind of link determines the shape of the flags
+abbrev pub ip_tunnel : Shape → Table
+ip_tunnel flags =
+    1 ↪ exact 4 ⸴  -- IFLA_IPTUN_LINK
+    2 ↪ either 4 16 ⸴  -- IFLA_IPTUN_LOCAL
+    3 ↪ either 4 16 ⸴  -- IFLA_IPTUN_REMOTE
+    4 ↪ exact 1 ⸴  -- IFLA_IPTUN_TTL
+    5 ↪ exact 1 ⸴  -- IFLA_IPTUN_TOS
+    6 ↪ exact 1 ⸴  -- IFLA_IPTUN_ENCAP_LIMIT
+    7 ↪ exact 4 ⸴  -- IFLA_IPTUN_FLOWINFO
+    8 ↪ flags ⸴  -- IFLA_IPTUN_FLAGS
+    9 ↪ exact 1 ⸴  -- IFLA_IPTUN_PROTO
+    10 ↪ nonzero_byte ⸴  -- IFLA_IPTUN_PMTUDISC
+    11 ↪ exact 16 ⸴  -- IFLA_IPTUN_6RD_PREFIX
+    12 ↪ exact 4 ⸴  -- IFLA_IPTUN_6RD_RELAY_PREFIX
+    13 ↪ exact 2 ⸴  -- IFLA_IPTUN_6RD_PREFIXLEN
+    14 ↪ exact 2 ⸴  -- IFLA_IPTUN_6RD_RELAY_PREFIXLEN
+    15 ↪ exact 2 ⸴  -- IFLA_IPTUN_ENCAP_TYPE
+    16 ↪ exact 2 ⸴  -- IFLA_IPTUN_ENCAP_FLAGS
+    17 ↪ exact 2 ⸴  -- IFLA_IPTUN_ENCAP_SPORT
+    18 ↪ exact 2 ⸴  -- IFLA_IPTUN_ENCAP_DPORT
+    19 ↪ presence ⸴  -- IFLA_IPTUN_COLLECT_METADATA
+    20 ↪ exact 4 ⸴  -- IFLA_IPTUN_FWMARK
+    end
+
+-- IFLA_GRE_*, up to the kinds that depend on what is tunnelled over, with the size of an address
+abbrev pub gre_ends : ℕ → Table → Table
+gre_ends size more =
+    1 ↪ exact 4 ⸴  -- IFLA_GRE_LINK
+    2 ↪ exact 2 ⸴  -- IFLA_GRE_IFLAGS
+    3 ↪ exact 2 ⸴  -- IFLA_GRE_OFLAGS
+    4 ↪ exact 4 ⸴  -- IFLA_GRE_IKEY
+    5 ↪ exact 4 ⸴  -- IFLA_GRE_OKEY
+    6 ↪ exact size ⸴  -- IFLA_GRE_LOCAL
+    7 ↪ exact size ⸴  -- IFLA_GRE_REMOTE
+    8 ↪ exact 1 ⸴  -- IFLA_GRE_TTL
+    9 ↪ exact 1 ⸴  -- IFLA_GRE_TOS
+    more
+
+-- IFLA_GRE_*, after the kinds that depend on it
+abbrev pub gre_wrapping : Table
+gre_wrapping =
+    14 ↪ exact 2 ⸴  -- IFLA_GRE_ENCAP_TYPE
+    15 ↪ exact 2 ⸴  -- IFLA_GRE_ENCAP_FLAGS
+    16 ↪ exact 2 ⸴  -- IFLA_GRE_ENCAP_SPORT
+    17 ↪ exact 2 ⸴  -- IFLA_GRE_ENCAP_DPORT
+    18 ↪ presence ⸴  -- IFLA_GRE_COLLECT_METADATA
+    20 ↪ exact 4 ⸴  -- IFLA_GRE_FWMARK
+    21 ↪ exact 4 ⸴  -- IFLA_GRE_ERSPAN_INDEX
+    22 ↪ exact 1 ⸴  -- IFLA_GRE_ERSPAN_VER
+    23 ↪ exact 1 ⸴  -- IFLA_GRE_ERSPAN_DIR
+    24 ↪ exact 2 ⸴  -- IFLA_GRE_ERSPAN_HWID
+    end
+
+-- gre, gretap, erspan: IFLA_GRE_* over IPv4, where path MTU discovery is on for the byte 1 alone
+abbrev pub gre : Table
+gre =
+    gre_ends 4 (
+    10 ↪ one_byte ⸴  -- IFLA_GRE_PMTUDISC
+    gre_wrapping)
+
+-- ip6gre, ip6gretap, ip6erspan: IFLA_GRE_* over IPv6
+abbrev pub gre6 : Table
+gre6 =
+    gre_ends 16 (
+    11 ↪ exact 1 ⸴  -- IFLA_GRE_ENCAP_LIMIT
+    12 ↪ exact 4 ⸴  -- IFLA_GRE_FLOWINFO
+    gre_wrapping)
+
+-- vti, vti6: IFLA_VTI_*
+abbrev pub vti : Table
+vti =
+    1 ↪ exact 4 ⸴  -- IFLA_VTI_LINK
+    2 ↪ exact 4 ⸴  -- IFLA_VTI_IKEY
+    3 ↪ exact 4 ⸴  -- IFLA_VTI_OKEY
+    4 ↪ either 4 16 ⸴  -- IFLA_VTI_LOCAL
+    5 ↪ either 4 16 ⸴  -- IFLA_VTI_REMOTE
+    6 ↪ exact 4 ⸴  -- IFLA_VTI_FWMARK
+    end
+
+-- ---- headers of one kind: amt.h, batman_adv.h, veth.h, wwan.h
+
+-- amt: IFLA_AMT_*
+abbrev pub amt : Table
+amt =
+    1 ↪ exact 4 ⸴  -- IFLA_AMT_MODE
+    2 ↪ exact 2 ⸴  -- IFLA_AMT_RELAY_PORT
+    3 ↪ exact 2 ⸴  -- IFLA_AMT_GATEWAY_PORT
+    4 ↪ exact 4 ⸴  -- IFLA_AMT_LINK
+    5 ↪ either 4 16 ⸴  -- IFLA_AMT_LOCAL_IP
+    6 ↪ either 4 16 ⸴  -- IFLA_AMT_REMOTE_IP
+    7 ↪ either 4 16 ⸴  -- IFLA_AMT_DISCOVERY_IP
+    8 ↪ exact 4 ⸴  -- IFLA_AMT_MAX_TUNNELS
+    end
+
+-- batadv: IFLA_BATADV_*
+abbrev pub batadv : Table
+batadv =
+    1 ↪ text ⸴  -- IFLA_BATADV_ALGO_NAME
+    end
+
+-- veth, vxcan: VETH_INFO_* and VXCAN_INFO_* (can/vxcan.h)
+abbrev pub pair : Table
+pair =
+    1 ↠ peer ⸴  -- VETH_INFO_PEER, VXCAN_INFO_PEER
+    end
+
+-- wwan: IFLA_WWAN_*
 abbrev pub wwan : Table
-wwan = 1 ↪ octets 4 ⸴ end
+wwan =
+    1 ↪ exact 4 ⸴  -- IFLA_WWAN_LINK_ID
+    end
 
--- IFLA_XFRM_*: link, number of the interface
-abbrev pub xfrm : Table
-xfrm = 1 ↪ octets 4 ⸴ 2 ↪ octets 4 ⸴ end
+-- ---- other kinds
+
+-- bridge, bond and others: a list of raw attributes, for whose kinds there is no row
+abbrev pub untyped : Table
+untyped = end
 
 -- ---- kinds and port kinds by name
 
--- several names with one payload
+-- several names with one payload, and others after them
 abbrev pub each_of : Payload → List (List ℕ) → Names → Names
 each_of s [] ns = ns
 each_of s (n ∷ names) ns = name n s (each_of s names ns)
 
--- The kinds that have a table. The data of every other kind are raw bytes.
+-- the data of kinds of links, by the kind's name; those of every other kind are raw bytes
 abbrev pub kinds : Names
 kinds =
-    each_of (list any untyped) (codes "bridge" ∷ codes "tun" ∷ codes "vlan" ∷ codes "bond" ∷ codes "wireguard" ∷ codes "hsr" ∷ codes "can" ∷ codes "dsa" ∷ [])
+    each_of (list any untyped)
+    (codes "bridge" ∷ codes "tun" ∷ codes "vlan" ∷ codes "bond" ∷ codes "wireguard" ∷ codes "hsr" ∷ codes "can" ∷
+    codes "dsa" ∷ [])
     (each_of (list any ipvlan) (codes "ipvlan" ∷ codes "ipvtap" ∷ [])
     (each_of (list any vti) (codes "vti" ∷ codes "vti6" ∷ [])
     (name (codes "vrf") (list any vrf)
@@ -167,5 +347,8 @@ kinds =
     (each_of (list first_alone pair) (codes "veth" ∷ codes "vxcan" ∷ [])
     others)))))))))))))))))))))
 
+-- the data of kinds of ports, by the kind's name; those of every other kind are raw bytes
 abbrev pub port_kinds : Names
-port_kinds = each_of (list any untyped) (codes "bond" ∷ codes "bridge" ∷ codes "team" ∷ []) (name (codes "vrf") (list any vrf) others)
+port_kinds =
+    each_of (list any untyped) (codes "bond" ∷ codes "bridge" ∷ codes "team" ∷ [])
+    (name (codes "vrf") (list any vrf) others)

@@ -36,20 +36,24 @@ pub fn is_refused<F: Family + Drop>(alloc: Global, bytes: &[u8]) -> bool {
     }
 }
 
-/// Whether each attribute is read as its value and written from it, and one that the family does
-/// not name is kept as it is.
-pub fn are_read_as<F>(alloc: Global, cases: &[(&[u8], F)]) -> bool
+/// The first attribute that isn't read as its value, or isn't written from it; one that the family
+/// does not name comes last, and has to be kept as it is.
+pub fn first_wrong<'a, F>(alloc: Global, cases: &[(&'a [u8], F)]) -> Option<&'a [u8]>
 where
     F: Family + PartialEq + Drop,
 {
     for (bytes, value) in cases {
         if !is_read_as(alloc, bytes, value) || !is_written_as(value, bytes) {
-            return false;
+            return Some(bytes);
         }
     }
     let Ok(payload) = [1u8].to_vec(alloc) else {
-        return false;
+        return Some(UNNAMED);
     };
     let unnamed = F::other(DefaultNla::new(0xc046, payload));
-    is_read_as(alloc, UNNAMED, &unnamed) && is_written_as(&unnamed, UNNAMED)
+    if is_read_as(alloc, UNNAMED, &unnamed) && is_written_as(&unnamed, UNNAMED) {
+        None
+    } else {
+        Some(UNNAMED)
+    }
 }

@@ -53,23 +53,19 @@ const PORT_DATA: [(&str, [u8; 12]); 4] = [
     ("team", PORT_RAW),
 ];
 
-/// Whether the data in an attribute are read under a kind, and written as it; and whether they are kept as bytes.
-fn data_of(alloc: Global, kind: &InfoKind, bytes: &[u8; 12]) -> Result<(bool, bool), Fail> {
-    let data = InfoData::parse_with_param(alloc, &bytes[4..], kind)?;
-    Ok((
+/// Whether the data in an attribute are written as it, and whether they are kept as bytes; None if they aren't read.
+fn data_of(alloc: Global, kind: &InfoKind, bytes: &[u8; 12]) -> Option<(bool, bool)> {
+    let data = InfoData::parse_with_param(alloc, &bytes[4..], kind).ok()?;
+    Some((
         is_written_as(&data, bytes),
         matches!(data, InfoData::Other(_)),
     ))
 }
 
 /// The same of a port.
-fn port_data_of(
-    alloc: Global,
-    kind: &InfoPortKind,
-    bytes: &[u8; 12],
-) -> Result<(bool, bool), Fail> {
-    let data = InfoPortData::parse_with_param(alloc, &bytes[4..], kind)?;
-    Ok((
+fn port_data_of(alloc: Global, kind: &InfoPortKind, bytes: &[u8; 12]) -> Option<(bool, bool)> {
+    let data = InfoPortData::parse_with_param(alloc, &bytes[4..], kind).ok()?;
+    Some((
         is_written_as(&data, bytes),
         matches!(data, InfoPortData::Other(_)),
     ))
@@ -77,10 +73,13 @@ fn port_data_of(
 
 #[test]
 fn data_are_read_by_their_kind(rt: HostRuntime) -> Result<(), Fail> {
-    assert!(rt; data_of(rt.alloc(), &InfoKind::Dummy, &NUMBER)? == (true, true));
+    assert!(rt; data_of(rt.alloc(), &InfoKind::Dummy, &NUMBER) == Some((true, true)));
     for (name, bytes) in &DATA {
         let kind = InfoKind::from_name(rt.alloc(), name)?;
-        assert!(rt; data_of(rt.alloc(), &kind, bytes)? == (true, false));
+        assert_eq!(rt;
+            (name, data_of(rt.alloc(), &kind, bytes)),
+            (name, Some((true, false)))
+        );
     }
     Ok(())
 }
@@ -89,7 +88,10 @@ fn data_are_read_by_their_kind(rt: HostRuntime) -> Result<(), Fail> {
 fn port_data_are_read_by_their_kind(rt: HostRuntime) -> Result<(), Fail> {
     for (name, bytes) in &PORT_DATA {
         let kind = InfoPortKind::from_name(rt.alloc(), name)?;
-        assert!(rt; port_data_of(rt.alloc(), &kind, bytes)? == (true, false));
+        assert_eq!(rt;
+            (name, port_data_of(rt.alloc(), &kind, bytes)),
+            (name, Some((true, false)))
+        );
     }
     Ok(())
 }
@@ -99,10 +101,10 @@ fn port_data_are_read_by_their_kind(rt: HostRuntime) -> Result<(), Fail> {
 fn a_listed_name_in_other_keeps_bytes(rt: HostRuntime) -> Result<(), Fail> {
     let bytes = [12, 0, 2, 0, 1, 2, 3, 4, 5, 6, 7, 8];
     let kind = InfoKind::Other("vti".to_string(rt.alloc())?);
-    assert!(rt; data_of(rt.alloc(), &kind, &bytes)? == (true, true));
+    assert!(rt; data_of(rt.alloc(), &kind, &bytes) == Some((true, true)));
     let bytes = [12, 0, 5, 0, 1, 2, 3, 4, 5, 6, 7, 8];
     let kind = InfoPortKind::Other("vrf".to_string(rt.alloc())?);
-    assert!(rt; port_data_of(rt.alloc(), &kind, &bytes)? == (true, true));
+    assert!(rt; port_data_of(rt.alloc(), &kind, &bytes) == Some((true, true)));
     Ok(())
 }
 

@@ -1,4 +1,4 @@
-use crate::attributes::{are_read_as, is_refused};
+use crate::attributes::{first_wrong, is_refused};
 use link_info::{
     Flags, InfoBatAdv, InfoIpVlan, InfoIpoib, InfoRmNet, InfoRmNetFlags, InfoVlan, InfoVrf,
     InfoWwan, IpVlanFlags, IpVlanMode, IpoibMode, RmNetFlags,
@@ -12,7 +12,7 @@ fn batadv(rt: HostRuntime) -> Result<(), Fail> {
         b"\x0d\0\x01\0BATMAN_V\0\0\0\0",
         InfoBatAdv::AlgoName(name),
     )];
-    assert!(rt; are_read_as(rt.alloc(), cases));
+    assert_eq!(rt; first_wrong(rt.alloc(), cases), None);
     Ok(())
 }
 
@@ -29,7 +29,7 @@ fn ipoib(rt: HostRuntime) {
             InfoIpoib::Mode(IpoibMode::Other(0x0102)),
         ),
     ];
-    assert!(rt; are_read_as(rt.alloc(), cases));
+    assert_eq!(rt; first_wrong(rt.alloc(), cases), None);
 }
 
 #[test]
@@ -41,7 +41,7 @@ fn ipvlan(rt: HostRuntime) {
             InfoIpVlan::Flags(IpVlanFlags::from_bits_retain(0x8001)),
         ),
     ];
-    assert!(rt; are_read_as(rt.alloc(), cases));
+    assert_eq!(rt; first_wrong(rt.alloc(), cases), None);
 }
 
 #[test]
@@ -59,24 +59,24 @@ fn rmnet(rt: HostRuntime) {
             InfoRmNet::Flags(flags),
         ),
     ];
-    assert!(rt; are_read_as(rt.alloc(), cases));
+    assert_eq!(rt; first_wrong(rt.alloc(), cases), None);
 }
 
 #[test]
 fn vrf(rt: HostRuntime) {
     let cases: &[(&[u8], InfoVrf)] = &[(&[8, 0, 1, 0, 10, 0, 0, 0], InfoVrf::TableId(10))];
-    assert!(rt; are_read_as(rt.alloc(), cases));
+    assert_eq!(rt; first_wrong(rt.alloc(), cases), None);
 }
 
 #[test]
 fn wwan(rt: HostRuntime) {
     let cases: &[(&[u8], InfoWwan)] = &[(&[8, 0, 1, 0, 7, 0, 0, 0], InfoWwan::LinkId(7))];
-    assert!(rt; are_read_as(rt.alloc(), cases));
+    assert_eq!(rt; first_wrong(rt.alloc(), cases), None);
 }
 
 /// Every family without a table is the same code.
 #[test]
 fn raw_attributes(rt: HostRuntime) {
     let cases: &[(&[u8], InfoVlan)] = &[];
-    assert!(rt; are_read_as(rt.alloc(), cases));
+    assert_eq!(rt; first_wrong(rt.alloc(), cases), None);
 }

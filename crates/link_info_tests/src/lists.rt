@@ -84,7 +84,10 @@ fn words_of(alloc: Global, bytes: &[u8]) -> Result<Vec<&'static str>, Fail> {
 #[test]
 fn lists_are_read_written_and_refused(rt: HostRuntime) -> Result<(), Fail> {
     for (bytes, words) in LISTS {
-        assert!(rt; words_of(rt.alloc(), bytes)?.as_slice() == words);
+        assert_eq!(rt;
+            (bytes, words_of(rt.alloc(), bytes)?.as_slice()),
+            (bytes, words)
+        );
     }
     Ok(())
 }

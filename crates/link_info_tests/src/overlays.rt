@@ -1,4 +1,4 @@
-use crate::attributes::{are_read_as, is_refused};
+use crate::attributes::{first_wrong, is_refused};
 use link_info::{AmtMode, GeneveDf, GtpRole, InfoAmt, InfoGeneve, InfoGtp, InfoVxlan, VxlanDf};
 use std::net::{IpAddr, Ipv4Addr, Ipv6Addr};
 
@@ -17,7 +17,7 @@ fn amt(rt: HostRuntime) {
             InfoAmt::DiscoveryIp(IpAddr::V6(Ipv6Addr::LOCALHOST)),
         ),
     ];
-    assert!(rt; are_read_as(rt.alloc(), cases));
+    assert_eq!(rt; first_wrong(rt.alloc(), cases), None);
 }
 
 #[test]
@@ -43,7 +43,7 @@ fn geneve(rt: HostRuntime) {
             InfoGeneve::Df(GeneveDf::Inherit),
         ),
     ];
-    assert!(rt; are_read_as(rt.alloc(), cases));
+    assert_eq!(rt; first_wrong(rt.alloc(), cases), None);
 }
 
 #[test]
@@ -63,7 +63,7 @@ fn gtp(rt: HostRuntime) {
             InfoGtp::Local6(Ipv6Addr::LOCALHOST),
         ),
     ];
-    assert!(rt; are_read_as(rt.alloc(), cases));
+    assert_eq!(rt; first_wrong(rt.alloc(), cases), None);
 }
 
 #[test]
@@ -97,5 +97,5 @@ fn vxlan(rt: HostRuntime) {
             InfoVxlan::ReservedBits(0x0102030405060708),
         ),
     ];
-    assert!(rt; are_read_as(rt.alloc(), cases));
+    assert_eq!(rt; first_wrong(rt.alloc(), cases), None);
 }

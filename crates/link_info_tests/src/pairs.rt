@@ -1,4 +1,4 @@
-use crate::attributes::{are_read_as, is_read_as, is_written_as};
+use crate::attributes::{first_wrong, is_read_as, is_written_as};
 use attribute_tables::parse_first;
 use link_info::{InfoNetkit, InfoVeth, InfoVxcan, NetkitMode, NetkitPolicy, NetkitScrub};
 use std::test::Fail;
@@ -22,14 +22,14 @@ fn netkit(rt: HostRuntime) -> Result<(), Fail> {
         (&[8, 0, 5, 0, 1, 0, 0, 0], InfoNetkit::Mode(NetkitMode::L3)),
         (&[6, 0, 8, 0, 16, 0, 0, 0], InfoNetkit::Headroom(16)),
     ];
-    assert!(rt; are_read_as(rt.alloc(), cases));
+    assert_eq!(rt; first_wrong(rt.alloc(), cases), None);
     Ok(())
 }
 
 #[test]
 fn veth_and_vxcan(rt: HostRuntime) -> Result<(), Fail> {
     let veth = InfoVeth::Peer([0u8; 16].to_vec(rt.alloc())?);
-    assert!(rt; are_read_as(rt.alloc(), &[(PEER, veth)]));
+    assert_eq!(rt; first_wrong(rt.alloc(), &[(PEER, veth)]), None);
     let vxcan = InfoVxcan::Peer([0u8; 16].to_vec(rt.alloc())?);
     assert!(rt; is_read_as(rt.alloc(), PEER, &vxcan));
     Ok(())

@@ -1,4 +1,4 @@
-use crate::attributes::{are_read_as, is_written_as};
+use crate::attributes::{first_wrong, is_written_as};
 use link_info::{
     InfoMacSec, InfoMacVlan, MacSecCipherId, MacSecValidate, MacVlanMode, parse_mac_vlan,
 };
@@ -26,7 +26,7 @@ fn macsec(rt: HostRuntime) {
             InfoMacSec::Validation(MacSecValidate::Strict),
         ),
     ];
-    assert!(rt; are_read_as(rt.alloc(), cases));
+    assert_eq!(rt; first_wrong(rt.alloc(), cases), None);
 }
 
 #[test]

@@ -1,4 +1,4 @@
-use crate::attributes::{are_read_as, is_read_as, is_refused, is_written_as};
+use crate::attributes::{first_wrong, is_read_as, is_refused, is_written_as};
 use link_info::{
     ErSpanDir, GreEncapType, GreIOFlags, InfoBareUdp, InfoGre, InfoGre6, InfoIpTunnel, InfoKind,
     InfoVti, InfoXfrm, Ip6TunnelFlags, IpProtocol, parse_ip_tunnel,
@@ -21,13 +21,13 @@ fn vti(rt: HostRuntime) {
             InfoVti::Remote(IpAddr::V6(Ipv6Addr::LOCALHOST)),
         ),
     ];
-    assert!(rt; are_read_as(rt.alloc(), cases));
+    assert_eq!(rt; first_wrong(rt.alloc(), cases), None);
 }
 
 #[test]
 fn xfrm(rt: HostRuntime) {
     let cases: &[(&[u8], InfoXfrm)] = &[(&[8, 0, 2, 0, 10, 0, 0, 0], InfoXfrm::IfId(10))];
-    assert!(rt; are_read_as(rt.alloc(), cases));
+    assert_eq!(rt; first_wrong(rt.alloc(), cases), None);
 }
 
 #[test]
@@ -43,7 +43,7 @@ fn bareudp(rt: HostRuntime) {
         (&[6, 0, 3, 0, 1, 2, 0, 0], InfoBareUdp::SrcPortMin(0x0201)),
         (&[4, 0, 4, 0], InfoBareUdp::MultiprotoMode),
     ];
-    assert!(rt; are_read_as(rt.alloc(), cases));
+    assert_eq!(rt; first_wrong(rt.alloc(), cases), None);
 }
 
 #[test]
@@ -69,7 +69,7 @@ fn gre(rt: HostRuntime) {
             InfoGre::ErSpanDir(ErSpanDir::Egress),
         ),
     ];
-    assert!(rt; are_read_as(rt.alloc(), cases));
+    assert_eq!(rt; first_wrong(rt.alloc(), cases), None);
 }
 
 #[test]
@@ -86,7 +86,7 @@ fn gre6(rt: HostRuntime) -> Result<(), Fail> {
         ),
         (&[5, 0, 10, 0, 2, 0, 0, 0], InfoGre6::Other(kept)),
     ];
-    assert!(rt; are_read_as(rt.alloc(), cases));
+    assert_eq!(rt; first_wrong(rt.alloc(), cases), None);
     Ok(())
 }
 

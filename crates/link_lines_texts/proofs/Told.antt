@@ -4,7 +4,7 @@ use Rattle.std.specs.List.{list_all}
 use Rattle.attribute_tables_grammar.specs.Lists.{any}
 use Rattle.attribute_tables_grammar.specs.Tables.{Payload}
 use Rattle.link_message_grammar.specs.LinkMessage.{unspec, bridge, inet_6, other, link_table}
-use Rattle.link_message_grammar.specs.NestedTables.{settings}
+use Rattle.link_message_grammar.specs.NestedTables.{resized}
 use Rattle.link_lines_names.specs.Behind.{Inside.Nested}
 use Rattle.link_lines_names.specs.Names.{all_titles, has_name, names_apart}
 use Rattle.link_lines_names.specs.Raw.{raw_titles_of, table_titles}
@@ -14,19 +14,19 @@ use Rattle.link_tables.specs.declared.table.TheConstants.{GENEVE, GRE, GRE6, LIN
 use Rattle.link_lines_texts.specs.Titles.{data_titles, info_titles, link_rows, link_titles, nested_titles, own_titles, title_of, titles_of}
 
 unspec_is_told : holds_shown (Payload.list any (link_table unspec)) (Some (Nested LINK_UNSPEC)) ≡ true
-unfolding title_of titles_of nested_titles link_titles own_titles link_rows info_titles data_titles settings
+unfolding title_of titles_of nested_titles link_titles own_titles link_rows info_titles data_titles resized
 unspec_is_told = refl
 
 bridge_is_told : holds_shown (Payload.list any (link_table bridge)) (Some (Nested LINK_BRIDGE)) ≡ true
-unfolding title_of titles_of nested_titles link_titles own_titles link_rows info_titles data_titles settings
+unfolding title_of titles_of nested_titles link_titles own_titles link_rows info_titles data_titles resized
 bridge_is_told = refl
 
 inet6_is_told : holds_shown (Payload.list any (link_table inet_6)) (Some (Nested LINK_INET6)) ≡ true
-unfolding title_of titles_of nested_titles link_titles own_titles link_rows info_titles data_titles settings
+unfolding title_of titles_of nested_titles link_titles own_titles link_rows info_titles data_titles resized
 inet6_is_told = refl
 
 other_is_told : holds_shown (Payload.list any (link_table other)) (Some (Nested LINK_OTHER)) ≡ true
-unfolding title_of titles_of nested_titles link_titles own_titles link_rows info_titles data_titles settings
+unfolding title_of titles_of nested_titles link_titles own_titles link_rows info_titles data_titles resized
 other_is_told = refl
 
 pub all_are_named : in_each (all_titles has_name) ≡ true

@@ -9,9 +9,9 @@ use Rattle.netlink_packet_core.specs.Numbers.{le4, signed_bits}
 use Rattle.attribute_tables_grammar.specs.Lists.{nothing, Row}
 use Rattle.attribute_tables_grammar.specs.LookUps.{Line, line_holds_bytes}
 use Rattle.attribute_tables_grammar.specs.Peers.{bytes_peer}
-use Rattle.attribute_tables_grammar.specs.Rows.{raw_bytes}
 use Rattle.attribute_tables_grammar.specs.Readings.{all_named}
-use Rattle.attribute_tables_grammar.specs.Tables.{Payload, Payload.list, Payload.link_info}
+use Rattle.attribute_tables_grammar.specs.Shapes.{raw}
+use Rattle.attribute_tables_grammar.specs.Tables.{Payload, Payload.plain, Payload.list, Payload.link_info}
 use Rattle.attribute_tables.specs.Beginnings.{begins_readable, line_may_want_memory, table_may_want_memory}
 use Rattle.link_info_grammar.specs.LinkInfo.{info_grammar_under}
 use Rattle.link_info.specs.LinkInfo.{link_info_entry, link_info_fits, link_info_names_row}
@@ -137,7 +137,7 @@ link_attribute_names_row f (Link.ExtMask ms) = ms.items ≡ link_extent_masks_of
 link_attribute_names_row f (Link.OperState s) = s ≡ state_of (state_number s)
 link_attribute_names_row f (Link.AfSpecUnspec vs) = (f ≡ unspec) × All af_spec_unspec_names_row vs.items
 link_attribute_names_row f (Link.AfSpecBridge vs) = f ≡ bridge
-link_attribute_names_row f (Link.AfSpecUnknown b) = family_payload f ≡ raw_bytes
+link_attribute_names_row f (Link.AfSpecUnknown b) = family_payload f ≡ plain raw
 link_attribute_names_row f (Link.DevlinkPort vs) = All devlink_port_names_row vs.items
 link_attribute_names_row f (Link.DpllPin vs) = All dpll_pin_names_row vs.items
 link_attribute_names_row f (Link.Other a) = ((proper_kind a.kind == 12) ≡ false) × has_no_link_row f (proper_kind a.kind)

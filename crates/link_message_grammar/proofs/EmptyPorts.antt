@@ -16,7 +16,7 @@ use Rattle.attribute_tables_grammar.proofs.Tables.{pick_row, pick_rule, info_row
 use Rattle.link_message_grammar.specs.Body.{attribute_row_under, is_emptied}
 use Rattle.link_message_grammar.specs.Laws.{EmptyPortsAreTold}
 use Rattle.link_message_grammar.specs.LinkMessage.{Family, unspec, bridge, inet_6, other, protocol_line, below_protocol, above_protocol, link_line}
-use Rattle.link_message_grammar.specs.NestedTables.{settings, vf_ports}
+use Rattle.link_message_grammar.specs.NestedTables.{resized, vf_ports}
 use Rattle.link_message_grammar.proofs.Parts.{attributes_are_looked_up}
 
 abbrev is_other : ListForm → Bool
@@ -95,7 +95,7 @@ protocol_full inet_6 = refl
 protocol_full other = refl
 
 table_full : (f : Family) → other_rows_without_ports (below_protocol (above_protocol f)) ≡ true
-unfolding settings
+unfolding resized
 table_full unspec = refl
 table_full bridge = refl
 table_full inet_6 = refl

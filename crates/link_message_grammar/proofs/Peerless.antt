@@ -3,13 +3,13 @@ use Rattle.std.proofs.Common.{◌≡◌, true, refl, sym, ap, ◌∙◌}
 use Rattle.attribute_tables_grammar.specs.LookUps.{row_of_line}
 use Rattle.attribute_tables_grammar.specs.Tables.{holds_no_peers_but}
 use Rattle.attribute_tables_grammar.proofs.Peerless.{rules_without_peers_are_one}
-use Rattle.link_message_grammar.specs.NestedTables.{settings}
+use Rattle.link_message_grammar.specs.NestedTables.{resized}
 use Rattle.link_message_grammar.specs.LinkMessage.{Family, unspec, bridge, inet_6, other, link_table}
 use Rattle.link_message_grammar.specs.Laws.{PeersStandInLinkInfo}
 use Rattle.link_message_grammar.proofs.Lines.{kinds_are_looked_up}
 
 of_family : (f : Family) → holds_no_peers_but 18 (link_table f) ≡ true
-unfolding settings
+unfolding resized
 of_family unspec = refl
 of_family bridge = refl
 of_family inet_6 = refl

@@ -5,11 +5,11 @@ use Rattle.attribute_tables_grammar.specs.Lists.{any}
 use Rattle.attribute_tables_grammar.specs.Peers.{Peer, LawfulPeer}
 use Rattle.attribute_tables_grammar.specs.Tables.{Payload.list, rows_bounded, rising, rule}
 use Rattle.attribute_tables_grammar.proofs.Tables.{lawful}
-use Rattle.link_message_grammar.specs.NestedTables.{settings}
+use Rattle.link_message_grammar.specs.NestedTables.{resized}
 use Rattle.link_message_grammar.specs.LinkMessage.{Family, unspec, bridge, inet_6, other, link_table}
 
 pub table_bounded : (f : Family) → rows_bounded (link_table f) ≡ true
-unfolding settings
+unfolding resized
 table_bounded unspec = refl
 table_bounded bridge = refl
 table_bounded inet_6 = refl
@@ -19,7 +19,7 @@ pub table_lawful : (p : Peer) → LawfulPeer p → (f : Family) → Lawful (rule
 table_lawful p l f = lawful p l (list any (link_table f)) (table_bounded f)
 
 pub kinds_rise : (f : Family) → rising (list any (link_table f)) ≡ true
-unfolding settings
+unfolding resized
 kinds_rise unspec = refl
 kinds_rise bridge = refl
 kinds_rise inet_6 = refl

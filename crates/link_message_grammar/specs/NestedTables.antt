@@ -1,77 +1,137 @@
--- The tables of the lists inside attributes of link messages: a kind and what its payload holds.
+-- The tables of the lists inside attributes of link messages: a row in a line, in the order of their header, as in
+-- `Families`.
 use Rattle.std.specs.Prelude.{ℕ}
-use Rattle.attribute_tables_grammar.specs.Shapes.{fixed_record, id_and_truth, resized}
+use Rattle.attribute_tables_grammar.specs.Shapes as shapes
+use Rattle.attribute_tables_grammar.specs.Shapes.{exact, text, fixed_record, id_and_truth}
 use Rattle.attribute_tables_grammar.specs.Lists.{any}
 use Rattle.attribute_tables_grammar.specs.Tables.{Payload, Payload.plain, Payload.list, Table, Table.end}
-use Rattle.attribute_tables_grammar.specs.Rows.{◌↪◌, ◌⸴◌, octets, string, raw_list}
+use Rattle.attribute_tables_grammar.specs.Rows.{◌↪◌, ◌↠◌, ◌⸴◌, raw_list}
 
--- a record of so many bytes, of which the first so many count
-abbrev pub record_of : ℕ → ℕ → Payload
-record_of m n = plain (fixed_record m n)
+-- a payload of the shape `resized n`, unfolded only by proofs that ask for it, since its rule shows n zeros
+unfoldable pub resized : ℕ → Payload
+resized n = plain (shapes.resized n)
 
--- a record of any number of bytes, cut or filled up to so many
-unfoldable pub settings : ℕ → Payload
-settings n = plain (resized n)
+-- ---- if_link.h
 
--- IFLA_XDP_*: descriptor, where it is attached, flags, five numbers of programs, the descriptor that is expected
-abbrev pub xdp : Table
-xdp =
-    1 ↪ octets 4 ⸴ 2 ↪ octets 1 ⸴ 3 ↪ octets 4 ⸴ 4 ↪ octets 4 ⸴ 5 ↪ octets 4 ⸴ 6 ↪ octets 4 ⸴ 7 ↪ octets 4 ⸴ 8 ↪ octets 4 ⸴ end
-
--- IFLA_PROP_LIST: other names
+-- IFLA_PROP_LIST: other names of the link, under a kind of IFLA_*
 abbrev pub props : Table
-props = 53 ↪ string ⸴ end
+props =
+    53 ↪ text ⸴  -- IFLA_ALT_IFNAME
+    end
 
--- IFLA_PROTO_DOWN_REASON_*: mask, value
+-- IFLA_PROTO_DOWN_REASON: IFLA_PROTO_DOWN_REASON_*
 abbrev pub protocol_down_reason : Table
-protocol_down_reason = 1 ↪ octets 4 ⸴ 2 ↪ octets 4 ⸴ end
+protocol_down_reason =
+    1 ↪ exact 4 ⸴  -- IFLA_PROTO_DOWN_REASON_MASK
+    2 ↪ exact 4 ⸴  -- IFLA_PROTO_DOWN_REASON_VALUE
+    end
 
--- DEVLINK_ATTR_*: bus, device, port
-abbrev pub devlink_port : Table
-devlink_port = 1 ↪ string ⸴ 2 ↪ string ⸴ 3 ↪ octets 4 ⸴ end
-
--- DPLL_A_PIN_*: the number of the pin
-abbrev pub dpll_pin : Table
-dpll_pin = 1 ↪ octets 4 ⸴ end
-
--- IFLA_MCTP_*: network, what it is carried over
-abbrev pub mctp : Table
-mctp = 1 ↪ octets 4 ⸴ 2 ↪ octets 1 ⸴ end
-
--- IFLA_INET_*: settings of IPv4
+-- IFLA_AF_SPEC, of IPv4: IFLA_INET_*
 abbrev pub inet : Table
-inet = 1 ↪ settings 132 ⸴ end
+inet =
+    1 ↠ resized 132 ⸴  -- IFLA_INET_CONF
+    end
 
--- IFLA_INET6_*: flags, settings, statistics, times, statistics of ICMPv6, token, how addresses are made, metric of routers
+-- IFLA_AF_SPEC, of IPv6: IFLA_INET6_*
 abbrev pub inet6 : Table
 inet6 =
-    1 ↪ octets 4 ⸴ 2 ↪ settings 236 ⸴ 3 ↪ settings 304 ⸴ 5 ↪ record_of 16 16 ⸴ 6 ↪ settings 56 ⸴ 7 ↪ octets 16 ⸴ 8 ↪ octets 1 ⸴
-    9 ↪ octets 4 ⸴ end
+    1 ↪ exact 4 ⸴  -- IFLA_INET6_FLAGS
+    2 ↠ resized 236 ⸴  -- IFLA_INET6_CONF
+    3 ↠ resized 304 ⸴  -- IFLA_INET6_STATS
+    5 ↪ fixed_record 16 16 ⸴  -- IFLA_INET6_CACHEINFO
+    6 ↠ resized 56 ⸴  -- IFLA_INET6_ICMP6STATS
+    7 ↪ exact 16 ⸴  -- IFLA_INET6_TOKEN
+    8 ↪ exact 1 ⸴  -- IFLA_INET6_ADDR_GEN_MODE
+    9 ↪ exact 4 ⸴  -- IFLA_INET6_RA_MTU
+    end
 
--- IFLA_AF_SPEC where the family is none: what each family tells
-abbrev pub specific : Table
-specific = 2 ↪ list any inet ⸴ 10 ↪ list any inet6 ⸴ 45 ↪ list any mctp ⸴ end
-
--- IFLA_VF_STATS_*: packets and bytes received and sent, broadcasts, multicasts, packets dropped in and out
+-- IFLA_VF_STATS: IFLA_VF_STATS_*
 abbrev pub vf_stats : Table
 vf_stats =
-    0 ↪ octets 8 ⸴ 1 ↪ octets 8 ⸴ 2 ↪ octets 8 ⸴ 3 ↪ octets 8 ⸴ 4 ↪ octets 8 ⸴ 5 ↪ octets 8 ⸴ 7 ↪ octets 8 ⸴ 8 ↪ octets 8 ⸴ end
+    0 ↪ exact 8 ⸴  -- IFLA_VF_STATS_RX_PACKETS
+    1 ↪ exact 8 ⸴  -- IFLA_VF_STATS_TX_PACKETS
+    2 ↪ exact 8 ⸴  -- IFLA_VF_STATS_RX_BYTES
+    3 ↪ exact 8 ⸴  -- IFLA_VF_STATS_TX_BYTES
+    4 ↪ exact 8 ⸴  -- IFLA_VF_STATS_BROADCAST
+    5 ↪ exact 8 ⸴  -- IFLA_VF_STATS_MULTICAST
+    7 ↪ exact 8 ⸴  -- IFLA_VF_STATS_RX_DROPPED
+    8 ↪ exact 8 ⸴  -- IFLA_VF_STATS_TX_DROPPED
+    end
 
--- IFLA_VF_VLAN_*: a VLAN
+-- IFLA_VF_VLAN_LIST: IFLA_VF_VLAN_*
 abbrev pub vf_vlans : Table
-vf_vlans = 1 ↪ record_of 14 16 ⸴ end
+vf_vlans =
+    1 ↪ fixed_record 14 16 ⸴  -- IFLA_VF_VLAN_INFO
+    end
 
--- IFLA_VF_*: hardware address, VLAN, rate, check of source addresses, state, bounds of the rate, query of hashing, statistics, trust, VLANs,
--- broadcast address
+-- IFLA_VF_INFO, of one virtual function: IFLA_VF_*
 abbrev pub vf : Table
 vf =
-    1 ↪ record_of 36 36 ⸴ 2 ↪ record_of 12 12 ⸴ 3 ↪ record_of 8 8 ⸴ 4 ↪ plain id_and_truth ⸴ 5 ↪ record_of 8 8 ⸴ 6 ↪ record_of 12 12 ⸴
-    7 ↪ plain id_and_truth ⸴ 8 ↪ list any vf_stats ⸴ 9 ↪ plain id_and_truth ⸴ 12 ↪ list any vf_vlans ⸴ 13 ↪ record_of 32 32 ⸴ end
+    1 ↪ fixed_record 36 36 ⸴  -- IFLA_VF_MAC
+    2 ↪ fixed_record 12 12 ⸴  -- IFLA_VF_VLAN
+    3 ↪ fixed_record 8 8 ⸴  -- IFLA_VF_TX_RATE
+    4 ↪ id_and_truth ⸴  -- IFLA_VF_SPOOFCHK
+    5 ↪ fixed_record 8 8 ⸴  -- IFLA_VF_LINK_STATE
+    6 ↪ fixed_record 12 12 ⸴  -- IFLA_VF_RATE
+    7 ↪ id_and_truth ⸴  -- IFLA_VF_RSS_QUERY_EN
+    8 ↠ list any vf_stats ⸴  -- IFLA_VF_STATS
+    9 ↪ id_and_truth ⸴  -- IFLA_VF_TRUST
+    12 ↠ list any vf_vlans ⸴  -- IFLA_VF_VLAN_LIST
+    13 ↪ fixed_record 32 32 ⸴  -- IFLA_VF_BROADCAST
+    end
 
--- IFLA_VFINFO_LIST: the settings of a virtual function
+-- IFLA_VFINFO_LIST: IFLA_VF_INFO_*, of which kind 1 alone is kept
 abbrev pub vf_infos : Table
-vf_infos = 1 ↪ list any vf ⸴ end
+vf_infos =
+    1 ↠ list any vf ⸴  -- IFLA_VF_INFO
+    end
 
--- IFLA_VF_PORTS: the port of a virtual function, each attribute of it as it is
+-- IFLA_VF_PORTS: IFLA_VF_PORT_*, of which kind 1 alone is kept
 abbrev pub vf_ports : Table
-vf_ports = 1 ↪ raw_list ⸴ end
+vf_ports =
+    1 ↠ raw_list ⸴  -- IFLA_VF_PORT
+    end
+
+-- IFLA_XDP: IFLA_XDP_*
+abbrev pub xdp : Table
+xdp =
+    1 ↪ exact 4 ⸴  -- IFLA_XDP_FD
+    2 ↪ exact 1 ⸴  -- IFLA_XDP_ATTACHED
+    3 ↪ exact 4 ⸴  -- IFLA_XDP_FLAGS
+    4 ↪ exact 4 ⸴  -- IFLA_XDP_PROG_ID
+    5 ↪ exact 4 ⸴  -- IFLA_XDP_DRV_PROG_ID
+    6 ↪ exact 4 ⸴  -- IFLA_XDP_SKB_PROG_ID
+    7 ↪ exact 4 ⸴  -- IFLA_XDP_HW_PROG_ID
+    8 ↪ exact 4 ⸴  -- IFLA_XDP_EXPECTED_FD
+    end
+
+-- IFLA_AF_SPEC, of MCTP: IFLA_MCTP_*
+abbrev pub mctp : Table
+mctp =
+    1 ↪ exact 4 ⸴  -- IFLA_MCTP_NET
+    2 ↪ exact 1 ⸴  -- IFLA_MCTP_PHYS_BINDING
+    end
+
+-- ---- other headers
+
+-- IFLA_DEVLINK_PORT: DEVLINK_ATTR_* (devlink.h)
+abbrev pub devlink_port : Table
+devlink_port =
+    1 ↪ text ⸴  -- DEVLINK_ATTR_BUS_NAME
+    2 ↪ text ⸴  -- DEVLINK_ATTR_DEV_NAME
+    3 ↪ exact 4 ⸴  -- DEVLINK_ATTR_PORT_INDEX
+    end
+
+-- IFLA_DPLL_PIN: DPLL_A_PIN_* (dpll.h)
+abbrev pub dpll_pin : Table
+dpll_pin =
+    1 ↪ exact 4 ⸴  -- DPLL_A_PIN_ID
+    end
+
+-- IFLA_AF_SPEC under AF_UNSPEC: a list for each address family, by its number (AF_*, linux/socket.h)
+abbrev pub specific : Table
+specific =
+    2 ↠ list any inet ⸴  -- AF_INET
+    10 ↠ list any inet6 ⸴  -- AF_INET6
+    45 ↠ list any mctp ⸴  -- AF_MCTP
+    end

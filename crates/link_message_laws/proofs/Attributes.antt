@@ -5,7 +5,8 @@ use Rattle.std.proofs.lemmas.Bool.{and_from, eq-eqb}
 use lib.Pointwise.{pointwise, bytes_decides}
 use Rattle.netlink_packet_core.specs.Attributes.{Attribute, proper_kind}
 use Rattle.attribute_tables_grammar.specs.LookUps.{line_at}
-use Rattle.attribute_tables_grammar.specs.Rows.{raw_bytes}
+use Rattle.attribute_tables_grammar.specs.Shapes.{raw}
+use Rattle.attribute_tables_grammar.specs.Tables.{Payload.plain}
 use Rattle.link_message_grammar.specs.LinkMessage.{Family, unspec, bridge, inet_6, family_payload, has_no_link_row, link_line, below_protocol, above_protocol}
 use Rattle.link_message_types.specs.Events.{link_event_number, link_event_of}
 use Rattle.link_message_types.specs.ExtentMasks.{joined_extent_masks, link_extent_masks_of}
@@ -195,10 +196,10 @@ by_variant f (Link.ProtoInfoInet6 x) (Link.ProtoInfoUnknown y) i p q e = let h :
 by_variant f (Link.ProtoInfoUnknown x) (Link.ProtoInfoInet6 y) i p q e = let h : link_line inet_6 12 ≡ None = sym (λ j. link_line (q j) (p.0 j)) ∙ p.1 in absurd cc
 by_variant f (Link.AfSpecUnspec x) (Link.AfSpecBridge y) i p q e = let h : unspec ≡ bridge = sym p.0 ∙ q in absurd cc
 by_variant f (Link.AfSpecBridge x) (Link.AfSpecUnspec y) i p q e = let h : unspec ≡ bridge = sym q.0 ∙ p in absurd cc
-by_variant f (Link.AfSpecUnspec x) (Link.AfSpecUnknown y) i p q e = let h : family_payload unspec ≡ raw_bytes = sym (ap family_payload p.0) ∙ q in absurd cc
-by_variant f (Link.AfSpecUnknown x) (Link.AfSpecUnspec y) i p q e = let h : family_payload unspec ≡ raw_bytes = sym (ap family_payload q.0) ∙ p in absurd cc
-by_variant f (Link.AfSpecBridge x) (Link.AfSpecUnknown y) i p q e = let h : family_payload bridge ≡ raw_bytes = sym (ap family_payload p) ∙ q in absurd cc
-by_variant f (Link.AfSpecUnknown x) (Link.AfSpecBridge y) i p q e = let h : family_payload bridge ≡ raw_bytes = sym (ap family_payload q) ∙ p in absurd cc
+by_variant f (Link.AfSpecUnspec x) (Link.AfSpecUnknown y) i p q e = let h : family_payload unspec ≡ plain raw = sym (ap family_payload p.0) ∙ q in absurd cc
+by_variant f (Link.AfSpecUnknown x) (Link.AfSpecUnspec y) i p q e = let h : family_payload unspec ≡ plain raw = sym (ap family_payload q.0) ∙ p in absurd cc
+by_variant f (Link.AfSpecBridge x) (Link.AfSpecUnknown y) i p q e = let h : family_payload bridge ≡ plain raw = sym (ap family_payload p) ∙ q in absurd cc
+by_variant f (Link.AfSpecUnknown x) (Link.AfSpecBridge y) i p q e = let h : family_payload bridge ≡ plain raw = sym (ap family_payload q) ∙ p in absurd cc
 by_variant f v w i p q e = absurd (omega (arith, i))
 
 pub attribute_injective : (f : Family) → IsInjective equal link_attribute_entry (link_attribute_names_row f)

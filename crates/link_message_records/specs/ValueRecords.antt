@@ -5,7 +5,7 @@ use Rattle.netlink_packet_core.specs.Numbers.{le4, le8, signed_bits}
 use Rattle.attribute_tables_grammar.specs.LookUps.{payload_rule}
 use Rattle.attribute_tables_grammar.specs.Peers.{bytes_peer}
 use Rattle.attribute_tables_grammar.specs.Rules.{Rule}
-use Rattle.link_message_grammar.specs.NestedTables.{settings}
+use Rattle.link_message_grammar.specs.NestedTables.{resized}
 use Rattle.link_message_records.specs.declared.values.Values.{Values}
 
 -- numbers of 4 and of 8 bytes
@@ -21,4 +21,4 @@ i32_values_bytes v = flat_map (λ z. le4 (signed_bits z)) v.values
 
 -- the rule of a row of settings, of so many bytes
 abbrev pub settings_rule : ℕ → Rule
-settings_rule n = payload_rule bytes_peer (settings n)
+settings_rule n = payload_rule bytes_peer (resized n)

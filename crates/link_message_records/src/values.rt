@@ -128,7 +128,7 @@ impl<T: Number, const N: usize> Values<T, N> {
 }
 
 /// Reads numbers as a row of settings holds them: any bytes are accepted.
-#[tactic(auto, unfolding(link_message_grammar::specs::NestedTables::settings))]
+#[tactic(auto, unfolding(link_message_grammar::specs::NestedTables::resized))]
 pub fn read_settings<T: Number, const N: usize>(payload: &[u8]) -> Values<T, N>
     ensures accepted { (settings_rule (T.size * N)).accepted payload.now ≡ true }
     ensures text { flat_map T.bytes result.values

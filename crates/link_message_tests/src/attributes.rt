@@ -51,14 +51,14 @@ fn is_read_as(alloc: Global, bytes: &[u8], value: &LinkAttribute, text: &[u8]) -
     }
 }
 
-/// Whether each attribute is read as its value, and written from it.
-fn are_read_as(alloc: Global, cases: &[(&[u8], LinkAttribute)]) -> bool {
+/// The first attribute that isn't read as its value, or isn't written from it.
+fn first_wrong<'a>(alloc: Global, cases: &[(&'a [u8], LinkAttribute)]) -> Option<&'a [u8]> {
     for (bytes, value) in cases {
         if !is_read_as(alloc, bytes, value, bytes) {
-            return false;
+            return Some(bytes);
         }
     }
-    true
+    None
 }
 
 #[test]
@@ -89,7 +89,7 @@ fn numbers(rt: HostRuntime) -> Result<(), Fail> {
             LinkAttribute::Mode(LinkMode::Dormant),
         ),
     ];
-    assert!(rt; are_read_as(rt.alloc(), cases));
+    assert_eq!(rt; first_wrong(rt.alloc(), cases), None);
     Ok(())
 }
 
@@ -116,7 +116,7 @@ fn bytes_texts_and_lists(rt: HostRuntime) -> Result<(), Fail> {
             LinkAttribute::Other(DefaultNla::new(0xc046, byte)),
         ),
     ];
-    assert!(rt; are_read_as(rt.alloc(), cases));
+    assert_eq!(rt; first_wrong(rt.alloc(), cases), None);
     Ok(())
 }
 
@@ -130,7 +130,7 @@ fn a_listed_kind_has_no_flag_bits(rt: HostRuntime) {
 #[test]
 fn other_payloads_are_refused(rt: HostRuntime) {
     for bytes in REFUSED {
-        assert!(rt; is_refused(read(rt.alloc(), bytes)));
+        assert_eq!(rt; (bytes, is_refused(read(rt.alloc(), bytes))), (bytes, true));
     }
 }
 

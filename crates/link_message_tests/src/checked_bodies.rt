@@ -79,7 +79,7 @@ fn bodies_are_counted(rt: HostRuntime) -> Result<(), Fail> {
             fits: true,
             empty_ports,
         };
-        assert!(rt; check(bytes)? == measure);
+        assert_eq!(rt; (bytes, check(bytes).ok()), (bytes, Some(measure)));
     }
     assert!(rt; check(EMPTY_INFO).is_err());
     Ok(())
@@ -114,7 +114,7 @@ fn bodies_are_compared(rt: HostRuntime) -> Result<(), Fail> {
         (NAMED, EXCHANGED, false),
     ] {
         assert!(rt; left.len() >= 16 && right.len() >= 16);
-        assert!(rt; same(left, right) == is_same);
+        assert_eq!(rt; (left, right, same(left, right)), (left, right, is_same));
     }
     Ok(())
 }

@@ -66,11 +66,14 @@ fn peers_in_bodies_are_judged_as_bodies(rt: HostRuntime) -> Result<(), Fail> {
             fits: true,
             empty_ports: false,
         };
-        assert!(rt; check(bytes)? == measure);
-        assert!(rt; canonical(rt.alloc(), bytes)?.as_slice() == text);
+        assert_eq!(rt; (bytes, check(bytes).ok()), (bytes, Some(measure)));
+        assert_eq!(rt;
+            (bytes, canonical(rt.alloc(), bytes)?.as_slice()),
+            (bytes, text)
+        );
     }
     for bytes in [CUT_PEER, EMPTY_PORTS] {
-        assert!(rt; check(bytes).is_err());
+        assert_eq!(rt; (bytes, check(bytes).is_err()), (bytes, true));
     }
     Ok(())
 }
@@ -85,6 +88,9 @@ fn peers_in_bodies_are_compared_one_level_deep(rt: HostRuntime) {
         (INSIDE, INSIDE_WRITTEN, false),
     ] {
         assert!(rt; left.len() >= 16 && right.len() >= 16);
-        assert!(rt; [same(left, right), same(right, left)] == [is_same; 2]);
+        assert_eq!(rt;
+            (left, right, [same(left, right), same(right, left)]),
+            (left, right, [is_same; 2])
+        );
     }
 }

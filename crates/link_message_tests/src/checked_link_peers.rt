@@ -48,7 +48,7 @@ fn attributes_of_peers_count(rt: HostRuntime) {
             counts(check_list(bytes)),
             counts(check_list_with(bytes, &LinkPeer)),
         ];
-        assert!(rt; told == [Some(by_bytes), by_body]);
+        assert_eq!(rt; (bytes, told), (bytes, [Some(by_bytes), by_body]));
     }
 }
 
@@ -64,7 +64,7 @@ fn peers_are_compared_as_bodies(rt: HostRuntime) {
             same_list_with(left, right, &LinkPeer),
             same_list(left, right),
         ];
-        assert!(rt; told == [is_same, false]);
+        assert_eq!(rt; (left, right, told), (left, right, [is_same, false]));
     }
 }
 
@@ -85,17 +85,23 @@ fn bytes_under_a_header_are_compared(rt: HostRuntime) {
         (&BODY[..15], &BODY[..16], false),
     ] {
         let told = [LinkPeer.same(left, right), LinkPeer.same(right, left)];
-        assert!(rt; told == [is_same; 2]);
+        assert_eq!(rt; (left, right, told), (left, right, [is_same; 2]));
     }
 }
 
 #[test]
 fn peers_are_written_as_bodies(rt: HostRuntime) -> Result<(), Fail> {
     for payload in [BODY, BODY_SHORTER, BODY_PADDED] {
-        assert!(rt; LinkPeer.canonical(rt.alloc(), payload)?.as_slice() == BODY);
+        assert_eq!(rt;
+            (payload, LinkPeer.canonical(rt.alloc(), payload)?.as_slice()),
+            (payload, BODY)
+        );
     }
     for payload in [EMPTY_PORTS, b"abc".as_slice()] {
-        assert!(rt; is_refused(LinkPeer.canonical(rt.alloc(), payload)));
+        assert_eq!(rt;
+            (payload, is_refused(LinkPeer.canonical(rt.alloc(), payload))),
+            (payload, true)
+        );
     }
     Ok(())
 }

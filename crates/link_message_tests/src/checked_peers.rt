@@ -66,7 +66,10 @@ fn peers_are_counted_by_the_rule(rt: HostRuntime) {
             counts(check_list_with(bytes, &BytesPeer)),
             counts(check_list(bytes)),
         ];
-        assert!(rt; told == [by_rule, Some(by_bytes), Some(by_bytes)]);
+        assert_eq!(rt;
+            (bytes, told),
+            (bytes, [by_rule, Some(by_bytes), Some(by_bytes)])
+        );
     }
 }
 
@@ -87,7 +90,10 @@ fn peers_are_compared_by_the_rule(rt: HostRuntime) {
             same_list_with(left, right, &BytesPeer),
             same_list(left, right),
         ];
-        assert!(rt; told == [by_rule, by_bytes, by_bytes]);
+        assert_eq!(rt;
+            (left, right, told),
+            (left, right, [by_rule, by_bytes, by_bytes])
+        );
     }
 }
 

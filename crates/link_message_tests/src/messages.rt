@@ -323,12 +323,24 @@ fn link_info_is_typed(rt: HostRuntime) -> Result<(), Fail> {
 #[test]
 fn peers_are_messages(rt: HostRuntime) -> Result<(), Fail> {
     for (attributes, peer, is_message) in PEERS {
-        assert!(rt; are_veth(rt.alloc(), attributes, peer)?);
-        assert!(rt; is_refused(LinkMessage::parse(rt.alloc(), peer)) == !is_message);
+        assert_eq!(rt;
+            (attributes, are_veth(rt.alloc(), attributes, peer)?),
+            (attributes, true)
+        );
+        assert_eq!(rt;
+            (attributes, is_refused(LinkMessage::parse(rt.alloc(), peer))),
+            (attributes, !is_message)
+        );
         let list = attributes.get(4..).unwrap_or(b"");
-        assert!(rt; is_list_of_veth(rt.alloc(), list, peer));
+        assert_eq!(rt;
+            (attributes, is_list_of_veth(rt.alloc(), list, peer)),
+            (attributes, true)
+        );
         let payload = list.get(16..).unwrap_or(b"");
-        assert!(rt; are_data_of_veth(rt.alloc(), payload, peer)?);
+        assert_eq!(rt;
+            (attributes, are_data_of_veth(rt.alloc(), payload, peer)?),
+            (attributes, true)
+        );
     }
     assert!(rt; is_named(rt.alloc(), PEER, "lo")?);
     Ok(())
@@ -339,7 +351,10 @@ fn attributes_are_rewritten(rt: HostRuntime) -> Result<(), Fail> {
     for (attributes, wanted) in REWRITTEN {
         let bytes = body(rt.alloc(), attributes)?;
         let wanted = body(rt.alloc(), wanted)?;
-        assert!(rt; has_text(rt.alloc(), &bytes, &wanted)?);
+        assert_eq!(rt;
+            (attributes, has_text(rt.alloc(), &bytes, &wanted)?),
+            (attributes, true)
+        );
     }
     Ok(())
 }
@@ -347,7 +362,10 @@ fn attributes_are_rewritten(rt: HostRuntime) -> Result<(), Fail> {
 #[test]
 fn headers_are_rewritten(rt: HostRuntime) -> Result<(), Fail> {
     for (header, wanted) in HEADERS {
-        assert!(rt; has_text(rt.alloc(), header, wanted)?);
+        assert_eq!(rt;
+            (header, has_text(rt.alloc(), header, wanted)?),
+            (header, true)
+        );
     }
     Ok(())
 }
@@ -355,11 +373,20 @@ fn headers_are_rewritten(rt: HostRuntime) -> Result<(), Fail> {
 #[test]
 fn other_bodies_are_refused(rt: HostRuntime) -> Result<(), Fail> {
     for bytes in SHORT {
-        assert!(rt; is_refused(LinkMessage::parse(rt.alloc(), bytes)));
+        assert_eq!(rt;
+            (bytes, is_refused(LinkMessage::parse(rt.alloc(), bytes))),
+            (bytes, true)
+        );
     }
     for attributes in REFUSED {
         let bytes = body(rt.alloc(), attributes)?;
-        assert!(rt; is_refused(LinkMessage::parse(rt.alloc(), &bytes)));
+        assert_eq!(rt;
+            (
+                attributes,
+                is_refused(LinkMessage::parse(rt.alloc(), &bytes))
+            ),
+            (attributes, true)
+        );
     }
     Ok(())
 }
@@ -367,7 +394,10 @@ fn other_bodies_are_refused(rt: HostRuntime) -> Result<(), Fail> {
 #[test]
 fn lists_without_a_port_are_told(rt: HostRuntime) -> Result<(), Fail> {
     for (attributes, is_emptied) in PORTS {
-        assert!(rt; have_empty_ports(rt.alloc(), attributes)? == is_emptied);
+        assert_eq!(rt;
+            (attributes, have_empty_ports(rt.alloc(), attributes)?),
+            (attributes, is_emptied)
+        );
     }
     Ok(())
 }

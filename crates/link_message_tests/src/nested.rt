@@ -152,14 +152,17 @@ fn is_attribute(alloc: Global, family: AddressFamily, bytes: &[u8], value: &Link
     }
 }
 
-/// Whether each attribute is read so under its family.
-fn are_attributes(alloc: Global, cases: &[(AddressFamily, &[u8], LinkAttribute)]) -> bool {
+/// The first attribute that isn't read so under its family.
+fn first_wrong<'a>(
+    alloc: Global,
+    cases: &[(AddressFamily, &'a [u8], LinkAttribute)],
+) -> Option<&'a [u8]> {
     for (family, bytes, value) in cases {
         if !is_attribute(alloc, *family, bytes, value) {
-            return false;
+            return Some(bytes);
         }
     }
-    true
+    None
 }
 
 #[test]
@@ -201,7 +204,7 @@ fn rows_go_by_the_family(rt: HostRuntime) -> Result<(), Fail> {
             LinkAttribute::AfSpecUnknown(bytes),
         ),
     ];
-    assert!(rt; are_attributes(rt.alloc(), cases));
+    assert_eq!(rt; first_wrong(rt.alloc(), cases), None);
     Ok(())
 }
 
@@ -258,6 +261,6 @@ fn records_and_lists_of_links(rt: HostRuntime) -> Result<(), Fail> {
             LinkAttribute::Map(map),
         ),
     ];
-    assert!(rt; are_attributes(rt.alloc(), cases));
+    assert_eq!(rt; first_wrong(rt.alloc(), cases), None);
     Ok(())
 }

@@ -62,7 +62,7 @@ fn other_kinds_than_one_are_refused(rt: HostRuntime) -> Result<(), Fail> {
     // The same attributes, of the kinds 1, 0, 2 and 257.
     for (low, high, is_read) in [(1, 0, true), (0, 0, false), (2, 0, false), (1, 1, false)] {
         let told = are_read(rt.alloc(), &[8, 0, low, high, 4, 0, 99, 0])?;
-        assert!(rt; told == [is_read; 2]);
+        assert_eq!(rt; (low, high, told), (low, high, [is_read; 2]));
     }
     Ok(())
 }

@@ -69,7 +69,10 @@ fn flags_are_displayed_by_name(rt: HostRuntime) -> Result<(), Fail> {
     ];
     for (bits, text) in texts {
         let flags = LinkFlags::from_bits_retain(bits);
-        assert!(rt; format!(in rt.alloc(); "{flags}")?.as_str() == text);
+        assert_eq!(rt;
+            (bits, format!(in rt.alloc(); "{flags}")?.as_str()),
+            (bits, text)
+        );
     }
     Ok(())
 }

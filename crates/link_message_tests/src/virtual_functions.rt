@@ -38,7 +38,10 @@ fn are_rewritten(alloc: Global, bytes: &[u8], text: &[u8]) -> bool {
 #[test]
 fn lists_are_rewritten(rt: HostRuntime) {
     for (bytes, text) in REWRITTEN {
-        assert!(rt; are_rewritten(rt.alloc(), bytes, text));
+        assert_eq!(rt;
+            (bytes, are_rewritten(rt.alloc(), bytes, text)),
+            (bytes, true)
+        );
     }
 }
 
@@ -69,7 +72,7 @@ fn ports_have_an_attribute(rt: HostRuntime) {
         (b"\x04\0\x07\0".as_slice(), Some(0)),
         (b"\x04\0\x01\0".as_slice(), Some(1)),
     ] {
-        assert!(rt; ports(rt.alloc(), bytes) == count);
+        assert_eq!(rt; (bytes, ports(rt.alloc(), bytes)), (bytes, count));
     }
 }
 

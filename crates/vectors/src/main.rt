@@ -1,5 +1,5 @@
-// vectors: answers cases on standard input, one in a line behind the word of its kind. What is answered otherwise by another
-// call, or in pieces, ends the program.
+// vectors: computes the results of cases on standard input, one a line after the word of its kind, in groups that each
+// follow a line with their label. A case with another result by another call, or in pieces, ends the program.
 #![tactic(auto)]
 
 mod cases;
@@ -27,11 +27,31 @@ fn answer_line<W: Write>(alloc: Global, line: &str, out: &mut W) -> io::Result<(
     }
 }
 
+/// What makes a case fail.
+fn reason(error: &io::Error) -> &'static str {
+    match error.kind() {
+        ErrorKind::InvalidInput => "not a case",
+        ErrorKind::InvalidData => "another call has another result",
+        _ => "no result",
+    }
+}
+
 fn main(rt: HostRuntime) -> io::Result<()> {
     let alloc = rt.alloc();
     let mut out = BufWriter::new(alloc, io::writer(&rt))?;
+    let mut label = String::new(alloc);
+    let mut number: u64 = 0;
     for line in BufReader::new(alloc, rt.reader())?.lines(alloc) {
-        answer_line(alloc, line?.as_str(), &mut out)?;
+        let line = line?;
+        number = number.wrapping_add(1);
+        if let Some(text) = line.as_str().strip_prefix("# ") {
+            label = String::from_str(alloc, text)?;
+            continue;
+        }
+        if let Err(error) = answer_line(alloc, line.as_str(), &mut out) {
+            eprintln!(rt; "stdin:{number}: {label}: {}", reason(&error))?;
+            return Err(error);
+        }
     }
     out.flush()
 }

@@ -18,12 +18,9 @@ use link_capture_refusal_rows::laws::rows_are_the_tables;
 use link_capture_refusal_rows::{Inside, Listed, Reason, is_kept, next_list, row_in, shape_reason};
 use link_interpreter::{Attribute, KIND_BOUND, PeerSet, first_attribute, measure_shape};
 use link_message_checks::{LinkPeer, has_empty_ports};
-use link_tables::{Form, Shape, family_table};
+use link_tables::{Form, LINK_HEADER_LEN, Shape, family_table};
 use netlink_packet_core::nla_align;
 use netlink_packet_core_attributes::view::read_u16;
-
-/// The bytes of the header of a link (rtnetlink.h, `struct ifinfomsg`).
-const LINK_HEADER_LEN: usize = 16;
 
 /// Why no attribute begins these bytes.
 fn no_attribute(bytes: &[u8]) -> Reason

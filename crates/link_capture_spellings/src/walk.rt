@@ -16,14 +16,12 @@ use link_capture_spelling_rows::{
     inside, next_list,
 };
 use link_interpreter::{KIND_BOUND, first_attribute};
+use link_tables::LINK_HEADER_LEN;
 use netlink_packet_core::{NETLINK_HEADER_LEN, NetlinkBuffer, nla_align};
 use std::default::Default;
 
 /// As many lists stand inside one another as this: a link's attributes, its link info, the data, and the same of a peer.
 const DEPTH: usize = 6;
-
-/// The bytes of the header of a link (rtnetlink.h, `struct ifinfomsg`).
-const LINK_HEADER_LEN: usize = 16;
 
 /// What is left of a list, and its place in bytes from the capture's start.
 #[derive(Clone, Copy, Drop)]

@@ -25,20 +25,13 @@ use link_info_data::{InfoData, InfoPortData, LinkXstats};
 use link_info_grammar::laws::info_grammar_is_lawful;
 use link_info_kinds::{InfoKind, InfoPortKind};
 use link_interpreter::{BytesPeer, PeerRule, list_error_with};
+use link_tables::{
+    IFLA_INFO_DATA, IFLA_INFO_KIND, IFLA_INFO_SLAVE_DATA, IFLA_INFO_SLAVE_KIND, IFLA_INFO_XSTATS,
+};
 use netlink_packet_core::{
     DecodeError, DefaultNla, Emitable, Nla, NlaBuffer, Parseable, parse_str, skip_first,
 };
 use std::alloc::Global;
-
-const IFLA_INFO_KIND: u16 = 1;
-
-const IFLA_INFO_DATA: u16 = 2;
-
-const IFLA_INFO_XSTATS: u16 = 3;
-
-const IFLA_INFO_PORT_KIND: u16 = 4;
-
-const IFLA_INFO_PORT_DATA: u16 = 5;
 
 /// An attribute of link info.
 #[derive(Debug, PartialEq, Eq, Drop)]
@@ -78,8 +71,8 @@ impl Nla for LinkInfo {
             Self::Xstats(_) => IFLA_INFO_XSTATS,
             Self::Kind(_) => IFLA_INFO_KIND,
             Self::Data(_) => IFLA_INFO_DATA,
-            Self::PortKind(_) => IFLA_INFO_PORT_KIND,
-            Self::PortData(_) => IFLA_INFO_PORT_DATA,
+            Self::PortKind(_) => IFLA_INFO_SLAVE_KIND,
+            Self::PortData(_) => IFLA_INFO_SLAVE_DATA,
             Self::Other(nla) => nla.kind(),
         }
     }
@@ -128,11 +121,11 @@ fn next_in_force<'a>(
             kind: Some(parse_str(buf.value())?),
             port_kind: force.port_kind,
         }),
-        IFLA_INFO_PORT_KIND => Ok(InForce {
+        IFLA_INFO_SLAVE_KIND => Ok(InForce {
             kind: force.kind,
             port_kind: Some(parse_str(buf.value())?),
         }),
-        IFLA_INFO_PORT_DATA => Ok(InForce {
+        IFLA_INFO_SLAVE_DATA => Ok(InForce {
             kind: force.kind,
             port_kind: None,
         }),
@@ -201,8 +194,8 @@ impl LinkInfo {
                 )?))),
                 None => Err(DecodeError::from("IFLA_INFO_XSTATS before any IFLA_INFO_KIND")),
             },
-            IFLA_INFO_PORT_KIND => Ok(LinkInfo::PortKind(InfoPortKind::parse(alloc, buf)?)),
-            IFLA_INFO_PORT_DATA => match force.port_kind {
+            IFLA_INFO_SLAVE_KIND => Ok(LinkInfo::PortKind(InfoPortKind::parse(alloc, buf)?)),
+            IFLA_INFO_SLAVE_DATA => match force.port_kind {
                 Some(name) => Ok(LinkInfo::PortData(parse_port_data(alloc, name, payload)?)),
                 None => Err(DecodeError::from(
                     "IFLA_INFO_SLAVE_DATA without an IFLA_INFO_SLAVE_KIND",

@@ -10,11 +10,10 @@ ghost use Rattle.link_info_grammar.specs.KindNames.{kind_names, is_unlisted};
 ghost use Rattle.link_info_kinds.specs.Kinds.{info_kind_accepted, info_kind_takes_memory, info_kind_entry};
 ghost use Rattle.link_info_kinds.specs.Kinds.{info_kind_text, info_kind_is_named, early_kinds, late_kinds, listed_kinds, IsNamedBy};
 
+use link_tables::IFLA_INFO_KIND;
 use netlink_packet_core::{DecodeError, Nla, NlaBuffer, Parseable, fill_text, parse_str};
 use std::alloc::Global;
 use std::fmt;
-
-const IFLA_INFO_KIND: u16 = 1;
 
 const DUMMY: &str = "dummy";
 

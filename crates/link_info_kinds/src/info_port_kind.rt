@@ -12,11 +12,10 @@ ghost use Rattle.link_info_kinds.specs.PortKinds.{info_port_kind_accepted, info_
 ghost use Rattle.link_info_kinds.specs.PortKinds.{info_port_kind_entry, info_port_kind_text, info_port_kind_is_named};
 ghost use Rattle.link_info_kinds.specs.PortKinds.{listed_port_kinds, IsPortNamedBy};
 
+use link_tables::IFLA_INFO_SLAVE_KIND;
 use netlink_packet_core::{DecodeError, Nla, NlaBuffer, Parseable, fill_text, parse_str};
 use std::alloc::Global;
 use std::fmt;
-
-const IFLA_INFO_PORT_KIND: u16 = 4;
 
 const BOND: &str = "bond";
 
@@ -103,7 +102,7 @@ impl Nla for InfoPortKind {
     }
 
     fn kind(&self) -> u16 {
-        IFLA_INFO_PORT_KIND
+        IFLA_INFO_SLAVE_KIND
     }
 
     #[tactic(auto, using(netlink_packet_core_grammar::proofs::Sizes::sizes))]
@@ -127,7 +126,7 @@ impl<'a> Parseable<NlaBuffer<&'a [u8]>> for InfoPortKind {
     ghost gives = { λ b k. IsPortNamedBy (without_nul (viewed_payload (storage b).now)) k };
 
     fn parse(alloc: Global, buf: &NlaBuffer<&'a [u8]>) -> Result<Self, DecodeError> {
-        if buf.kind() != IFLA_INFO_PORT_KIND {
+        if buf.kind() != IFLA_INFO_SLAVE_KIND {
             return Err(DecodeError::from("not an IFLA_INFO_SLAVE_KIND"));
         }
         InfoPortKind::from_name(alloc, parse_str(buf.value())?)

@@ -9,13 +9,13 @@ ghost use Rattle.link_lines_texts.specs.Lists.{list_lines, next_in, own_lines, p
 ghost use Rattle.link_tables.specs.InForce.{in_force};
 
 use crate::laws::lists_go_by_steps;
-use crate::links::{LINK_HEADER_LEN, push_link_header};
+use crate::links::push_link_header;
 use crate::titles::title_of;
 use link_interpreter::{Attribute, KIND_BOUND, first_attribute};
 use link_lines_names::{Behind, BehindBy, known_behind, push_raw};
 use link_lines_values::{push_bytes, push_indent, push_value};
 use link_tables::table::LINK_INFO;
-use link_tables::{InForce, NO_KINDS, Table, family_table, next_force};
+use link_tables::{InForce, LINK_HEADER_LEN, NO_KINDS, Table, family_table, next_force};
 use std::alloc::AllocError;
 
 /// Where attributes stand: the table of their kinds, and whether they are a peer's.

@@ -9,13 +9,13 @@ ghost use Rattle.link_lines_texts.specs.Frames.{link_lines, bytes_line, behind_c
 ghost use Rattle.link_lines_texts.specs.Frames.{body_lines, frame_lines};
 
 use crate::attributes::{Place, push_list};
-use crate::links::{LINK_HEADER_LEN, push_labelled_decimal, push_labelled_flags, push_link_header};
+use crate::links::{push_labelled_decimal, push_labelled_flags, push_link_header};
 use link_capture_grammar::link_types::{RTM_DELLINK, RTM_GETLINK, RTM_NEWLINK, RTM_SETLINK};
 use link_lines_values::{
     FlagNames, MESSAGE_ACK_FLAGS, MESSAGE_CREATE_FLAGS, MESSAGE_DELETE_FLAGS, MESSAGE_FLAGS,
     MESSAGE_GET_FLAGS, MESSAGE_TYPE, ShownBy, push_bytes, push_decimal, push_name, push_value,
 };
-use link_tables::family_table;
+use link_tables::{LINK_HEADER_LEN, family_table};
 use netlink_packet_core::{NETLINK_HEADER_LEN, NLMSG_DONE, NLMSG_ERROR, NetlinkBuffer, nla_align};
 use std::alloc::AllocError;
 

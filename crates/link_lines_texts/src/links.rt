@@ -13,9 +13,6 @@ use link_lines_values::{
 use netlink_packet_core_attributes::view::{read_u16, read_u32};
 use std::alloc::AllocError;
 
-/// The bytes of the header of a link (rtnetlink.h, `struct ifinfomsg`).
-pub(crate) const LINK_HEADER_LEN: usize = 16;
-
 /// Appends a label, and a number with its text.
 fn push_labelled(
     label: &[u8],

@@ -10,13 +10,13 @@ ghost use Rattle.link_interpreter.specs.Fronts.{IsOwnFront};
 ghost use Rattle.link_message_checks.specs.Fronts.{IsBodyFront};
 ghost use Rattle.link_interpreter.specs.Room.{HasRoom};
 
-use crate::header::{HEADER_LEN, is_own_header, same_header, write_header};
+use crate::header::{is_own_header, same_header, write_header};
 use attribute_tables_grammar::laws::{measures_tell_rules, rows_are_looked_up};
 use link_interpreter::{Measured, PeerSet, WritePeer, append, same_held, walk_list, write_held};
 use link_message_grammar::laws::{
     bodies_are_measured, bodies_are_small, body_laws_hold_for_any_peers,
 };
-use link_tables::{Form, Held, family_table};
+use link_tables::{Form, Held, LINK_HEADER_LEN, family_table};
 
 // What is known of bodies over these peers. It does nothing.
 pub(crate) fn body_laws_hold<P: PeerSet>(peers: &P)
@@ -60,10 +60,10 @@ pub(crate) fn walk_body_over<P: PeerSet>(peers: &P, bytes: &[u8]) -> Option<Meas
     ensures front { IfSome result (λ m. IsBodyFront P.peer bytes.now m.front) }
 {
     bodies_are_measured();
-    if bytes.len() < HEADER_LEN {
+    if bytes.len() < LINK_HEADER_LEN {
         return None;
     }
-    let Some(found) = walk_attributes(peers, bytes[0], &bytes[HEADER_LEN..]) else {
+    let Some(found) = walk_attributes(peers, bytes[0], &bytes[LINK_HEADER_LEN..]) else {
         return None;
     };
     measures_tell_rules();
@@ -96,7 +96,12 @@ pub(crate) fn same_body_over<P: PeerSet>(peers: &P, left: &[u8], right: &[u8]) -
 {
     body_laws_hold(peers);
     same_header(left, right)
-        && same_attributes(peers, left[0], &left[HEADER_LEN..], &right[HEADER_LEN..])
+        && same_attributes(
+            peers,
+            left[0],
+            &left[LINK_HEADER_LEN..],
+            &right[LINK_HEADER_LEN..],
+        )
 }
 
 // Appends the canonical text of attributes of a family over these peers.
@@ -128,9 +133,9 @@ pub(crate) fn write_body_over<P: WritePeer>(
     ensures room { vec_capacity out.old ≤ vec_capacity out.new }
 {
     body_laws_hold(peers);
-    if front < HEADER_LEN {
+    if front < LINK_HEADER_LEN {
         write_header(bytes, out);
-        write_attributes(peers, bytes[0], &bytes[HEADER_LEN..], out);
+        write_attributes(peers, bytes[0], &bytes[LINK_HEADER_LEN..], out);
     } else {
         append(&bytes[..front], out);
         write_attributes(peers, bytes[0], &bytes[front..], out);

@@ -7,9 +7,7 @@ ghost use Rattle.link_message_grammar.specs.Body.{header_text, layer_type_text};
 
 use crate::layer_types::LAYER_TYPES;
 use link_interpreter::append;
-
-/// The bytes of a body's header (if_link.h, struct ifinfomsg).
-pub(crate) const HEADER_LEN: usize = 16;
+use link_tables::LINK_HEADER_LEN;
 
 /// The bytes of a header up to the end of its layer type.
 const FRONT_LEN: usize = 4;
@@ -51,8 +49,8 @@ pub(crate) fn same_header(left: &[u8], right: &[u8]) -> bool
     }
     left[0] == right[0]
         && layer_type(left) == layer_type(right)
-        && &left[FRONT_LEN..left.len().min(HEADER_LEN)]
-            == &right[FRONT_LEN..right.len().min(HEADER_LEN)]
+        && &left[FRONT_LEN..left.len().min(LINK_HEADER_LEN)]
+            == &right[FRONT_LEN..right.len().min(LINK_HEADER_LEN)]
 }
 
 // Appends a header as it is written: its second byte zero, and a layer type without a name void.
@@ -64,5 +62,5 @@ pub(crate) fn write_header(bytes: &[u8], out: &mut Vec<u8>)
 {
     let [low, high] = layer_type(bytes).to_le_bytes();
     append(&[bytes[0], 0, low, high], out);
-    append(&bytes[FRONT_LEN..HEADER_LEN], out);
+    append(&bytes[FRONT_LEN..LINK_HEADER_LEN], out);
 }

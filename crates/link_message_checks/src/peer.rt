@@ -5,10 +5,11 @@ ghost use Rattle.attribute_tables_grammar.specs.Peers.{bytes_peer};
 ghost use Rattle.link_message_grammar.specs.Body.{body_rule, link_peer};
 
 use crate::body::{body_laws_hold, same_body_over, walk_body_over, write_body_over};
-use crate::header::{HEADER_LEN, same_header};
+use crate::header::same_header;
 use attribute_tables_grammar::laws::measures_tell_rules;
 use link_interpreter::{BytesPeer, Measured, PeerMeasure, PeerRule, PeerSet, WritePeer};
 use link_message_grammar::laws::link_peer_is_lawful;
+use link_tables::LINK_HEADER_LEN;
 use netlink_packet_core_numbers::DecodeError;
 use std::alloc::Global;
 
@@ -81,7 +82,7 @@ impl PeerSet for LinkPeer {
     #[tactic(auto, unfolding(link_message_grammar::specs::Body::link_peer))]
     fn same_peer(&self, left: &[u8], right: &[u8]) -> bool {
         body_laws_hold(&BytesPeer);
-        if left.len() < HEADER_LEN || right.len() < HEADER_LEN {
+        if left.len() < LINK_HEADER_LEN || right.len() < LINK_HEADER_LEN {
             return same_header(left, right);
         }
         same_body_over(&BytesPeer, left, right)

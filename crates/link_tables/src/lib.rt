@@ -16,4 +16,4 @@ pub use info::{
 };
 pub use kinds::{data_held, port_held};
 pub use rows::{Form, Held, Row, Shape};
-pub use table::{Table, family_table, row_of};
+pub use table::{LINK_HEADER_LEN, Table, family_table, row_of};

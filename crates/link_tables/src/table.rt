@@ -186,6 +186,9 @@ pub const BRIDGE_SPECIFIC: Table = Table(52);
 /// IFLA_INET6_*, which IFLA_PROTINFO holds under AF_INET6.
 pub const INET6_PROTOCOL: Table = Table(53);
 
+/// The bytes of a link's header, before its attributes (rtnetlink.h, `struct ifinfomsg`).
+pub const LINK_HEADER_LEN: usize = 16;
+
 // The families with tables of their own (socket.h).
 const AF_UNSPEC: u8 = 0;
 

@@ -9,8 +9,8 @@ use Rattle.link_message_checks.specs.Fronts.{IsBodyFront}
 use Rattle.link_message_checks.proofs.Fronts.{body_front}
 use Rattle.link_message_checks.proofs.body.walk_body_over.Goals as goal
 
-pub returns-then-bytes-lt-HEADER_LEN-clause-measure : goal.returns-then-bytes-lt-HEADER_LEN-clause-measure
-returns-then-bytes-lt-HEADER_LEN-clause-measure g c = c.bodies_are_measured.ensures.short g.P.PeerSet.peer c.args.bytes.now (omega arith)
+pub returns-then-bytes-lt-LINK_HEADER_LEN-clause-measure : goal.returns-then-bytes-lt-LINK_HEADER_LEN-clause-measure
+returns-then-bytes-lt-LINK_HEADER_LEN-clause-measure g c = c.bodies_are_measured.ensures.short g.P.PeerSet.peer c.args.bytes.now (omega arith)
 
 pub returns-in_default-clause-measure : goal.returns-in_default-clause-measure
 returns-in_default-clause-measure g c = c.bodies_are_measured.ensures.long g.P.PeerSet.peer c.args.bytes.now None (omega arith) (c.in_default.ensures.measure ∙ ap (measure (list_rule_of g.P.PeerSet.peer (family c.args.bytes.now))) (take_rest c.args.bytes.now 16))

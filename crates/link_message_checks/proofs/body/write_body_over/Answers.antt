@@ -35,8 +35,8 @@ write_attributes-requires-clause-room g c =
     let header = ap length c.write_header.ensures.text ∙ length-append c.args.out.now.items (header_text b) in
     omega (arith, size, rest, header, c.requires.room, c.write_header.ensures.room)
 
-pub returns-then-front-lt-HEADER_LEN-clause-text : goal.returns-then-front-lt-HEADER_LEN-clause-text
-returns-then-front-lt-HEADER_LEN-clause-text g c =
+pub returns-then-front-lt-LINK_HEADER_LEN-clause-text : goal.returns-then-front-lt-LINK_HEADER_LEN-clause-text
+returns-then-front-lt-LINK_HEADER_LEN-clause-text g c =
     let b = c.args.bytes.now in
     let out = c.args.out.now.items in
     let p = c.body_laws_hold.ensures.headers_and_attributes b in
@@ -51,33 +51,33 @@ append-requires g c =
     let on = body_goes_on g.P.PeerSet.peer c.body_laws_hold.ensures.headers_and_attributes c.args.bytes.now c.args.front (omega arith) c.requires.front c.requires.accepted c.requires.fits in
     omega (arith, on.size, length-take-le c.args.front c.args.bytes.now c.requires.front.within, c.requires.room)
 
-pub write_attributes-requires-else-front-lt-HEADER_LEN-clause-accepted : goal.write_attributes-requires-else-front-lt-HEADER_LEN-clause-accepted
-write_attributes-requires-else-front-lt-HEADER_LEN-clause-accepted g c =
+pub write_attributes-requires-else-front-lt-LINK_HEADER_LEN-clause-accepted : goal.write_attributes-requires-else-front-lt-LINK_HEADER_LEN-clause-accepted
+write_attributes-requires-else-front-lt-LINK_HEADER_LEN-clause-accepted g c =
     let b = c.args.bytes.now in
     let on = body_goes_on g.P.PeerSet.peer c.body_laws_hold.ensures.headers_and_attributes b c.args.front (omega arith) c.requires.front c.requires.accepted c.requires.fits in
     ap (list_rule_of g.P.PeerSet.peer (family b)).accepted (take_rest b c.args.front) ∙ on.accepted
 
-pub write_attributes-requires-else-front-lt-HEADER_LEN-clause-fits : goal.write_attributes-requires-else-front-lt-HEADER_LEN-clause-fits
-write_attributes-requires-else-front-lt-HEADER_LEN-clause-fits g c =
+pub write_attributes-requires-else-front-lt-LINK_HEADER_LEN-clause-fits : goal.write_attributes-requires-else-front-lt-LINK_HEADER_LEN-clause-fits
+write_attributes-requires-else-front-lt-LINK_HEADER_LEN-clause-fits g c =
     let b = c.args.bytes.now in
     let on = body_goes_on g.P.PeerSet.peer c.body_laws_hold.ensures.headers_and_attributes b c.args.front (omega arith) c.requires.front c.requires.accepted c.requires.fits in
     ap (list_rule_of g.P.PeerSet.peer (family b)).fits (take_rest b c.args.front) ∙ on.fits
 
-pub write_attributes-requires-else-front-lt-HEADER_LEN-clause-room : goal.write_attributes-requires-else-front-lt-HEADER_LEN-clause-room
-write_attributes-requires-else-front-lt-HEADER_LEN-clause-room g c =
+pub write_attributes-requires-else-front-lt-LINK_HEADER_LEN-clause-room : goal.write_attributes-requires-else-front-lt-LINK_HEADER_LEN-clause-room
+write_attributes-requires-else-front-lt-LINK_HEADER_LEN-clause-room g c =
     let b = c.args.bytes.now in
     let on = body_goes_on g.P.PeerSet.peer c.body_laws_hold.ensures.headers_and_attributes b c.args.front (omega arith) c.requires.front c.requires.accepted c.requires.fits in
     let rest = ap (λ x. length ((list_rule_of g.P.PeerSet.peer (family b)).canonical x)) (take_rest b c.args.front) in
     let front = ap length c.append.ensures.text ∙ length-append c.args.out.now.items (take c.args.front b) in
     omega (arith, on.size, rest, front, length-take-le c.args.front b c.requires.front.within, c.requires.room, c.append.ensures.room)
 
-pub returns-else-front-lt-HEADER_LEN-clause-text : goal.returns-else-front-lt-HEADER_LEN-clause-text
-returns-else-front-lt-HEADER_LEN-clause-text g c =
+pub returns-else-front-lt-LINK_HEADER_LEN-clause-text : goal.returns-else-front-lt-LINK_HEADER_LEN-clause-text
+returns-else-front-lt-LINK_HEADER_LEN-clause-text g c =
     let b = c.args.bytes.now in
     let out = c.args.out.now.items in
     let inner = list_rule_of g.P.PeerSet.peer (family b) in
     let on = body_goes_on g.P.PeerSet.peer c.body_laws_hold.ensures.headers_and_attributes b c.args.front (omega arith) c.requires.front c.requires.accepted c.requires.fits in
-    c.write_attributes-else-front-lt-HEADER_LEN.ensures.text ∙ ap (λ x. c.append.new.out.items ++ inner.canonical x) (take_rest b c.args.front)
+    c.write_attributes-else-front-lt-LINK_HEADER_LEN.ensures.text ∙ ap (λ x. c.append.new.out.items ++ inner.canonical x) (take_rest b c.args.front)
     ∙ ap (λ x. x ++ inner.canonical (drop c.args.front b)) c.append.ensures.text
     ∙ append_assoc out (take c.args.front b) (inner.canonical (drop c.args.front b))
     ∙ ap (λ x. out ++ x) (sym on.text)

@@ -119,7 +119,7 @@ impl Nla for InfoMacVlan {
     }
 
     #[cycle(texts)]
-    #[tactic(auto, using(crate::proofs::Rows::rows_of_values, netlink_packet_core_grammar::proofs::Sizes::sizes, netlink_packet_core_grammar::proofs::Numbers::signs,))]
+    #[tactic(auto, using(crate::proofs::Rows::rows_of_values, netlink_packet_core_grammar::proofs::Sizes::sizes, netlink_packet_core_grammar::proofs::Numbers::signs))]
     fn emit_value(&self, buffer: &mut [u8]) {
         match self {
             Self::Mode(mode) => fill_u32(buffer, u32::from(*mode)),

@@ -4,8 +4,8 @@ use Rattle.std.specs.Prelude.{is_some}
 use Rattle.netlink_packet_core_grammar.specs.Attributes.{Attribute, attribute_length, first_attribute, nla_align}
 use Rattle.link_tables.specs.declared.rows.Form.{Form}
 use Rattle.link_tables.specs.declared.rows.Form.TheVariants.{FirstAlone}
-use Rattle.link_capture_refusal_rows.specs.RefusalTables.{Listing}
-use Rattle.link_capture_refusal_rows.specs.RowRules.{behind}
+use Rattle.link_capture_refusals.specs.RefusalTables.{Listing}
+use Rattle.link_capture_refusals.specs.RowRules.{behind}
 use Rattle.link_capture_refusals.specs.declared.refusal.Refusal.{Refusal}
 use Rattle.link_capture_refusals.specs.RefusalLaws.{ListsGoBySteps}
 use Rattle.link_capture_refusals.specs.RefusalViews.{all_found}

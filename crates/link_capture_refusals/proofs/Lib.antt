@@ -1,3 +1,5 @@
+pub mod Built
+pub mod Lookups
 pub mod ListSteps
 pub mod Accepted
 pub mod Going

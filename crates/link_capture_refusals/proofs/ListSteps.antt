@@ -6,12 +6,12 @@ use Rattle.netlink_packet_core_grammar.specs.Laws.{FirstIsWithin}
 use Rattle.link_tables.specs.declared.rows.Form.TheVariants.{Any}
 use Rattle.attribute_tables_grammar.specs.Peers.{bytes_peer}
 use Rattle.link_message_grammar.specs.Body.{body_rule}
-use Rattle.link_capture_refusal_rows.specs.declared.tables.Inside.{Inside}
-use Rattle.link_capture_refusal_rows.specs.declared.tables.Inside.TheVariants as I
-use Rattle.link_capture_refusal_rows.specs.declared.reason.Reason.TheVariants as R
-use Rattle.link_capture_refusal_rows.specs.RefusalTables.{Listing, row_in, whole}
+use Rattle.link_capture_refusals.specs.declared.tables.Inside.{Inside}
+use Rattle.link_capture_refusals.specs.declared.tables.Inside.TheVariants as I
+use Rattle.link_capture_refusals.specs.declared.reason.Reason.TheVariants as R
+use Rattle.link_capture_refusals.specs.RefusalTables.{Listing, row_in, whole}
 use Rattle.link_tables.specs.Tables.{family_table}
-use Rattle.link_capture_refusal_rows.specs.RowRules.{behind, is_accepted}
+use Rattle.link_capture_refusals.specs.RowRules.{behind, is_accepted}
 use Rattle.link_capture_refusals.specs.Refusals.{ListRefusal, attribute_refusal, found_at, goes_on, inside_refusal, link_refusal, list_refusal, named, next_refusal, or_else, refusal_within, row_refusal, whole_refusal}
 use Rattle.link_capture_refusals.specs.RefusalLaws.{ListsGoBySteps}
 use Rattle.link_capture_refusals.proofs.Going.{goes_shorter}

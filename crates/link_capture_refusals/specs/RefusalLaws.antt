@@ -10,8 +10,8 @@ use Rattle.link_capture_grammar.specs.Captures.{first_fault}
 use Rattle.link_capture_grammar.specs.Bodies.{is_link_type}
 use Rattle.link_capture_grammar.specs.declared.fault.FaultKind.TheVariants.{Refused}
 use Rattle.link_tables.specs.declared.table.Table.{Table}
-use Rattle.link_capture_refusal_rows.specs.RefusalTables.{Listing, whole}
-use Rattle.link_capture_refusal_rows.specs.RowRules.{grammar_at, peer_of}
+use Rattle.link_capture_refusals.specs.RefusalTables.{Listing, whole}
+use Rattle.link_capture_refusals.specs.RowRules.{grammar_at, peer_of}
 use Rattle.link_capture_refusals.specs.Refusals.{Found, frame_refusal, link_refusal, list_refusal, next_refusal, refusal, whole_refusal}
 
 -- What is refused of a list is that of its first attribute, or else of what follows it; of no bytes nothing is.

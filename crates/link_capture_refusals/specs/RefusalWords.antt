@@ -1,7 +1,7 @@
 -- The words of a refusal.
 use Rattle.std.specs.Prelude.{ℕ, List, [], ◌∷◌, ◌++◌, codes, Option, Some, None}
 use Rattle.std.specs.Fmt.{decimal}
-use Rattle.link_capture_refusal_rows.specs.ReasonWords.{words}
+use Rattle.link_capture_refusals.specs.ReasonWords.{words}
 use Rattle.link_capture_refusals.specs.Refusals.{Found}
 
 -- names from outside in, with a sign between, and a colon where there are any

@@ -12,14 +12,14 @@ use Rattle.link_capture_grammar.specs.Captures.{first_fault}
 use Rattle.link_capture_grammar.specs.declared.fault.CaptureFault.{CaptureFault}
 use Rattle.link_capture_grammar.specs.declared.fault.FaultKind.{FaultKind}
 use Rattle.link_capture_grammar.specs.declared.fault.FaultKind.TheVariants.{Refused}
-use Rattle.link_capture_refusal_rows.specs.declared.reason.Reason.{Reason}
-use Rattle.link_capture_refusal_rows.specs.declared.reason.Reason.TheVariants as R
-use Rattle.link_capture_refusal_rows.specs.declared.tables.Inside.{Inside}
-use Rattle.link_capture_refusal_rows.specs.declared.tables.Inside.TheVariants as I
-use Rattle.link_capture_refusal_rows.specs.RefusalTables.{Listing, row_in, whole}
+use Rattle.link_capture_refusals.specs.declared.reason.Reason.{Reason}
+use Rattle.link_capture_refusals.specs.declared.reason.Reason.TheVariants as R
+use Rattle.link_capture_refusals.specs.declared.tables.Inside.{Inside}
+use Rattle.link_capture_refusals.specs.declared.tables.Inside.TheVariants as I
+use Rattle.link_capture_refusals.specs.RefusalTables.{Listing, row_in, whole}
 use Rattle.link_tables.specs.Tables.{family_table}
-use Rattle.link_capture_refusal_rows.specs.ReasonWords.{shape_reason}
-use Rattle.link_capture_refusal_rows.specs.RowRules.{behind, is_accepted}
+use Rattle.link_capture_refusals.specs.ReasonWords.{shape_reason}
+use Rattle.link_capture_refusals.specs.RowRules.{behind, is_accepted}
 
 -- the names of attributes from outside in, the place in bytes from the capture's start, and why
 pub record Found : Type 0 where

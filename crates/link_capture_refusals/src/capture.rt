@@ -6,6 +6,7 @@ ghost use Rattle.link_capture_refusals.specs.Refusals.{frame_refusal, refusal};
 ghost use Rattle.link_capture_refusals.specs.RefusalViews.{all_found};
 
 use crate::laws::refused_frames_are_whole;
+use crate::reason::Reason;
 use crate::refusal::Refusal;
 use crate::walk::link_refusal;
 use arrayvec::ArrayVec;
@@ -13,7 +14,6 @@ use link_capture_checks::{check, frame_body};
 use link_capture_grammar::fault::{CaptureFault, FaultKind};
 use link_capture_grammar::laws::faults_stand_at_frames;
 use link_capture_grammar::link_types::is_link_type;
-use link_capture_refusal_rows::Reason;
 use netlink_packet_core::{NETLINK_HEADER_LEN, NetlinkBuffer};
 
 /// What stands behind the first bytes.

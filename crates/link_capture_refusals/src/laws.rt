@@ -1,12 +1,31 @@
 //! Facts of the definitions. A function here calls nothing but laws of the crates below.
 
+ghost use Rattle.link_capture_refusals.specs.RowRules.{LinksAreTables, RowsAreTheTables};
 ghost use Rattle.link_capture_refusals.specs.RefusalLaws.{LinksAreAccepted, ListsAreAccepted, ListsGoBySteps};
 ghost use Rattle.link_capture_refusals.specs.RefusalLaws.{RefusedBodiesAreTold, RefusedFramesAreWhole, RefusedFramesStandAlone};
 
-use attribute_tables_grammar::laws::{measures_go_by_steps, measures_tell_rules};
+use attribute_tables_grammar::laws::{
+    measures_go_by_steps, measures_tell_rules, names_are_looked_up, rows_are_looked_up,
+};
 use link_capture_grammar::laws::captures_go_by_frames;
-use link_capture_refusal_rows::laws::{links_are_tables, rows_are_the_tables};
 use netlink_packet_core_grammar::laws::{first_attributes_are_within, numbers_stand_alone};
+
+/// What the rows say that an attribute holds is what its row in the grammar's table holds.
+#[tactic(auto, using(crate::proofs::Built::tables))]
+pub fn rows_are_the_tables()
+    ensures { RowsAreTheTables }
+{
+    rows_are_looked_up();
+    names_are_looked_up();
+}
+
+/// The attributes of a link of an address family are those of its table.
+#[tactic(auto, using(crate::proofs::Built::links))]
+pub fn links_are_tables()
+    ensures { LinksAreTables }
+{
+    rows_are_looked_up();
+}
 
 /// What is refused of a list is that of its first attribute, or else of what follows it.
 #[tactic(auto, using(crate::proofs::ListSteps::steps))]

@@ -3,9 +3,13 @@
 
 mod capture;
 pub mod laws;
+mod names;
+mod reason;
 mod refusal;
+mod rows;
+mod tables;
 mod walk;
 
 pub use capture::{why, why_frame};
-pub use link_capture_refusal_rows::Reason;
+pub use reason::Reason;
 pub use refusal::{Refusal, behind_name};

@@ -1,15 +1,15 @@
 //! What is refused, and where.
 
 ghost use Rattle.std.specs.Prelude.{◌≡◌, ◌≤◌, ◌<◌, ◌+◌, ◌++◌, length, map, Some};
-ghost use Rattle.link_capture_refusal_rows.specs.ReasonWords.{words};
+ghost use Rattle.link_capture_refusals.specs.ReasonWords.{words};
 ghost use Rattle.link_capture_refusals.specs.Refusals.{found_at, named};
 ghost use Rattle.link_capture_refusals.specs.RefusalViews.{found};
 ghost use Rattle.link_capture_refusals.specs.RefusalWords.{behind_name, path_text, place_text, refusal_text};
 ghost use Rattle.std.specs.Fmt.{WritesOnOk, WritesStyledOnOk};
 
+use crate::reason::Reason;
 use arrayvec::{ArrayString, ArrayVec};
 use itoa::Buffer;
-use link_capture_refusal_rows::Reason;
 use std::fmt;
 
 /// As many attributes stand inside one another as this: link info, data and peer, the same of the peer, and an address.

@@ -4,18 +4,18 @@ ghost use Rattle.std.specs.Prelude.{◌≡◌, ◌≤◌, ◌<◌, ◌+◌, ◌^
 ghost use Rattle.link_tables.specs.Rows.{shape_of};
 ghost use Rattle.link_interpreter.specs.Sameness.{attribute_of};
 ghost use Rattle.attribute_tables_grammar.specs.Shapes.{accepts};
-ghost use Rattle.link_capture_refusal_rows.specs.ReasonWords.{shape_reason};
-ghost use Rattle.link_capture_refusal_rows.specs.RefusalTables.{depth, inside_depth, listing};
-ghost use Rattle.link_capture_refusal_rows.specs.RowRules.{inside_rule, peer_of};
+ghost use Rattle.link_capture_refusals.specs.ReasonWords.{shape_reason};
+ghost use Rattle.link_capture_refusals.specs.RefusalTables.{depth, inside_depth, listing};
+ghost use Rattle.link_capture_refusals.specs.RowRules.{inside_rule, peer_of};
 ghost use Rattle.link_capture_refusals.specs.Refusals.{attribute_refusal, found_at, goes_on, inside_refusal, link_refusal};
 ghost use Rattle.link_capture_refusals.specs.Refusals.{list_refusal, no_attribute, peer_refusal, whole_refusal};
 ghost use Rattle.link_capture_refusals.specs.RefusalViews.{all_found};
 
-use crate::laws::{links_are_accepted, lists_are_accepted, lists_go_by_steps};
+use crate::laws::{links_are_accepted, lists_are_accepted, lists_go_by_steps, rows_are_the_tables};
+use crate::reason::{Reason, shape_reason};
 use crate::refusal::Refusal;
+use crate::tables::{Inside, Listed, is_kept, next_list, row_in};
 use attribute_tables_grammar::laws::measures_tell_rules;
-use link_capture_refusal_rows::laws::rows_are_the_tables;
-use link_capture_refusal_rows::{Inside, Listed, Reason, is_kept, next_list, row_in, shape_reason};
 use link_interpreter::{Attribute, KIND_BOUND, PeerSet, first_attribute, measure_shape};
 use link_message_checks::{LinkPeer, has_empty_ports};
 use link_tables::{Form, LINK_HEADER_LEN, Shape, family_table};

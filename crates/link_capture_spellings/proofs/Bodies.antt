@@ -7,10 +7,10 @@ use Rattle.attribute_tables_grammar.specs.Peers.{Peer, bytes_peer}
 use Rattle.link_message_grammar.specs.Body.{header_text, attribute_bytes, family, list_rule_of, body_rule, link_peer, link_body}
 use Rattle.link_message_grammar.specs.LinkMessage.{family_of, unspec, bridge, inet_6, other}
 use Rattle.link_message_grammar.proofs.Body.{written_header}
-use Rattle.link_capture_spelling_rows.specs.declared.placed.Spelling.TheVariants.{HeaderByte}
-use Rattle.link_capture_spelling_rows.specs.declared.tables.Table.TheVariants.{Unspec, Bridge, Link}
-use Rattle.link_capture_spelling_rows.specs.SpellingRows.{told_if, header_spelling}
-use Rattle.link_capture_spelling_rows.specs.SpellingTables.{family_table}
+use Rattle.link_capture_spellings.specs.declared.placed.Spelling.TheVariants.{HeaderByte}
+use Rattle.link_capture_spellings.specs.declared.tables.Table.TheVariants.{Unspec, Bridge, Link}
+use Rattle.link_capture_spellings.specs.SpellingRows.{told_if, header_spelling}
+use Rattle.link_capture_spellings.specs.SpellingTables.{family_table}
 use Rattle.link_capture_spellings.specs.SpellingLists.{told_at, list_told}
 use Rattle.link_capture_spellings.specs.SpellingLaws.{ListsGoBySteps, link_list, WrittenAttributesHaveNone}
 use Rattle.link_capture_spellings.specs.Spellings.{body_list, link_told}

@@ -21,15 +21,15 @@ use Rattle.link_info_grammar.specs.Families.{vxlan, geneve, gre, gre6, ip_tunnel
 use Rattle.link_message_grammar.specs.Body.{attribute_row_under, header_text}
 use Rattle.link_message_grammar.specs.LinkMessage.{Family, unspec, bridge}
 use Rattle.link_message_grammar.specs.NestedTables.{inet, xdp, resized, vf_infos}
-use Rattle.link_capture_spelling_rows.specs.declared.placed.Spelling.{Spelling}
-use Rattle.link_capture_spelling_rows.specs.declared.placed.Spelling.TheVariants.{NestedPortSettings, PathDiscoveryOverOne, LongAlias, NameWithoutNul, FlagWithPayload, TruthOverOne, StrayNestedBit, ShortMap}
-use Rattle.link_capture_spelling_rows.specs.declared.tables.Data.{Data}
-use Rattle.link_capture_spelling_rows.specs.declared.tables.Data.TheVariants.{Vxlan, Geneve, Gre, Gre6, IpTunnel, BareUdp, Batadv, Netkit, Pair}
-use Rattle.link_capture_spelling_rows.specs.declared.tables.Table.TheVariants.{Inet, Programs, Functions, OfKind}
-use Rattle.link_capture_spelling_rows.specs.declared.tables.Listed.{Listed}
-use Rattle.link_capture_spelling_rows.specs.SpellingRows.{told_if, over_one_byte, over_one_word, has_nul, is_long_alias, link_spelling, data_spelling, is_flag, is_strict, bit_spelling, payload_spelling, header_spelling}
+use Rattle.link_capture_spellings.specs.declared.placed.Spelling.{Spelling}
+use Rattle.link_capture_spellings.specs.declared.placed.Spelling.TheVariants.{NestedPortSettings, PathDiscoveryOverOne, LongAlias, NameWithoutNul, FlagWithPayload, TruthOverOne, StrayNestedBit, ShortMap}
+use Rattle.link_capture_spellings.specs.declared.tables.Data.{Data}
+use Rattle.link_capture_spellings.specs.declared.tables.Data.TheVariants.{Vxlan, Geneve, Gre, Gre6, IpTunnel, BareUdp, Batadv, Netkit, Pair}
+use Rattle.link_capture_spellings.specs.declared.tables.Table.TheVariants.{Inet, Programs, Functions, OfKind}
+use Rattle.link_capture_spellings.specs.declared.tables.Listed.{Listed}
+use Rattle.link_capture_spellings.specs.SpellingRows.{told_if, over_one_byte, over_one_word, has_nul, is_long_alias, link_spelling, data_spelling, is_flag, is_strict, bit_spelling, payload_spelling, header_spelling}
 use Rattle.link_capture_spellings.specs.SpellingLists.{told_at, own_told, inside_of, list_behind, inside_told, list_told}
-use Rattle.link_capture_spelling_rows.specs.SpellingTables.{family_table, inside}
+use Rattle.link_capture_spellings.specs.SpellingTables.{family_table, inside}
 use Rattle.link_capture_spellings.proofs.Inside.{at_kind, either, split}
 use Rattle.link_capture_spellings.specs.SpellingLaws.{ListsGoBySteps, link_list, IsDataTable, WrittenAttributesHaveNone}
 

@@ -5,9 +5,9 @@ use Rattle.netlink_packet_core_grammar.specs.Attributes.{nla_align}
 use Rattle.netlink_packet_core_grammar.specs.Frames.{frame_type, frame_body}
 use Rattle.link_capture_grammar.specs.Bodies.{is_link_type}
 use Rattle.link_capture_grammar.specs.Captures.{first_frame}
-use Rattle.link_capture_spelling_rows.specs.declared.placed.PlacedSpelling.{PlacedSpelling}
+use Rattle.link_capture_spellings.specs.declared.placed.PlacedSpelling.{PlacedSpelling}
 use Rattle.link_capture_spellings.specs.declared.walk.Level.{Level}
-use Rattle.link_capture_spelling_rows.specs.SpellingRows.{header_spelling}
+use Rattle.link_capture_spellings.specs.SpellingRows.{header_spelling}
 use Rattle.link_capture_spellings.specs.SpellingLists.{told_at, list_told}
 use Rattle.link_capture_spellings.specs.Spellings.{body_list, link_told, frame_told, told_after}
 use Rattle.link_capture_spellings.specs.SpellingWalks.{one_told, level_told, walk_told, rest_told}

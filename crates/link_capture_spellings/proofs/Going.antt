@@ -1,10 +1,10 @@
 -- A walk goes on by an attribute of its innermost list.
 use Rattle.std.proofs.Common.{◌≡◌, ℕ, ◌+◌, ◌-◌, ◌^◌, ◌≤◌, ◌<◌, List, [], ◌∷◌, ◌++◌, length, Option, Some, None, sym, ap, ◌∙◌, append_assoc, length-append, arith}
 use Rattle.netlink_packet_core_grammar.specs.Attributes.{Attribute, nla_align, attribute_length, proper_kind, first_attribute}
-use Rattle.link_capture_spelling_rows.specs.declared.placed.PlacedSpelling.{PlacedSpelling}
+use Rattle.link_capture_spellings.specs.declared.placed.PlacedSpelling.{PlacedSpelling}
 use Rattle.link_capture_spellings.specs.declared.walk.Level.{Level}
-use Rattle.link_capture_spelling_rows.specs.SpellingTables.{depth}
-use Rattle.link_capture_spelling_rows.specs.SpellingRows.{bit_spelling, payload_spelling}
+use Rattle.link_capture_spellings.specs.SpellingTables.{depth}
+use Rattle.link_capture_spellings.specs.SpellingRows.{bit_spelling, payload_spelling}
 use Rattle.link_capture_spellings.specs.SpellingLists.{told_at, own_told, inside_of, list_behind, inside_told, list_told}
 use Rattle.link_capture_spellings.specs.SpellingWalks.{one_told, level_told, levels_told, walk_told, IsWithin, AreWithin, weight}
 use Rattle.link_capture_spellings.specs.SpellingLaws.{ListsGoBySteps}

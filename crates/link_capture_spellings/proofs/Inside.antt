@@ -7,12 +7,12 @@ use Rattle.netlink_packet_core_grammar.specs.Attributes.{Attribute, proper_kind,
 use Rattle.attribute_tables_grammar.specs.Rules.{Rule}
 use Rattle.attribute_tables_grammar.specs.Lists.{Row, rewrite}
 use Rattle.attribute_tables_grammar.proofs.Attributes.{proper_kind-written}
-use Rattle.link_capture_spelling_rows.specs.declared.placed.Spelling.{Spelling}
-use Rattle.link_capture_spelling_rows.specs.declared.placed.PlacedSpelling.{PlacedSpelling}
-use Rattle.link_capture_spelling_rows.specs.declared.tables.Listed.{Listed}
-use Rattle.link_capture_spelling_rows.specs.declared.tables.Table.{Table}
-use Rattle.link_capture_spelling_rows.specs.SpellingRows.{nested_spelling, payload_spelling}
-use Rattle.link_capture_spelling_rows.specs.SpellingTables.{family_table, inside, inside_table, in_front, has_peer}
+use Rattle.link_capture_spellings.specs.declared.placed.Spelling.{Spelling}
+use Rattle.link_capture_spellings.specs.declared.placed.PlacedSpelling.{PlacedSpelling}
+use Rattle.link_capture_spellings.specs.declared.tables.Listed.{Listed}
+use Rattle.link_capture_spellings.specs.declared.tables.Table.{Table}
+use Rattle.link_capture_spellings.specs.SpellingRows.{nested_spelling, payload_spelling}
+use Rattle.link_capture_spellings.specs.SpellingTables.{family_table, inside, inside_table, in_front, has_peer}
 use Rattle.link_capture_spellings.specs.SpellingLists.{told_at, own_told, inside_of, list_behind, inside_told, next_told, told_within, list_told}
 use Rattle.link_capture_spellings.proofs.Lists.{HasNone, Silent}
 

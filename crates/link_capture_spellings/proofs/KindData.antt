@@ -14,11 +14,11 @@ use Rattle.attribute_tables_grammar.specs.Tables.{Payload, Payload.list, Table a
 use Rattle.attribute_tables_grammar.proofs.Attributes.{proper_kind-written}
 use Rattle.attribute_tables_grammar.proofs.LookUps.{list-rows, named-payload}
 use Rattle.link_info_grammar.specs.Families.{vxlan, geneve, gre, gre6, ip_tunnel, bareudp, batadv, netkit, pair, kinds}
-use Rattle.link_capture_spelling_rows.specs.declared.tables.Data.{Data}
-use Rattle.link_capture_spelling_rows.specs.declared.tables.Data.TheVariants.{Other, Vxlan, Geneve, Gre, Gre6, IpTunnel, BareUdp, Batadv, Netkit, Pair}
-use Rattle.link_capture_spelling_rows.specs.declared.tables.Table.TheVariants.{OfKind}
-use Rattle.link_capture_spelling_rows.specs.declared.tables.Listed.{Listed}
-use Rattle.link_capture_spelling_rows.specs.SpellingTables.{data_named, is_gre, is_gre6, is_ip_tunnel, is_pair, family_table, inside, next_data, has_peer}
+use Rattle.link_capture_spellings.specs.declared.tables.Data.{Data}
+use Rattle.link_capture_spellings.specs.declared.tables.Data.TheVariants.{Other, Vxlan, Geneve, Gre, Gre6, IpTunnel, BareUdp, Batadv, Netkit, Pair}
+use Rattle.link_capture_spellings.specs.declared.tables.Table.TheVariants.{OfKind}
+use Rattle.link_capture_spellings.specs.declared.tables.Listed.{Listed}
+use Rattle.link_capture_spellings.specs.SpellingTables.{data_named, is_gre, is_gre6, is_ip_tunnel, is_pair, family_table, inside, next_data, has_peer}
 use Rattle.link_capture_spellings.specs.SpellingLists.{inside_of, list_behind, inside_told, list_told}
 use Rattle.link_capture_spellings.specs.SpellingLaws.{ListsGoBySteps, IsDataTable, WrittenAttributesHaveNone}
 use Rattle.link_capture_spellings.proofs.Lists.{HasNone, Silent, rows-none}

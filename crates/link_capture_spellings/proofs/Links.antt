@@ -15,12 +15,12 @@ use Rattle.link_message_grammar.specs.Body.{attribute_row_under, list_rule_of}
 use Rattle.link_message_grammar.specs.LinkMessage.{Family, unspec}
 use Rattle.link_message_grammar.specs.NestedTables.{inet, specific, xdp, vf_infos}
 use Rattle.link_message_grammar.proofs.Parts.{attributes_are_looked_up}
-use Rattle.link_capture_spelling_rows.specs.declared.tables.Data.{Data}
-use Rattle.link_capture_spelling_rows.specs.declared.tables.Data.TheVariants.{Other}
-use Rattle.link_capture_spelling_rows.specs.declared.tables.Table.{Table}
-use Rattle.link_capture_spelling_rows.specs.declared.tables.Table.TheVariants.{Unspec, Info, Families, Inet, Programs, Functions, OfKind}
-use Rattle.link_capture_spelling_rows.specs.declared.tables.Listed.{Listed}
-use Rattle.link_capture_spelling_rows.specs.SpellingTables.{data_named, in_front, inside_link, inside_table, has_peer, next_table}
+use Rattle.link_capture_spellings.specs.declared.tables.Data.{Data}
+use Rattle.link_capture_spellings.specs.declared.tables.Data.TheVariants.{Other}
+use Rattle.link_capture_spellings.specs.declared.tables.Table.{Table}
+use Rattle.link_capture_spellings.specs.declared.tables.Table.TheVariants.{Unspec, Info, Families, Inet, Programs, Functions, OfKind}
+use Rattle.link_capture_spellings.specs.declared.tables.Listed.{Listed}
+use Rattle.link_capture_spellings.specs.SpellingTables.{data_named, in_front, inside_link, inside_table, has_peer, next_table}
 use Rattle.link_capture_spellings.specs.SpellingLaws.{ListsGoBySteps, link_list, WrittenAttributesHaveNone}
 use Rattle.link_capture_spellings.proofs.Lists.{HasNone, Silent, Quiet, list-none, rows-none}
 use Rattle.link_capture_spellings.proofs.Inside.{at_kind, split, nothing-inside, whole-list, written-inside, IsDull, dull-own}

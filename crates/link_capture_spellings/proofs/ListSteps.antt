@@ -2,7 +2,7 @@
 use Rattle.std.proofs.Common.{◌≡◌, ℕ, zero, suc, ◌+◌, ◌≤◌, List, [], ◌∷◌, ◌++◌, length, drop, Option, Some, None, refl, ap, ◌∙◌, arith, length-drop}
 use Rattle.netlink_packet_core_grammar.specs.Attributes.{Attribute, nla_align, attribute_length, first_attribute}
 use Rattle.netlink_packet_core_grammar.specs.Laws.{FirstIsWithin}
-use Rattle.link_capture_spelling_rows.specs.declared.tables.Listed.{Listed}
+use Rattle.link_capture_spellings.specs.declared.tables.Listed.{Listed}
 use Rattle.link_capture_spellings.specs.SpellingLists.{own_told, inside_of, list_behind, inside_told, next_told, told_within, list_told}
 use Rattle.link_capture_spellings.specs.SpellingLaws.{ListsGoBySteps}
 

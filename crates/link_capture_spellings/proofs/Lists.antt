@@ -11,7 +11,7 @@ use Rattle.attribute_tables_grammar.specs.Peers.{Peer}
 use Rattle.attribute_tables_grammar.specs.Tables.{Table}
 use Rattle.attribute_tables_grammar.proofs.LookUps.{list-rows}
 use Rattle.attribute_tables_grammar.proofs.Lists.{accepted_list}
-use Rattle.link_capture_spelling_rows.specs.declared.tables.Listed.{Listed}
+use Rattle.link_capture_spellings.specs.declared.tables.Listed.{Listed}
 use Rattle.link_capture_spellings.specs.SpellingLists.{own_told, inside_of, list_behind, inside_told, list_told}
 use Rattle.link_capture_spellings.specs.SpellingLaws.{ListsGoBySteps}
 

@@ -1,3 +1,6 @@
+pub mod SpellingWords
+pub mod SpellingRows
+pub mod SpellingTables
 pub mod SpellingLists
 pub mod Spellings
 pub mod SpellingWalks

@@ -12,12 +12,12 @@ use Rattle.link_info_grammar.specs.Families.{vxlan, geneve, gre, gre6, ip_tunnel
 use Rattle.link_message_grammar.specs.Body.{attribute_row_under, header_text}
 use Rattle.link_message_grammar.specs.LinkMessage.{Family, unspec, bridge, inet_6, other}
 use Rattle.link_message_grammar.specs.NestedTables.{inet, xdp, vf_infos}
-use Rattle.link_capture_spelling_rows.specs.declared.tables.Data.{Data}
-use Rattle.link_capture_spelling_rows.specs.declared.tables.Data.TheVariants.{Vxlan, Geneve, Gre, Gre6, IpTunnel, BareUdp, Batadv, Netkit, Pair}
-use Rattle.link_capture_spelling_rows.specs.declared.tables.Table.{Table}
-use Rattle.link_capture_spelling_rows.specs.declared.tables.Table.TheVariants.{Unspec, Bridge, Link, Inet, Programs, Functions, OfKind}
-use Rattle.link_capture_spelling_rows.specs.SpellingRows.{header_spelling}
-use Rattle.link_capture_spelling_rows.specs.declared.tables.Listed.{Listed}
+use Rattle.link_capture_spellings.specs.declared.tables.Data.{Data}
+use Rattle.link_capture_spellings.specs.declared.tables.Data.TheVariants.{Vxlan, Geneve, Gre, Gre6, IpTunnel, BareUdp, Batadv, Netkit, Pair}
+use Rattle.link_capture_spellings.specs.declared.tables.Table.{Table}
+use Rattle.link_capture_spellings.specs.declared.tables.Table.TheVariants.{Unspec, Bridge, Link, Inet, Programs, Functions, OfKind}
+use Rattle.link_capture_spellings.specs.SpellingRows.{header_spelling}
+use Rattle.link_capture_spellings.specs.declared.tables.Listed.{Listed}
 use Rattle.link_capture_spellings.specs.SpellingLists.{own_told, inside_of, list_behind, inside_told, list_told}
 use Rattle.link_capture_spellings.specs.Spellings.{frame_told, told_after}
 

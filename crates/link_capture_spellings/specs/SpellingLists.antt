@@ -1,11 +1,11 @@
 -- The spellings of a list of attributes with their places: those of an attribute, of what is inside it, and of what follows it.
 use Rattle.std.specs.Prelude.{ℕ, zero, suc, ◌+◌, List, [], ◌∷◌, ◌++◌, length, drop, Option, Some, None}
 use Rattle.netlink_packet_core_grammar.specs.Attributes.{Attribute, nla_align, proper_kind, attribute_length, first_attribute}
-use Rattle.link_capture_spelling_rows.specs.declared.placed.Spelling.{Spelling}
-use Rattle.link_capture_spelling_rows.specs.declared.placed.PlacedSpelling.{PlacedSpelling}
-use Rattle.link_capture_spelling_rows.specs.declared.tables.Listed.{Listed}
-use Rattle.link_capture_spelling_rows.specs.SpellingTables.{inside, next_list}
-use Rattle.link_capture_spelling_rows.specs.SpellingRows.{bit_spelling, payload_spelling}
+use Rattle.link_capture_spellings.specs.declared.placed.Spelling.{Spelling}
+use Rattle.link_capture_spellings.specs.declared.placed.PlacedSpelling.{PlacedSpelling}
+use Rattle.link_capture_spellings.specs.declared.tables.Listed.{Listed}
+use Rattle.link_capture_spellings.specs.SpellingTables.{inside, next_list}
+use Rattle.link_capture_spellings.specs.SpellingRows.{bit_spelling, payload_spelling}
 
 abbrev pub told_at : ℕ → Option Spelling → List PlacedSpelling
 told_at place None = []

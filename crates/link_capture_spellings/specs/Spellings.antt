@@ -5,10 +5,10 @@ use Rattle.netlink_packet_core_grammar.specs.Frames.{frame_type, frame_body}
 use Rattle.link_capture_grammar.specs.declared.fault.CaptureFault.{CaptureFault}
 use Rattle.link_capture_grammar.specs.Bodies.{is_link_type}
 use Rattle.link_capture_grammar.specs.Captures.{Judged, first_frame}
-use Rattle.link_capture_spelling_rows.specs.declared.placed.PlacedSpelling.{PlacedSpelling}
-use Rattle.link_capture_spelling_rows.specs.declared.tables.Listed.{Listed}
-use Rattle.link_capture_spelling_rows.specs.SpellingTables.{family_table}
-use Rattle.link_capture_spelling_rows.specs.SpellingRows.{header_spelling}
+use Rattle.link_capture_spellings.specs.declared.placed.PlacedSpelling.{PlacedSpelling}
+use Rattle.link_capture_spellings.specs.declared.tables.Listed.{Listed}
+use Rattle.link_capture_spellings.specs.SpellingTables.{family_table}
+use Rattle.link_capture_spellings.specs.SpellingRows.{header_spelling}
 use Rattle.link_capture_spellings.specs.SpellingLists.{told_at, list_told}
 
 -- the attributes of a link's body; peers inside are judged

@@ -7,13 +7,13 @@ ghost use Rattle.link_capture_spellings.specs.Spellings.{spellings, SpellingsLef
 ghost use Rattle.link_capture_spellings.specs.SpellingWalks.{walk_told, AreWithin, rest_told, rest_fault, Left};
 
 use crate::laws::spellings_go_by_frames;
+use crate::placed::PlacedSpelling;
 use crate::walk::Walk;
 use link_capture_checks::measure_frame;
 use link_capture_grammar::fault::CaptureFault;
 use link_capture_grammar::laws::{
     captures_are_counted, captures_go_by_frames, sameness_goes_by_frames,
 };
-use link_capture_spelling_rows::PlacedSpelling;
 use netlink_packet_core::nla_align;
 use std::marker::Model;
 

@@ -8,13 +8,12 @@ ghost use Rattle.link_capture_spellings.specs.Spellings.{frame_told};
 ghost use Rattle.link_capture_spellings.specs.SpellingWalks.{one_told, levels_told, walk_told, AreWithin, weight};
 
 use crate::laws::lists_go_by_steps;
+use crate::placed::{PlacedSpelling, Spelling};
+use crate::rows::{attribute_spellings, header_spelling};
+use crate::tables::{Listed, Table, family_table, inside, next_list};
 use arrayvec::ArrayVec;
 use link_capture_checks::frame_body;
 use link_capture_grammar::link_types::is_link_type;
-use link_capture_spelling_rows::{
-    Listed, PlacedSpelling, Spelling, Table, attribute_spellings, family_table, header_spelling,
-    inside, next_list,
-};
 use link_interpreter::{KIND_BOUND, first_attribute};
 use link_tables::LINK_HEADER_LEN;
 use netlink_packet_core::{NETLINK_HEADER_LEN, NetlinkBuffer, nla_align};

@@ -1,2 +1,4 @@
+pub mod Asking
+pub mod Typing
 pub mod Telling
 pub mod Noting

@@ -2,7 +2,7 @@
 use Rattle.std.proofs.Common.{◌≡◌, ℕ, Bool, List, [], ◌∷◌, ◌++◌, true, false, Option, Some, None, Result, Ok, Err, refl, sym, ap, subst, ◌∙◌}
 use Rattle.link_capture_grammar.specs.declared.fault.CaptureFault.{CaptureFault}
 use Rattle.link_capture_reader.specs.States.{IsTold, SinkState, Tells}
-use Rattle.link_capture_spelling_rows.specs.declared.placed.PlacedSpelling.{PlacedSpelling}
+use Rattle.link_capture_spellings.specs.declared.placed.PlacedSpelling.{PlacedSpelling}
 use Rattle.link_capture_spellings.specs.Spellings.{told_then}
 use Rattle.linkshow_program.specs.Runs.{note_text, notes_text}
 use Rattle.linkshow_program.proofs.Telling.{Come, come_all, come_failed, come_more, come_none}

@@ -9,19 +9,19 @@ use Rattle.link_capture_grammar.specs.Faults.{fault_text}
 use Rattle.link_capture_commands.specs.Commands.{status_of}
 use Rattle.link_capture_reader.specs.Devices.{Rises, TellsItsEnd, risen}
 use Rattle.link_capture_reader.specs.Outcomes.{ReadFault}
-use Rattle.link_capture_spelling_rows.specs.declared.placed.PlacedSpelling.{PlacedSpelling}
-use Rattle.link_capture_spelling_rows.specs.SpellingWords.{placed_text}
+use Rattle.link_capture_spellings.specs.declared.placed.PlacedSpelling.{PlacedSpelling}
+use Rattle.link_capture_spellings.specs.SpellingWords.{placed_text}
 use Rattle.link_capture_spellings.specs.Spellings.{spellings}
 use Rattle.link_lines.specs.Captures.{Choice}
 use Rattle.link_lines.specs.Outcomes.{Shows, ShowsKeeping}
 use Rattle.link_lines.specs.Refused.{fault_words}
 use Rattle.link_lines.specs.declared.refused.ShowFault.{ShowFault}
-use Rattle.linkshow_words.specs.declared.words.Options.{Options}
-use Rattle.linkshow_words.specs.declared.words.Asked.{Asked}
-use Rattle.linkshow_words.specs.declared.words.Asked.TheVariants.{Help, Version, Show}
-use Rattle.linkshow_words.specs.Words.{Asks}
-use Rattle.linkshow_words.specs.Texts.{cause, advice}
-use Rattle.linkshow_words.specs.declared.texts.TheConstants as Texts
+use Rattle.linkshow_program.specs.declared.words.Options.{Options}
+use Rattle.linkshow_program.specs.declared.words.Asked.{Asked}
+use Rattle.linkshow_program.specs.declared.words.Asked.TheVariants.{Help, Version, Show}
+use Rattle.linkshow_program.specs.Words.{Asks}
+use Rattle.linkshow_program.specs.Texts.{cause, advice}
+use Rattle.linkshow_program.specs.declared.texts.TheConstants as Texts
 use Rattle.link_capture_reader.specs.States.{IsTold, SinkState, SourceState, Tells}
 use Rattle.linkshow_program.specs.Devices.{Opening, Run}
 use Rattle.linkshow_program.specs.Telling.{TellsBoth}

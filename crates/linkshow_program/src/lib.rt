@@ -14,12 +14,14 @@ mod notes;
 mod printing;
 mod refusals;
 mod showing;
+mod texts;
+mod types;
+mod words;
 
 pub use files::Files;
 use files::HostFiles;
 use link_capture_commands::words;
 use link_capture_reader::{ReadSource, Sink, Source, WriteSink, tell};
-use linkshow_words::{Asked, HELP, Options, USAGE, VERSION, read_words};
 pub use notes::answer_notes;
 use printing::print;
 pub use showing::answer_show;
@@ -27,6 +29,9 @@ use showing::tell_unopened;
 use std::alloc::Global;
 use std::io;
 use std::process::ExitCode;
+use texts::{HELP, USAGE, VERSION};
+pub use types::{TYPE_WORDS, Types};
+pub use words::{Asked, Options, read_words};
 
 /// Tells on the error writer how the program is used. The answer is the program's status.
 fn answer_usage<E: Sink>(errors: &mut E) -> ExitCode

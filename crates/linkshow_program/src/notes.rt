@@ -9,10 +9,10 @@ ghost use Rattle.linkshow_program.specs.Runs.{chosen, notes_text, NotesAnswer};
 
 use super::lines::note;
 use super::showing::{line_options, report};
+use crate::words::Options;
 use link_capture_reader::{FirstBytes, Sink, SliceSource, Source, read_all_keeping_first, tell};
 use link_capture_spellings::spelling;
 use link_lines::{ShowFault, show};
-use linkshow_words::Options;
 use std::alloc::Global;
 use std::process::ExitCode;
 

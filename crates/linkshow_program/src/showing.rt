@@ -10,10 +10,11 @@ ghost use Rattle.linkshow_program.specs.Runs.{chosen, fault_told, is_unread, nam
 
 use super::lines::tell_all;
 use super::refusals::tell_words;
+use crate::texts::{advice, cause};
+use crate::words::Options;
 use link_capture_grammar::fault::FaultKind;
 use link_capture_reader::{Sink, Source, tell};
 use link_lines::{FirstBytes, LineOptions, ShowFault, show_keeping_first};
-use linkshow_words::{Options, advice, cause};
 use std::alloc::Global;
 use std::io::ErrorKind;
 use std::process::ExitCode;

@@ -1,7 +1,7 @@
 use Rattle.std.proofs.Common.{◌≡◌, ◌+◌, length, Some, sym, ap, ◌∙◌, arith}
 use Rattle.netlink_packet_core_grammar.specs.Attributes.{Attribute, attribute_length, nla_align}
-use Rattle.link_capture_refusal_rows.specs.RefusalTables.{Listing, listing}
-use Rattle.link_capture_refusal_rows.specs.RowRules.{behind}
+use Rattle.link_capture_refusals.specs.RefusalTables.{Listing, listing}
+use Rattle.link_capture_refusals.specs.RowRules.{behind}
 use Rattle.link_capture_refusals.specs.Refusals.{found_at, goes_on, list_refusal}
 use Rattle.link_interpreter.proofs.Loop.{some_bytes}
 use Rattle.link_interpreter.specs.Sameness.{attribute_of}

@@ -1,7 +1,7 @@
 use Rattle.std.proofs.Common.{◌++◌, map, false, refl, sym, ap, subst, ◌∙◌}
 use Rattle.std.specs.Prelude.{codes}
 use Rattle.link_capture_reader.specs.States.{IsTold, sink_state}
-use Rattle.link_capture_refusal_rows.specs.ReasonWords.{words}
+use Rattle.link_capture_refusals.specs.ReasonWords.{words}
 use Rattle.link_capture_refusals.specs.RefusalViews.{found}
 use Rattle.link_capture_refusals.specs.RefusalWords.{path_text, place_text, refusal_text}
 use Rattle.link_lines.specs.Refused.{refusal_words}

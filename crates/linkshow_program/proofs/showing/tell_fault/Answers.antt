@@ -2,7 +2,7 @@ use Rattle.std.proofs.Common.{◌++◌, ◌∷◌, false, append-nil, refl, ap, 
 use Rattle.std.specs.Prelude.{option_map}
 use Rattle.link_capture_reader.specs.States.{sink_state}
 use Rattle.link_lines.specs.Refused.{fault_words}
-use Rattle.linkshow_words.specs.Texts.{advice}
+use Rattle.linkshow_program.specs.Texts.{advice}
 use Rattle.linkshow_program.specs.Runs.{is_unread, name_told}
 use Rattle.linkshow_program.proofs.Telling.{retold, told_then, told_no_more}
 use Rattle.linkshow_program.proofs.showing.tell_fault.Goals as goal

@@ -1,7 +1,0 @@
-use Rattle.std.proofs.Common.{sym}
-use Rattle.std.proofs.lemmas.List.{get_or-map}
-use Rattle.link_capture_refusal_rows.specs.RefusalTables.{said}
-use Rattle.link_capture_refusal_rows.proofs.names.rows_at.Goals as goal
-
-pub returns : goal.returns
-returns c = sym (get_or-map (λ b. said (λ n. n.now) b.now) c.args.tables.now c.args.index _ _ c.requires)

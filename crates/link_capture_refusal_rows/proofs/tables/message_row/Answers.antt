@@ -1,7 +1,0 @@
-use Rattle.std.proofs.Common.{ap, ◌∙◌}
-use Rattle.link_capture_refusal_rows.specs.RefusalTables.{message_rows, find}
-use Rattle.link_capture_refusal_rows.proofs.tables.message_row.Goals as goal
-
-pub returns : goal.returns
-unfolding message_rows
-returns c = c.find.ensures ∙ ap (find c.args.kind) c.rows_at.ensures

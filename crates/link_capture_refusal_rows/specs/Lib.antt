@@ -1,3 +1,0 @@
-pub mod ReasonWords
-pub mod RefusalTables
-pub mod RowRules

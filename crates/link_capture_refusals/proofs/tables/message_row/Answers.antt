@@ -1,0 +1,7 @@
+use Rattle.std.proofs.Common.{ap, ◌∙◌}
+use Rattle.link_capture_refusals.specs.RefusalTables.{message_rows, find}
+use Rattle.link_capture_refusals.proofs.tables.message_row.Goals as goal
+
+pub returns : goal.returns
+unfolding message_rows
+returns c = c.find.ensures ∙ ap (find c.args.kind) c.rows_at.ensures

@@ -1,0 +1,40 @@
+//! Names and rows by kind.
+
+ghost use Rattle.std.specs.Prelude.{◌≡◌, ◌<◌, true, [], get_or, length, option_map};
+ghost use Rattle.link_capture_refusals.specs.RefusalTables.{all_said, find, is_name, said};
+
+use crate::rows::NamedRow;
+
+/// The rows at an index.
+pub(crate) fn rows_at<'a>(tables: &'a [&'a [NamedRow]], index: u8) -> &'a [NamedRow]
+    requires { index < length tables.now }
+    ensures { said (λ n. n.now) result.now
+        ≡ get_or (all_said (λ b. b.now) (λ n. n.now) tables.now) index [] }
+{
+    tables[index as usize]
+}
+
+/// The row of a kind, which has no flag bits.
+pub(crate) fn find(rows: &[NamedRow], kind: u16) -> Option<NamedRow>
+    ensures { option_map (λ r. (r.0, r.1.now, r.2)) result
+        ≡ find kind (said (λ n. n.now) rows.now) }
+{
+    for row in rows {
+        let row = *row;
+        if kind == row.0 {
+            return Some(row);
+        }
+    }
+    None
+}
+
+/// A name as a text.
+pub(crate) fn text_of(name: &'static [u8]) -> &'static str
+    requires { is_name name.now ≡ true }
+    ensures { result.now ≡ name.now }
+{
+    match str::from_utf8(name) {
+        Ok(text) => text,
+        Err(_) => unreachable!(),
+    }
+}

@@ -1,0 +1,121 @@
+//! Why something is refused.
+
+ghost use Rattle.std.specs.Prelude.{◌≡◌, ◌+◌, ◌≤◌, Some, length};
+ghost use Rattle.link_capture_refusals.specs.ReasonWords.{counted, words, shape_reason};
+
+use arrayvec::ArrayString;
+use itoa::Buffer;
+use link_tables::Shape;
+use std::fmt;
+
+/// Why something in a body is refused. Sizes and lengths are in bytes.
+#[derive(Clone, Copy, Debug, PartialEq, Eq, Drop)]
+pub enum Reason {
+    /// The row doesn't take a payload of this size.
+    PayloadSize(usize),
+    /// A text that isn't UTF-8.
+    NotUtf8,
+    /// An empty list, of IFLA_LINKINFO or IFLA_VF_PORTS.
+    EmptyList,
+    /// Data or statistics where no IFLA_INFO_KIND is in force.
+    NoKind,
+    /// Port data where no IFLA_INFO_SLAVE_KIND is in force.
+    NoPortKind,
+    /// A payload under a kind of link that takes none.
+    NoPayload,
+    /// Less than the header of an attribute, of which so much is left.
+    CutHeader(usize),
+    /// The header of an attribute whose length is under 4, or over what is left: what is left, and the length.
+    WrongLength(usize, u16),
+    /// A link's body, or a peer, of this size, which is less than a header of 16.
+    CutLink(usize),
+    /// A peer with an IFLA_VF_PORTS of which nothing is kept.
+    EmptyPorts,
+    /// A peer in whose normal text an attribute would be longer than 65535.
+    Unfit,
+    /// A body of this size, which is less than a code of 4, in an NLMSG_ERROR or NLMSG_DONE.
+    CutCode(usize),
+}
+
+/// Why a payload of this size is refused by a shape.
+pub fn shape_reason(shape: Shape, size: usize) -> Reason
+    ensures { result ≡ shape_reason shape size }
+{
+    match shape {
+        Shape::Text => Reason::NotUtf8,
+        Shape::Never => Reason::NoPayload,
+        _ => Reason::PayloadSize(size),
+    }
+}
+
+/// A text alone.
+fn plain(text: &str) -> ArrayString<160>
+    requires { length text.now ≤ 64 }
+    ensures text { result.bytes ≡ text.now }
+    ensures short { length result.bytes ≤ 64 }
+{
+    let mut words = ArrayString::new();
+    words.push_str(text);
+    words
+}
+
+/// A number in decimal between two texts.
+fn counted(before: &str, count: usize, behind: &str) -> ArrayString<160>
+    requires { length before.now + length behind.now ≤ 64 }
+    ensures text { result.bytes ≡ counted before.now count behind.now }
+    ensures short { length result.bytes ≤ 104 }
+{
+    let mut digits = Buffer::new();
+    let mut words = ArrayString::new();
+    words.push_str(before);
+    words.push_str(digits.format(count));
+    words.push_str(behind);
+    words
+}
+
+/// The words of a length over what is left, or under 4.
+fn wrong_length(left: usize, length: u16) -> ArrayString<160>
+    ensures { result.bytes ≡ words (Reason.WrongLength left length) }
+{
+    let mut digits = Buffer::new();
+    let mut words = counted(
+        "no attribute: ",
+        left,
+        " bytes are left, and its length is ",
+    );
+    words.push_str(digits.format(length));
+    words
+}
+
+impl Reason {
+    /// What is told of it, in ASCII. It takes no memory.
+    pub fn text(self) -> ArrayString<160>
+        ensures { result.bytes ≡ words self }
+    {
+        match self {
+            Reason::PayloadSize(size) => counted("a payload of ", size, " bytes"),
+            Reason::NotUtf8 => plain("a text that isn't UTF-8"),
+            Reason::EmptyList => plain("an empty list"),
+            Reason::NoKind => plain("no IFLA_INFO_KIND is in force"),
+            Reason::NoPortKind => plain("no IFLA_INFO_SLAVE_KIND is in force"),
+            Reason::NoPayload => plain("no payload is accepted under this kind of link"),
+            Reason::CutHeader(left) => counted("no attribute: ", left, " bytes are left"),
+            Reason::WrongLength(left, length) => wrong_length(left, length),
+            Reason::CutLink(size) => counted("a header of ", size, " bytes"),
+            Reason::EmptyPorts => plain("ports of which nothing is kept"),
+            Reason::Unfit => plain("an attribute of the text is over 65535 bytes"),
+            Reason::CutCode(size) => counted("a body of ", size, " bytes"),
+        }
+    }
+}
+
+// Whatever options a format gives, the words are the same.
+impl fmt::Display for Reason {
+    ghost output = { λ r. Some (words r) };
+
+    ghost styled_output = { λ r _. Some (words r) };
+
+    fn fmt<W: fmt::Write>(&self, f: &mut fmt::Formatter<W>) -> fmt::Result {
+        f.write_str(self.text().as_str())
+    }
+}

@@ -1,0 +1,178 @@
+//! The lists of links, and what their attributes hold.
+
+ghost use Rattle.std.specs.Prelude.{◌≡◌, ◌<◌, ◌≤◌, ◌-◌, [], get_or, ℕ, List, option_map, IfSome};
+ghost use Rattle.attribute_tables_grammar.specs.Lists as Lists;
+ghost use Rattle.link_tables.specs.declared.table.TheConstants.{AMT, LINK_INFO, VLAN};
+ghost use Rattle.link_tables.specs.InForce.{held_in_force, in_force};
+ghost use Rattle.link_tables.specs.Rows.{form_of};
+ghost use Rattle.link_capture_refusals.specs.RefusalTables.{IsLower, data_rows, find, info_inside, info_row, inside_of};
+ghost use Rattle.link_capture_refusals.specs.RefusalTables.{listing, message_rows, row_in, table_row, table_rows, whole};
+ghost use Rattle.link_capture_refusals.specs.RowRules.{behind};
+
+use crate::names::{find, rows_at, text_of};
+use crate::reason::Reason;
+use crate::rows::{DATA_ROWS, MESSAGE_ROWS, NamedRow};
+use link_interpreter::KIND_BOUND;
+use link_tables::table::{AMT, LINK_INFO, VLAN};
+use link_tables::{
+    Form, Held, IFLA_INFO_DATA, IFLA_INFO_KIND, IFLA_INFO_SLAVE_DATA, IFLA_INFO_SLAVE_KIND,
+    IFLA_INFO_XSTATS, InForce, NO_KINDS, Shape, Table, info_held, next_force,
+};
+
+/// What an attribute's payload holds.
+#[derive(Clone, Copy)]
+pub enum Inside {
+    /// A value of this shape.
+    Value(Shape),
+    /// The attributes of a table.
+    List(Form, Table),
+    /// The other end of a link.
+    Peer,
+    /// What is refused wherever it stands there.
+    Refused(Reason),
+}
+
+/// A list of the attributes of a table from one on: its form, the kinds in force there, and whether peers inside are
+/// judged.
+#[derive(Clone, Copy)]
+pub struct Listed<'a> {
+    pub form: Form,
+    pub table: Table,
+    pub force: InForce<'a>,
+    pub judged: bool,
+}
+
+impl<'a> Listed<'a> {
+    /// A list from its first attribute on.
+    pub fn new(form: Form, table: Table, judged: bool) -> Self
+        ensures { listing result ≡ whole form table judged }
+    {
+        Listed {
+            form,
+            table,
+            force: NO_KINDS,
+            judged,
+        }
+    }
+}
+
+/// What a payload holds.
+fn inside_of(held: Held) -> Inside
+    ensures { result ≡ inside_of held }
+{
+    match held {
+        Held::Plain(shape) => Inside::Value(shape),
+        Held::Peer => Inside::Peer,
+        Held::List(form, table) => Inside::List(form, table),
+        Held::LinkInfo => Inside::List(Form::NonEmpty, LINK_INFO),
+    }
+}
+
+/// What an attribute of link info holds.
+fn info_inside(force: InForce<'_>, kind: u16) -> Inside
+    ensures inside { result ≡ info_inside kind (held_in_force (in_force force.entry) kind) }
+    ensures lower { IsLower LINK_INFO.0 result }
+{
+    match info_held(force, kind) {
+        Some(held) => inside_of(held),
+        None if kind == IFLA_INFO_SLAVE_DATA => Inside::Refused(Reason::NoPortKind),
+        None => Inside::Refused(Reason::NoKind),
+    }
+}
+
+/// The name of a kind in link info, and what its payload holds.
+fn info_row(force: InForce<'_>, kind: u16) -> Option<(&'static str, Inside)>
+    ensures row { option_map (λ x. (x.0.now, x.1)) result ≡ info_row (in_force force.entry) kind }
+    ensures lower { IfSome result (λ x. IsLower LINK_INFO.0 x.1) }
+{
+    let name = match kind {
+        IFLA_INFO_KIND => "IFLA_INFO_KIND",
+        IFLA_INFO_DATA => "IFLA_INFO_DATA",
+        IFLA_INFO_XSTATS => "IFLA_INFO_XSTATS",
+        IFLA_INFO_SLAVE_KIND => "IFLA_INFO_SLAVE_KIND",
+        IFLA_INFO_SLAVE_DATA => "IFLA_INFO_SLAVE_DATA",
+        _ => return None,
+    };
+    Some((name, info_inside(force, kind)))
+}
+
+/// The row of a kind in a table of link messages.
+fn message_row(table: Table, kind: u16) -> Option<NamedRow>
+    requires { table.0 < AMT.0 }
+    ensures { option_map (λ r. (r.0, r.1.now, r.2)) result ≡ find kind (get_or message_rows table.0 []) }
+{
+    find(rows_at(&MESSAGE_ROWS, table.0), kind)
+}
+
+/// The row of a kind in a table of data.
+fn data_row(table: Table, kind: u16) -> Option<NamedRow>
+    requires from { AMT.0 ≤ table.0 }
+    requires below { table.0 < VLAN.0 }
+    ensures { option_map (λ r. (r.0, r.1.now, r.2)) result ≡ find kind (get_or data_rows (table.0 - AMT.0) []) }
+{
+    find(rows_at(&DATA_ROWS, table.0 - AMT.0), kind)
+}
+
+/// The row of a kind in any table but that of link info.
+fn named_row(table: Table, kind: u16) -> Option<NamedRow>
+    ensures { option_map (λ r. (r.0, r.1.now, r.2)) result ≡ find kind (get_or table_rows table.0 []) }
+{
+    if table.0 < AMT.0 {
+        message_row(table, kind)
+    } else if table.0 < VLAN.0 {
+        data_row(table, kind)
+    } else {
+        None
+    }
+}
+
+/// The name of a kind in any table but that of link info, and what its payload holds.
+fn table_row(table: Table, kind: u16) -> Option<(&'static str, Inside)>
+    ensures row { option_map (λ x. (x.0.now, x.1)) result
+        ≡ table_row (find kind (get_or table_rows table.0 [])) }
+    ensures lower { IfSome result (λ x. IsLower table.0 x.1) }
+{
+    match named_row(table, kind) {
+        Some((_, name, held)) => Some((text_of(name), inside_of(held))),
+        None => None,
+    }
+}
+
+/// The name of a kind without its flag bits in a list, and what its payload holds.
+#[tactic(auto, unfolding(crate::specs::RefusalTables::row_in))]
+pub fn row_in(list: Listed<'_>, kind: u16) -> Option<(&'static str, Inside)>
+    ensures row { option_map (λ x. (x.0.now, x.1)) result
+        ≡ row_in list.entry.table (listing list.entry).context kind }
+    ensures lower { IfSome result (λ x. IsLower list.entry.table.0 x.1) }
+{
+    if list.table.is_link_info() {
+        info_row(list.force, kind)
+    } else {
+        table_row(list.table, kind)
+    }
+}
+
+/// Whether a list of this form keeps an attribute of a kind, which may have its flag bits.
+pub fn is_kept(form: Form, kind: u16) -> bool
+    ensures { (p : List ℕ) → result ≡ Lists.is_kept (form_of form) (record { kind = kind; payload = p }) }
+{
+    match form {
+        Form::OfKindOne | Form::Ports => kind % KIND_BOUND == 1,
+        Form::Any | Form::NonEmpty | Form::FirstAlone => true,
+    }
+}
+
+/// The list behind an attribute of it, whose kind may have its flag bits.
+#[tactic(auto, unfolding(crate::specs::RowRules::grammar_at))]
+pub fn next_list<'a>(list: Listed<'a>, kind: u16, payload: &'a [u8]) -> Listed<'a>
+    ensures { listing result
+        ≡ behind (listing list.entry) (record { kind = kind; payload = payload.now }) }
+{
+    if !is_kept(list.form, kind) || !list.table.is_link_info() {
+        return list;
+    }
+    Listed {
+        force: next_force(list.force, kind % KIND_BOUND, payload),
+        ..list
+    }
+}

@@ -1,3 +1,0 @@
-pub mod SpellingWords
-pub mod SpellingRows
-pub mod SpellingTables

@@ -1,0 +1,24 @@
+-- The words of spellings.
+use Rattle.std.specs.Prelude.{ℕ, List, ◌++◌, codes}
+use Rattle.std.specs.Fmt.{decimal}
+use Rattle.link_capture_spellings.specs.declared.placed.Spelling.{Spelling}
+use Rattle.link_capture_spellings.specs.declared.placed.Spelling.TheVariants.{NestedPortSettings, ResizedSettings, PathDiscoveryOverOne, LaterPeer, LongAlias, NameWithoutNul, FlagWithPayload, TruthOverOne, StrayNestedBit, ForeignFunction, HeaderByte, ShortMap}
+use Rattle.link_capture_spellings.specs.declared.placed.PlacedSpelling.{PlacedSpelling}
+
+abbrev pub words : Spelling → List ℕ
+words NestedPortSettings = codes "IFLA_PROTINFO with the nested bit"
+words ResizedSettings = codes "IFLA_INET_CONF not of 132 bytes"
+words PathDiscoveryOverOne = codes "IFLA_GRE_PMTUDISC over 1"
+words LaterPeer = codes "peer behind another attribute"
+words LongAlias = codes "IFLA_IFALIAS of 255 bytes without a NUL"
+words NameWithoutNul = codes "name without a NUL"
+words FlagWithPayload = codes "flag with a payload"
+words TruthOverOne = codes "truth over 1"
+words StrayNestedBit = codes "stray nested bit"
+words ForeignFunction = codes "foreign entry in IFLA_VFINFO_LIST"
+words HeaderByte = codes "second byte of the header of RTM_GETLINK"
+words ShortMap = codes "IFLA_MAP under 32 bytes"
+
+-- the words, and the place in decimal
+abbrev pub placed_text : PlacedSpelling → List ℕ
+placed_text x = words x.spelling ++ (codes " at " ++ decimal x.offset)

@@ -1,0 +1,206 @@
+//! The lists in which such spellings stand, as far as they are told apart.
+
+ghost use Rattle.std.specs.Prelude.{◌≡◌, ◌≤◌, ◌<◌, length, IfSome};
+ghost use Rattle.link_capture_spellings.specs.SpellingTables.{is_gre, is_gre6, is_ip_tunnel, is_pair, data_named};
+ghost use Rattle.link_capture_spellings.specs.SpellingTables.{family_table, next_table, next_list, inside_table};
+ghost use Rattle.link_capture_spellings.specs.SpellingTables.{has_peer, inside, table_depth, depth};
+
+use netlink_packet_core_numbers::without_nul;
+
+/// The data of a kind of link, by the table that the name of the kind tells.
+#[derive(Clone, Copy)]
+pub enum Data {
+    /// Those in which no spelling stands.
+    Other,
+    Vxlan,
+    Geneve,
+    /// Of `gre`, `gretap` and `erspan`.
+    Gre,
+    /// Of `ip6gre`, `ip6gretap` and `ip6erspan`.
+    Gre6,
+    /// Of `ipip`, `sit` and `ip6tnl`.
+    IpTunnel,
+    BareUdp,
+    Batadv,
+    Netkit,
+    /// Of `veth` and `vxcan`, where their first attribute stands.
+    Pair,
+    /// What follows that attribute.
+    Behind,
+}
+
+/// A list of attributes.
+#[derive(Clone, Copy)]
+pub enum Table {
+    /// Of a link of the family AF_UNSPEC.
+    Unspec,
+    /// Of AF_BRIDGE.
+    Bridge,
+    /// Of any other family.
+    Link,
+    /// IFLA_LINKINFO, with the data of the kind in force.
+    Info(Data),
+    /// IFLA_AF_SPEC of AF_UNSPEC.
+    Families,
+    /// AF_INET in it.
+    Inet,
+    /// IFLA_XDP.
+    Programs,
+    /// IFLA_VFINFO_LIST.
+    Functions,
+    /// IFLA_INFO_DATA.
+    OfKind(Data),
+}
+
+/// A list, and whether peers inside are judged.
+#[derive(Clone, Copy)]
+pub struct Listed {
+    pub table: Table,
+    pub judged: bool,
+}
+
+fn is_gre(name: &[u8]) -> bool
+    ensures { result ≡ is_gre name.now }
+{
+    name == b"gre".as_slice() || name == b"gretap".as_slice() || name == b"erspan".as_slice()
+}
+
+fn is_gre6(name: &[u8]) -> bool
+    ensures { result ≡ is_gre6 name.now }
+{
+    name == b"ip6gre".as_slice()
+        || name == b"ip6gretap".as_slice()
+        || name == b"ip6erspan".as_slice()
+}
+
+fn is_ip_tunnel(name: &[u8]) -> bool
+    ensures { result ≡ is_ip_tunnel name.now }
+{
+    name == b"ipip".as_slice() || name == b"sit".as_slice() || name == b"ip6tnl".as_slice()
+}
+
+fn is_pair(name: &[u8]) -> bool
+    ensures { result ≡ is_pair name.now }
+{
+    name == b"veth".as_slice() || name == b"vxcan".as_slice()
+}
+
+/// The data of the kind of link that has a name.
+#[tactic(auto, unfolding(crate::specs::SpellingTables::data_named))]
+fn data_named(name: &[u8]) -> Data
+    ensures { result ≡ data_named name.now }
+{
+    if is_gre(name) {
+        Data::Gre
+    } else if is_gre6(name) {
+        Data::Gre6
+    } else if is_ip_tunnel(name) {
+        Data::IpTunnel
+    } else if is_pair(name) {
+        Data::Pair
+    } else if name == b"vxlan".as_slice() {
+        Data::Vxlan
+    } else if name == b"geneve".as_slice() {
+        Data::Geneve
+    } else if name == b"bareudp".as_slice() {
+        Data::BareUdp
+    } else if name == b"batadv".as_slice() {
+        Data::Batadv
+    } else if name == b"netkit".as_slice() {
+        Data::Netkit
+    } else {
+        Data::Other
+    }
+}
+
+/// The attributes of a link of an address family.
+pub fn family_table(family: u8) -> Table
+    ensures { result ≡ family_table family }
+{
+    match family {
+        0 => Table::Unspec,
+        7 => Table::Bridge,
+        _ => Table::Link,
+    }
+}
+
+/// The list behind an attribute of it: the same one, with the kind that is in force there.
+fn next_table(table: Table, kind: u16, payload: &[u8]) -> Table
+    ensures next { result ≡ next_table table kind payload.now }
+    ensures as_deep { table_depth result ≡ table_depth table }
+{
+    match table {
+        Table::Info(_) if kind == 1 => Table::Info(data_named(without_nul(payload))),
+        Table::OfKind(Data::Pair) => Table::OfKind(Data::Behind),
+        _ => table,
+    }
+}
+
+/// The same, with what is judged in it.
+pub fn next_list(list: Listed, kind: u16, payload: &[u8]) -> Listed
+    ensures next { result ≡ next_list list kind payload.now }
+    ensures as_deep { depth result ≡ depth list }
+{
+    Listed {
+        table: next_table(list.table, kind, payload),
+        judged: list.judged,
+    }
+}
+
+/// The list in an attribute of a link.
+fn inside_link(kind: u16) -> Option<Table>
+    ensures { result ≡ inside_table Table.Link kind }
+{
+    match kind {
+        18 => Some(Table::Info(Data::Other)),
+        22 => Some(Table::Functions),
+        43 => Some(Table::Programs),
+        _ => None,
+    }
+}
+
+/// The list in an attribute, where it isn't a peer.
+fn inside_table(table: Table, kind: u16) -> Option<Table>
+    ensures { result ≡ inside_table table kind }
+{
+    match table {
+        Table::Unspec if kind == 26 => Some(Table::Families),
+        Table::Unspec | Table::Bridge | Table::Link => inside_link(kind),
+        Table::Info(data) if kind == 2 => Some(Table::OfKind(data)),
+        Table::Families if kind == 2 => Some(Table::Inet),
+        _ => None,
+    }
+}
+
+/// Whether an attribute of kind 1 is a peer.
+fn has_peer(table: Table) -> bool
+    ensures { result ≡ has_peer table }
+{
+    matches!(table, Table::OfKind(Data::Netkit | Data::Pair))
+}
+
+/// The list in an attribute, and the bytes in front of it: 16 of a peer's header, which is a link's.
+#[tactic(auto, unfolding(crate::specs::SpellingTables::inside))]
+pub fn inside(list: Listed, kind: u16, payload: &[u8]) -> Option<(Listed, usize)>
+    ensures inside { result ≡ inside list kind payload.now }
+    ensures front { IfSome result (λ x. x.1 ≤ length payload.now) }
+    ensures lower { IfSome result (λ x. depth x.0 < depth list) }
+{
+    if kind == 1 && list.judged && payload.len() >= 16 && has_peer(list.table) {
+        let peer = Listed {
+            table: family_table(payload[0]),
+            judged: false,
+        };
+        return Some((peer, 16));
+    }
+    match inside_table(list.table, kind) {
+        Some(table) => {
+            let held = Listed {
+                table,
+                judged: list.judged,
+            };
+            Some((held, 0))
+        }
+        None => None,
+    }
+}

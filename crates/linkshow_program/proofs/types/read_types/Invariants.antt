@@ -1,0 +1,15 @@
+use Rattle.std.proofs.Common.{length}
+use denote.Shadow.{shadow}
+use denote.Text.{Utf8}
+use Rattle.linkshow_program.proofs.Typing.{Going}
+use Rattle.linkshow_program.proofs.types.read_types.Given as goal
+
+-- some types are read, and the rest of the word is left
+abbrev pub invariant-parts : goal.invariant-parts
+invariant-parts l = record {
+  text : shadow (Utf8 l.left);
+  going : Going l.fn.word l.left l.types.items;
+}
+
+abbrev pub decreases-parts : goal.decreases-parts
+decreases-parts l = length l.left

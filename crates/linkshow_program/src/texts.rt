@@ -1,0 +1,90 @@
+//! Texts of the program.
+
+ghost use Rattle.std.specs.Prelude.{◌≡◌};
+ghost use Rattle.linkshow_program.specs.Texts.{cause, is_pcap, is_pcapng, advice};
+
+use std::io::ErrorKind;
+
+/// What is told of wrong words.
+pub const USAGE: &str =
+    "usage: linkshow [--without-numbers] [--only TYPE,..] [--kernels] [--limit N] [FILE]; linkshow --help says more\n";
+
+/// The version of the program, and the number of the form of its lines.
+pub const VERSION: &str = "linkshow 0.1.0, lines 2\n";
+
+/// How the program is used.
+pub const HELP: &str =
+    "usage: linkshow [--without-numbers] [--only TYPE,..] [--kernels] [--limit N] [FILE]
+       linkshow --help
+       linkshow --version
+
+Shows a netlink link capture as lines: the messages of FILE, or of standard
+input where there is no FILE or it is -. A capture is a byte string of
+netlink messages, one after the other, each at a multiple of 4. Its lines are
+those of its normal text: what means the same has the same lines.
+
+  --without-numbers  leave out sequence and port numbers, which change from
+                     run to run
+  --only TYPE,..     show messages of these types alone, by name or number:
+                     newlink,setlink,77
+  --limit N          the greatest length of a message in bytes, from 16 to
+                     4294967295; without it, 1048576
+  --kernels          note on standard error first what kernels tell apart
+                     and the lines don't show
+  --help             this text
+  --version          the version of linkshow, and the number of the form of
+                     its lines
+
+Status 0: the capture is legal, and its lines are written. 2: a fault, told
+on standard error with its place in bytes; the lines before it are written.
+3: wrong words.
+
+Example, the links of this network namespace:
+
+  linkrec dump > links.bin
+  linkshow links.bin
+";
+
+/// Why a file can't be opened.
+pub fn cause(kind: ErrorKind) -> &'static str
+    ensures { result.now ≡ cause kind }
+{
+    match kind {
+        ErrorKind::NotFound => "no such file",
+        ErrorKind::PermissionDenied => "permission denied",
+        ErrorKind::IsADirectory => "it is a directory",
+        ErrorKind::NotADirectory => "a part of the path is no directory",
+        ErrorKind::FilesystemLoop => "too many links to follow",
+        ErrorKind::InvalidFilename | ErrorKind::InvalidInput => "no name of a file",
+        ErrorKind::OutOfMemory => "no memory",
+        _ => "it can't be opened",
+    }
+}
+
+fn is_pcap(first: &[u8]) -> bool
+    ensures { result ≡ is_pcap first.now }
+{
+    first == b"\xa1\xb2\xc3\xd4".as_slice()
+        || first == b"\xd4\xc3\xb2\xa1".as_slice()
+        || first == b"\xa1\xb2\x3c\x4d".as_slice()
+        || first == b"\x4d\x3c\xb2\xa1".as_slice()
+}
+
+fn is_pcapng(first: &[u8]) -> bool
+    ensures { result ≡ is_pcapng first.now }
+{
+    first == b"\n\r\r\n".as_slice()
+}
+
+/// What helps where a capture with a fault begins with these four bytes: a line, or nothing.
+pub fn advice(first: &[u8]) -> &'static str
+    ensures { result.now ≡ advice first.now }
+{
+    if is_pcap(first) {
+        "linkshow: this is a pcap file: linkrec pcap FILE makes a capture of it\n"
+    } else if is_pcapng(first) {
+        "linkshow: this is a pcapng file: linkrec pcap FILE makes a capture of it\n"
+    } else {
+        ""
+    }
+}

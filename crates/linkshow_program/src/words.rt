@@ -1,0 +1,143 @@
+//! The words behind the program's name.
+
+ghost use Rattle.std.specs.Prelude.{◌≡◌, ◌≤◌, [], map, IfSome, IfNone, string_bytes};
+ghost use Rattle.linkshow_program.specs.Words.{word_of, defaults, Awaited.Nothing, Gives, Asks, HasLimit};
+
+use crate::types::{Types, read_types};
+use link_capture_commands::{DEFAULT_LIMIT, read_limit};
+
+/// How a capture is to be shown.
+#[derive(Clone, Debug, PartialEq, Eq, Drop)]
+pub struct Options<'a> {
+    /// The greatest length of a message, in bytes.
+    pub limit: u32,
+    /// Whether notes of what kernels tell apart are wanted.
+    pub kernels: bool,
+    /// Whether sequence and port numbers are to be left out.
+    pub without_numbers: bool,
+    /// The types of the messages to be shown; without it, all are.
+    pub only: Option<Types>,
+    /// The name of a file; without one it is standard input.
+    pub file: Option<&'a str>,
+}
+
+/// What the program is asked to do.
+#[derive(Clone, Debug, PartialEq, Eq, Drop)]
+pub enum Asked<'a> {
+    /// Tell how it is used.
+    Help,
+    /// Tell its version.
+    Version,
+    /// Show a capture.
+    Show(Options<'a>),
+}
+
+/// What a word is where no number and no types are awaited.
+#[derive(Clone, Copy)]
+pub(crate) enum Word {
+    /// `--kernels`
+    Kernels,
+    /// `--without-numbers`
+    WithoutNumbers,
+    /// `--only`, behind which stand types
+    Only,
+    /// `--limit`, behind which stands a number
+    Limit,
+    /// `-`: standard input
+    Input,
+    /// The name of a file.
+    Name,
+    /// Nothing that is known.
+    Wrong,
+}
+
+/// Tells what a word is.
+#[tactic(auto, unfolding(crate::specs::Words::word_of))]
+fn word_of(word: &str) -> Word
+    ensures { result ≡ word_of word.now }
+{
+    if word == "--kernels" {
+        Word::Kernels
+    } else if word == "--without-numbers" {
+        Word::WithoutNumbers
+    } else if word == "--only" {
+        Word::Only
+    } else if word == "--limit" {
+        Word::Limit
+    } else if word == "-" {
+        Word::Input
+    } else if word.is_empty() || word.as_bytes()[0] == b'-' {
+        Word::Wrong
+    } else {
+        Word::Name
+    }
+}
+
+/// These options, where nothing is left behind them.
+fn when_last<'a>(left: &[String], options: Options<'a>) -> Option<Options<'a>>
+    ensures some { IfSome result (λ o. (left.now ≡ []) × (o ≡ options.entry)) }
+    ensures none { IfNone result (left.now ≡ [] → ⊥) }
+{
+    if left.is_empty() { Some(options) } else { None }
+}
+
+/// Reads options, and behind them the name of a file, `-` or nothing. None where the words are anything else.
+fn read_options(words: &[String]) -> Option<Options<'_>>
+    ensures some { IfSome result (λ o. Gives Nothing defaults (map string_bytes words.now) o) }
+    ensures limit { IfSome result (λ o. 16 ≤ o.limit) }
+    ensures none { IfNone result ((o : Options)
+        → Gives Nothing defaults (map string_bytes words.now) o → ⊥) }
+{
+    let mut options = Options {
+        limit: DEFAULT_LIMIT,
+        kernels: false,
+        without_numbers: false,
+        only: None,
+        file: None,
+    };
+    let mut left = words;
+    'words: loop {
+        let [word, rest @ ..] = left else {
+            return Some(options);
+        };
+        left = rest;
+        match word_of(word.as_str()) {
+            Word::Kernels => options.kernels = true,
+            Word::WithoutNumbers => options.without_numbers = true,
+            Word::Only => {
+                let [types, more @ ..] = rest else {
+                    return None;
+                };
+                options.only = Some(read_types(types.as_str())?);
+                left = more;
+            }
+            Word::Limit => {
+                let [number, more @ ..] = rest else {
+                    return None;
+                };
+                options.limit = read_limit(number.as_str())?;
+                left = more;
+            }
+            Word::Input => return when_last(rest, options),
+            Word::Name => {
+                options.file = Some(word.as_str());
+                return when_last(rest, options);
+            }
+            Word::Wrong => return None,
+        }
+    }
+}
+
+/// Reads the words: `--help`, `--version`, or options and behind them the name of a file, `-` or nothing. An option may
+/// stand in any place and more than once; the last limit counts. None where they are anything else.
+pub fn read_words(words: &[String]) -> Option<Asked<'_>>
+    ensures some { IfSome result (λ asked. Asks (map string_bytes words.now) asked) }
+    ensures limit { IfSome result (λ asked. HasLimit asked) }
+    ensures none { IfNone result ((asked : Asked) → Asks (map string_bytes words.now) asked → ⊥) }
+{
+    match words {
+        [word] if word.as_str() == "--help" => Some(Asked::Help),
+        [word] if word.as_str() == "--version" => Some(Asked::Version),
+        _ => Some(Asked::Show(read_options(words)?)),
+    }
+}

@@ -10,5 +10,3 @@ mod walk;
 
 pub use capture::{Spellings, spelling};
 pub use placed::{PlacedSpelling, Spelling};
-pub use rows::{attribute_spellings, header_spelling};
-pub use tables::{Data, Listed, Table, family_table, inside, next_list};

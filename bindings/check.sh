@@ -203,7 +203,7 @@ test_python() {
     step "Python: pip install without a network" env LINKCAP_LIB_DIR="$lib" "$work/venv/bin/pip" install --no-index "$top/bindings/python"
     local run=("$work/venv/bin/python") tests=bindings/python/tests
     mkdir -p "$work/python"
-    step "Python: the calls" env -C $tests "${run[@]}" -m unittest -q test_linkcap test_golden
+    step "Python: the calls" env -C $tests "${run[@]}" -m unittest -q test_linkcap test_golden test_record
     step "Python: calls that are interrupted" env -C $tests "${run[@]}" -m unittest -q test_reentry
     step "Python: installs" env -C $tests "${run[@]}" -m unittest -q test_install
     "${run[@]}" -c 'import numpy' 2> /dev/null || skip "Python: captures of numpy" "no numpy"

@@ -34,11 +34,10 @@ _INDENT = 2
 
 
 class LineError(ValueError):
-    """A line that linkshow doesn't write; `number` counts lines from 1."""
+    """A line that linkshow doesn't write."""
 
-    def __init__(self, number: int, line: str) -> None:
-        super().__init__(f"line {number} isn't a line of linkshow: {line[:80]}")
-        self.number = number
+    def __init__(self, line: str) -> None:
+        super().__init__(f"no line of linkshow: {line[:80]}")
 
 
 class _Tokens:
@@ -205,17 +204,17 @@ def to_json(lines: Iterable[str]) -> Iterator[Json]:
     LineError at the first line that linkshow doesn't write.
     """
     message: Optional[_Message] = None
-    for number, line in enumerate(lines, 1):
+    for line in lines:
         line = line.rstrip("\n")
         words = _TOKEN.findall(line)
         depth, extra = divmod(len(line) - len(line.lstrip(" ")), _INDENT)
         if extra or not words or " ".join(words) != line.lstrip(" ") or not (depth == 0 or message):
-            raise LineError(number, line)
+            raise LineError(line)
         if depth == 0 and message:
             yield message.json
         try:
             message = _read(message, depth, line, _Tokens(words))
         except (ValueError, LookupError, TypeError):
-            raise LineError(number, line) from None
+            raise LineError(line) from None
     if message:
         yield message.json

@@ -157,6 +157,9 @@ done
 
 # ---- linkjson
 
+# a request for all links as glibc's getifaddrs sends it: its body has 4 bytes and not 16
+printf '\x14\0\0\0\x12\0\1\3\1\0\0\0\0\0\0\0\0\0\0\0' > "$work/short"
+cat "$work/a" "$work/short" "$work/b" > "$work/mixed"
 json='{"type": "RTM_GETLINK", "flags": {"value": 769, "flags": ["REQUEST", "ROOT", "MATCH"]}, "seq": 1526271540, "port": 0, '
 json+='"attributes": [{"name": "IFLA_EXT_MASK", "value": 9, "flags": ["Vf", "SkipStats"]}, {"name": "IFLA_IFNAME", "value": "lo", "quoted": true}], '
 json+='"header": {"struct": "ifinfomsg", "family": {"value": 0, "text": "AF_UNSPEC"}, "type": {"value": 0, "text": "netrom"}, "index": 0, '
@@ -171,6 +174,9 @@ wants "JSON of a type" 0 "" "$linkjson" --only newlink a < /dev/null
 wants "JSON of a link" 0 "" "$linkjson" --link lo b < /dev/null
 wants "JSON of a cut capture" 2 "cut frame at 48" "$linkjson" cut <<< "$json"
 wants "JSON under a limit" 2 "frame over the limit at 0" "$linkjson" --limit 47 a < /dev/null
+wants "JSON of an odd limit" 2 "$("$LINKSHOW" --limit 15 2>&1)" "$linkjson" --limit 15 a < /dev/null
+holds "JSON of a fault in a later piece" bash -c '{ cat a; sleep 1; cat mixed; } | "$0" 2> report > made; [ ${PIPESTATUS[1]} -eq 2 ] && [ "$(wc -l < made)" -eq 2 ] &&
+    grep -qx "refused body at 96: a header of 4 bytes at 112" report' "$linkjson"
 wants "JSON of nothing" 0 "no messages" "$linkjson" none < /dev/null
 wants "JSON of a missing file" 2 "linkjson: missing: no such file or directory" "$linkjson" missing < /dev/null
 wants "JSON of an option for captures" 2 "linkjson: --only and --limit are for captures: give them to linkshow" "$linkjson" --only newlink a.lines < /dev/null
@@ -225,9 +231,6 @@ wants "cut by offset" 0 "" "$linkrec" cut --at 48 three < <(cat "$work/a" "$work
 wants "cut by type" 0 "" "$linkrec" cut --type getlink three < /dev/null
 wants "cut at no message" 1 "linkrec: no message starts at 4" "$linkrec" cut --at 4 a < "$work/a"
 wants "an unknown type" 2 "linkrec: no type of messages: link" "$linkrec" cut --type link a < /dev/null
-# a request for all links as glibc's getifaddrs sends it: its body has 4 bytes and not 16
-printf '\x14\0\0\0\x12\0\1\3\1\0\0\0\0\0\0\0\0\0\0\0' > "$work/short"
-cat "$work/a" "$work/short" "$work/b" > "$work/mixed"
 wants "without invalid messages" 0 "linkrec: left out the message at 48: refused body" "$linkrec" cut --legal mixed < <(cat "$work/a" "$work/b")
 wants "cut of nothing" 0 "" "$linkrec" cut --legal none < /dev/null
 holds "cut from standard input" bash -c '"$0" cut --type newlink < three | cmp - three && "$0" cut --at 0 - < a | cmp - none' "$linkrec"
@@ -362,6 +365,10 @@ else
     holds "the links after a command" bash -c '"$0" effect --setup "ip link set lo mtu 5000" -- ip link set lo up > made && "$LINKSHOW" made | grep -q "IFLA_MTU 5000" &&
         "$LINKSHOW" made | grep -q "flags 0x.*Up"' "$linkrec"
     holds "the links after a command that fails" bash -c '"$0" effect -o made -- sh -c "exit 7"; [ $? -eq 7 ] && [ ! -s made ]' "$linkrec"
+    holds "no namespace for a comparison" bash -c 'mkdir -p bin; printf "#!/bin/sh\nexit 1\n" > bin/unshare; chmod +x bin/unshare
+        PATH=$PWD/bin:$PATH "$0" a.lines -- ip link 2> report; [ $? -eq 2 ] && grep -qx "linkgold: nothing was recorded" report' "$linkgold"
+    holds "no leave to write a golden file" bash -c '"$0" --update /proc/none/a.lines -- ip link show dev lo 2> report; [ $? -eq 2 ] &&
+        grep -q "^linkgold: /proc/none: no such file" report' "$linkgold"
     holds "no namespace" bash -c 'mkdir -p bin; printf "#!/bin/sh\necho unshare: no leave >&2\nexit 1\n" > bin/unshare; chmod +x bin/unshare
         PATH=$PWD/bin:$PATH "$0" run --netns -- ip link 2> report; [ $? -eq 125 ] && grep -q "^linkrec: no network namespace: unshare: no leave" report' "$linkrec"
     holds "a golden file is written" bash -c '"$0" --update golden/lo.lines -- ip link show dev lo && head -n 1 golden/lo.lines | grep -qx "# linkcap lines, format 2"' "$linkgold"

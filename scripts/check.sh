@@ -230,6 +230,7 @@ cat "$work/a" "$work/b" "$work/a" > "$work/three"
 wants "cut by offset" 0 "" "$linkrec" cut --at 48 three < <(cat "$work/a" "$work/a")
 wants "cut by type" 0 "" "$linkrec" cut --type getlink three < /dev/null
 wants "cut at no message" 1 "linkrec: no message starts at 4" "$linkrec" cut --at 4 a < "$work/a"
+wants "no offset" 2 "linkrec: no offset: x" "$linkrec" cut --at 4,x a < /dev/null
 wants "an unknown type" 2 "linkrec: no type of messages: link" "$linkrec" cut --type link a < /dev/null
 wants "without invalid messages" 0 "linkrec: left out the message at 48: refused body" "$linkrec" cut --legal mixed < <(cat "$work/a" "$work/b")
 wants "cut of nothing" 0 "" "$linkrec" cut --legal none < /dev/null

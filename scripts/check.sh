@@ -134,6 +134,16 @@ wants "names of the sides" 1 "" "$linkdiff" --label golden --label made a b << '
 END
 { echo "# linkcap lines, format 2"; cat "$work/a.golden"; } > "$work/headed.lines"
 wants "a golden file with its format version" 0 "" "$linkdiff" headed.lines a < /dev/null
+wants "a golden file's line numbers" 1 "" "$linkdiff" --without numbers headed.lines b << 'END'
+--- headed.lines
++++ b
+@@ -2,4 +1,4 @@ RTM_GETLINK lo
+ RTM_GETLINK flags 0x301 (REQUEST | ROOT | MATCH)
+   ifinfomsg family 0 (AF_UNSPEC) type 0 (netrom) index 0 flags 0x0 change 0x0
+   IFLA_EXT_MASK 0x9 (Vf | SkipStats)
+-  IFLA_IFNAME "lo"
++  IFLA_IFNAME "l1"
+END
 # as an editor of another system ends lines
 sed 's/$/\r/' "$work/headed.lines" > "$work/crlf.lines"
 wants "a golden file with other line ends" 0 "" "$linkdiff" crlf.lines a < /dev/null
@@ -362,6 +372,12 @@ else
     holds "no such command" bash -c '"$0" run -- no-such-command 2> /dev/null; [ $? -eq 127 ]' "$linkrec"
     holds "no leave to write" bash -c '"$0" run -o /nowhere/made -- true 2> report; [ $? -eq 125 ] && grep -qx "linkrec: /nowhere/made: No such file or directory" report' "$linkrec"
     holds "a name with a space" bash -c 'mkdir -p "a b c" && "$0" run --netns -o "a b c/made" -- ip link && [ -s "a b c/made" ]' "$linkrec"
+    if "${CC:-cc}" -w -pthread -static -o "$work/sends" scripts/tests/sends.c 2> /dev/null; then
+        wants "all ways to send" 0 "" bash -c '"$0" run -q --netns -o sent -- ./sends; "$LINKSHOW" sent | grep -o "seq .*" | sort' "$linkrec" \
+            < <(printf 'seq %s port 0\n' 1 2 3 4 5 6 7)
+    else
+        skip "all ways to send" "no C compiler with a static library"
+    fi
     holds "a process that is attached to" "$top/scripts/tests/attach.sh" "$linkrec"
     holds "the links after a command" bash -c '"$0" effect --setup "ip link set lo mtu 5000" -- ip link set lo up > made && "$LINKSHOW" made | grep -q "IFLA_MTU 5000" &&
         "$LINKSHOW" made | grep -q "flags 0x.*Up"' "$linkrec"

@@ -400,6 +400,16 @@ else
     holds "no such command to compare" bash -c '"$0" golden/lo.lines -- no-such-command 2> report; [ $? -eq 2 ] && grep -q "no-such-command: no such command" report' "$linkgold"
     holds "an effect" bash -c '"$0" --effect --update golden/effect.lines -- ip link set lo up && "$0" --effect golden/effect.lines -- ip link set dev lo up' "$linkgold"
     holds "another effect" bash -c '"$0" --effect golden/effect.lines -- ip link set lo up mtu 5000 > diff; [ $? -eq 1 ] && grep -q "^@@.*RTM_NEWLINK lo" diff && grep -qx "+  IFLA_MTU 5000" diff' "$linkgold"
+    if unshare --map-root-user --net ip link add v0 type veth 2> /dev/null; then
+        # the kernel draws addresses at random
+        holds "an effect with random addresses" bash -c '"$0" --effect --update golden/veth.lines -- ip link add v0 type veth peer name v1 2> report &&
+            grep -qx "linkgold: left out what two runs differ in: IFLA_ADDRESS" report && ! grep IFLA_ADDRESS.*:.[1-9a-f] golden/veth.lines &&
+            "$0" --effect golden/veth.lines -- ip link add v0 type veth peer name v1' "$linkgold"
+        holds "an effect with another address" bash -c '"$0" --effect golden/veth.lines -- ip link add v0 address 02:00:00:00:00:05 type veth peer name v1 > diff
+            [ $? -eq 1 ] && grep -qx "+  IFLA_ADDRESS 02:00:00:00:00:05" diff' "$linkgold"
+    else
+        skip "effects with random addresses" "no veth"
+    fi
     holds "a dump" bash -c '"$0" dump > dumped && "$LINKSHOW" dumped | grep -q "^NLMSG_DONE"' "$linkrec"
     holds "a dump from a port" bash -c '"$0" dump --port 7777 > dumped && "$LINKSHOW" dumped | grep -q "^RTM_NEWLINK.* port 7777$"' "$linkrec"
     holds "all tables" bash -c '"$0" dump --all > dumped && "$LINKSHOW" dumped | grep -q "^RTM_NEWADDR"' "$linkrec"

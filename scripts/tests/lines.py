@@ -4,7 +4,7 @@
     scripts/tests/lines.py
 
 json.tsv has digests of the JSON of all samples' lines and of all stored answers of linkshow; lines that are newer than it
-are counted as left out. format3.lines are lines of the coming format version, with their JSON in format3.json. The status
+are left out. filters.tsv has digests of what lines_filter leaves of some lines. format3.lines are lines of the coming format version, with their JSON in format3.json. The status
 is 0 if all agree.
 """
 import hashlib
@@ -55,6 +55,15 @@ def format3_faults():
         yield "the JSON of format3.lines"
 
 
+def filter_faults():
+    for row in (HERE / "filters.tsv").read_text().splitlines()[1:]:
+        name, option, words, wanted = row.split("\t")
+        lines = (TOP / name).read_text().splitlines()
+        left = lines_filter.about(lines, words) if option == "link" else lines_filter.without(lines, lines_filter.names_of(words))
+        if digest("".join(line + "\n" for line in left)) != wanted:
+            yield f"what --{option} {words} leaves of {name}"
+
+
 def names():
     """Each attribute's name, with how linkshow shows its value, by the tables of the independent implementation."""
     for line in (TOP / "tools/oracle/names.tsv").read_text().splitlines():
@@ -71,7 +80,7 @@ def name_faults():
 
 
 def main():
-    wrong = [*json_faults(), *format3_faults(), *name_faults()]
+    wrong = [*json_faults(), *format3_faults(), *filter_faults(), *name_faults()]
     for what in wrong:
         print(f"lines: differs: {what}")
     return 1 if wrong else 0

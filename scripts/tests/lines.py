@@ -4,8 +4,8 @@
     scripts/tests/lines.py
 
 json.tsv has digests of the JSON of all samples' lines and of all stored answers of linkshow; lines that are newer than it
-are left out. filters.tsv has digests of what lines_filter leaves of some lines. format3.lines are lines of the coming format version, with their JSON in format3.json. The status
-is 0 if all agree.
+are left out. filters.tsv has digests of what lines_filter leaves of some lines. format3.lines are lines of the coming
+format version, with their JSON in format3.json. The status is 0 if all agree.
 """
 import hashlib
 import json
@@ -59,7 +59,8 @@ def filter_faults():
     for row in (HERE / "filters.tsv").read_text().splitlines()[1:]:
         name, option, words, wanted = row.split("\t")
         lines = (TOP / name).read_text().splitlines()
-        left = lines_filter.about(lines, words) if option == "link" else lines_filter.without(lines, lines_filter.names_of(words))
+        names = lines_filter.names_of(words) if option == "without" else set()
+        left = lines_filter.without(lines, names) if names else lines_filter.about(lines, words)
         if digest("".join(line + "\n" for line in left)) != wanted:
             yield f"what --{option} {words} leaves of {name}"
 

@@ -52,7 +52,8 @@ int main(void)
     int route = socket(AF_NETLINK, SOCK_RAW, NETLINK_ROUTE), generic = socket(AF_NETLINK, SOCK_RAW, NETLINK_GENERIC);
     struct request *first = request(1, 0), *second = request(2, 0);
     struct iovec parts[3] = {part(first, 16), part(&first->body, 16), part(second, 32)};
-    struct mmsghdr both[2] = {{.msg_hdr = {.msg_iov = parts, .msg_iovlen = 2}}, {.msg_hdr = {.msg_iov = parts + 2, .msg_iovlen = 1}}};
+    struct mmsghdr both[2] = {{.msg_hdr = {.msg_iov = parts, .msg_iovlen = 2}},
+                              {.msg_hdr = {.msg_iov = parts + 2, .msg_iovlen = 1}}};
     pthread_t thread;
     sendmmsg(route, both, 2, 0);
     send(generic, first, 32, 0);

@@ -108,6 +108,8 @@ installed() {
     "$work/prefix/bin/linkcap" norm < samples/req-veth.bin | cmp - samples/req-veth.bin || return
     "$work/prefix/bin/linkshow" < samples/req-veth.bin | cmp - samples/req-veth.lines || return
     "$work/prefix/bin/linkshow" --version | grep -qw "lines $(sed -n 's/^#define LINKCAP_FORMAT //p' "$lib/linkcap.h")" || return
+    PATH=$work/prefix/bin:$PATH linkjson samples/req-veth.bin | grep -q '"value": "veth"' || return
+    PATH=$work/prefix/bin:$PATH linkgold samples/req-veth.lines samples/req-veth.bin || return
     cmp man/linkshow.1 "$work/prefix/share/man/man1/linkshow.1" || return
     bash -c '. "$1"; complete -p linkcap linkshow' - "$work/prefix/share/bash-completion/completions/linkcap"
 }
@@ -204,7 +206,7 @@ test_python() {
     step "Python: pip install without a network" env LINKCAP_LIB_DIR="$lib" "$work/venv/bin/pip" install --no-index "$top/bindings/python"
     local run=("$work/venv/bin/python") tests=bindings/python/tests
     mkdir -p "$work/python"
-    step "Python: the calls" env -C $tests "${run[@]}" -m unittest -q test_linkcap test_golden
+    step "Python: the calls" env -C $tests "${run[@]}" -m unittest -q test_linkcap test_golden test_record
     step "Python: calls that are interrupted" env -C $tests "${run[@]}" -m unittest -q test_reentry
     step "Python: installs" env -C $tests "${run[@]}" -m unittest -q test_install
     "${run[@]}" -c 'import numpy' 2> /dev/null || skip "Python: captures of numpy" "no numpy"

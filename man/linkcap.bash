@@ -1,4 +1,4 @@
-# Completion in bash for linkcap, linkshow, linkdiff, linkrec and linkgold.
+# Completion in bash for linkcap, linkshow, linkdiff, linkrec, linkgold and linkjson.
 
 _linkcap() {
     local word=${COMP_WORDS[COMP_CWORD]}
@@ -24,17 +24,18 @@ _linkshow() {
 }
 
 _linkdiff() {
-    _linkshow_words "--quiet --without-numbers --only --ignore-order --empty --limit --kernels --color --help"
+    _linkshow_words "--quiet --without-numbers --without --link --only --ignore-order --empty --limit --kernels --label --color --help"
 }
 
 _linkrec() {
     local word=${COMP_WORDS[COMP_CWORD]}
     if [ "$COMP_CWORD" -eq 1 ]; then
-        mapfile -t COMPREPLY < <(compgen -W "run dump watch pcap strace cut split --help" -- "$word")
+        mapfile -t COMPREPLY < <(compgen -W "run effect dump watch pcap strace cut split --help" -- "$word")
         return
     fi
     case ${COMP_WORDS[1]} in
         run) _linkshow_words "--quiet --netns --setup --answers --output --attach --help" ;;
+        effect) _linkshow_words "--setup --output --help" ;;
         dump) _linkshow_words "--all --port --help" ;;
         watch) _linkshow_words "--all --time --port --help" ;;
         strace) _linkshow_words "--answers --output --help" ;;
@@ -44,7 +45,11 @@ _linkrec() {
 }
 
 _linkgold() {
-    _linkshow_words "--update --setup --here --numbers --only --ignore-order --help"
+    _linkshow_words "--update --effect --setup --here --may-fail --legal --numbers --indexes --counters --without --link --only --ignore-order --help"
+}
+
+_linkjson() {
+    _linkshow_words "--without-numbers --without --link --only --limit --help"
 }
 
 complete -o filenames -F _linkcap linkcap
@@ -52,3 +57,4 @@ complete -o filenames -F _linkshow linkshow
 complete -o filenames -F _linkdiff linkdiff
 complete -o filenames -F _linkrec linkrec
 complete -o filenames -F _linkgold linkgold
+complete -o filenames -F _linkjson linkjson

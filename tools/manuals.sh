@@ -39,7 +39,7 @@ for program in linkcap linkshow; do
         grep -qx -- "$option" <<< "$(offered "$program" --)" || fault "man/linkcap.bash: $program has $option"
     done
 done
-for program in linkdiff linkrec linkgold; do
+for program in linkdiff linkrec linkgold linkjson; do
     words=$(man --warnings -E UTF-8 -l -Tutf8 -Z "man/$program.1" 2>&1 > /dev/null)
     [ -z "$words" ] || fault "man/$program.1: $words"
 done
@@ -47,13 +47,13 @@ done
 options() { "$@" --help | grep -oE -- '--[a-z][a-z-]+' | sort -u; }
 # documented OPTION PROGRAM: whether the manual has an option
 documented() { man -l "man/$2.1" | col -bx | grep -- "$1" > /dev/null; }
-for program in linkdiff linkgold; do
+for program in linkdiff linkgold linkjson; do
     for option in $(options "scripts/$program"); do
         grep -qx -- "$option" <<< "$(offered "$program" --)" || fault "man/linkcap.bash: $program has $option"
         [ "$option" = --help ] || documented "$option" "$program" || fault "man/$program.1: no $option"
     done
 done
-for command in run dump watch pcap strace cut split; do
+for command in run effect dump watch pcap strace cut split; do
     for option in $(options scripts/linkrec "$command"); do
         grep -qx -- "$option" <<< "$(offered linkrec "$command" --)" || fault "man/linkcap.bash: linkrec $command has $option"
     done

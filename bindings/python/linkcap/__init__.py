@@ -22,8 +22,9 @@ from ._fault import Fault, Kind, Refusal
 from ._golden import FORMAT, golden
 from ._native import LIBRARY_PATH, Capture
 from ._reader import Reader
+from ._record import RecordError, record
 
 __version__ = "1.1"
 
-__all__ = ["DEFAULT_LIMIT", "FORMAT", "LIBRARY_PATH", "Capture", "Fault", "Kind", "Measure", "Message", "Reader", "Refusal",
-           "check", "golden", "lines", "measure", "messages", "normalize", "same", "why"]
+__all__ = ["DEFAULT_LIMIT", "FORMAT", "LIBRARY_PATH", "Capture", "Fault", "Kind", "Measure", "Message", "Reader", "RecordError",
+           "Refusal", "check", "golden", "lines", "measure", "messages", "normalize", "record", "same", "why"]

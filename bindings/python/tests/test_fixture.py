@@ -4,6 +4,8 @@ from typing import Any
 
 import pytest
 
+import test_record
+
 pytest_plugins = ["pytester"]
 
 SAMPLES = os.path.join(os.path.dirname(os.path.abspath(__file__)), "..", "..", "..", "samples")
@@ -11,6 +13,14 @@ TEST = """
 def test_request(linkcap_golden):
     with open({sample!r}, "rb") as file:
         linkcap_golden(file.read(){change}, "request.lines")
+"""
+
+RECORDED = """
+import linkcap
+
+
+def test_add_veth(linkcap_golden):
+    linkcap_golden(linkcap.record(["ip", "link", "add", "v0", "type", "veth", "peer", "name", "v1"]), "veth.lines")
 """
 
 
@@ -31,3 +41,17 @@ def test_golden_files(pytester: pytest.Pytester) -> None:
     result.stdout.fnmatch_lines(['*-  IFLA_IFNAME "lo"*', '*+  IFLA_IFNAME "hi"*'])
     # the failure is shown at the test's line, without the frames of linkcap
     assert "_golden.py" not in str(result.stdout) and "pytest_plugin.py" not in str(result.stdout)
+
+
+@pytest.mark.skipif(not test_record.can_record(), reason="no strace, ip, or leave to make a network namespace")
+def test_a_recorded_command(pytester: pytest.Pytester, monkeypatch: pytest.MonkeyPatch) -> None:
+    monkeypatch.setenv("LINKREC", test_record.LINKREC)
+    pytester.makepyfile(RECORDED)
+    pytester.runpytest().assert_outcomes(failed=1)
+    pytester.runpytest("--linkcap-update").assert_outcomes(passed=1)
+    assert 'IFLA_INFO_KIND "veth"' in (pytester.path / "veth.lines").read_text()
+    pytester.runpytest().assert_outcomes(passed=1)
+    pytester.makepyfile(RECORDED.replace('"v1"', '"v2"'))
+    result = pytester.runpytest()
+    result.assert_outcomes(failed=1)
+    result.stdout.fnmatch_lines(['*-*IFLA_IFNAME "v1"*', '*+*IFLA_IFNAME "v2"*'])

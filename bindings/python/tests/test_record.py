@@ -1,0 +1,57 @@
+"""What a command sends, recorded by the repository's linkrec: skipped without strace, ip or leave to make a namespace."""
+import os
+import shutil
+import subprocess
+import unittest
+from unittest import mock
+
+import linkcap
+import support
+
+LINKREC = os.path.join(support.TOP, "scripts", "linkrec")
+ADD = ["ip", "link", "add", "v0", "type", "veth", "peer", "name", "v1"]
+
+
+def can_record() -> bool:
+    """Whether strace works in a network namespace that is made here."""
+    if not all(map(shutil.which, ("strace", "unshare", "ip"))):
+        return False
+    words = ["unshare", "--map-root-user", "--net", "strace", "-qq", "-o", os.devnull, "true"]
+    return subprocess.run(words, stderr=subprocess.DEVNULL, check=False).returncode == 0
+
+
+@unittest.skipUnless(can_record(), "no strace, ip, or leave to make a network namespace")
+class Recorded(unittest.TestCase):
+    def setUp(self) -> None:
+        named = mock.patch.dict(os.environ, LINKREC=LINKREC)
+        named.start()
+        self.addCleanup(named.stop)
+
+    def test_a_command(self) -> None:
+        types = [message.type for message in linkcap.messages(linkcap.record(ADD))]
+        self.assertIn(16, types)
+        shown = linkcap.lines(linkcap.record(ADD), numbers=False)
+        self.assertIn('  IFLA_IFNAME "v0"\n', shown)
+        self.assertEqual(shown, linkcap.lines(linkcap.record(ADD), numbers=False))
+
+    def test_a_setup(self) -> None:
+        capture = linkcap.record(["ip", "link", "set", "v1", "up"], setup=[" ".join(ADD)])
+        self.assertNotIn("veth", linkcap.lines(capture))
+
+    def test_failures(self) -> None:
+        with self.assertRaisesRegex(linkcap.RecordError, "ip ended with status 2: .*no_such_kind|Unknown device type"):
+            linkcap.record(["ip", "link", "add", "v0", "type", "no_such_kind"])
+        with self.assertRaisesRegex(linkcap.RecordError, "no-such-command"):
+            linkcap.record(["no-such-command"])
+
+    def test_a_command_in_one_word(self) -> None:
+        with self.assertRaisesRegex(TypeError, "a list of words"):
+            linkcap.record("ip link")
+
+    def test_no_linkrec(self) -> None:
+        with mock.patch.dict(os.environ, LINKREC="/nowhere/linkrec"), self.assertRaisesRegex(linkcap.RecordError, "no program"):
+            linkcap.record(ADD)
+
+
+if __name__ == "__main__":
+    unittest.main()

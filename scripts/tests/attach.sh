@@ -1,0 +1,32 @@
+#!/usr/bin/env bash
+# Attaches linkrec to a daemon that is running, and ends the recording by Ctrl-C.
+#
+#     scripts/tests/attach.sh LINKREC
+#
+# LINKSHOW is the program that shows captures. The status is 0 if the daemon's requests were recorded.
+set -uo pipefail
+work=$(mktemp -d)
+# The daemon has a route socket before it is attached to, and opens another later; it also asks generic netlink.
+python3 - << 'END' &
+import socket, struct, time
+def ask(route, kind, size):
+    route.send(struct.pack("=IHHII", 16 + size, kind, 0x301, 1, 0) + bytes(size))
+    while route.recv(65536)[4:6] != b"\3\0":
+        pass
+early = socket.socket(socket.AF_NETLINK, socket.SOCK_RAW, socket.NETLINK_ROUTE)
+generic = socket.socket(socket.AF_NETLINK, socket.SOCK_RAW, 16)
+for _ in range(60):
+    ask(early, 18, 16)
+    generic.send(struct.pack("=IHHIIBBH", 20, 16, 5, 1, 0, 3, 1, 0))
+    late = socket.socket(socket.AF_NETLINK, socket.SOCK_RAW, socket.NETLINK_ROUTE)
+    ask(late, 22, 8)
+    time.sleep(0.1)
+END
+daemon=$!
+trap 'kill $daemon 2> /dev/null; rm -rf "$work"' EXIT
+sleep 1
+timeout --preserve-status -s INT 2 "$1" run --attach "$daemon" -o "$work/made"
+status=$?
+kill -0 "$daemon" || { echo "attach: the daemon has ended"; exit 1; }
+types=$("$LINKSHOW" "$work/made" | grep -v '^ ' | cut -d ' ' -f 1 | sort -u | paste -sd ' ')
+[ "$status $types" = "0 RTM_GETADDR RTM_GETLINK" ] || { echo "attach: status $status, and recorded: $types"; exit 1; }

@@ -72,7 +72,7 @@ def names():
         if what == "row":
             yield columns[2], columns[4].split()[0]
         elif what == "named":
-            yield columns[2], columns[3].split()[0]
+            yield columns[2], columns[4].split()[0]
 
 
 def name_faults():

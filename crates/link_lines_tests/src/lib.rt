@@ -2,6 +2,8 @@
 // an independent implementation, by tests.
 #![tactic(auto)]
 
+#[cfg(test)]
+mod first_bytes;
 pub mod laws;
 #[cfg(test)]
 mod values;

@@ -74,6 +74,8 @@ all_answers() {
     step "C, $name: norm in pieces" answers pieces norm "$@"
     step "C, $name: same" answers same same "$@"
     step "C, $name: show" answers show show "$@"
+    step "C, $name: show in pieces" answers show-pieces show "$@"
+    step "C, $name: quirks" answers quirks spelling "$@"
     step "C, $name: why" answers why refusal "$@"
 }
 
@@ -120,7 +122,7 @@ test_c() {
     step "C: build, shared" "$cc" "${flags[@]}" -O2 -o "$work/shared" bindings/c/tests/answers.c -L "$lib" -llinkcap "-Wl,-rpath,$lib"
     step "C: build of the edges" "$cc" "${flags[@]}" -O2 -o "$work/edges" bindings/c/tests/edges.c "$lib/liblinkcap.a" "${wrap[@]}"
     step "C: linkcap_* alone is shown" shown_symbols
-    for kind in norm same show refusal; do cut_vectors $kind; done
+    for kind in norm same show refusal spelling; do cut_vectors $kind; done
     all_answers "static" "$work/answers"
     all_answers "shared" "$work/shared"
     step "C: edges" "$work/edges" "${samples[@]}"
@@ -142,7 +144,7 @@ test_c() {
         skip "C, valgrind" "no valgrind"
     fi
     if has "$cxx"; then
-        printf '#include <linkcap.h>\nstruct linkcap_measure sizes;\nlinkcap_progress progress;\n' > "$work/header.cc"
+        printf '#include <linkcap.h>\nlinkcap_sizes sizes;\nlinkcap_progress progress;\nlinkcap_message message;\n' > "$work/header.cc"
         step "C++: the header" "$cxx" -std=c++11 -Wall -Wextra -Werror -fsyntax-only -I "$lib" "$work/header.cc"
     else
         skip "C++: the header" "no $cxx"

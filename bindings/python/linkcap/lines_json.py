@@ -1,0 +1,220 @@
+"""Lines of linkshow as data: `to_json` makes one dictionary of each message, which `json.dumps` writes.
+
+    {"type": "RTM_NEWADDR", "flags": {"value": 2, "flags": ["MULTI"]}, "seq": 7, "port": 1,
+     "header": {"struct": "ifaddrmsg", "family": {"value": 2, "text": "AF_INET"}, "prefixlen": 24, ..},
+     "attributes": [{"name": "IFA_ADDRESS", "value": "192.0.2.1"}, ..]}
+
+Nothing of the lines is lost, and numbers are numbers. linkjson(1) describes the keys. This file needs no other of the
+package: the scripts linkjson, linkdiff and linkgold are installed with a copy.
+"""
+import re
+from typing import Any, Dict, Iterable, Iterator, List, Optional
+
+Json = Dict[str, Any]
+
+# The attributes whose values are bytes in hex, which may look like a number: those of format version 2 of the lines.
+BYTES = frozenset("""
+    IFLA_ADDRESS IFLA_AF_SPEC IFLA_BOND_AD_ACTOR_SYSTEM IFLA_BOND_AD_INFO IFLA_BOND_ARP_IP_TARGET IFLA_BOND_NS_IP6_TARGET
+    IFLA_BOND_SLAVE_PERM_HWADDR IFLA_BRIDGE_CFM IFLA_BRIDGE_MRP IFLA_BRIDGE_MST IFLA_BRIDGE_VLAN_INFO
+    IFLA_BRIDGE_VLAN_TUNNEL_INFO IFLA_BROADCAST IFLA_BRPORT_BRIDGE_ID IFLA_BRPORT_PAD IFLA_BRPORT_ROOT_ID IFLA_BR_BRIDGE_ID
+    IFLA_BR_GROUP_ADDR IFLA_BR_MCAST_QUERIER_STATE IFLA_BR_PAD IFLA_BR_ROOT_ID IFLA_CAN_BERR_COUNTER IFLA_CAN_BITRATE_CONST
+    IFLA_CAN_BITTIMING IFLA_CAN_BITTIMING_CONST IFLA_CAN_CTRLMODE IFLA_CAN_CTRLMODE_EXT IFLA_CAN_DATA_BITRATE_CONST
+    IFLA_CAN_DATA_BITTIMING IFLA_CAN_DATA_BITTIMING_CONST IFLA_CAN_TDC IFLA_CAN_TERMINATION_CONST IFLA_COST
+    IFLA_GENEVE_PORT_RANGE IFLA_HSR_SUPERVISION_ADDR IFLA_INET6_CACHEINFO IFLA_INET6_CONF IFLA_INET6_ICMP6STATS
+    IFLA_INET6_MCAST IFLA_INET6_STATS IFLA_INET6_TOKEN IFLA_INFO_DATA IFLA_INFO_SLAVE_DATA IFLA_INFO_XSTATS
+    IFLA_MACVLAN_MACADDR IFLA_NETKIT_PEER_INFO IFLA_PERM_ADDRESS IFLA_PHYS_PORT_ID IFLA_PHYS_SWITCH_ID IFLA_PRIORITY
+    IFLA_PROTINFO IFLA_VF_IB_NODE_GUID IFLA_VF_IB_PORT_GUID IFLA_VLAN_EGRESS_QOS IFLA_VLAN_INGRESS_QOS IFLA_WIRELESS
+    VETH_INFO_PEER VXCAN_INFO_PEER""".split())
+
+_TOKEN = re.compile(r'[^\s"(]*"(?:[^"\\]|\\.)*"|\([^)]*\)|[^\s"]+')
+_NUMBER = re.compile(r"-?[0-9]+")
+_ESCAPED = re.compile(r"\\(?:x([0-9a-f]{2})|(.))")
+_ASSIGNED = re.compile(r'[^\s="(]+=')
+_INDENT = 2
+
+
+class LineError(ValueError):
+    """A line that linkshow doesn't write."""
+
+    def __init__(self, line: str) -> None:
+        super().__init__(f"no line of linkshow: {line[:80]}")
+
+
+class _Tokens:
+    """The words of a line, taken one by one; what is in quotes or in brackets is one word."""
+
+    def __init__(self, words: List[str]) -> None:
+        self._words, self._at = words, 0
+
+    def peek(self) -> str:
+        """The next word, or an empty string at the end."""
+        return self._words[self._at] if self._at < len(self._words) else ""
+
+    def take(self) -> str:
+        word = self._words[self._at]
+        self._at += 1
+        return word
+
+    def rest(self) -> List[str]:
+        left, self._at = self._words[self._at:], len(self._words)
+        return left
+
+
+def _unescape(found: "re.Match[str]") -> str:
+    return chr(int(found[1], 16)) if found[1] else found[2]
+
+
+def _value(tokens: _Tokens, is_bytes: bool = False) -> Json:
+    """A value, with the name or the names that follow it in brackets."""
+    word = tokens.take()
+    names = tokens.take()[1:-1] if tokens.peek().startswith("(") else None
+    if word.startswith("0x"):
+        return {"value": int(word, 16), "flags": names.split(" | ") if names else []}
+    if word.startswith('"'):
+        return {"value": _ESCAPED.sub(_unescape, word[1:-1]), "quoted": True}
+    value = {"value": int(word) if _NUMBER.fullmatch(word) and not is_bytes else word}
+    return {**value, "text": names} if names else value
+
+
+def _short(value: Json) -> Any:
+    """The value alone if nothing is beside it."""
+    return value["value"] if len(value) == 1 else value
+
+
+def _fields(tokens: _Tokens) -> Json:
+    """Fields as headers have them: `family 0 (AF_UNSPEC) index 2`."""
+    fields = {}
+    while tokens.peek():
+        name = tokens.take()
+        fields[name] = _short(_value(tokens, name == "addr"))
+    return fields
+
+
+def _assignments(tokens: _Tokens) -> Json:
+    """Fields as records have them: `rx_packets=1 flags=0x1 (UP)`."""
+    fields = {}
+    while tokens.peek():
+        name, _, word = tokens.take().partition("=")
+        names = [tokens.take()] if tokens.peek().startswith("(") else []
+        fields[name] = _short(_value(_Tokens([word, *names])))
+    return fields
+
+
+def _type(tokens: _Tokens) -> Any:
+    """The name of a message type, or the number of one that has no name."""
+    word = tokens.take()
+    return int(tokens.take()) if word == "type" else word
+
+
+def _attribute(tokens: _Tokens) -> Json:
+    name = tokens.take()
+    if name == "kind":
+        return {"kind": int(tokens.take(), 16), "value": "".join(tokens.rest())}
+    attribute: Json = {"name": name}
+    if tokens.peek() == "nested":
+        tokens.take()
+        attribute["nested_bit"] = True
+    return {**attribute, **_attribute_value(name, tokens)}
+
+
+def _attribute_value(name: str, tokens: _Tokens) -> Json:
+    first = tokens.peek()
+    if not first:
+        return {}
+    if first == "bytes":
+        return {"bytes": "".join(tokens.rest()[1:])}
+    if first == "fields":
+        tokens.take()
+        return {"fields": int(tokens.take()), "value": _assignments(tokens)}
+    if _ASSIGNED.match(first):
+        return {"value": _assignments(tokens)}
+    value = _value(tokens, name in BYTES)
+    if tokens.peek() == "mask":
+        tokens.take()
+        mask = _value(tokens)
+        return {**value, "mask": mask["value"], "mask_flags": mask["flags"]}
+    return value if not tokens.peek() else {"value": _several(first, tokens.rest())}
+
+
+def _several(first: str, others: List[str]) -> Any:
+    """Several numbers as a list; other words, as of a label stack, as they are."""
+    words = [first, *others]
+    return [int(word) for word in words] if all(map(_NUMBER.fullmatch, words)) else " ".join(words)
+
+
+def _is_struct(word: str) -> bool:
+    """Whether a word is the name of a struct: names of attributes are in upper case, or `[3]`."""
+    return word[0].islower() and word != "kind"
+
+
+class _Message:
+    """A message that is read line by line."""
+
+    def __init__(self, tokens: _Tokens) -> None:
+        self.json: Json = {"type": _type(tokens), **_fields(tokens), "attributes": []}
+        if "flags" not in self.json:
+            raise ValueError
+        self._lists: List[List[Json]] = [self.json["attributes"]]
+
+    def add(self, depth: int, line: str, tokens: _Tokens) -> None:
+        word = tokens.peek()
+        if depth == 1 and word in ("body", "rest"):
+            self.json[word] = tokens.rest()[1]
+        elif depth == 1 and word == "code":
+            self.json["code"] = int(tokens.rest()[1])
+        elif depth == 1 and word == "refused:":
+            self.json["refused"] = line.strip().partition(" ")[2]
+        elif depth == 1 and word == "request":
+            self.json["request"] = self._request(tokens)
+        elif depth == 1 and _is_struct(word):
+            self.json["header"] = {"struct": tokens.take(), **_fields(tokens)}
+        else:
+            self._list(depth).append({"struct": tokens.take(), "fields": _fields(tokens)} if _is_struct(word) else _attribute(tokens))
+
+    @staticmethod
+    def _request(tokens: _Tokens) -> Json:
+        tokens.take()
+        tokens.take()
+        length = int(tokens.take())
+        return {"length": length, "type": _type(tokens), **_fields(tokens)}
+
+    def _list(self, depth: int) -> List[Json]:
+        """The list of the attributes at a depth, which is that of the last attribute one level above."""
+        del self._lists[depth:]
+        if len(self._lists) < depth:
+            self._lists.append(self._lists[-1][-1].setdefault("nested", []))
+        if len(self._lists) != depth:
+            raise IndexError
+        return self._lists[-1]
+
+
+def _read(message: Optional[_Message], depth: int, line: str, tokens: _Tokens) -> _Message:
+    """The message that a line begins or continues."""
+    if depth == 0 or message is None:
+        return _Message(tokens)
+    message.add(depth, line, tokens)
+    return message
+
+
+def to_json(lines: Iterable[str]) -> Iterator[Json]:
+    """Each message of the lines, as soon as the next one begins.
+
+    # Errors
+
+    LineError at the first line that linkshow doesn't write.
+    """
+    message: Optional[_Message] = None
+    for line in lines:
+        line = line.rstrip("\n")
+        words = _TOKEN.findall(line)
+        depth, extra = divmod(len(line) - len(line.lstrip(" ")), _INDENT)
+        if extra or not words or " ".join(words) != line.lstrip(" ") or not (depth == 0 or message):
+            raise LineError(line)
+        if depth == 0 and message:
+            yield message.json
+        try:
+            message = _read(message, depth, line, _Tokens(words))
+        except (ValueError, LookupError, TypeError):
+            raise LineError(line) from None
+    if message:
+        yield message.json

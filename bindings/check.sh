@@ -110,6 +110,7 @@ installed() {
     "$work/prefix/bin/linkshow" < samples/req-veth.bin | cmp - samples/req-veth.lines || return
     "$work/prefix/bin/linkshow" --version | grep -qw "lines $(sed -n 's/^#define LINKCAP_FORMAT //p' "$lib/linkcap.h")" || return
     cmp man/linkshow.1 "$work/prefix/share/man/man1/linkshow.1" || return
+    cmp man/linkcap.3 "$work/prefix/share/man/man3/linkcap_normalize_some.3" || return
     bash -c '. "$1"; complete -p linkcap linkshow' - "$work/prefix/share/bash-completion/completions/linkcap"
 }
 

@@ -68,7 +68,7 @@ header=$(sed -E ':a;N;$!ba;s#/\*[^*]*\*+([^/*][^*]*\*+)*/##g' bindings/c/linkcap
 synopsis=$(awk '/^SYNOPSIS/ { inside = 1; next } /^[A-Z]/ { inside = 0 } inside' <<< "$page")
 differ=$(comm -3 <(calls <<< "$header") <(calls <<< "$synopsis"))
 [ -z "$differ" ] || fault "man/linkcap.3 and linkcap.h differ: $differ"
-names=$(grep -oE '\bLINKCAP_[A-Z_]+[A-Z]\b|\bstruct linkcap_[a-z]+ \{' <<< "$header" | sed -E 's/^struct (.*) \{/\1/; /^LINKCAP_H$/d')
+names=$(grep -oE '\bLINKCAP_[A-Z_]+[A-Z]\b|\bstruct linkcap_[a-z]+ \{' <<< "$header" | sed -E 's/^struct | \{$//g; /^LINKCAP_H$/d')
 for name in $(sort -u <<< "$names"); do
     grep -qw -- "$name" <<< "$page" || fault "man/linkcap.3: no $name"
 done

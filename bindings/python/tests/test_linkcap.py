@@ -12,7 +12,7 @@ import unittest
 from typing import Callable, Optional, Tuple
 
 import linkcap
-from support import answers, captures, cases, header_constants, sample
+from support import answers, captures, cases, cleared, header_constants, is_legal, means_the_same, sample
 
 Written = Tuple[bytes, Optional[linkcap.Fault]]
 Call = Callable[..., object]
@@ -79,6 +79,21 @@ class Vectors(unittest.TestCase):
             except linkcap.Fault as fault:
                 self.assertEqual({1: "first", 2: "second"}[fault.side or 0], fault.words.split(":")[0])
                 self.assertEqual(fault.words + "\n", line)
+
+    def test_same_ignoring_numbers(self) -> None:
+        """Compared with what the independent implementation says of captures whose numbers are zero."""
+        compared = 0
+        for number, (limit, (first, second)) in enumerate(captures("same")):
+            if not is_legal(first, limit) or not is_legal(second, limit):
+                with self.assertRaises(linkcap.Fault):
+                    linkcap.same(first, second, limit, ignore_numbers=True)
+                continue
+            # other numbers in every second case
+            renumbered = bytes(byte ^ (number & 1) if at in range(8, 16) else byte for at, byte in enumerate(second))
+            expected = means_the_same(cleared(first), cleared(renumbered), limit)
+            self.assertEqual(linkcap.same(first, renumbered, limit, ignore_numbers=True), expected, (limit, first, renumbered))
+            compared += 1
+        self.assertGreater(compared, 1000)
 
     def test_show(self) -> None:
         given, stored = cases("show"), answers("show")

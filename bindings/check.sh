@@ -96,6 +96,28 @@ page_in_c() {
     [ $? -eq 2 ] && [ "$(cat "$work/fault")" = "cut frame at 0" ] && [ ! -s "$work/text" ]
 }
 
+# The example of linkcap(3), in a program.
+manual_in_c() {
+    awk '/^\.Sh EXAMPLES/ { inside = 1 } inside && /^\.Ed/ { exit } code { print } inside && /^\.Bd/ { code = 1 }' man/linkcap.3 \
+        | sed 's/\\e/\\/g' > "$work/example.inc"
+    cat > "$work/example.c" << 'END'
+#include <inttypes.h>
+#include <stdio.h>
+
+#include <linkcap.h>
+
+int main(void)
+{
+    static uint8_t capture[1 << 16];
+    size_t length = fread(capture, 1, sizeof capture, stdin);
+#include "example.inc"
+    return 0;
+}
+END
+    "$cc" -std=c11 -Wall -Wextra -Werror -I "$lib" -o "$work/example" "$work/example.c" "$lib/liblinkcap.a" || return
+    [ "$(cat samples/lo-request.bin samples/lo-request.bin | "$work/example")" = $'0 18\n48 18' ]
+}
+
 # What ./install installs: the page's program over the library, the programs, manuals and completion.
 installed() {
     ./install "$work/prefix" || return
@@ -151,6 +173,7 @@ test_c() {
         skip "C++: the header" "no $cxx"
     fi
     step "C: the page" page_in_c
+    step "C: the manual" manual_in_c
     if ! has pkg-config; then
         skip "C: installed" "no pkg-config"
     else

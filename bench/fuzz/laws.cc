@@ -117,7 +117,8 @@ static void check_messages(const Bytes &capture, uint32_t limit, const Result &t
     Message next;
     while ((next = next_message(capture, limit, offset)).status == LINKCAP_OK) {
         LAW(next.message.next > offset && next.message.next <= capture.size() && next.message.length >= 16);
-        LAW(next.message.length <= capture.size() - offset && next.message.type == uint32_t(capture[offset + 4] | capture[offset + 5] << 8));
+        LAW(next.message.length <= capture.size() - offset);
+        LAW(next.message.type == uint32_t(capture[offset + 4] | capture[offset + 5] << 8));
         Result one = normalize(Bytes(capture.begin() + offset, capture.begin() + next.message.next), limit);
         LAW(one.status == LINKCAP_OK && from + one.written.size() <= text.written.size());
         LAW(std::equal(one.written.begin(), one.written.end(), text.written.begin() + from));
@@ -207,7 +208,8 @@ static Piece go_on(Stream &stream, size_t room)
 }
 
 // In pieces of any sizes, with any room, a capture has the text, or lines, and the fault that it has as a whole.
-static void check_pieces(const Bytes &capture, uint32_t limit, const LineChoice *choice, const Result &text, std::minstd_rand &random)
+static void check_pieces(const Bytes &capture, uint32_t limit, const LineChoice *choice, const Result &text,
+                         std::minstd_rand &random)
 {
     Stream stream = {capture, limit, choice, 0, 0, false, {}};
     Piece piece = {};
@@ -264,7 +266,8 @@ static void check_pair(const Bytes &first, const Bytes &second, uint32_t limit)
     LAW(found.status == (is_same ? LINKCAP_OK : LINKCAP_DIFFERENT) && same(second, first, limit).status == found.status);
     LAW((lines(first, limit, {}).written == lines(second, limit, {}).written) == is_same);
     LAW(ignoring.status == LINKCAP_OK || !is_same);
-    LAW((lines(first, limit, {true, {}}).written == lines(second, limit, {true, {}}).written) == (ignoring.status == LINKCAP_OK));
+    bool are_shown_alike = lines(first, limit, {true, {}}).written == lines(second, limit, {true, {}}).written;
+    LAW(are_shown_alike == (ignoring.status == LINKCAP_OK));
     LAW(same_ignoring_numbers(second, first, limit).status == ignoring.status);
     (is_same ? counts.pairs_same : counts.pairs_different)++;
 }

@@ -81,7 +81,8 @@ func (r *Reader) readPiece() bool {
 }
 
 // call writes the messages that are whole to the free bytes.
-func (r *Reader) call(rest []byte, isLast bool, free []byte, progress *C.struct_linkcap_progress, fault *C.struct_linkcap_fault) C.uint32_t {
+func (r *Reader) call(rest []byte, isLast bool, free []byte, progress *C.struct_linkcap_progress,
+	fault *C.struct_linkcap_fault) C.uint32_t {
 	at, length, limit := address(rest), C.size_t(len(rest)), C.uint32_t(r.limit)
 	out, room := address(free), C.size_t(len(free))
 	if r.shown == nil {

@@ -148,7 +148,8 @@ static void count_messages(struct bytes capture, uint32_t limit, uint32_t status
     uint32_t last;
     while ((last = linkcap_next_message(capture.at, capture.length, limit, offset, &message, &found)) == LINKCAP_OK) {
         const uint8_t *at = capture.at + offset;
-        if (message.length != (at[0] | at[1] << 8 | at[2] << 16 | (uint32_t)at[3] << 24) || message.type != (at[4] | (uint32_t)at[5] << 8))
+        uint32_t length = at[0] | at[1] << 8 | at[2] << 16 | (uint32_t)at[3] << 24, type = at[4] | (uint32_t)at[5] << 8;
+        if (message.length != length || message.type != type)
             fail("a message with another length or type than its header's");
         offset = message.next;
         count++;
@@ -200,7 +201,8 @@ static void compare_without_numbers(struct bytes first, struct bytes second, uin
     if (with_numbers == LINKCAP_FAULT ? found != LINKCAP_FAULT : found != LINKCAP_OK && found != with_numbers)
         fail("another answer without numbers");
     choice.without_numbers = true;
-    struct bytes a = write_all(show_chosen, first, limit, &one, &fault), b = write_all(show_chosen, second, limit, &other, &fault);
+    struct bytes a = write_all(show_chosen, first, limit, &one, &fault);
+    struct bytes b = write_all(show_chosen, second, limit, &other, &fault);
     bool equal = a.length == b.length && memcmp(a.at, b.at, a.length) == 0;
     if (one == LINKCAP_OK && other == LINKCAP_OK && equal != (found == LINKCAP_OK))
         fail("another answer than lines without numbers");

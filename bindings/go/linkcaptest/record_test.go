@@ -44,7 +44,8 @@ func TestRecordWithoutLinkrec(t *testing.T) {
 		t.Error(f.message)
 	}
 	scripted(t, "echo needs the program strace; exit 125")
-	if _, f := record(t, exec.Command("true")); f.message != "skipped: linkcap: nothing is recorded here: needs the program strace\n" {
+	const skipped = "skipped: linkcap: nothing is recorded here: needs the program strace\n"
+	if _, f := record(t, exec.Command("true")); f.message != skipped {
 		t.Error(f.message)
 	}
 }

@@ -75,6 +75,8 @@ all_answers() {
     step "C, $name: norm in pieces" answers pieces norm "$@"
     step "C, $name: same" answers same same "$@"
     step "C, $name: show" answers show show "$@"
+    step "C, $name: show in pieces" answers show-pieces show "$@"
+    step "C, $name: quirks" answers quirks spelling "$@"
     step "C, $name: why" answers why refusal "$@"
 }
 
@@ -95,6 +97,28 @@ page_in_c() {
     [ $? -eq 2 ] && [ "$(cat "$work/fault")" = "cut frame at 0" ] && [ ! -s "$work/text" ]
 }
 
+# The example of linkcap(3), in a program.
+manual_in_c() {
+    awk '/^\.Sh EXAMPLES/ { inside = 1 } inside && /^\.Ed/ { exit } code { print } inside && /^\.Bd/ { code = 1 }' man/linkcap.3 \
+        | sed 's/\\e/\\/g' > "$work/example.inc"
+    cat > "$work/example.c" << 'END'
+#include <inttypes.h>
+#include <stdio.h>
+
+#include <linkcap.h>
+
+int main(void)
+{
+    static uint8_t capture[1 << 16];
+    size_t length = fread(capture, 1, sizeof capture, stdin);
+#include "example.inc"
+    return 0;
+}
+END
+    "$cc" -std=c11 -Wall -Wextra -Werror -I "$lib" -o "$work/example" "$work/example.c" "$lib/liblinkcap.a" || return
+    [ "$(cat samples/lo-request.bin samples/lo-request.bin | "$work/example")" = $'0 18\n48 18' ]
+}
+
 # What ./install installs: the page's program over the library, the programs, manuals and completion.
 installed() {
     ./install "$work/prefix" || return
@@ -111,6 +135,7 @@ installed() {
     PATH=$work/prefix/bin:$PATH linkjson samples/req-veth.bin | grep -q '"value": "veth"' || return
     PATH=$work/prefix/bin:$PATH linkgold samples/req-veth.lines samples/req-veth.bin || return
     cmp man/linkshow.1 "$work/prefix/share/man/man1/linkshow.1" || return
+    cmp man/linkcap.3 "$work/prefix/share/man/man3/linkcap_normalize_some.3" || return
     bash -c '. "$1"; complete -p linkcap linkshow' - "$work/prefix/share/bash-completion/completions/linkcap"
 }
 
@@ -123,7 +148,7 @@ test_c() {
     step "C: build, shared" "$cc" "${flags[@]}" -O2 -o "$work/shared" bindings/c/tests/answers.c -L "$lib" -llinkcap "-Wl,-rpath,$lib"
     step "C: build of the edges" "$cc" "${flags[@]}" -O2 -o "$work/edges" bindings/c/tests/edges.c "$lib/liblinkcap.a" "${wrap[@]}"
     step "C: linkcap_* alone is shown" shown_symbols
-    for kind in norm same show refusal; do cut_vectors $kind; done
+    for kind in norm same show refusal spelling; do cut_vectors $kind; done
     all_answers "static" "$work/answers"
     all_answers "shared" "$work/shared"
     step "C: edges" "$work/edges" "${samples[@]}"
@@ -145,12 +170,13 @@ test_c() {
         skip "C, valgrind" "no valgrind"
     fi
     if has "$cxx"; then
-        printf '#include <linkcap.h>\nstruct linkcap_measure sizes;\nlinkcap_progress progress;\n' > "$work/header.cc"
+        printf '#include <linkcap.h>\nlinkcap_sizes sizes;\nlinkcap_progress progress;\nlinkcap_message message;\n' > "$work/header.cc"
         step "C++: the header" "$cxx" -std=c++11 -Wall -Wextra -Werror -fsyntax-only -I "$lib" "$work/header.cc"
     else
         skip "C++: the header" "no $cxx"
     fi
     step "C: the page" page_in_c
+    step "C: the manual" manual_in_c
     if ! has pkg-config; then
         skip "C: installed" "no pkg-config"
     else

@@ -1,6 +1,7 @@
 #!/usr/bin/env bash
 # Looks at the pages and words of man/: that man has no warning for a page, that its synopsis is the usage line of the
-# program's source, that completion knows each option, and each file that it names completes as such.
+# program's source, that completion knows each option, and each file that it names completes as such, and that linkcap(3) has
+# each call, type and constant of linkcap.h.
 #
 #     tools/manuals.sh
 #
@@ -57,6 +58,19 @@ for command in run effect dump watch pcap strace cut split; do
     for option in $(options scripts/linkrec "$command"); do
         grep -qx -- "$option" <<< "$(offered linkrec "$command" --)" || fault "man/linkcap.bash: linkrec $command has $option"
     done
+done
+# calls: the prototypes in what is given, without white space
+calls() { tr -d ' \n' | grep -oE 'uint32_tlinkcap_[a-z_]+\([^;]*\);' | sort; }
+words=$(man --warnings -E UTF-8 -l -Tutf8 -Z man/linkcap.3 2>&1 > /dev/null)
+[ -z "$words" ] || fault "man/linkcap.3: $words"
+page=$(man -l man/linkcap.3 | col -bx)
+header=$(sed -E ':a;N;$!ba;s#/\*[^*]*\*+([^/*][^*]*\*+)*/##g' bindings/c/linkcap.h)
+synopsis=$(awk '/^SYNOPSIS/ { inside = 1; next } /^[A-Z]/ { inside = 0 } inside' <<< "$page")
+differ=$(comm -3 <(calls <<< "$header") <(calls <<< "$synopsis"))
+[ -z "$differ" ] || fault "man/linkcap.3 and linkcap.h differ: $differ"
+names=$(grep -oE '\bLINKCAP_[A-Z_]+[A-Z]\b|\bstruct linkcap_[a-z]+ \{' <<< "$header" | sed -E 's/^struct | \{$//g; /^LINKCAP_H$/d')
+for name in $(sort -u <<< "$names"); do
+    grep -qw -- "$name" <<< "$page" || fault "man/linkcap.3: no $name"
 done
 [ "$(offered linkcap n)" = norm ] || fault "man/linkcap.bash: linkcap n is norm"
 [ "$(offered linkcap same READ)" = README.md ] || fault "man/linkcap.bash: linkcap same takes files"

@@ -13,7 +13,7 @@ static const Bytes *input;
 __attribute__((used, section("__libfuzzer_extra_counters"))) static uint8_t counters[1 << 16];
 
 static struct {
-    uint64_t inputs, legal, faults[8], pairs_same, pairs_different, pieces;
+    uint64_t inputs, legal, faults[8], pairs_same, pairs_different, pieces, quirks;
 } counts;
 
 void report_broken(const char *law, const char *file, int line)
@@ -30,7 +30,8 @@ static void report_counts(void)
     fprintf(stderr, "inputs %lu, legal %lu, faults", counts.inputs, counts.legal);
     for (int kind = LINKCAP_CUT; kind <= LINKCAP_TEXT_OVER_LIMIT; kind++)
         fprintf(stderr, " %lu", counts.faults[kind]);
-    fprintf(stderr, ", pairs alike %lu, different %lu, pieces %lu\n", counts.pairs_same, counts.pairs_different, counts.pieces);
+    fprintf(stderr, ", pairs alike %lu, different %lu, pieces %lu, quirks %lu\n", counts.pairs_same, counts.pairs_different,
+            counts.pieces, counts.quirks);
 }
 
 // ---- coverage
@@ -90,7 +91,7 @@ static Bytes front(const Bytes &capture, size_t length)
 
 static void check_legal(const Bytes &capture, uint32_t limit, const Bytes &text, const Bytes &shown)
 {
-    struct linkcap_measure sizes, text_sizes;
+    linkcap_sizes sizes, text_sizes;
     LAW(measure(capture, limit, sizes).status == LINKCAP_OK && sizes.text_high == 0 && sizes.text_low == text.size());
     LAW(measure(text, limit, text_sizes).status == LINKCAP_OK && text_sizes.frames == sizes.frames);
     Result again = normalize(text, limit);
@@ -103,14 +104,51 @@ static void check_legal(const Bytes &capture, uint32_t limit, const Bytes &text,
     LAW(fewer.status == LINKCAP_OK && fewer.written.size() <= shown.size());
     Result some = lines(capture, limit, {false, {16, 3}});
     LAW(some.status == LINKCAP_OK && some.written.size() <= shown.size());
-    LAW(why(capture, limit).status == LINKCAP_OK);
+    LAW(why(capture, limit).status == LINKCAP_NONE);
+    LAW(quirks(text, limit).found.empty());
+    LAW(same_ignoring_numbers(capture, text, limit).status == LINKCAP_OK);
+}
+
+// The messages of a capture are those that are counted, and the fault after them is the first.
+static void check_messages(const Bytes &capture, uint32_t limit, const Result &text)
+{
+    uint64_t offset = 0;
+    size_t from = 0;
+    Message next;
+    while ((next = next_message(capture, limit, offset)).status == LINKCAP_OK) {
+        LAW(next.message.next > offset && next.message.next <= capture.size() && next.message.length >= 16);
+        LAW(next.message.length <= capture.size() - offset);
+        LAW(next.message.type == uint32_t(capture[offset + 4] | capture[offset + 5] << 8));
+        Result one = normalize(Bytes(capture.begin() + offset, capture.begin() + next.message.next), limit);
+        LAW(one.status == LINKCAP_OK && from + one.written.size() <= text.written.size());
+        LAW(std::equal(one.written.begin(), one.written.end(), text.written.begin() + from));
+        from += one.written.size();
+        offset = next.message.next;
+    }
+    LAW(from == text.written.size());
+    LAW(next.status == (text.status == LINKCAP_OK ? LINKCAP_NONE : LINKCAP_FAULT));
+    LAW(text.status == LINKCAP_OK ? offset == capture.size() : is_same_fault(next.fault, text.fault));
+    LAW(next_message(capture, limit, capture.size()).status == LINKCAP_NONE);
+}
+
+static void check_quirks(const Bytes &capture, uint32_t limit, const Result &text)
+{
+    Quirks found = quirks(capture, limit);
+    LAW(found.status == text.status && (text.status == LINKCAP_OK || is_same_fault(found.fault, text.fault)));
+    uint64_t end = text.status == LINKCAP_OK ? capture.size() : text.fault.offset;
+    for (const linkcap_quirk &quirk : found.found) {
+        LAW(quirk.kind >= LINKCAP_NESTED_PORT_SETTINGS && quirk.kind <= LINKCAP_SHORT_MAP && quirk.offset < end);
+        Bytes words = quirk_text(quirk);
+        LAW(is_text(words, false));
+        touch(words.data(), words.data() + words.size());
+    }
+    counts.quirks += found.found.size();
 }
 
 static void check_reason(const Bytes &capture, uint32_t limit, const linkcap_fault &fault)
 {
     Reason reason = why(capture, limit);
-    LAW((reason.status == LINKCAP_FAULT) == (fault.kind == LINKCAP_REFUSED));
-    LAW(reason.status == LINKCAP_FAULT || reason.status == LINKCAP_OK);
+    LAW(reason.status == (fault.kind == LINKCAP_REFUSED ? LINKCAP_OK : LINKCAP_NONE));
     LAW(is_text(reason.words, false));
     LAW(reason.words.empty() || reason.place == UINT64_MAX || (reason.place > fault.offset && reason.place <= capture.size()));
     touch(reason.words.data(), reason.words.data() + reason.words.size());
@@ -146,6 +184,7 @@ static void check_room(const Bytes &capture, uint32_t limit, size_t length, std:
 struct Stream {
     const Bytes &capture;
     uint32_t limit;
+    const LineChoice *choice; // of lines; none for texts
     size_t used, there; // bytes of the capture
     bool is_last;
     Bytes written;
@@ -156,7 +195,8 @@ static Piece go_on(Stream &stream, size_t room)
 {
     for (;;) {
         Bytes rest(stream.capture.begin() + stream.used, stream.capture.begin() + stream.there);
-        Piece piece = normalize_some(rest, stream.is_last, stream.limit, room);
+        Piece piece = stream.choice ? show_some(rest, stream.is_last, stream.limit, *stream.choice, room)
+                                    : normalize_some(rest, stream.is_last, stream.limit, room);
         counts.pieces++;
         LAW(piece.status != LINKCAP_NO_ROOM || piece.progress.used > 0 || room < piece.progress.wanted);
         stream.written.insert(stream.written.end(), piece.written.begin(), piece.written.end());
@@ -167,10 +207,11 @@ static Piece go_on(Stream &stream, size_t room)
     }
 }
 
-// In pieces of any sizes, with any room, a capture has the text and the fault that it has as a whole.
-static void check_pieces(const Bytes &capture, uint32_t limit, const Result &text, std::minstd_rand &random)
+// In pieces of any sizes, with any room, a capture has the text, or lines, and the fault that it has as a whole.
+static void check_pieces(const Bytes &capture, uint32_t limit, const LineChoice *choice, const Result &text,
+                         std::minstd_rand &random)
 {
-    Stream stream = {capture, limit, 0, 0, false, {}};
+    Stream stream = {capture, limit, choice, 0, 0, false, {}};
     Piece piece = {};
     while (!stream.is_last && piece.status == LINKCAP_OK) {
         size_t more = random() % 3 == 0 ? random() % 5 : random() % (capture.size() + 2);
@@ -187,7 +228,7 @@ static void check_pieces(const Bytes &capture, uint32_t limit, const Result &tex
 static void check_one(const Bytes &capture, uint32_t limit, std::minstd_rand &random)
 {
     Result text = normalize(capture, limit), shown = lines(capture, limit, {}), checked = check(capture, limit);
-    struct linkcap_measure sizes;
+    linkcap_sizes sizes;
     Result measured = measure(capture, limit, sizes);
     LAW(checked.status == text.status && measured.status == text.status && shown.status == text.status);
     LAW(is_text(shown.written, true) && text.written.size() <= 77 * capture.size());
@@ -201,7 +242,11 @@ static void check_one(const Bytes &capture, uint32_t limit, std::minstd_rand &ra
         LAW(is_same_fault(shown.fault, text.fault));
         check_fault(capture, limit, text, shown.written);
     }
-    check_pieces(capture, limit, text, random);
+    check_messages(capture, limit, text);
+    check_quirks(capture, limit, text);
+    check_pieces(capture, limit, nullptr, text, random);
+    LineChoice choice = {random() % 2 == 0, random() % 2 ? std::vector<uint16_t>{} : std::vector<uint16_t>{16, 3}};
+    check_pieces(capture, limit, &choice, lines(capture, limit, choice), random);
 }
 
 // ---- two captures
@@ -209,15 +254,21 @@ static void check_one(const Bytes &capture, uint32_t limit, std::minstd_rand &ra
 static void check_pair(const Bytes &first, const Bytes &second, uint32_t limit)
 {
     Result one = normalize(first, limit), other = normalize(second, limit), found = same(first, second, limit);
+    Result ignoring = same_ignoring_numbers(first, second, limit);
     if (one.status == LINKCAP_FAULT || other.status == LINKCAP_FAULT) {
         bool is_first = one.status == LINKCAP_FAULT;
         const linkcap_fault &fault = is_first ? one.fault : other.fault;
         LAW(found.status == LINKCAP_FAULT && is_same_fault(found.fault, {fault.kind, is_first ? 1u : 2u, fault.offset}));
+        LAW(ignoring.status == LINKCAP_FAULT && is_same_fault(ignoring.fault, found.fault));
         return;
     }
     bool is_same = one.written == other.written;
     LAW(found.status == (is_same ? LINKCAP_OK : LINKCAP_DIFFERENT) && same(second, first, limit).status == found.status);
     LAW((lines(first, limit, {}).written == lines(second, limit, {}).written) == is_same);
+    LAW(ignoring.status == LINKCAP_OK || !is_same);
+    bool are_shown_alike = lines(first, limit, {true, {}}).written == lines(second, limit, {true, {}}).written;
+    LAW(are_shown_alike == (ignoring.status == LINKCAP_OK));
+    LAW(same_ignoring_numbers(second, first, limit).status == ignoring.status);
     (is_same ? counts.pairs_same : counts.pairs_different)++;
 }
 
@@ -227,7 +278,9 @@ static Bytes neighbour(Bytes capture, std::minstd_rand &random)
     if (capture.empty())
         return capture;
     for (uint32_t changes = 1 + random() % 2; changes > 0; changes--) {
-        uint8_t &byte = capture[random() % capture.size()];
+        // Often a byte of the first message's numbers.
+        size_t at = random() % 4 ? random() % capture.size() : std::min(capture.size() - 1, size_t(8 + random() % 8));
+        uint8_t &byte = capture[at];
         const uint8_t values[] = {uint8_t(byte ^ 1 << random() % 8), uint8_t(random()), 0, 0x80};
         byte = values[random() % 4];
     }

@@ -47,7 +47,7 @@ Result check(const Bytes &capture, uint32_t limit)
     return result;
 }
 
-Result measure(const Bytes &capture, uint32_t limit, struct linkcap_measure &sizes)
+Result measure(const Bytes &capture, uint32_t limit, linkcap_sizes &sizes)
 {
     Result result = {};
     result.status = linkcap_measure(first_input.holding(capture), capture.size(), limit, &sizes, &result.fault);
@@ -59,6 +59,14 @@ Result same(const Bytes &first, const Bytes &second, uint32_t limit)
     Result result = {};
     result.status = linkcap_same(first_input.holding(first), first.size(), second_input.holding(second), second.size(), limit,
                                  &result.fault);
+    return result;
+}
+
+Result same_ignoring_numbers(const Bytes &first, const Bytes &second, uint32_t limit)
+{
+    Result result = {};
+    result.status = linkcap_same_ignoring_numbers(first_input.holding(first), first.size(), second_input.holding(second),
+                                                  second.size(), limit, &result.fault);
     return result;
 }
 
@@ -116,15 +124,26 @@ Reason why(const Bytes &capture, uint32_t limit)
     const uint8_t *at = first_input.holding(capture);
     uint64_t written = 0;
     reason.status = linkcap_why(at, capture.size(), limit, nullptr, 0, &written, &reason.place);
-    if (reason.status != LINKCAP_NO_ROOM)
+    if (reason.status != LINKCAP_NO_ROOM) {
+        LAW(written == 0 && reason.place == UINT64_MAX);
         return reason;
+    }
     size_t room = written;
     uint8_t *out = output.last(room);
     LAW(room == 1 || linkcap_why(at, capture.size(), limit, out, room - 1, &written, &reason.place) == LINKCAP_NO_ROOM);
     reason.status = linkcap_why(at, capture.size(), limit, out, room, &written, &reason.place);
-    LAW(reason.status == LINKCAP_FAULT && written == room);
+    LAW(reason.status == LINKCAP_OK && written == room);
     reason.words.assign(out, out + written);
     return reason;
+}
+
+// What a call over a piece has written to `out`.
+static Piece written_of(Piece result, const Bytes &piece, const uint8_t *out, size_t room)
+{
+    LAW(result.progress.used <= piece.size() && result.progress.written <= room);
+    LAW(result.status == LINKCAP_NO_ROOM ? result.progress.wanted > room - result.progress.written : result.progress.wanted == 0);
+    result.written.assign(out, out + result.progress.written);
+    return result;
 }
 
 Piece normalize_some(const Bytes &piece, bool is_last, uint32_t limit, size_t room)
@@ -133,10 +152,55 @@ Piece normalize_some(const Bytes &piece, bool is_last, uint32_t limit, size_t ro
     uint8_t *out = output.last(room);
     result.status = linkcap_normalize_some(first_input.holding(piece), piece.size(), is_last, limit, out, room, &result.progress,
                                            &result.fault);
-    LAW(result.progress.used <= piece.size() && result.progress.written <= room);
-    LAW(result.status == LINKCAP_NO_ROOM ? result.progress.wanted > room - result.progress.written : result.progress.wanted == 0);
-    result.written.assign(out, out + result.progress.written);
+    return written_of(result, piece, out, room);
+}
+
+Piece show_some(const Bytes &piece, bool is_last, uint32_t limit, const LineChoice &choice, size_t room)
+{
+    Piece result = {};
+    uint8_t *out = output.last(room);
+    result.status = linkcap_show_some(first_input.holding(piece), piece.size(), is_last, limit, choice.without_numbers,
+                                      choice.types.data(), choice.types.size(), out, room, &result.progress, &result.fault);
+    return written_of(result, piece, out, room);
+}
+
+Message next_message(const Bytes &capture, uint32_t limit, uint64_t offset)
+{
+    Message result = {};
+    result.status = linkcap_next_message(first_input.holding(capture), capture.size(), limit, offset, &result.message,
+                                         &result.fault);
     return result;
+}
+
+Quirks quirks(const Bytes &capture, uint32_t limit)
+{
+    Quirks result = {};
+    const uint8_t *at = first_input.holding(capture);
+    uint64_t count = 0;
+    result.status = linkcap_quirks(at, capture.size(), limit, nullptr, 0, &count, &result.fault);
+    if (result.status != LINKCAP_NO_ROOM) {
+        LAW(count == 0);
+        return result;
+    }
+    size_t size = count * sizeof(linkcap_quirk);
+    linkcap_quirk *found = (linkcap_quirk *)output.last(size);
+    memset(found, UNTOUCHED, size);
+    uint64_t wanted = 0;
+    LAW(linkcap_quirks(at, capture.size(), limit, found, count - 1, &wanted, &result.fault) == LINKCAP_NO_ROOM);
+    for (size_t i = 0; i < size; i++)
+        LAW(((uint8_t *)found)[i] == UNTOUCHED);
+    result.status = linkcap_quirks(at, capture.size(), limit, found, count, &wanted, &result.fault);
+    LAW(wanted == count && (result.status == LINKCAP_OK || result.status == LINKCAP_FAULT));
+    result.found.assign(found, found + count);
+    return result;
+}
+
+Bytes quirk_text(const linkcap_quirk &quirk)
+{
+    uint8_t *out = output.last(LINKCAP_FAULT_TEXT);
+    uint64_t written = 0;
+    LAW(linkcap_quirk_text(&quirk, out, LINKCAP_FAULT_TEXT, &written) == LINKCAP_OK && written <= LINKCAP_FAULT_TEXT);
+    return Bytes(out, out + written);
 }
 
 Bytes fault_text(const linkcap_fault &fault)

@@ -47,7 +47,21 @@ struct Reason {
     Bytes words;
 };
 
-// What linkcap_normalize_some returned over one piece.
+// What linkcap_next_message returned.
+struct Message {
+    uint32_t status;
+    linkcap_fault fault;
+    linkcap_message message;
+};
+
+// What linkcap_quirks returned.
+struct Quirks {
+    uint32_t status;
+    linkcap_fault fault;
+    std::vector<linkcap_quirk> found;
+};
+
+// What linkcap_normalize_some or linkcap_show_some returned over one piece.
 struct Piece {
     uint32_t status;
     linkcap_fault fault;
@@ -56,12 +70,17 @@ struct Piece {
 };
 
 Result check(const Bytes &capture, uint32_t limit);
-Result measure(const Bytes &capture, uint32_t limit, struct linkcap_measure &sizes);
+Result measure(const Bytes &capture, uint32_t limit, linkcap_sizes &sizes);
 Result same(const Bytes &first, const Bytes &second, uint32_t limit);
+Result same_ignoring_numbers(const Bytes &first, const Bytes &second, uint32_t limit);
 Result normalize(const Bytes &capture, uint32_t limit);
 // With `room` bytes of room, which is too little: `out` has to stay as it was.
 uint64_t wanted_room(const Bytes &capture, uint32_t limit, size_t room);
 Result lines(const Bytes &capture, uint32_t limit, const LineChoice &choice);
 Reason why(const Bytes &capture, uint32_t limit);
 Piece normalize_some(const Bytes &piece, bool is_last, uint32_t limit, size_t room);
+Piece show_some(const Bytes &piece, bool is_last, uint32_t limit, const LineChoice &choice, size_t room);
+Message next_message(const Bytes &capture, uint32_t limit, uint64_t offset);
+Quirks quirks(const Bytes &capture, uint32_t limit);
 Bytes fault_text(const linkcap_fault &fault);
+Bytes quirk_text(const linkcap_quirk &quirk);

@@ -1,5 +1,6 @@
 /*
- * linkcap: captures of Linux netlink link messages, checked, measured, normalised, compared and shown.
+ * linkcap: captures of Linux netlink link messages, checked, measured, normalised, compared and shown. linkcap(3) is the
+ * manual.
  *
  * A capture is a byte string of netlink messages, each at a multiple of 4. It is legal if it has no fault. Its normal text
  * is its canonical form: two legal captures mean the same if and only if their normal texts are equal.
@@ -7,14 +8,14 @@
  *
  * What holds of every function:
  *
- * - Pointers. Each points to what its type says. Captures, pieces, `types` and buffers may be null if their length is 0;
- *   no other pointer may be null. A capture is `length` bytes that nobody writes to during the call; a buffer `out` is
- *   `room` bytes that may be written, and hold any values. What is written overlaps nothing that is read or written by
- *   the same call. Lengths are under 2^63. Nothing is kept of a pointer after the call.
- * - Memory. linkcap_normalize, linkcap_normalize_some, linkcap_show, linkcap_show_with and linkcap_why call malloc,
- *   realloc and free, and have freed all blocks when they return. The others allocate nothing. If malloc or realloc returns
- *   null, a function returns LINKCAP_NO_MEMORY, or a result that needed no memory; none ends the process. The three come
- *   from one allocator, and align a block as C's do.
+ * - Pointers. Each points to what its type says. Captures, pieces, `types`, `quirks` and buffers may be null if their
+ *   length is 0; no other pointer may be null. A capture is `length` bytes that nobody writes to during the call; a buffer
+ *   `out` is `room` bytes that may be written, and hold any values. What is written overlaps nothing that is read or
+ *   written by the same call. Lengths are under 2^63. Nothing is kept of a pointer after the call.
+ * - Memory. linkcap_normalize, linkcap_show, those that begin with these names, and linkcap_why call malloc, realloc and
+ *   free, and have freed all blocks when they return. The others allocate nothing. If malloc or realloc returns null, a
+ *   function returns LINKCAP_NO_MEMORY, or a result that needed no memory; none ends the process. The three come from one
+ *   allocator, and align a block as C's do.
  * - Threads. Calls share nothing: any number may run at once in different threads, also over the same capture.
  * - Signals and forks. Nothing here is called from a signal handler, nor in the forked child of a process with threads
  *   before it runs another program (as Python's multiprocessing makes them by its method "fork").
@@ -31,11 +32,12 @@ extern "C" {
 #endif
 
 /* The version of this interface. A program that loads the library when it runs compares it with linkcap_version(). */
-#define LINKCAP_VERSION 1
+#define LINKCAP_VERSION 2
 
 /*
  * The format version of normal texts and lines of the library that this header came with, as `linkshow --version` prints
- * it. Under one version both stay as they are, byte for byte.
+ * it. Under one version both stay as they are, byte for byte. A program that loads the library when it runs compares it
+ * with linkcap_format().
  */
 #define LINKCAP_FORMAT 2
 
@@ -43,17 +45,18 @@ extern "C" {
 #define LINKCAP_MIN_LIMIT 16
 #define LINKCAP_DEFAULT_LIMIT 1048576
 
-/* The size of a buffer for the words of every fault and a null byte after them, which the caller writes. */
-#define LINKCAP_FAULT_TEXT 128
+/* The size of a buffer for the words of any fault, or of any quirk. No null byte is among them. */
+#define LINKCAP_FAULT_TEXT 127
 
-/* What functions return. The first four are the statuses of the program linkcap. */
+/* What functions return. The first four are the statuses of the program linkcap. LINKCAP_OK is returned on success. */
 enum linkcap_status {
     LINKCAP_OK = 0,        /* the capture is legal; two are legal and mean the same */
     LINKCAP_DIFFERENT = 1, /* both captures are legal and don't mean the same */
     LINKCAP_FAULT = 2,     /* a fault, which *fault has */
-    LINKCAP_WRONG = 3,     /* a limit under 16, or a fault that is none; nothing was written */
+    LINKCAP_WRONG = 3,     /* a limit under 16, or a fault or quirk that is none; nothing was written */
     LINKCAP_NO_ROOM = 4,   /* the buffer is too small for what is to be written */
-    LINKCAP_NO_MEMORY = 5  /* out of memory; *fault has the offset */
+    LINKCAP_NO_MEMORY = 5, /* out of memory; *fault has the offset */
+    LINKCAP_NONE = 6       /* there is no further message, or no refused body */
 };
 
 /* Kinds of faults. Captures in memory have the first eight; the last four are those of the program. */
@@ -79,19 +82,48 @@ struct linkcap_fault {
     uint64_t offset; /* the start of the message that has it, in bytes from the start of the capture that was given */
 };
 
-/* The sizes of a legal capture. A function has the same name, so C++ too writes `struct linkcap_measure`. */
-struct linkcap_measure {
+/* The sizes of a legal capture. */
+struct linkcap_sizes {
     uint64_t frames;     /* messages */
     uint64_t attributes; /* attribute headers in the bodies of its link messages, at all depths */
     uint64_t text_low;   /* the length of its normal text in bytes, which is text_low + 2^64 * text_high */
     uint64_t text_high;
 };
 
-/* How far linkcap_normalize_some came. */
+/* How far linkcap_normalize_some or linkcap_show_some came. */
 struct linkcap_progress {
-    uint64_t used;    /* bytes of the piece whose texts are written */
-    uint64_t written; /* bytes of these texts */
-    uint64_t wanted;  /* on LINKCAP_NO_ROOM the length of the next message's text, else 0 */
+    uint64_t used;    /* bytes of the piece whose texts, or lines, are written */
+    uint64_t written; /* bytes of these texts or lines */
+    uint64_t wanted;  /* on LINKCAP_NO_ROOM the length of the next message's text or lines, else 0 */
+};
+
+/* A message of a capture. */
+struct linkcap_message {
+    uint64_t next;   /* the offset of the next message; after the last one, the capture's length */
+    uint32_t length; /* its length in bytes, as its header has it, without padding */
+    uint32_t type;   /* its nlmsg_type */
+};
+
+/* Kinds of encodings that some kernels treat differently from their normal texts: the rows of docs/kernels.md, in order. */
+enum linkcap_quirk_kind {
+    LINKCAP_NESTED_PORT_SETTINGS = 1, /* IFLA_PROTINFO with the nested bit, under AF_BRIDGE */
+    LINKCAP_RESIZED_SETTINGS,         /* IFLA_INET_CONF not of 132 bytes */
+    LINKCAP_PATH_DISCOVERY_OVER_ONE,  /* IFLA_GRE_PMTUDISC over 1 */
+    LINKCAP_LATER_PEER,               /* the peer of veth or vxcan behind another attribute */
+    LINKCAP_LONG_ALIAS,               /* IFLA_IFALIAS of 255 bytes without a NUL */
+    LINKCAP_NAME_WITHOUT_NUL,         /* a name without a NUL */
+    LINKCAP_FLAG_WITH_PAYLOAD,        /* a flag with a payload */
+    LINKCAP_BOOLEAN_OVER_ONE,         /* a boolean over 1 that kernels check */
+    LINKCAP_STRAY_NESTED_BIT,         /* the nested bit on a kind that isn't nested */
+    LINKCAP_FOREIGN_FUNCTION,         /* an entry of another kind in IFLA_VFINFO_LIST */
+    LINKCAP_HEADER_BYTE,              /* the second byte of the header of RTM_GETLINK isn't 0 */
+    LINKCAP_SHORT_MAP                 /* IFLA_MAP under 32 bytes */
+};
+
+/* An encoding that some kernels treat differently from its normal text. */
+struct linkcap_quirk {
+    uint64_t offset; /* where the attribute that has it starts, or the header's byte, in bytes from the capture's start */
+    uint32_t kind;   /* an enum linkcap_quirk_kind */
 };
 
 /*
@@ -100,11 +132,26 @@ struct linkcap_progress {
 uint32_t linkcap_check(const uint8_t *capture, size_t length, uint32_t limit, struct linkcap_fault *fault);
 
 /*
- * The sizes of a legal capture. LINKCAP_OK, and *numbers has them; LINKCAP_FAULT with its first fault; or LINKCAP_WRONG.
- * It allocates nothing.
+ * The sizes of a legal capture. LINKCAP_OK, and *sizes has them; LINKCAP_FAULT with its first fault; or LINKCAP_WRONG. It
+ * allocates nothing.
  */
-uint32_t linkcap_measure(const uint8_t *capture, size_t length, uint32_t limit, struct linkcap_measure *numbers,
+uint32_t linkcap_measure(const uint8_t *capture, size_t length, uint32_t limit, struct linkcap_sizes *sizes,
                          struct linkcap_fault *fault);
+
+/*
+ * The message that starts at an offset, which is 0 or the `next` of the message before it. Nothing is kept between calls.
+ * It allocates nothing, and takes as long as the message.
+ *
+ * LINKCAP_OK           *message has it. It is legal.
+ * LINKCAP_FAULT        it has a fault, the capture's first if all before it were legal. *message is unchanged.
+ * LINKCAP_WRONG        a limit under 16.
+ * LINKCAP_NONE         the offset is the capture's length, or greater: all messages were returned.
+ *
+ *     for (offset = 0; linkcap_next_message(capture, length, limit, offset, &message, &fault) == LINKCAP_OK;
+ *          offset = message.next)
+ */
+uint32_t linkcap_next_message(const uint8_t *capture, size_t length, uint32_t limit, uint64_t offset,
+                              struct linkcap_message *message, struct linkcap_fault *fault);
 
 /*
  * Writes the normal text of a capture to the start of out, and its length to *written.
@@ -150,6 +197,14 @@ uint32_t linkcap_same(const uint8_t *first, size_t first_length, const uint8_t *
                       uint32_t limit, struct linkcap_fault *fault);
 
 /*
+ * As linkcap_same, after zeroing the sequence and port number of each message, and those of the request's header that an
+ * NLMSG_ERROR repeats: what changes from run to run. Two legal captures are the same so if and only if their lines without
+ * numbers are. It allocates nothing.
+ */
+uint32_t linkcap_same_ignoring_numbers(const uint8_t *first, size_t first_length, const uint8_t *second,
+                                       size_t second_length, uint32_t limit, struct linkcap_fault *fault);
+
+/*
  * Writes the lines of a capture for people, as the program linkshow does, to the start of out, and their length to
  * *written. The results are those of linkcap_normalize, except that LINKCAP_NO_MEMORY may be returned rather than
  * LINKCAP_NO_ROOM. Memory is allocated for the normal text and, twice, for the lines.
@@ -167,6 +222,37 @@ uint32_t linkcap_show_with(const uint8_t *capture, size_t length, uint32_t limit
                            struct linkcap_fault *fault);
 
 /*
+ * Writes the lines of the messages that are whole in one piece of a capture, as linkcap_show_with chooses them, and as
+ * linkcap_normalize_some writes their texts: with the same results and the same rules for what is given again. The lines of
+ * all pieces, one after the other, are those of the whole capture. progress->wanted is the length of the next message's
+ * lines. Memory is allocated for the text and the lines of one message at a time.
+ */
+uint32_t linkcap_show_some(const uint8_t *piece, size_t length, bool last, uint32_t limit, bool without_numbers,
+                           const uint16_t *types, size_t types_length, uint8_t *out, size_t room,
+                           struct linkcap_progress *progress, struct linkcap_fault *fault);
+
+/*
+ * Writes each encoding of a capture that some kernels treat differently from its normal text, in the order of the bytes, to
+ * the array quirks, which has room for that many, and their number to *count. docs/kernels.md says what kernels do. It
+ * allocates nothing.
+ *
+ * LINKCAP_OK           the capture is legal, and its quirks are written. A normal text has none.
+ * LINKCAP_FAULT        the first fault; the quirks of the messages before it are written.
+ * LINKCAP_WRONG        a limit under 16.
+ * LINKCAP_NO_ROOM      there are more: none is written, and *count has their number (at most 2^64 - 1). This is returned
+ *                      rather than a fault.
+ */
+uint32_t linkcap_quirks(const uint8_t *capture, size_t length, uint32_t limit, struct linkcap_quirk *quirks, size_t room,
+                        uint64_t *count, struct linkcap_fault *fault);
+
+/*
+ * Writes the words of a quirk and its offset in ASCII, as `flag with a payload at 76`, and their length to *written. No null
+ * byte is written. LINKCAP_OK; LINKCAP_NO_ROOM, and *written has the length; or LINKCAP_WRONG if the kind is none. It
+ * allocates nothing.
+ */
+uint32_t linkcap_quirk_text(const struct linkcap_quirk *quirk, uint8_t *out, size_t room, uint64_t *written);
+
+/*
  * Writes the words of a fault and its offset in ASCII, as `cut frame at 48`, after `first: ` or `second: ` if it has a
  * side, and their length to *written. No null byte is written. LINKCAP_OK; LINKCAP_NO_ROOM, and *written has the length;
  * or LINKCAP_WRONG if the kind or the side is none. It allocates nothing.
@@ -177,10 +263,10 @@ uint32_t linkcap_fault_text(const struct linkcap_fault *fault, uint8_t *out, siz
  * What of a refused body isn't accepted, if the first fault is LINKCAP_REFUSED: the attribute's names from outside in, the
  * reason and the offset, in ASCII, as `IFLA_LINKINFO > IFLA_INFO_DATA > IFLA_VRF_TABLE: a payload of 3 bytes at 60`.
  *
- * LINKCAP_FAULT        the words are written to the start of out, their length to *written, and to *place where the
+ * LINKCAP_OK           the words are written to the start of out, their length to *written, and to *place where the
  *                      attribute begins, in bytes from the capture's start: UINT64_MAX for NLMSG_ERROR and NLMSG_DONE.
- * LINKCAP_OK           the capture is legal, or its first fault is another one. Nothing is written, *written included.
- * LINKCAP_WRONG        a limit under 16.
+ * LINKCAP_NONE         the capture is legal, or its first fault is another one: *written is 0 and *place UINT64_MAX.
+ * LINKCAP_WRONG        a limit under 16. Nothing is written.
  * LINKCAP_NO_ROOM      out is too small for the words: *written has their length, and nothing else is written.
  * LINKCAP_NO_MEMORY    out of memory for the words. Nothing is written.
  *
@@ -189,8 +275,9 @@ uint32_t linkcap_fault_text(const struct linkcap_fault *fault, uint8_t *out, siz
 uint32_t linkcap_why(const uint8_t *capture, size_t length, uint32_t limit, uint8_t *out, size_t room,
                      uint64_t *written, uint64_t *place);
 
-/* LINKCAP_VERSION of the library. */
+/* LINKCAP_VERSION of the library, and its LINKCAP_FORMAT. */
 uint32_t linkcap_version(void);
+uint32_t linkcap_format(void);
 
 #ifdef __cplusplus
 }

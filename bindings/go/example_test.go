@@ -73,6 +73,22 @@ func ExampleMeasure() {
 	// Output: 2 0 36
 }
 
+func ExampleQuirks() {
+	// An RTM_GETLINK whose header of a link has 1 in its second byte.
+	request := append([]byte{32, 0, 0, 0, 18, 0, 1, 3, 0, 0, 0, 0, 0, 0, 0, 0, 0, 1}, make([]byte, 14)...)
+	quirks, err := linkcap.Quirks(request)
+	fmt.Println(quirks[0], quirks[0].Kind == linkcap.HeaderByte, err)
+	// Output: second byte of the header of RTM_GETLINK at 17 true <nil>
+}
+
+func ExampleNewLineReader() {
+	shown, err := io.ReadAll(linkcap.NewLineReader(bytes.NewReader(capture), linkcap.LineOptions{Only: []uint16{1}}))
+	fmt.Print(string(shown), err)
+	// Output:
+	// NLMSG_NOOP flags 0x0 seq 1 port 0
+	// <nil>
+}
+
 func ExampleNewReader() {
 	text, err := io.ReadAll(linkcap.NewReader(bytes.NewReader(capture)))
 	fmt.Println(len(text), err)

@@ -18,8 +18,8 @@ type Limit uint32
 // DefaultLimit is the limit of the package's functions, and of the programs.
 const DefaultLimit Limit = C.LINKCAP_DEFAULT_LIMIT
 
-// Format is the format version of normal texts and lines: while it stays, so do they, byte for byte.
-const Format = C.LINKCAP_FORMAT
+// Format is the format version of the library's normal texts and lines: while it stays, so do they, byte for byte.
+var Format = int(C.linkcap_format())
 
 func init() {
 	if found := uint32(C.linkcap_version()); found != C.LINKCAP_VERSION {
@@ -40,6 +40,14 @@ type LineOptions struct {
 	WithoutNumbers bool
 	// Only has the types of the messages that are shown, as unix.RTM_NEWLINK; if it is empty, all are.
 	Only []uint16
+}
+
+// types returns a pointer to the types, which is null if there are none.
+func (o *LineOptions) types() *C.uint16_t {
+	if len(o.Only) == 0 {
+		return nil
+	}
+	return (*C.uint16_t)(unsafe.Pointer(&o.Only[0]))
 }
 
 // A Refusal is what of a refused body isn't accepted.
@@ -85,7 +93,7 @@ func (l Limit) Check(capture []byte) error {
 // Measure counts a legal capture's messages, attributes and the bytes of its normal text, else returns its first fault.
 func (l Limit) Measure(capture []byte) (Sizes, error) {
 	var fault C.struct_linkcap_fault
-	var found C.struct_linkcap_measure
+	var found C.struct_linkcap_sizes
 	status := C.linkcap_measure(address(capture), C.size_t(len(capture)), C.uint32_t(l), &found, &fault)
 	if status != C.LINKCAP_OK {
 		return Sizes{}, failure(status, fault, capture, nil, l)
@@ -102,6 +110,21 @@ func (l Limit) Measure(capture []byte) (Sizes, error) {
 func (l Limit) Same(first, second []byte) (bool, error) {
 	var fault C.struct_linkcap_fault
 	status := C.linkcap_same(address(first), C.size_t(len(first)), address(second), C.size_t(len(second)), C.uint32_t(l), &fault)
+	return l.sameness(status, fault, first, second)
+}
+
+// SameIgnoringNumbers reports whether two legal captures mean the same after zeroing the sequence and port number of each
+// message, and those of the request's header that an NLMSG_ERROR repeats, which change from run to run. Its errors are
+// those of Same.
+func (l Limit) SameIgnoringNumbers(first, second []byte) (bool, error) {
+	var fault C.struct_linkcap_fault
+	status := C.linkcap_same_ignoring_numbers(address(first), C.size_t(len(first)), address(second), C.size_t(len(second)),
+		C.uint32_t(l), &fault)
+	return l.sameness(status, fault, first, second)
+}
+
+// sameness returns what a status of two captures says.
+func (l Limit) sameness(status C.uint32_t, fault C.struct_linkcap_fault, first, second []byte) (bool, error) {
 	switch status {
 	case C.LINKCAP_OK:
 		return true, nil
@@ -174,10 +197,7 @@ func (l Limit) Normalize(capture []byte) ([]byte, error) {
 // Lines returns a legal capture's lines, as the program linkshow writes them. Else it returns the first fault, whose
 // Written has the lines before it.
 func (l Limit) Lines(capture []byte, options LineOptions) (string, error) {
-	var types *C.uint16_t
-	if len(options.Only) > 0 {
-		types = (*C.uint16_t)(unsafe.Pointer(&options.Only[0]))
-	}
+	types := options.types()
 	shown, err := l.appendWritten(nil, capture, 4*len(capture)+256,
 		func(out *C.uint8_t, room C.size_t, written *C.uint64_t, fault *C.struct_linkcap_fault) C.uint32_t {
 			return C.linkcap_show_with(address(capture), C.size_t(len(capture)), C.uint32_t(l), C.bool(options.WithoutNumbers),
@@ -197,9 +217,9 @@ func (l Limit) Why(capture []byte) (*Refusal, error) {
 		status := C.linkcap_why(address(capture), C.size_t(len(capture)), C.uint32_t(l), address(words), C.size_t(len(words)),
 			&written, &place)
 		switch status {
-		case C.LINKCAP_OK:
+		case C.LINKCAP_NONE:
 			return nil, nil
-		case C.LINKCAP_FAULT:
+		case C.LINKCAP_OK:
 			found := &Refusal{Words: string(words[:written])}
 			if place != math.MaxUint64 {
 				found.Offset, found.HasOffset = uint64(place), true
@@ -221,6 +241,14 @@ func Measure(capture []byte) (Sizes, error) { return DefaultLimit.Measure(captur
 
 // Same is DefaultLimit.Same.
 func Same(first, second []byte) (bool, error) { return DefaultLimit.Same(first, second) }
+
+// SameIgnoringNumbers is DefaultLimit.SameIgnoringNumbers.
+func SameIgnoringNumbers(first, second []byte) (bool, error) {
+	return DefaultLimit.SameIgnoringNumbers(first, second)
+}
+
+// Quirks is DefaultLimit.Quirks.
+func Quirks(capture []byte) ([]Quirk, error) { return DefaultLimit.Quirks(capture) }
 
 // Normalize is DefaultLimit.Normalize.
 func Normalize(capture []byte) ([]byte, error) { return DefaultLimit.Normalize(capture) }

@@ -132,7 +132,12 @@ func TestLimits(t *testing.T) {
 		_, whyErr := limit.Why(nil)
 		_, messagesErr := limit.Messages(nil)
 		_, readErr := io.ReadAll(limit.NewReader(bytes.NewReader(nil)))
-		for i, err := range []error{limit.Check(nil), measureErr, sameErr, normalErr, linesErr, whyErr, messagesErr, readErr} {
+		_, ignoringErr := limit.SameIgnoringNumbers(nil, nil)
+		_, quirksErr := limit.Quirks(nil)
+		_, shownErr := io.ReadAll(limit.NewLineReader(bytes.NewReader(nil), linkcap.LineOptions{}))
+		for i, err := range []error{
+			limit.Check(nil), measureErr, sameErr, normalErr, linesErr, whyErr, messagesErr, readErr, ignoringErr, quirksErr, shownErr,
+		} {
 			if err != linkcap.ErrLimit {
 				t.Errorf("call %d: %v", i, err)
 			}
@@ -159,6 +164,51 @@ func TestEmpty(t *testing.T) {
 				t.Errorf("call %d: %v", i, err)
 			}
 		}
+	}
+}
+
+func TestQuirks(t *testing.T) {
+	capture := sample(t, "lo-request")
+	if quirks, err := linkcap.Quirks(capture); err != nil || len(quirks) != 0 {
+		t.Error(quirks, err)
+	}
+	capture[17] = 1
+	quirks, err := linkcap.Quirks(bytes.Repeat(capture, 40))
+	if err != nil || len(quirks) != 40 || quirks[1] != (linkcap.Quirk{Kind: linkcap.HeaderByte, Offset: 48 + 17}) {
+		t.Error(quirks, err)
+	}
+	if got := (linkcap.Quirk{Kind: 13, Offset: 7}).String(); got != "quirk of kind 13 at 7" {
+		t.Error(got)
+	}
+	if _, err := linkcap.Quirks(capture[:47]); !errors.Is(err, linkcap.Cut) {
+		t.Error(err)
+	}
+}
+
+func TestSameIgnoringNumbers(t *testing.T) {
+	capture := sample(t, "lo-request")
+	for i := 8; i < 16; i++ { // netlink.h, struct nlmsghdr
+		other := append([]byte(nil), capture...)
+		other[i] ^= 1
+		same, err := linkcap.SameIgnoringNumbers(capture, other)
+		if with, _ := linkcap.Same(capture, other); !same || with || err != nil {
+			t.Error(i, same, with, err)
+		}
+	}
+	other := append([]byte(nil), capture...)
+	other[7] ^= 1
+	if same, err := linkcap.SameIgnoringNumbers(capture, other); same || err != nil {
+		t.Error(same, err)
+	}
+	_, err := linkcap.SameIgnoringNumbers(capture, refused)
+	if fault := faultOf(t, err); fault.Side != 2 || fault.Why == nil {
+		t.Error(err)
+	}
+}
+
+func TestFormat(t *testing.T) {
+	if !bytes.Contains(read(t, "bindings/c/linkcap.h"), []byte(fmt.Sprintf("\n#define LINKCAP_FORMAT %d\n", linkcap.Format))) {
+		t.Error(linkcap.Format)
 	}
 }
 

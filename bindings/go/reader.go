@@ -12,19 +12,20 @@ import (
 	"math"
 )
 
-// A Reader reads a capture from another reader, in pieces of any sizes, and returns its normal text. Read returns io.EOF
-// after the text of a legal capture, and an [*Error], whose Written is nil, after the text before a fault.
+// A Reader reads a capture from another reader, in pieces of any sizes, and returns its normal text, or its lines. Read
+// returns io.EOF after those of a legal capture, and an [*Error], whose Written is nil, after those before a fault.
 //
-// It keeps the bytes of the message that is cut, and the texts of one piece.
+// It keeps the bytes of the message that is cut, and what one piece is written as.
 type Reader struct {
 	from   io.Reader
 	limit  Limit
-	piece  []byte // what was read, and isn't used yet
-	wanted int    // with fewer bytes than these no call writes anything
-	texts  []byte // what is written
-	given  int    // how much of it was given
-	start  uint64 // of the piece, in bytes from the capture's start
-	err    error  // what is returned once the texts are given
+	shown  *LineOptions // of lines; none for normal text
+	piece  []byte       // what was read, and isn't used yet
+	wanted int          // with fewer bytes than these no call writes anything
+	texts  []byte       // what is written of them
+	given  int          // how much of it was given
+	start  uint64       // of the piece, in bytes from the capture's start
+	err    error        // what is returned once the texts are given
 	buffer [16 << 10]byte
 }
 
@@ -34,7 +35,17 @@ func NewReader(from io.Reader) *Reader { return DefaultLimit.NewReader(from) }
 // NewReader returns a Reader.
 func (l Limit) NewReader(from io.Reader) *Reader { return &Reader{from: from, limit: l} }
 
-// Read reads further bytes of the normal text.
+// NewLineReader returns a Reader of lines, with DefaultLimit.
+func NewLineReader(from io.Reader, options LineOptions) *Reader {
+	return DefaultLimit.NewLineReader(from, options)
+}
+
+// NewLineReader returns a Reader of a capture's lines, as Lines returns them.
+func (l Limit) NewLineReader(from io.Reader, options LineOptions) *Reader {
+	return &Reader{from: from, limit: l, shown: &options}
+}
+
+// Read reads further bytes of the normal text, or of the lines.
 func (r *Reader) Read(to []byte) (int, error) {
 	if len(to) == 0 {
 		return 0, nil
@@ -54,7 +65,7 @@ func (r *Reader) Read(to []byte) (int, error) {
 	return n, nil
 }
 
-// readPiece reads once, and writes the texts of the messages that are whole. It reports whether anything came.
+// readPiece reads once, and writes the messages that are whole. It reports whether anything came.
 func (r *Reader) readPiece() bool {
 	n, err := r.from.Read(r.buffer[:])
 	r.piece = append(r.piece, r.buffer[:n]...)
@@ -69,7 +80,19 @@ func (r *Reader) readPiece() bool {
 	return n > 0 || err != nil
 }
 
-// write writes the texts of the messages that are whole, and drops their bytes.
+// call writes the messages that are whole to the free bytes.
+func (r *Reader) call(rest []byte, isLast bool, free []byte, progress *C.struct_linkcap_progress,
+	fault *C.struct_linkcap_fault) C.uint32_t {
+	at, length, limit := address(rest), C.size_t(len(rest)), C.uint32_t(r.limit)
+	out, room := address(free), C.size_t(len(free))
+	if r.shown == nil {
+		return C.linkcap_normalize_some(at, length, C.bool(isLast), limit, out, room, progress, fault)
+	}
+	return C.linkcap_show_some(at, length, C.bool(isLast), limit, C.bool(r.shown.WithoutNumbers), r.shown.types(),
+		C.size_t(len(r.shown.Only)), out, room, progress, fault)
+}
+
+// write writes the messages that are whole, and drops their bytes.
 func (r *Reader) write(isLast bool) error {
 	used, room := 0, len(r.piece)+headerLen
 	for {
@@ -78,8 +101,7 @@ func (r *Reader) write(isLast bool) error {
 		free := r.texts[len(r.texts):cap(r.texts)]
 		var progress C.struct_linkcap_progress
 		var fault C.struct_linkcap_fault
-		status := C.linkcap_normalize_some(address(rest), C.size_t(len(rest)), C.bool(isLast), C.uint32_t(r.limit),
-			address(free), C.size_t(len(free)), &progress, &fault)
+		status := r.call(rest, isLast, free, &progress, &fault)
 		r.texts = r.texts[:len(r.texts)+int(progress.written)]
 		used += int(progress.used)
 		switch {

@@ -178,6 +178,45 @@ func TestSameVectors(t *testing.T) {
 		default:
 			v.check(t, "different")
 		}
+		checkWithoutNumbers(t, v, same, err)
+	}
+}
+
+// checkWithoutNumbers compares with what the lines without numbers say.
+func checkWithoutNumbers(t *testing.T, v vector, same bool, want error) {
+	t.Helper()
+	ignoring, err := v.limit.SameIgnoringNumbers(v.captures[0], v.captures[1])
+	if fmt.Sprint(err) != fmt.Sprint(want) {
+		t.Errorf("%x: %v, want %v", v.captures, err, want)
+	}
+	if err != nil {
+		return
+	}
+	one, _ := v.limit.Lines(v.captures[0], linkcap.LineOptions{WithoutNumbers: true})
+	other, _ := v.limit.Lines(v.captures[1], linkcap.LineOptions{WithoutNumbers: true})
+	if ignoring != (one == other) || same && !ignoring {
+		t.Errorf("%x: %v", v.captures, ignoring)
+	}
+}
+
+func TestQuirkVectors(t *testing.T) {
+	for _, v := range vectorsOf(t, "spelling") {
+		capture, end := v.captures[0], "legal"
+		if err := v.limit.Check(capture); err != nil {
+			if _, quirksErr := v.limit.Quirks(capture); fmt.Sprint(quirksErr) != fmt.Sprint(err) {
+				t.Errorf("%x: %v, want %v", capture, quirksErr, err)
+			}
+			capture, end = capture[:faultOf(t, err).Offset], words(t, err)
+		}
+		quirks, err := v.limit.Quirks(capture)
+		if err != nil {
+			t.Fatal(err)
+		}
+		shown := ""
+		for _, quirk := range quirks {
+			shown += quirk.String() + "; "
+		}
+		v.check(t, shown+end)
 	}
 }
 
@@ -204,6 +243,14 @@ func TestShowVectors(t *testing.T) {
 			v.check(t, string(faultOf(t, err).Written)+words(t, err))
 		} else {
 			v.check(t, shown+"legal")
+		}
+		for _, size := range []int{1, 7, 100} {
+			read, readErr := io.ReadAll(v.limit.NewLineReader(&chunks{v.captures[0], size}, optionsOf(t, v.choice)))
+			if readErr != nil {
+				v.check(t, string(read)+words(t, readErr))
+			} else {
+				v.check(t, string(read)+"legal")
+			}
 		}
 	}
 }

@@ -103,12 +103,12 @@ static void test_nothing(void)
     uint8_t none[1] = {UNTOUCHED}, out[1] = {UNTOUCHED};
     uint64_t length = 7;
     struct linkcap_fault fault;
-    struct linkcap_measure numbers;
+    struct linkcap_sizes sizes;
     struct linkcap_progress progress;
-    assert(linkcap_version() == LINKCAP_VERSION);
+    assert(linkcap_version() == LINKCAP_VERSION && linkcap_format() == LINKCAP_FORMAT);
     assert(linkcap_check(none, 0, limit, &fault) == LINKCAP_OK);
-    assert(linkcap_measure(none, 0, limit, &numbers, &fault) == LINKCAP_OK);
-    assert(numbers.frames == 0 && numbers.attributes == 0 && numbers.text_low == 0 && numbers.text_high == 0);
+    assert(linkcap_measure(none, 0, limit, &sizes, &fault) == LINKCAP_OK);
+    assert(sizes.frames == 0 && sizes.attributes == 0 && sizes.text_low == 0 && sizes.text_high == 0);
     assert(linkcap_normalize(none, 0, limit, out, 0, &length, &fault) == LINKCAP_OK && length == 0);
     length = 7;
     assert(linkcap_show(none, 0, limit, out, 0, &length, &fault) == LINKCAP_OK && length == 0);
@@ -124,17 +124,29 @@ static void test_nothing(void)
 static void test_null(struct bytes capture)
 {
     struct linkcap_fault fault;
-    struct linkcap_measure numbers;
+    struct linkcap_sizes sizes;
     struct linkcap_progress progress;
+    struct linkcap_message message;
     uint64_t length = 7, place;
     assert(linkcap_check(NULL, 0, limit, &fault) == LINKCAP_OK);
-    assert(linkcap_measure(NULL, 0, limit, &numbers, &fault) == LINKCAP_OK && numbers.frames == 0 && numbers.text_low == 0);
+    assert(linkcap_measure(NULL, 0, limit, &sizes, &fault) == LINKCAP_OK && sizes.frames == 0 && sizes.text_low == 0);
     assert(linkcap_normalize(NULL, 0, limit, NULL, 0, &length, &fault) == LINKCAP_OK && length == 0);
     length = 7;
     assert(linkcap_show(NULL, 0, limit, NULL, 0, &length, &fault) == LINKCAP_OK && length == 0);
     length = 7;
     assert(linkcap_show_with(NULL, 0, limit, true, NULL, 0, NULL, 0, &length, &fault) == LINKCAP_OK && length == 0);
-    assert(linkcap_why(NULL, 0, limit, NULL, 0, &length, &place) == LINKCAP_OK);
+    assert(linkcap_why(NULL, 0, limit, NULL, 0, &length, &place) == LINKCAP_NONE && length == 0 && place == UINT64_MAX);
+    length = 7;
+    assert(linkcap_quirks(NULL, 0, limit, NULL, 0, &length, &fault) == LINKCAP_OK && length == 0);
+    assert(linkcap_next_message(NULL, 0, limit, 0, &message, &fault) == LINKCAP_NONE);
+    assert(linkcap_same_ignoring_numbers(NULL, 0, NULL, 0, limit, &fault) == LINKCAP_OK);
+    assert(linkcap_same_ignoring_numbers(NULL, 0, capture.at, capture.length, limit, &fault) == LINKCAP_DIFFERENT);
+    assert(linkcap_same_ignoring_numbers(capture.at, capture.length, NULL, 0, limit, &fault) == LINKCAP_DIFFERENT);
+    assert(linkcap_show_some(NULL, 0, true, limit, false, NULL, 0, NULL, 0, &progress, &fault) == LINKCAP_OK);
+    assert(progress.used == 0);
+    assert(linkcap_show_some(capture.at, capture.length, true, limit, false, NULL, 0, NULL, 0, &progress, &fault)
+           == LINKCAP_NO_ROOM);
+    assert(progress.used == 0 && progress.written == 0 && progress.wanted > 0);
     assert(linkcap_same(NULL, 0, NULL, 0, limit, &fault) == LINKCAP_OK);
     assert(linkcap_same(NULL, 0, capture.at, capture.length, limit, &fault) == LINKCAP_DIFFERENT);
     assert(linkcap_same(capture.at, capture.length, NULL, 0, limit, &fault) == LINKCAP_DIFFERENT);
@@ -157,17 +169,24 @@ static void test_null(struct bytes capture)
 static void test_limit_of_15(struct bytes capture)
 {
     uint8_t out[4] = {UNTOUCHED, UNTOUCHED, UNTOUCHED, UNTOUCHED};
-    uint64_t length;
+    uint64_t length = 7;
+    struct linkcap_message message;
+    struct linkcap_quirk quirk;
     struct linkcap_fault fault;
-    struct linkcap_measure numbers;
+    struct linkcap_sizes sizes;
     struct linkcap_progress progress;
     for (uint32_t low = 0; low < LINKCAP_MIN_LIMIT; low++) {
         assert(linkcap_check(capture.at, capture.length, low, &fault) == LINKCAP_WRONG);
-        assert(linkcap_measure(capture.at, capture.length, low, &numbers, &fault) == LINKCAP_WRONG);
+        assert(linkcap_measure(capture.at, capture.length, low, &sizes, &fault) == LINKCAP_WRONG);
         assert(linkcap_normalize(capture.at, capture.length, low, out, sizeof out, &length, &fault) == LINKCAP_WRONG);
         assert(linkcap_show(capture.at, capture.length, low, out, sizeof out, &length, &fault) == LINKCAP_WRONG);
         assert(linkcap_same(capture.at, capture.length, out, 0, low, &fault) == LINKCAP_WRONG);
         assert(linkcap_normalize_some(capture.at, capture.length, true, low, out, sizeof out, &progress, &fault) == LINKCAP_WRONG);
+        assert(linkcap_show_some(capture.at, capture.length, true, low, false, NULL, 0, out, sizeof out, &progress, &fault)
+               == LINKCAP_WRONG);
+        assert(linkcap_same_ignoring_numbers(capture.at, capture.length, out, 0, low, &fault) == LINKCAP_WRONG);
+        assert(linkcap_next_message(capture.at, capture.length, low, 0, &message, &fault) == LINKCAP_WRONG);
+        assert(linkcap_quirks(capture.at, capture.length, low, &quirk, 1, &length, &fault) == LINKCAP_WRONG && length == 7);
         assert(is_untouched(out, out + sizeof out));
     }
     /* A DONE without a body has a text of 20 bytes, so it is legal under 20 and not under 19; see docs/frames.md. */
@@ -273,7 +292,18 @@ static uint32_t by_some(const uint8_t *capture, size_t length, uint32_t most, ui
     return status;
 }
 
-/* linkcap_why in the form of the calls that write: want of memory is told at 0, as there is a fault. */
+static uint32_t show_by_some(const uint8_t *capture, size_t length, uint32_t most, uint8_t *out, size_t room,
+                             uint64_t *written, struct linkcap_fault *fault)
+{
+    struct linkcap_progress progress;
+    uint32_t status = linkcap_show_some(capture, length, true, most, true, NULL, 0, out, room, &progress, fault);
+    *written = progress.written;
+    if (status == LINKCAP_NO_MEMORY) /* what came before is written: the test asks for nothing */
+        memset(out, UNTOUCHED, progress.written);
+    return status;
+}
+
+/* linkcap_why in the form of the calls that write: out of memory is returned at 0, as there is a fault. */
 static uint32_t why(const uint8_t *capture, size_t length, uint32_t most, uint8_t *out, size_t room, uint64_t *written,
                     struct linkcap_fault *fault)
 {
@@ -291,13 +321,79 @@ static long test_why(void)
     uint64_t length = 7, place = 7;
     link[32] = 7;
     link[34] = 4;
-    assert(linkcap_why(link, sizeof link, limit, out, sizeof out, &length, &place) == LINKCAP_FAULT);
+    assert(linkcap_why(link, sizeof link, limit, out, sizeof out, &length, &place) == LINKCAP_OK);
     assert(length == strlen(words) && memcmp(out, words, length) == 0 && place == 32);
     assert(linkcap_why(link, sizeof link, 15, none, 1, &length, &place) == LINKCAP_WRONG);
-    assert(linkcap_why(link, sizeof link - 1, limit, none, 1, &length, &place) == LINKCAP_OK);
-    assert(linkcap_why(none, 0, limit, none, 0, &length, &place) == LINKCAP_OK && none[0] == UNTOUCHED);
-    test_room(why, capture, capture.length, LINKCAP_FAULT, 1);
+    assert(length == strlen(words) && place == 32);
+    assert(linkcap_why(link, sizeof link - 1, limit, none, 1, &length, &place) == LINKCAP_NONE);
+    assert(length == 0 && place == UINT64_MAX);
+    length = place = 7;
+    assert(linkcap_why(none, 0, limit, none, 0, &length, &place) == LINKCAP_NONE && length == 0 && place == UINT64_MAX);
+    assert(none[0] == UNTOUCHED);
+    test_room(why, capture, capture.length, LINKCAP_OK, 1);
     return test_refused(why, capture, capture.length);
+}
+
+/* Two messages whose header of a link has 1 in its second byte: row 11 of docs/kernels.md. */
+static void test_quirks(void)
+{
+    static const char words[] = "second byte of the header of RTM_GETLINK at 17";
+    uint8_t links[64] = {[0] = 32, [4] = 18, [17] = 1, [32] = 32, [36] = 18, [49] = 1}, out[LINKCAP_FAULT_TEXT];
+    struct linkcap_quirk found[3];
+    struct linkcap_fault fault;
+    uint64_t count, length;
+    memset(found, UNTOUCHED, sizeof found);
+    assert(linkcap_quirks(links, sizeof links, limit, found, 1, &count, &fault) == LINKCAP_NO_ROOM && count == 2);
+    assert(is_untouched((uint8_t *)found, (uint8_t *)(found + 3)));
+    assert(linkcap_quirks(links, sizeof links, limit, found, 3, &count, &fault) == LINKCAP_OK && count == 2);
+    assert(found[0].kind == LINKCAP_HEADER_BYTE && found[0].offset == 17 && found[1].offset == 49);
+    assert(is_untouched((uint8_t *)(found + 2), (uint8_t *)(found + 3)));
+    assert(linkcap_quirks(links, sizeof links - 1, limit, found, 3, &count, &fault) == LINKCAP_FAULT && count == 1);
+    assert(fault.kind == LINKCAP_CUT && fault.offset == 32);
+    assert(linkcap_quirk_text(&found[0], out, sizeof out, &length) == LINKCAP_OK);
+    assert(length == strlen(words) && memcmp(out, words, length) == 0);
+    assert(linkcap_quirk_text(&found[0], out, length - 1, &length) == LINKCAP_NO_ROOM && length == strlen(words));
+    found[0].kind = 0;
+    assert(linkcap_quirk_text(&found[0], out, sizeof out, &length) == LINKCAP_WRONG);
+    found[0].kind = LINKCAP_SHORT_MAP + 1;
+    assert(linkcap_quirk_text(&found[0], out, sizeof out, &length) == LINKCAP_WRONG);
+}
+
+/* Each byte of an NLMSG_ERROR in turn is another one: the numbers of its header and of the request's are the bytes 8 to 16 and
+ * 28 to 36 (netlink.h: struct nlmsgerr has its struct nlmsghdr after a code of 4 bytes). */
+static void test_numbers(void)
+{
+    const uint8_t error[40] = {[0] = 40, [4] = 2, [8] = 1, [16] = 0xea, 0xff, 0xff, 0xff, [20] = 36, [24] = 16};
+    uint8_t other[40];
+    struct linkcap_fault fault;
+    for (size_t i = 6; i < sizeof error; i++) {
+        bool is_number = (i >= 8 && i < 16) || (i >= 28 && i < 36);
+        memcpy(other, error, sizeof error);
+        other[i] ^= 0x81;
+        assert(linkcap_same(error, sizeof error, other, sizeof other, limit, &fault) == LINKCAP_DIFFERENT);
+        assert(linkcap_same_ignoring_numbers(error, sizeof error, other, sizeof other, limit, &fault)
+               == (is_number ? LINKCAP_OK : LINKCAP_DIFFERENT));
+    }
+    assert(linkcap_same_ignoring_numbers(error, sizeof error, other, 39, limit, &fault) == LINKCAP_FAULT);
+    assert(fault.kind == LINKCAP_CUT && fault.side == 2 && fault.offset == 0);
+    assert(linkcap_same_ignoring_numbers(error, 39, other, 39, limit, &fault) == LINKCAP_FAULT && fault.side == 1);
+}
+
+/* Calls that allocate nothing. */
+static void test_allocate_nothing(struct bytes capture)
+{
+    struct linkcap_fault fault;
+    struct linkcap_sizes sizes;
+    struct linkcap_message message;
+    uint64_t count;
+    requests = 0;
+    assert(linkcap_check(capture.at, capture.length, limit, &fault) == LINKCAP_OK);
+    assert(linkcap_measure(capture.at, capture.length, limit, &sizes, &fault) == LINKCAP_OK);
+    assert(linkcap_next_message(capture.at, capture.length, limit, 0, &message, &fault) == LINKCAP_OK);
+    assert(linkcap_quirks(capture.at, capture.length, limit, NULL, 0, &count, &fault) == LINKCAP_OK && count == 0);
+    assert(linkcap_same(capture.at, capture.length, capture.at, capture.length, limit, &fault) == LINKCAP_OK);
+    assert(linkcap_same_ignoring_numbers(capture.at, capture.length, capture.at, capture.length, limit, &fault) == LINKCAP_OK);
+    assert(requests == 0);
 }
 
 struct work {
@@ -368,6 +464,8 @@ int main(int argc, char **argv)
     test_nothing();
     test_words();
     lacking += test_why();
+    test_quirks();
+    test_numbers();
     for (int i = 1; i < argc; i++) {
         struct bytes capture = read_file(argv[i]);
         size_t in_the_last = capture.length - 8;
@@ -384,9 +482,11 @@ int main(int argc, char **argv)
         lacking += test_refused(linkcap_show, capture, capture.length);
         lacking += test_refused(linkcap_show, capture, in_the_last);
         lacking += test_refused(by_some, capture, capture.length);
+        lacking += test_refused(show_by_some, capture, capture.length);
+        test_allocate_nothing(capture);
         test_threads(capture);
         __real_free(capture.at);
     }
-    printf("edges: all as told; memory was wanting %ld times\n", lacking);
+    printf("edges: all as documented; out of memory %ld times\n", lacking);
     return 0;
 }

@@ -15,6 +15,7 @@ type fake struct {
 	testing.TB
 	message string
 	stopped bool
+	folder  string
 }
 
 type stop struct{}

@@ -17,14 +17,16 @@ The work is done by the library liblinkcap.so: the one in this package if there 
 LINKCAP_LIB_DIR names, else the one that the loader finds. LIBRARY_PATH has its name. docs/other-languages.md of linkcap
 is the page for callers; `python -m linkcap` normalises, compares and shows files.
 """
-from ._calls import DEFAULT_LIMIT, Measure, Message, check, lines, measure, messages, normalize, same, why
+from ._calls import DEFAULT_LIMIT, Measure, Message, Quirk, QuirkKind, check, lines, measure, messages, normalize, quirks, same
+from ._calls import to_json, why
 from ._fault import Fault, Kind, Refusal
-from ._golden import FORMAT, golden
-from ._native import LIBRARY_PATH, Capture
-from ._reader import Reader
+from ._golden import golden
+from ._native import FORMAT, LIBRARY_PATH, Capture
+from ._reader import LineReader, Reader
 from ._record import RecordError, record
 
-__version__ = "1.1"
+__version__ = "2.0"
 
-__all__ = ["DEFAULT_LIMIT", "FORMAT", "LIBRARY_PATH", "Capture", "Fault", "Kind", "Measure", "Message", "Reader", "RecordError",
-           "Refusal", "check", "golden", "lines", "measure", "messages", "normalize", "record", "same", "why"]
+__all__ = ["DEFAULT_LIMIT", "FORMAT", "LIBRARY_PATH", "Capture", "Fault", "Kind", "LineReader", "Measure", "Message", "Quirk",
+           "QuirkKind", "Reader", "RecordError", "Refusal", "check", "golden", "lines", "measure", "messages", "normalize",
+           "quirks", "record", "same", "to_json", "why"]

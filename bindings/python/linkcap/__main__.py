@@ -1,7 +1,8 @@
 """`python -m linkcap`: captures of files or of standard input, with the statuses of the programs linkcap and linkshow."""
 import argparse
+import json
 import sys
-from typing import Any, List, NoReturn, Optional
+from typing import Any, BinaryIO, Iterator, List, NoReturn, Optional
 
 import linkcap
 
@@ -28,55 +29,74 @@ def _version() -> str:
             f" {linkcap.LIBRARY_PATH}")
 
 
+def _add(commands: Any, name: str, told: str, *files: str) -> argparse.ArgumentParser:
+    """A command over files, or else over one file or standard input."""
+    command: argparse.ArgumentParser = commands.add_parser(name, help=told)
+    command.add_argument("--limit", type=int, default=linkcap.DEFAULT_LIMIT, help="of a message's length, in bytes")
+    for file in files:
+        command.add_argument(file)
+    if not files:
+        command.add_argument("file", nargs="?", default="-")
+    return command
+
+
 def _parser() -> argparse.ArgumentParser:
     parser = _Parser(prog="python -m linkcap", description="captures of netlink link messages",
                      formatter_class=argparse.RawDescriptionHelpFormatter)
     parser.add_argument("--version", action="version", version=_version())
-    commands = parser.add_subparsers(dest="command", required=True, metavar="norm|same|lines|messages")
-    commands.add_parser("norm", help="write the normal text").add_argument("file", nargs="?", default="-")
-    same = commands.add_parser("same", help="compare two captures")
-    same.add_argument("file")
-    same.add_argument("other")
-    lines = commands.add_parser("lines", help="write lines for people")
-    lines.add_argument("--without-numbers", action="store_true")
-    lines.add_argument("--only", type=_types, metavar="TYPE,..", help="message types, as newlink or 16")
-    lines.add_argument("file", nargs="?", default="-")
-    commands.add_parser("messages", help="write each message's offset, length and type").add_argument("file", nargs="?", default="-")
-    for command in commands.choices.values():
-        command.add_argument("--limit", type=int, default=linkcap.DEFAULT_LIMIT, help="of a message's length, in bytes")
+    commands = parser.add_subparsers(dest="command", required=True, metavar="norm|same|lines|json|messages|quirks")
+    _add(commands, "norm", "write the normal text")
+    same = _add(commands, "same", "compare two captures", "file", "other")
+    same.add_argument("--ignore-numbers", action="store_true", help="after zeroing sequence and port numbers")
+    for name, told in (("lines", "write lines for people"), ("json", "write each message as JSON, in a line")):
+        lines = _add(commands, name, told)
+        lines.add_argument("--without-numbers", action="store_true")
+        lines.add_argument("--only", type=_types, metavar="TYPE,..", help="message types, as newlink or 16")
+    _add(commands, "messages", "write each message's offset, length and type")
+    _add(commands, "quirks", "write what some kernels treat differently from its normal text")
     return parser
 
 
-def _read(name: str) -> bytes:
-    if name == "-":
-        return sys.stdin.buffer.read()
-    with open(name, "rb") as file:
-        return file.read()
+def _open(name: str) -> BinaryIO:
+    return sys.stdin.buffer if name == "-" else open(name, "rb")
 
 
-def _run(given: Any, capture: bytes) -> int:
-    out = sys.stdout.buffer
+def _results(given: Any, file: BinaryIO) -> Iterator[bytes]:
+    """What a command writes, piece by piece."""
     if given.command == "norm":
-        out.write(linkcap.normalize(capture, given.limit))
+        yield from linkcap.Reader(given.limit).read_file(file)
     elif given.command == "lines":
-        out.write(linkcap.lines(capture, given.limit, numbers=not given.without_numbers, only=given.only).encode())
+        reader = linkcap.LineReader(given.limit, numbers=not given.without_numbers, only=given.only)
+        yield from (shown.encode() for shown in reader.read_file(file))
+    elif given.command == "json":
+        for message in linkcap.to_json(file.read(), given.limit, numbers=not given.without_numbers, only=given.only):
+            yield json.dumps(message).encode() + b"\n"
     elif given.command == "messages":
-        for message in linkcap.messages(capture, given.limit):
-            out.write(f"{message.offset} {message.length} {message.type}\n".encode())
-    elif linkcap.same(capture, _read(given.other), given.limit):
-        out.write(b"same\n")
+        for found in linkcap.messages(file.read(), given.limit):
+            yield f"{found.offset} {found.length} {found.type}\n".encode()
     else:
-        out.write(b"different\n")
-        return DIFFERENT
+        for quirk in linkcap.quirks(file.read(), given.limit):
+            yield f"{quirk.words}\n".encode()
+
+
+def _run(given: Any) -> int:
+    with _open(given.file) as file:
+        if given.command == "same":
+            with _open(given.other) as other:
+                is_same = linkcap.same(file.read(), other.read(), given.limit, ignore_numbers=given.ignore_numbers)
+            sys.stdout.buffer.write(b"same\n" if is_same else b"different\n")
+            return LEGAL if is_same else DIFFERENT
+        for written in _results(given, file):
+            sys.stdout.buffer.write(written)
     return LEGAL
 
 
 def main(arguments: Optional[List[str]] = None) -> int:
     given = _parser().parse_args(arguments)
     try:
-        return _run(given, _read(given.file))
+        return _run(given)
     except linkcap.Fault as fault:
-        if given.command != "same":
+        if given.command in ("norm", "lines"):
             sys.stdout.buffer.write(fault.written)
         print(fault, file=sys.stderr)
         return FAULT

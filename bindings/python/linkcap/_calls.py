@@ -1,11 +1,12 @@
 """The calls over a capture in memory."""
 import array
 import ctypes
+import enum
 import operator
 import struct
-from typing import Any, Callable, Iterable, List, NamedTuple, Optional, SupportsIndex
+from typing import Any, Callable, Dict, Iterable, List, NamedTuple, Optional, SupportsIndex
 
-from . import _fault, _native
+from . import _fault, _native, lines_json
 from ._fault import Refusal, failure
 from ._native import Borrowed, Capture, address_of
 from ._types import MessageType, type_numbers
@@ -38,6 +39,11 @@ class Message(NamedTuple):
     port_number: int
 
 
+def type_array(only: Optional[Iterable[MessageType]]) -> "array.array[int]":
+    """The numbers of message types; none stands for all."""
+    return array.array("H", () if only is None else type_numbers(only))
+
+
 def checked_limit(limit: SupportsIndex) -> int:
     """The number of a limit; else a ValueError, or a TypeError."""
     number = operator.index(limit)
@@ -57,7 +63,7 @@ def check(capture: Capture, limit: SupportsIndex = DEFAULT_LIMIT) -> None:
 
 def measure(capture: Capture, limit: SupportsIndex = DEFAULT_LIMIT) -> Measure:
     """The sizes of a legal capture; else raises its first `Fault`."""
-    most, fault, numbers = checked_limit(limit), _native.FaultStruct(), _native.MeasureStruct()
+    most, fault, numbers = checked_limit(limit), _native.FaultStruct(), _native.SizesStruct()
     call = _native.call("linkcap_measure")
     with Borrowed(capture) as given:
         status = call(given.at, given.length, most, address_of(numbers), address_of(fault))
@@ -86,13 +92,16 @@ def normalize(capture: Capture, limit: SupportsIndex = DEFAULT_LIMIT) -> bytes:
     return _write(_native.call("linkcap_normalize"), capture, checked_limit(limit), lambda length: length + 256)
 
 
-def same(first: Capture, second: Capture, limit: SupportsIndex = DEFAULT_LIMIT) -> bool:
+def same(first: Capture, second: Capture, limit: SupportsIndex = DEFAULT_LIMIT, *, ignore_numbers: bool = False) -> bool:
     """Whether two legal captures mean the same, which is if and only if their normal texts are equal.
+
+    With `ignore_numbers`, whether they do after zeroing sequence and port numbers, those too of the request's header that an
+    NLMSG_ERROR repeats: what changes from run to run.
 
     Else raises the first `Fault` of the first one, or of the second if the first is legal; its `side` is 1 or 2.
     """
     most, fault = checked_limit(limit), _native.FaultStruct()
-    call = _native.call("linkcap_same")
+    call = _native.call("linkcap_same_ignoring_numbers" if ignore_numbers else "linkcap_same")
     with Borrowed(first) as one, Borrowed(second) as other:
         status = call(one.at, one.length, other.at, other.length, most, address_of(fault))
         if status > _native.DIFFERENT:
@@ -109,7 +118,7 @@ def lines(capture: Capture, limit: SupportsIndex = DEFAULT_LIMIT, *, numbers: bo
     messages of these types alone, by name or number: `only=["newlink", 17]`.
     """
     most = checked_limit(limit)
-    types = array.array("H", () if only is None else type_numbers(only))
+    types = type_array(only)
     if only is not None and not types:
         check(capture, most)
         return ""
@@ -117,6 +126,72 @@ def lines(capture: Capture, limit: SupportsIndex = DEFAULT_LIMIT, *, numbers: bo
     shown = _write(_native.call("linkcap_show_with"), capture, most, lambda size: 4 * size + 256, not numbers,
                    at or _native.SOMEWHERE, length)
     return shown.decode("ascii")
+
+
+class QuirkKind(enum.IntEnum):
+    """Encodings that some kernels treat differently from their normal texts: the rows of linkcap's docs/kernels.md."""
+
+    NESTED_PORT_SETTINGS = 1
+    RESIZED_SETTINGS = 2
+    PATH_DISCOVERY_OVER_ONE = 3
+    LATER_PEER = 4
+    LONG_ALIAS = 5
+    NAME_WITHOUT_NUL = 6
+    FLAG_WITH_PAYLOAD = 7
+    BOOLEAN_OVER_ONE = 8
+    STRAY_NESTED_BIT = 9
+    FOREIGN_FUNCTION = 10
+    HEADER_BYTE = 11
+    SHORT_MAP = 12
+
+
+class Quirk(NamedTuple):
+    """An encoding that some kernels treat differently from its normal text."""
+
+    kind: QuirkKind
+    #: where the attribute that has it starts, or the header's byte, in bytes from the capture's start
+    offset: int
+    #: as "flag with a payload at 76"
+    words: str
+
+
+def _quirk(found: _native.QuirkStruct) -> Quirk:
+    out, size = _native.Output(128), ctypes.c_uint64()
+    if _native.call("linkcap_quirk_text")(address_of(found), out.at, out.room, address_of(size)) != _native.OK:
+        raise ValueError("no quirk of a capture")
+    return Quirk(QuirkKind(found.kind), found.offset, out.take(size.value).decode("ascii"))
+
+
+def quirks(capture: Capture, limit: SupportsIndex = DEFAULT_LIMIT) -> List[Quirk]:
+    """Each encoding of a legal capture that some kernels treat differently from its normal text, in the order of the bytes;
+    else raises its first `Fault`. A normal text has none.
+
+    >>> quirks(bytes.fromhex("20000000120001030000000000000000") + b"\\0\\1" + bytes(14))[0].words
+    'second byte of the header of RTM_GETLINK at 17'
+    """
+    most, fault, count = checked_limit(limit), _native.FaultStruct(), ctypes.c_uint64()
+    call = _native.call("linkcap_quirks")
+    with Borrowed(capture) as given:
+        room, status = 16, _native.NO_ROOM
+        while status == _native.NO_ROOM:
+            found = (_native.QuirkStruct * room)()
+            status = call(given.at, given.length, most, address_of(found), room, address_of(count), address_of(fault))
+            room = count.value
+        if status != _native.OK:
+            raise failure(status, fault, given.at, given.length, most)
+    return [_quirk(found[at]) for at in range(count.value)]
+
+
+def to_json(capture: Capture, limit: SupportsIndex = DEFAULT_LIMIT, *, numbers: bool = True,
+            only: Optional[Iterable[MessageType]] = None) -> List[Dict[str, Any]]:
+    """The messages of a legal capture as data, a dictionary each that `json.dumps` writes; else raises its first `Fault`.
+
+    The keys are those of the program linkjson; `numbers` and `only` are those of `lines`.
+
+    >>> to_json(bytes.fromhex("10000000030002000000000000000000"), numbers=False)[0]["type"]
+    'NLMSG_DONE'
+    """
+    return list(lines_json.to_json(lines(capture, limit, numbers=numbers, only=only).splitlines()))
 
 
 def why(capture: Capture, limit: SupportsIndex = DEFAULT_LIMIT) -> Optional[Refusal]:

@@ -78,7 +78,7 @@ def refusal(at: int, length: int, limit: int, start: int = 0) -> Optional[Refusa
         room = size.value
     if status == _native.NO_MEMORY:
         raise MemoryError("no memory for the words of a refusal")
-    if status != _native.FAULT:
+    if status != _native.OK:
         return None
     words = out.take(size.value).decode("ascii")
     if place.value == (1 << 64) - 1:

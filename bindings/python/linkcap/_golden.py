@@ -5,11 +5,8 @@ import re
 from typing import Iterable, Optional, SupportsIndex, Tuple, Union
 
 from ._calls import DEFAULT_LIMIT, lines
-from ._native import Capture
+from ._native import FORMAT, Capture
 from ._types import MessageType
-
-#: The format version of normal texts and lines, as CHANGELOG.md has it.
-FORMAT = 2
 
 # Frames of this module are left out of tracebacks, by unittest and by pytest.
 __unittest = True

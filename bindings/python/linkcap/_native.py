@@ -25,20 +25,24 @@ elif sys.version_info >= (3, 12):
 else:
     Capture = Union[bytes, bytearray, memoryview]
 
-VERSION = 1
-OK, DIFFERENT, FAULT, WRONG, NO_ROOM, NO_MEMORY = range(6)
+VERSION = 2
+OK, DIFFERENT, FAULT, WRONG, NO_ROOM, NO_MEMORY, NONE = range(7)
 
 
 class FaultStruct(ctypes.Structure):
     _fields_ = [("kind", ctypes.c_uint32), ("side", ctypes.c_uint32), ("offset", ctypes.c_uint64)]
 
 
-class MeasureStruct(ctypes.Structure):
+class SizesStruct(ctypes.Structure):
     _fields_ = [(name, ctypes.c_uint64) for name in ("frames", "attributes", "text_low", "text_high")]
 
 
 class ProgressStruct(ctypes.Structure):
     _fields_ = [(name, ctypes.c_uint64) for name in ("used", "written", "wanted")]
+
+
+class QuirkStruct(ctypes.Structure):
+    _fields_ = [("offset", ctypes.c_uint64), ("kind", ctypes.c_uint32)]
 
 
 # The address and the length of a bytes-like object, in one call that nothing interrupts: of CPython's stable interface.
@@ -87,7 +91,7 @@ class Output:
         return bytes(memoryview(self._bytes)[:length])
 
 
-def address_of(value: Union[ctypes.Structure, ctypes.c_uint64]) -> int:
+def address_of(value: Union[ctypes.Structure, ctypes.c_uint64, "ctypes.Array[Any]"]) -> int:
     return ctypes.addressof(value)
 
 
@@ -124,28 +128,35 @@ def _load() -> ctypes.CDLL:
     capture, number, address = [ctypes.c_void_p, ctypes.c_size_t], ctypes.c_uint32, ctypes.c_void_p
     signatures: Dict[str, List[Any]] = {
         "linkcap_version": [],
+        "linkcap_format": [],
         "linkcap_check": [*capture, number, address],
         "linkcap_measure": [*capture, number, address, address],
         "linkcap_normalize": [*capture, number, *capture, address, address],
         "linkcap_normalize_some": [*capture, ctypes.c_bool, number, *capture, address, address],
+        "linkcap_quirk_text": [address, *capture, address],
+        "linkcap_quirks": [*capture, number, *capture, address, address],
         "linkcap_same": [*capture, *capture, number, address],
+        "linkcap_same_ignoring_numbers": [*capture, *capture, number, address],
         "linkcap_show": [*capture, number, *capture, address, address],
+        "linkcap_show_some": [*capture, ctypes.c_bool, number, ctypes.c_bool, *capture, *capture, address, address],
         "linkcap_show_with": [*capture, number, ctypes.c_bool, *capture, *capture, address, address],
         "linkcap_why": [*capture, number, *capture, address, address],
         "linkcap_fault_text": [address, *capture, address],
     }
-    for name, arguments in signatures.items():
-        call = getattr(library, name)
-        call.argtypes, call.restype = arguments, number
     found = library.linkcap_version()
     if found != VERSION:
         raise ImportError(f"{library._name} has version {found} of the interface, and {VERSION} is needed")
+    for name, arguments in signatures.items():
+        call = getattr(library, name)
+        call.argtypes, call.restype = arguments, number
     return library
 
 
 library = _load()
 #: the file that was loaded, as the loader was given it
 LIBRARY_PATH: str = library._name
+#: the format version of normal texts and lines, as CHANGELOG.md has it
+FORMAT: int = library.linkcap_format()
 
 
 def call(name: str) -> Callable[..., int]:

@@ -1,12 +1,13 @@
 """Captures that come in pieces."""
 import ctypes
 import threading
-from typing import Iterator, List, Optional, Protocol, SupportsIndex, Tuple
+from typing import Any, Generic, Iterable, Iterator, List, Optional, Protocol, SupportsIndex, Tuple, TypeVar
 
 from . import _native
-from ._calls import DEFAULT_LIMIT, checked_limit
-from ._fault import failure
+from ._calls import DEFAULT_LIMIT, checked_limit, type_array
+from ._fault import Fault, failure
 from ._native import Borrowed, Capture, address_of
+from ._types import MessageType
 
 _HEADER = 16
 
@@ -15,14 +16,21 @@ class _Readable(Protocol):
     def read(self, size: int) -> Optional[bytes]: ...
 
 
-class Reader:
-    """Normalises a capture that comes in pieces of any sizes. Between pieces it keeps the bytes of the message that is
-    cut. The work is linear in the capture's length, whatever the pieces' sizes.
+Written = TypeVar("Written", bytes, str)
+
+
+class _Pieces(Generic[Written]):
+    """What readers share: between pieces they keep the bytes of the message that is cut. The work is linear in the capture's
+    length, whatever the pieces' sizes.
 
     The calls of one reader come one after the other: one that is made while another runs, from a thread, a finaliser or
     a signal handler, raises RuntimeError and changes nothing. After a call that raised a fault or another exception, and
     after `finish`, each raises ValueError; a piece of a wrong type changes nothing.
     """
+
+    _call: str
+    #: what stands between the limit and the buffer of the call
+    _options: Tuple[Any, ...] = ()
 
     def __init__(self, limit: SupportsIndex = DEFAULT_LIMIT) -> None:
         self._limit = checked_limit(limit)
@@ -32,10 +40,14 @@ class Reader:
         self._has_ended = False
         self._running = threading.Lock()
 
-    def feed(self, piece: Capture) -> bytes:
-        """Takes the next piece, and returns the texts of the messages that are whole now, with their padding.
+    def _result(self, written: bytes) -> Written:
+        """What a caller gets of what was written."""
+        raise NotImplementedError
 
-        Raises the capture's first `Fault`, whose `written` are the texts of this piece before it.
+    def feed(self, piece: Capture) -> Written:
+        """Takes the next piece, and returns what the messages that are whole now, with their padding, are written as.
+
+        Raises the capture's first `Fault`, whose `written` is what comes before it in this piece.
         """
         with Borrowed(piece) as given:
             self._begin()
@@ -44,22 +56,22 @@ class Reader:
                 self._has_ended = True
                 text = self._feed(given)
                 self._has_ended = False
-                return text
+                return self._result(text)
             finally:
                 self._running.release()
 
-    def finish(self) -> bytes:
-        """The capture ends here: returns the text of a last message that lacks padding, or raises a `Fault`."""
+    def finish(self) -> Written:
+        """The capture ends here: returns what a last message that lacks padding is written as, or raises a `Fault`."""
         self._begin()
         try:
             self._has_ended = True
             with Borrowed(self._rest) as given:
-                return self._write(given.at, given.length, True)[1]
+                return self._result(self._write(given.at, given.length, True)[1])
         finally:
             self._running.release()
 
-    def read_file(self, file: _Readable, size: int = 1 << 16) -> Iterator[bytes]:
-        """Feeds a binary file, from where it is to its end, and finishes. Yields the texts of each `size` bytes.
+    def read_file(self, file: _Readable, size: int = 1 << 16) -> Iterator[Written]:
+        """Feeds a binary file, from where it is to its end, and finishes. Yields what `feed` returns of each `size` bytes.
 
         >>> import io
         >>> done = bytes.fromhex("10000000030002000000000000000000")
@@ -105,13 +117,14 @@ class Reader:
         self._wanted = int.from_bytes(self._rest[:4], "little") if has_header else _HEADER
 
     def _write(self, at: int, length: int, is_last: bool) -> Tuple[int, bytes]:
-        """Writes the texts of the messages that are whole; returns how many bytes they were, and the texts."""
-        call, progress, fault = _native.call("linkcap_normalize_some"), _native.ProgressStruct(), _native.FaultStruct()
+        """Writes the messages that are whole; returns how many bytes they were, and what was written."""
+        call, progress, fault = _native.call(self._call), _native.ProgressStruct(), _native.FaultStruct()
         texts: List[bytes] = []
         used, room, status = 0, length + 256, _native.NO_ROOM
         while status == _native.NO_ROOM:
             out = _native.Output(room)
-            status = call(at + used, length - used, is_last, self._limit, out.at, out.room, address_of(progress), address_of(fault))
+            status = call(at + used, length - used, is_last, self._limit, *self._options, out.at, out.room,
+                          address_of(progress), address_of(fault))
             texts.append(out.take(progress.written))
             used += progress.used
             room = max(progress.wanted, length - used + 256)
@@ -120,3 +133,50 @@ class Reader:
             fault.offset = 0  # the fault is that of the message after those that were used
             raise failure(status, fault, at + used, length - used, self._limit, self._start + used, text)
         return used, text
+
+
+class Reader(_Pieces[bytes]):
+    """Normalises a capture that comes in pieces of any sizes: `feed`, `finish` and `read_file` give its normal text.
+
+    The calls of one reader come one after the other: one that is made while another runs, from a thread, a finaliser or
+    a signal handler, raises RuntimeError and changes nothing. After a call that raised a fault or another exception, and
+    after `finish`, each raises ValueError; a piece of a wrong type changes nothing.
+    """
+
+    _call = "linkcap_normalize_some"
+
+    def _result(self, written: bytes) -> bytes:
+        return written
+
+
+class LineReader(_Pieces[str]):
+    """Shows a capture that comes in pieces, as `Reader` normalises one: `feed`, `finish` and `read_file` give its lines.
+
+    `numbers` and `only` are those of `lines`. Memory is that of a piece, its lines and the message that is cut, however long
+    the capture is.
+
+    >>> import io
+    >>> "".join(LineReader(numbers=False).read_file(io.BytesIO(bytes.fromhex("10000000030002000000000000000000"))))
+    'NLMSG_DONE flags 0x2 (MULTI)\\n  code 0\\n'
+    """
+
+    _call = "linkcap_show_some"
+
+    def __init__(self, limit: SupportsIndex = DEFAULT_LIMIT, *, numbers: bool = True,
+                 only: Optional[Iterable[MessageType]] = None) -> None:
+        super().__init__(limit)
+        self._types = type_array(only)
+        self._shows_none = only is not None and not self._types
+        at, length = self._types.buffer_info()
+        self._options = (not numbers, at or _native.SOMEWHERE, length)
+
+    def _result(self, written: bytes) -> str:
+        return written.decode("ascii")
+
+    def _write(self, at: int, length: int, is_last: bool) -> Tuple[int, bytes]:
+        try:
+            used, written = super()._write(at, length, is_last)
+        except Fault as fault:
+            fault.written = b"" if self._shows_none else fault.written
+            raise
+        return used, b"" if self._shows_none else written

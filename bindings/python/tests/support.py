@@ -6,6 +6,7 @@ from typing import List, Tuple
 
 TOP = os.path.normpath(os.path.join(os.path.dirname(os.path.abspath(__file__)), "..", "..", ".."))
 sys.path.append(os.path.join(TOP, "tools", "oracle"))
+import linkoracle           # type: ignore[import]  # noqa: E402
 import vectors              # type: ignore[import]  # noqa: E402
 
 
@@ -35,6 +36,28 @@ def captures(kind: str) -> List[Tuple[int, List[bytes]]]:
         limit, *words = case.split(" ")
         found.append((int(limit), [bytes.fromhex(word) for word in words]))
     return found
+
+
+def cleared(capture: bytes) -> bytes:
+    """A legal capture with zeros over the sequence and port number of each message (netlink.h, struct nlmsghdr), and of the
+    header that an NLMSG_ERROR of 36 bytes or more repeats behind its code (struct nlmsgerr)."""
+    out, at = bytearray(capture), 0
+    while at < len(out):
+        length, kind = int.from_bytes(out[at:at + 4], "little"), int.from_bytes(out[at + 4:at + 6], "little")
+        for numbers in (8, 28) if kind == 2 and length >= 36 else (8,):
+            out[at + numbers:at + numbers + 8] = bytes(8)
+        at += (length + 3) // 4 * 4
+    return bytes(out)
+
+
+def is_legal(capture: bytes, limit: int) -> bool:
+    """As the independent implementation has it."""
+    return linkoracle.normal_text(capture, limit)[1] is None
+
+
+def means_the_same(first: bytes, second: bytes, limit: int) -> bool:
+    """As the independent implementation has it, of two legal captures."""
+    return bool(linkoracle.same(first, second, limit))
 
 
 def header_constants(prefix: str, *headers: str) -> List[Tuple[str, int]]:

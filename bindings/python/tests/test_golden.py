@@ -1,4 +1,5 @@
 """Golden files, and `python -m linkcap`."""
+import json
 import os
 import subprocess
 import sys
@@ -131,11 +132,27 @@ class Program(unittest.TestCase):
             (["lines", other], b"", 0, sample("lo-request.lines"), b""),
             (["lines", "--only", "getlink,3", other], b"", 0, sample("lo-request.lines"), b""),
             (["messages", other], b"", 0, b"0 48 18\n", b""),
+            (["same", "--ignore-numbers", other, "-"], self.renumbered(), 0, b"same\n", b""),
+            (["same", other, "-"], self.renumbered(), 1, b"different\n", b""),
+            (["quirks"], sample("lo-request.bin")[:17] + b"\1" + sample("lo-request.bin")[18:], 0,
+             b"second byte of the header of RTM_GETLINK at 17\n", b""),
             (["norm", "--limit", "15"], b"", 3, b"", b"linkcap: a limit is a number from 16 to 4294967295\n"),
         ]
         for arguments, given, status, out, error in cases:
             ran = self.run_it(*arguments, given=given)
             self.assertEqual((ran.returncode, ran.stdout, ran.stderr), (status, out, error), arguments)
+
+    def renumbered(self) -> bytes:
+        """A request with another sequence number."""
+        capture = sample("lo-request.bin")
+        return capture[:8] + b"\1\2\3\4" + capture[12:]
+
+    def test_json(self) -> None:
+        ran = self.run_it("json", "--without-numbers", os.path.join(TOP, "samples", "lo-request.bin"))
+        message = json.loads(ran.stdout)
+        self.assertEqual((message["type"], message["flags"]["value"]), ("RTM_GETLINK", 0x301))
+        self.assertIn(("IFLA_IFNAME", "lo"), [(one["name"], one["value"]) for one in message["attributes"]])
+        self.assertNotIn("seq", message)
 
     def test_usage(self) -> None:
         wrong: List[List[str]] = [[], ["norn"], ["same", "one"], ["lines", "--only", "newlnk"]]
@@ -143,7 +160,7 @@ class Program(unittest.TestCase):
             self.assertEqual(self.run_it(*arguments).returncode, 3, arguments)
         self.assertEqual(self.run_it("norm", os.path.join(TOP, "missing")).returncode, 2)
         told = self.run_it("--version").stdout.decode()
-        self.assertTrue(told.startswith(f"linkcap {linkcap.__version__} (interface 1, lines 2), library "), told)
+        self.assertTrue(told.startswith(f"linkcap {linkcap.__version__} (interface 2, lines 2), library "), told)
         self.assertIn(linkcap.LIBRARY_PATH, told)
 
 

@@ -1,16 +1,18 @@
 """The calls over the stored vectors, and at the edges: `python3 -m unittest` in this folder, or pytest."""
 import array
+import io
 import mmap
 import os
 import pickle
 import tempfile
 import threading
 import time
+import tracemalloc
 import unittest
 from typing import Callable, Optional, Tuple
 
 import linkcap
-from support import answers, captures, cases, header_constants, sample
+from support import answers, captures, cases, cleared, header_constants, is_legal, means_the_same, sample
 
 Written = Tuple[bytes, Optional[linkcap.Fault]]
 Call = Callable[..., object]
@@ -78,6 +80,21 @@ class Vectors(unittest.TestCase):
                 self.assertEqual({1: "first", 2: "second"}[fault.side or 0], fault.words.split(":")[0])
                 self.assertEqual(fault.words + "\n", line)
 
+    def test_same_ignoring_numbers(self) -> None:
+        """Compared with what the independent implementation says of captures whose numbers are zero."""
+        compared = 0
+        for number, (limit, (first, second)) in enumerate(captures("same")):
+            if not is_legal(first, limit) or not is_legal(second, limit):
+                with self.assertRaises(linkcap.Fault):
+                    linkcap.same(first, second, limit, ignore_numbers=True)
+                continue
+            # other numbers in every second case
+            renumbered = bytes(byte ^ (number & 1) if at in range(8, 16) else byte for at, byte in enumerate(second))
+            expected = means_the_same(cleared(first), cleared(renumbered), limit)
+            self.assertEqual(linkcap.same(first, renumbered, limit, ignore_numbers=True), expected, (limit, first, renumbered))
+            compared += 1
+        self.assertGreater(compared, 1000)
+
     def test_show(self) -> None:
         given, stored = cases("show"), answers("show")
         self.assertEqual(len(given), len(stored))
@@ -90,6 +107,35 @@ class Vectors(unittest.TestCase):
             except linkcap.Fault as fault:
                 shown = f"{fault.written.decode()}{fault.words}\n"
             self.assertTrue(shown == expected, case[:200])
+
+    def test_lines_in_pieces(self) -> None:
+        for number, (case, expected) in enumerate(zip(cases("show"), answers("show"))):
+            limit, *choice, capture = case.split(" ")
+            numbers = choice != ["without-numbers"]
+            only = [int(kind) for kind in choice[0].split(",")] if choice and numbers else None
+            given, size = bytes.fromhex(capture), (1, 7, 100)[number % 3]
+            reader, shown = linkcap.LineReader(int(limit), numbers=numbers, only=only), []
+            try:
+                for at in range(0, len(given), size):
+                    shown.append(reader.feed(given[at:at + size]))
+                shown += [reader.finish(), "legal\n"]
+            except linkcap.Fault as fault:
+                shown.append(f"{fault.written.decode()}{fault.words}\n")
+            self.assertTrue("".join(shown) == expected, case[:200])
+
+    def test_quirks(self) -> None:
+        given, stored = captures("spelling"), answers("spelling")
+        self.assertEqual((len(given), len(stored)), (287, 287))
+        for (limit, (capture,)), line in zip(given, stored):
+            try:
+                found = linkcap.quirks(capture, limit)
+            except linkcap.Fault as fault:
+                self.assertTrue(line.endswith(f"{fault.words}\n"), line)
+                found = linkcap.quirks(capture[:fault.offset], limit)
+                line = line.replace(f"{fault.words}\n", "legal\n")
+            self.assertEqual("".join(f"{quirk.words}; " for quirk in found) + "legal\n", line)
+            for quirk in found:
+                self.assertTrue(quirk.words.endswith(f" at {quirk.offset}"))
 
     def test_why(self) -> None:
         given, stored = captures("refusal"), answers("refusal")
@@ -125,7 +171,7 @@ class Edges(unittest.TestCase):
 
     def test_limits(self) -> None:
         calls: Tuple[Call, ...] = (
-            linkcap.check, linkcap.measure, linkcap.normalize, linkcap.lines, linkcap.why, linkcap.messages)
+            linkcap.check, linkcap.measure, linkcap.normalize, linkcap.lines, linkcap.why, linkcap.messages, linkcap.quirks)
         for limit in (15, 0, -1, 1 << 32, True):
             for call in calls:
                 with self.assertRaises(ValueError):
@@ -247,6 +293,56 @@ class Edges(unittest.TestCase):
         with self.assertRaises(linkcap.Fault) as raised:
             reader.feed(REFUSED[9:])
         self.assertEqual(str(raised.exception), "refused body at 48" + reason + "80")
+
+    def test_same_ignoring_numbers(self) -> None:
+        capture = sample("lo-request.bin")
+        for at in range(4, 48):
+            other = bytearray(capture)
+            other[at] ^= 1
+            try:
+                is_same = linkcap.same(capture, other, ignore_numbers=True)
+            except linkcap.Fault:
+                continue
+            # netlink.h, struct nlmsghdr: the sequence and the port number are the bytes 8 to 16
+            self.assertEqual(is_same, 8 <= at < 16 or linkcap.same(capture, other), at)
+            self.assertEqual(is_same, linkcap.lines(capture, numbers=False) == linkcap.lines(other, numbers=False))
+        with self.assertRaises(linkcap.Fault) as raised:
+            linkcap.same(capture, REFUSED, ignore_numbers=True)
+        self.assertEqual((raised.exception.side, str(raised.exception)[:24]), (2, "second: refused body at 0"[:24]))
+        assert raised.exception.why is not None
+
+    def test_quirk_of_a_header(self) -> None:
+        capture = bytearray(sample("lo-request.bin"))
+        self.assertEqual(linkcap.quirks(capture), [])
+        capture[17] = 1
+        expected = linkcap.Quirk(linkcap.QuirkKind.HEADER_BYTE, 17, "second byte of the header of RTM_GETLINK at 17")
+        self.assertEqual(linkcap.quirks(capture), [expected])
+        self.assertEqual(len(linkcap.quirks(bytes(capture) * 40)), 40)
+        self.assertEqual(linkcap.quirks(linkcap.normalize(capture)), [])
+
+    def test_line_reader(self) -> None:
+        capture = sample("lo-request.bin")
+        reader = linkcap.LineReader(numbers=False, only=["newlink"])
+        self.assertEqual(reader.feed(capture) + reader.finish(), "")
+        with self.assertRaises(linkcap.Fault) as raised:
+            linkcap.LineReader().feed(capture + REFUSED)
+        self.assertEqual(raised.exception.written, sample("lo-request.lines"))
+        with self.assertRaises(linkcap.Fault) as raised:
+            linkcap.LineReader(only=[]).feed(capture + REFUSED)
+        self.assertEqual(raised.exception.written, b"")
+        self.assertEqual("".join(linkcap.LineReader().read_file(io.BytesIO(capture), 5)), sample("lo-request.lines").decode())
+
+    def test_lines_of_a_long_capture_need_little_memory(self) -> None:
+        """A reader holds a piece and its lines, not the whole."""
+        capture, shown = sample("req-veth.bin"), 0
+        reader = linkcap.LineReader()
+        tracemalloc.start()
+        for _ in range(2000):
+            shown += len(reader.feed(capture))
+        most = tracemalloc.get_traced_memory()[1]
+        tracemalloc.stop()
+        self.assertEqual(shown, 2000 * len(sample("req-veth.lines")))
+        self.assertLess(most, 100 * len(sample("req-veth.lines")))
 
     def test_threads(self) -> None:
         capture = sample("get-veth.bin")

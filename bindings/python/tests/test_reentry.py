@@ -24,6 +24,16 @@ def in_pieces(capture: bytes) -> bytes:
     return reader.feed(capture[:50]) + reader.feed(capture[50:]) + reader.finish()
 
 
+def lines_in_pieces(capture: bytes) -> str:
+    reader = linkcap.LineReader()
+    return reader.feed(capture[:50]) + reader.feed(capture[50:]) + reader.finish()
+
+
+def with_quirk(capture: bytes) -> bytes:
+    """A capture behind an RTM_GETLINK whose second byte of the header isn't 0."""
+    return bytes.fromhex("20000000120001030000000000000000") + b"\0\1" + bytes(14) + capture
+
+
 def fault_of(capture: bytes) -> str:
     try:
         linkcap.check(capture)
@@ -48,6 +58,9 @@ def calls(capture: bytes, other: bytes) -> List[Call]:
         lambda: fault_of(capture + capture[:20]),
         lambda: fault_of(REFUSED + capture),
         lambda: in_pieces(capture),
+        lambda: linkcap.same(capture, other, ignore_numbers=True),
+        lambda: lines_in_pieces(capture),
+        lambda: linkcap.quirks(with_quirk(capture)),
     ]
 
 
@@ -63,6 +76,8 @@ class Reentry(unittest.TestCase):
         self.expected = [call() for call in self.calls]
         self.assertEqual(self.expected[2], REQUEST)
         self.assertEqual(self.expected[6], sample("req-veth.lines").decode())
+        self.assertEqual(self.expected[14], self.expected[6])
+        self.assertEqual([quirk.offset for quirk in self.expected[15]], [17])
         self.assertEqual(self.expected[11], "refused body at 0: IFLA_MTU: a payload of 3 bytes at 32")
 
     def test_at_each_instruction(self) -> None:

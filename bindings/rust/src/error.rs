@@ -1,6 +1,7 @@
 //! What goes wrong.
 
-use crate::ffi;
+use crate::writing::words_of;
+use crate::{ffi, why, Refusal};
 use std::{fmt, io};
 
 /// What is wrong with a capture, numbered as in linkcap.h.
@@ -30,7 +31,8 @@ pub enum Side {
     Second,
 }
 
-/// A capture's first fault. It is displayed as `cut frame at 48`, or `second: cut frame at 48`.
+/// A capture's first fault. It is displayed as its words, as `cut frame at 48` or `second: cut frame at 48`, followed by the
+/// reason if a body is refused: `refused body at 48: IFLA_MTU: a payload of 3 bytes at 80`.
 #[derive(Clone, Debug, PartialEq, Eq)]
 pub struct Fault {
     pub kind: Kind,
@@ -40,6 +42,8 @@ pub struct Fault {
     pub offset: u64,
     /// What the call wrote before it: texts, or lines in ASCII.
     pub written: Vec<u8>,
+    /// The attribute that isn't accepted and the reason, if the kind is [`Kind::Refused`] and there is memory for the words.
+    pub why: Option<Refusal>,
 }
 
 /// Why a call returns no value.
@@ -56,13 +60,15 @@ pub enum Error {
 }
 
 impl Error {
-    pub(crate) fn of(status: u32, fault: &ffi::Fault, written: Vec<u8>) -> Error {
+    /// The error of a status over some bytes, which begin `start` bytes after the capture's start.
+    pub(crate) fn of(status: u32, fault: &ffi::Fault, given: &[u8], start: u64, limit: u32, written: Vec<u8>) -> Error {
         match status {
             ffi::FAULT => Error::Fault(Fault {
                 kind: kind_of(fault.kind),
                 side: [None, Some(Side::First), Some(Side::Second)][fault.side as usize],
-                offset: fault.offset,
+                offset: start + fault.offset,
                 written,
+                why: refusal(fault, given, start, limit),
             }),
             ffi::WRONG => Error::Limit,
             _ => Error::Memory,
@@ -79,6 +85,15 @@ impl Error {
     }
 }
 
+/// Why a body is refused, with offsets from the capture's start.
+fn refusal(fault: &ffi::Fault, given: &[u8], start: u64, limit: u32) -> Option<Refusal> {
+    if fault.kind != Kind::Refused as u32 {
+        return None;
+    }
+    let message = given.get(usize::try_from(fault.offset).ok()?..)?;
+    Some(why(message, limit).ok()??.further(start + fault.offset))
+}
+
 fn kind_of(number: u32) -> Kind {
     match number {
         1 => Kind::Cut,
@@ -92,18 +107,26 @@ fn kind_of(number: u32) -> Kind {
     }
 }
 
-impl fmt::Display for Fault {
-    fn fmt(&self, f: &mut fmt::Formatter<'_>) -> fmt::Result {
+impl Fault {
+    /// Its words without the reason, as `refused body at 48`.
+    #[must_use]
+    pub fn words(&self) -> String {
         let fault = ffi::Fault {
             kind: self.kind as u32,
             side: self.side.map_or(0, |side| side as u32),
             offset: self.offset,
         };
-        let (mut words, mut length) = ([0u8; 128], 0u64);
-        // Safety: `words` has the room that is given.
-        unsafe { ffi::linkcap_fault_text(&fault, words.as_mut_ptr(), words.len(), &mut length) };
-        let length = usize::try_from(length).unwrap_or(0);
-        f.pad(words.get(..length).and_then(|words| std::str::from_utf8(words).ok()).unwrap_or_default())
+        // Safety: the buffer has the room that is given.
+        words_of(|out, room, length| unsafe { ffi::linkcap_fault_text(&fault, out, room, length) })
+    }
+}
+
+impl fmt::Display for Fault {
+    fn fmt(&self, f: &mut fmt::Formatter<'_>) -> fmt::Result {
+        match &self.why {
+            Some(why) => f.pad(&format!("{}: {why}", self.words())),
+            None => f.pad(&self.words()),
+        }
     }
 }
 

@@ -1,12 +1,13 @@
 //! The functions of linkcap.h.
 
-pub const VERSION: u32 = 1;
+pub const VERSION: u32 = 2;
 
 pub const OK: u32 = 0;
 pub const DIFFERENT: u32 = 1;
 pub const FAULT: u32 = 2;
 pub const WRONG: u32 = 3;
 pub const NO_ROOM: u32 = 4;
+pub const NONE: u32 = 6;
 
 #[repr(C)]
 #[derive(Default)]
@@ -18,7 +19,7 @@ pub struct Fault {
 
 #[repr(C)]
 #[derive(Default)]
-pub struct Measure {
+pub struct Sizes {
     pub frames: u64,
     pub attributes: u64,
     pub text_low: u64,
@@ -33,10 +34,18 @@ pub struct Progress {
     pub wanted: u64,
 }
 
+#[repr(C)]
+#[derive(Clone, Copy, Default)]
+pub struct Quirk {
+    pub offset: u64,
+    pub kind: u32,
+}
+
 extern "C" {
     pub fn linkcap_version() -> u32;
+    pub fn linkcap_format() -> u32;
     pub fn linkcap_check(capture: *const u8, length: usize, limit: u32, fault: &mut Fault) -> u32;
-    pub fn linkcap_measure(capture: *const u8, length: usize, limit: u32, numbers: &mut Measure, fault: &mut Fault) -> u32;
+    pub fn linkcap_measure(capture: *const u8, length: usize, limit: u32, sizes: &mut Sizes, fault: &mut Fault) -> u32;
     pub fn linkcap_normalize(
         capture: *const u8,
         length: usize,
@@ -64,6 +73,37 @@ extern "C" {
         limit: u32,
         fault: &mut Fault,
     ) -> u32;
+    pub fn linkcap_same_ignoring_numbers(
+        first: *const u8,
+        first_length: usize,
+        second: *const u8,
+        second_length: usize,
+        limit: u32,
+        fault: &mut Fault,
+    ) -> u32;
+    pub fn linkcap_show_some(
+        piece: *const u8,
+        length: usize,
+        last: bool,
+        limit: u32,
+        without_numbers: bool,
+        types: *const u16,
+        types_length: usize,
+        out: *mut u8,
+        room: usize,
+        progress: &mut Progress,
+        fault: &mut Fault,
+    ) -> u32;
+    pub fn linkcap_quirks(
+        capture: *const u8,
+        length: usize,
+        limit: u32,
+        quirks: *mut Quirk,
+        room: usize,
+        count: &mut u64,
+        fault: &mut Fault,
+    ) -> u32;
+    pub fn linkcap_quirk_text(quirk: &Quirk, out: *mut u8, room: usize, written: &mut u64) -> u32;
     pub fn linkcap_show_with(
         capture: *const u8,
         length: usize,

@@ -26,13 +26,15 @@ mod error;
 mod ffi;
 mod messages;
 mod normal_reader;
+mod quirks;
 mod reader;
 mod writing;
 
 pub use error::{Error, Fault, Kind, Side};
 pub use messages::{messages, Message, Messages};
 pub use normal_reader::NormalReader;
-pub use reader::Reader;
+pub use quirks::{quirks, Quirk, QuirkKind};
+pub use reader::{LineReader, Reader};
 pub use writing::{lines, lines_with, normalize, why, LineOptions, Refusal};
 
 /// The limit that the program takes if none is given: 1 MiB.
@@ -56,6 +58,13 @@ pub fn is_known_version() -> bool {
     unsafe { ffi::linkcap_version() == ffi::VERSION }
 }
 
+/// The format version of normal texts and lines, as linkcap's `CHANGELOG.md` has it.
+#[must_use]
+pub fn format() -> u32 {
+    // Safety: it takes nothing.
+    unsafe { ffi::linkcap_format() }
+}
+
 /// Returns Ok if a capture is legal. It takes no memory.
 ///
 /// # Errors
@@ -74,7 +83,7 @@ pub fn check(capture: &[u8], limit: u32) -> Result<(), Error> {
     // Safety: the pointer has the length that is given.
     match unsafe { ffi::linkcap_check(capture.as_ptr(), capture.len(), limit, &mut fault) } {
         ffi::OK => Ok(()),
-        status => Err(Error::of(status, &fault, Vec::new())),
+        status => Err(Error::of(status, &fault, capture, 0, limit, Vec::new())),
     }
 }
 
@@ -92,15 +101,15 @@ pub fn check(capture: &[u8], limit: u32) -> Result<(), Error> {
 /// # Ok::<(), linkcap::Error>(())
 /// ```
 pub fn measure(capture: &[u8], limit: u32) -> Result<Measure, Error> {
-    let (mut numbers, mut fault) = (ffi::Measure::default(), ffi::Fault::default());
+    let (mut sizes, mut fault) = (ffi::Sizes::default(), ffi::Fault::default());
     // Safety: the pointer has the length that is given.
-    match unsafe { ffi::linkcap_measure(capture.as_ptr(), capture.len(), limit, &mut numbers, &mut fault) } {
+    match unsafe { ffi::linkcap_measure(capture.as_ptr(), capture.len(), limit, &mut sizes, &mut fault) } {
         ffi::OK => Ok(Measure {
-            frames: numbers.frames,
-            attributes: numbers.attributes,
-            text_len: u128::from(numbers.text_low) | u128::from(numbers.text_high) << 64,
+            frames: sizes.frames,
+            attributes: sizes.attributes,
+            text_len: u128::from(sizes.text_low) | u128::from(sizes.text_high) << 64,
         }),
-        status => Err(Error::of(status, &fault, Vec::new())),
+        status => Err(Error::of(status, &fault, capture, 0, limit, Vec::new())),
     }
 }
 
@@ -120,11 +129,39 @@ pub fn measure(capture: &[u8], limit: u32) -> Result<Measure, Error> {
 /// # Ok::<(), linkcap::Error>(())
 /// ```
 pub fn same(first: &[u8], second: &[u8], limit: u32) -> Result<bool, Error> {
+    compare(ffi::linkcap_same, first, second, limit)
+}
+
+/// Whether two legal captures mean the same after zeroing the sequence and port number of each message, and those of the
+/// request's header that an `NLMSG_ERROR` repeats, which change from run to run. It takes no memory.
+///
+/// # Errors
+///
+/// Those of [`same`].
+///
+/// ```
+/// use linkcap::{same, same_ignoring_numbers, DEFAULT_LIMIT};
+///
+/// let (first, second) = (b"\x10\0\0\0\x01\0\0\0\x01\0\0\0\0\0\0\0", b"\x10\0\0\0\x01\0\0\0\x02\0\0\0\0\0\0\0");
+/// assert!(!same(first, second, DEFAULT_LIMIT)?);
+/// assert!(same_ignoring_numbers(first, second, DEFAULT_LIMIT)?);
+/// # Ok::<(), linkcap::Error>(())
+/// ```
+pub fn same_ignoring_numbers(first: &[u8], second: &[u8], limit: u32) -> Result<bool, Error> {
+    compare(ffi::linkcap_same_ignoring_numbers, first, second, limit)
+}
+
+type Compares = unsafe extern "C" fn(*const u8, usize, *const u8, usize, u32, &mut ffi::Fault) -> u32;
+
+fn compare(call: Compares, first: &[u8], second: &[u8], limit: u32) -> Result<bool, Error> {
     let mut fault = ffi::Fault::default();
     // Safety: the pointers have the lengths that are given.
-    match unsafe { ffi::linkcap_same(first.as_ptr(), first.len(), second.as_ptr(), second.len(), limit, &mut fault) } {
+    match unsafe { call(first.as_ptr(), first.len(), second.as_ptr(), second.len(), limit, &mut fault) } {
         ffi::OK => Ok(true),
         ffi::DIFFERENT => Ok(false),
-        status => Err(Error::of(status, &fault, Vec::new())),
+        status => {
+            let faulty = if fault.side == 2 { second } else { first };
+            Err(Error::of(status, &fault, faulty, 0, limit, Vec::new()))
+        }
     }
 }

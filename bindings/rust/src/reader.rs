@@ -1,7 +1,88 @@
 //! Captures in pieces.
 
-use crate::writing::{count, reserve};
+use crate::writing::{count, reserve, LineOptions};
 use crate::{ffi, Error};
+
+/// A call over what is there of a capture: the bytes, whether they are the last, and where to write.
+type Call<'a> = &'a dyn Fn(&[u8], bool, *mut u8, usize, &mut ffi::Progress, &mut ffi::Fault) -> u32;
+
+/// The bytes of a message that is cut, between pieces.
+#[derive(Debug)]
+struct Pieces {
+    limit: u32,
+    rest: Vec<u8>,
+    start: u64,
+    has_failed: bool,
+}
+
+impl Pieces {
+    fn new(limit: u32) -> Result<Pieces, Error> {
+        if limit < 16 {
+            return Err(Error::Limit);
+        }
+        Ok(Pieces { limit, rest: Vec::new(), start: 0, has_failed: false })
+    }
+
+    fn feed(&mut self, call: Call<'_>, piece: &[u8], out: &mut Vec<u8>) -> Result<(), Error> {
+        if self.has_failed {
+            return Err(Error::Failed);
+        }
+        self.has_failed = true;
+        let used = if self.rest.is_empty() {
+            let used = self.write(call, piece, false, out)?;
+            self.keep(&piece[used..])?;
+            used
+        } else {
+            self.keep(piece)?;
+            let used = self.write(call, &self.rest, false, out)?;
+            self.rest.drain(..used);
+            used
+        };
+        self.start += used as u64;
+        self.has_failed = false;
+        Ok(())
+    }
+
+    fn finish(&self, call: Call<'_>, out: &mut Vec<u8>) -> Result<(), Error> {
+        if self.has_failed {
+            return Err(Error::Failed);
+        }
+        self.write(call, &self.rest, true, out).map(|_| ())
+    }
+
+    fn keep(&mut self, piece: &[u8]) -> Result<(), Error> {
+        reserve(&mut self.rest, piece.len())?;
+        self.rest.extend_from_slice(piece);
+        Ok(())
+    }
+
+    /// Writes what is there, and returns how many bytes were used.
+    fn write(&self, call: Call<'_>, given: &[u8], last: bool, out: &mut Vec<u8>) -> Result<usize, Error> {
+        let mut used = 0;
+        let mut wanted = given.len();
+        loop {
+            let rest = &given[used..];
+            let (mut progress, mut fault) = (ffi::Progress::default(), ffi::Fault::default());
+            reserve(out, wanted)?;
+            let free = out.spare_capacity_mut();
+            let (to, room) = (free.as_mut_ptr().cast(), free.len());
+            let status = call(rest, last, to, room, &mut progress, &mut fault);
+            // Safety: this many bytes after the vector's are written.
+            unsafe { out.set_len(out.len() + count(progress.written)?) };
+            used += count(progress.used)?;
+            match status {
+                ffi::OK => return Ok(used),
+                ffi::NO_ROOM => wanted = count(progress.wanted)?.max(given.len() - used),
+                _ => {
+                    // The fault is that of the message after those that were used.
+                    fault.offset = 0;
+                    let start = self.start + used as u64;
+                    return Err(Error::of(status, &fault, &given[used..], start, self.limit, Vec::new()));
+                }
+            }
+        }
+    }
+}
 
 /// Normalises a capture that comes in pieces of any sizes. Between pieces it keeps the bytes of the message that is cut.
 ///
@@ -20,10 +101,15 @@ use crate::{ffi, Error};
 /// ```
 #[derive(Debug)]
 pub struct Reader {
-    limit: u32,
-    rest: Vec<u8>,
-    start: u64,
-    has_failed: bool,
+    pieces: Pieces,
+}
+
+/// The texts of what is there.
+fn texts(limit: u32) -> impl Fn(&[u8], bool, *mut u8, usize, &mut ffi::Progress, &mut ffi::Fault) -> u32 {
+    // Safety: both pointers have the lengths that are given, and don't overlap.
+    move |given, last, out, room, progress, fault| unsafe {
+        ffi::linkcap_normalize_some(given.as_ptr(), given.len(), last, limit, out, room, progress, fault)
+    }
 }
 
 impl Reader {
@@ -33,10 +119,7 @@ impl Reader {
     ///
     /// [`Error::Limit`].
     pub fn new(limit: u32) -> Result<Reader, Error> {
-        if limit < 16 {
-            return Err(Error::Limit);
-        }
-        Ok(Reader { limit, rest: Vec::new(), start: 0, has_failed: false })
+        Ok(Reader { pieces: Pieces::new(limit)? })
     }
 
     /// Takes the next piece. The texts of the messages that are whole now, with their padding, are appended to `out`.
@@ -46,23 +129,8 @@ impl Reader {
     /// [`Error::Fault`] with the capture's first fault, whose `written` is empty: the texts before it are in `out`; or
     /// [`Error::Memory`]. After an error each later call returns [`Error::Failed`].
     pub fn feed(&mut self, piece: &[u8], out: &mut Vec<u8>) -> Result<(), Error> {
-        if self.has_failed {
-            return Err(Error::Failed);
-        }
-        self.has_failed = true;
-        let used = if self.rest.is_empty() {
-            let used = self.write(piece, false, out)?;
-            self.keep(&piece[used..])?;
-            used
-        } else {
-            self.keep(piece)?;
-            let used = self.write(&self.rest, false, out)?;
-            self.rest.drain(..used);
-            used
-        };
-        self.start += used as u64;
-        self.has_failed = false;
-        Ok(())
+        let limit = self.pieces.limit;
+        self.pieces.feed(&texts(limit), piece, out)
     }
 
     /// The capture ends here: the text of a last message that lacks padding is appended to `out`.
@@ -71,44 +139,72 @@ impl Reader {
     ///
     /// Those of [`Reader::feed`].
     pub fn finish(self, out: &mut Vec<u8>) -> Result<(), Error> {
-        if self.has_failed {
-            return Err(Error::Failed);
+        self.pieces.finish(&texts(self.pieces.limit), out)
+    }
+}
+
+/// Shows a capture that comes in pieces, as [`Reader`] normalises one: its lines are appended in ASCII. Memory is that of a
+/// piece, its lines and the message that is cut.
+///
+/// ```
+/// use linkcap::{LineOptions, LineReader, DEFAULT_LIMIT};
+///
+/// let noop = b"\x10\0\0\0\x01\0\0\0\x01\0\0\0\0\0\0\0";
+/// let mut lines = Vec::new();
+/// let mut reader = LineReader::new(DEFAULT_LIMIT, LineOptions::default())?;
+/// reader.feed(&noop[..7], &mut lines)?;
+/// reader.feed(&noop[7..], &mut lines)?;
+/// reader.finish(&mut lines)?;
+/// assert_eq!(lines, b"NLMSG_NOOP flags 0x0 seq 1 port 0\n");
+/// # Ok::<(), linkcap::Error>(())
+/// ```
+#[derive(Debug)]
+pub struct LineReader<'a> {
+    pieces: Pieces,
+    options: LineOptions<'a>,
+}
+
+/// The lines of what is there.
+fn shown<'a>(
+    limit: u32,
+    options: LineOptions<'a>,
+) -> impl Fn(&[u8], bool, *mut u8, usize, &mut ffi::Progress, &mut ffi::Fault) -> u32 + 'a {
+    let LineOptions { without_numbers, only } = options;
+    move |given, last, out, room, progress, fault| {
+        let (from, length, types) = (given.as_ptr(), given.len(), only.as_ptr());
+        // Safety: the pointers have the lengths that are given, and `out` doesn't overlap the others.
+        unsafe {
+            ffi::linkcap_show_some(from, length, last, limit, without_numbers, types, only.len(), out, room, progress, fault)
         }
-        self.write(&self.rest, true, out).map(|_| ())
+    }
+}
+
+impl<'a> LineReader<'a> {
+    /// A reader of nothing yet, which shows what the options select.
+    ///
+    /// # Errors
+    ///
+    /// [`Error::Limit`].
+    pub fn new(limit: u32, options: LineOptions<'a>) -> Result<LineReader<'a>, Error> {
+        Ok(LineReader { pieces: Pieces::new(limit)?, options })
     }
 
-    fn keep(&mut self, piece: &[u8]) -> Result<(), Error> {
-        reserve(&mut self.rest, piece.len())?;
-        self.rest.extend_from_slice(piece);
-        Ok(())
+    /// Takes the next piece. The lines of the messages that are whole now, with their padding, are appended to `out`.
+    ///
+    /// # Errors
+    ///
+    /// Those of [`Reader::feed`].
+    pub fn feed(&mut self, piece: &[u8], out: &mut Vec<u8>) -> Result<(), Error> {
+        let call = shown(self.pieces.limit, self.options);
+        self.pieces.feed(&call, piece, out)
     }
 
-    /// Writes the texts of what is there, and returns how many bytes were used.
-    fn write(&self, given: &[u8], last: bool, out: &mut Vec<u8>) -> Result<usize, Error> {
-        let mut used = 0;
-        let mut wanted = given.len();
-        loop {
-            let rest = &given[used..];
-            let (mut progress, mut fault) = (ffi::Progress::default(), ffi::Fault::default());
-            reserve(out, wanted)?;
-            let free = out.spare_capacity_mut();
-            let (to, room) = (free.as_mut_ptr().cast(), free.len());
-            // Safety: both pointers have the lengths that are given, and don't overlap.
-            let status = unsafe {
-                let (from, length) = (rest.as_ptr(), rest.len());
-                ffi::linkcap_normalize_some(from, length, last, self.limit, to, room, &mut progress, &mut fault)
-            };
-            // Safety: this many bytes after the vector's are written.
-            unsafe { out.set_len(out.len() + count(progress.written)?) };
-            used += count(progress.used)?;
-            match status {
-                ffi::OK => return Ok(used),
-                ffi::NO_ROOM => wanted = count(progress.wanted)?.max(given.len() - used),
-                _ => {
-                    fault.offset = self.start + used as u64;
-                    return Err(Error::of(status, &fault, Vec::new()));
-                }
-            }
-        }
+    /// The capture ends here: the lines of a last message that lacks padding are appended to `out`.
+    ///
+    /// # Errors
+    ///
+    /// Those of [`Reader::feed`].
+    pub fn finish(self, out: &mut Vec<u8>) -> Result<(), Error> {
+        self.pieces.finish(&shown(self.pieces.limit, self.options), out)
     }
 }

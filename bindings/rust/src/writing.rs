@@ -2,6 +2,9 @@
 
 use crate::{ffi, Error};
 
+/// The longest words of a fault or a quirk.
+const WORDS: usize = 127;
+
 /// Reserves room for `wanted` bytes after those of a vector.
 pub(crate) fn reserve(out: &mut Vec<u8>, wanted: usize) -> Result<(), Error> {
     out.try_reserve(wanted).map_err(|_| Error::Memory)
@@ -12,8 +15,20 @@ pub(crate) fn count(number: u64) -> Result<usize, Error> {
     usize::try_from(number).map_err(|_| Error::Memory)
 }
 
-/// What a call writes to a buffer, which has room for `wanted` bytes at first.
+/// The words that a call writes.
+pub(crate) fn words_of(call: impl FnOnce(*mut u8, usize, &mut u64) -> u32) -> String {
+    let (mut words, mut length) = ([0u8; WORDS], 0u64);
+    if call(words.as_mut_ptr(), words.len(), &mut length) != ffi::OK {
+        return String::new();
+    }
+    let words = usize::try_from(length).ok().and_then(|length| words.get(..length)).unwrap_or_default();
+    ascii(words.to_vec())
+}
+
+/// What a call writes of a capture to a buffer, which has room for `wanted` bytes at first.
 fn write(
+    capture: &[u8],
+    limit: u32,
     mut call: impl FnMut(*mut u8, usize, &mut u64, &mut ffi::Fault) -> u32,
     mut wanted: usize,
 ) -> Result<Vec<u8>, Error> {
@@ -28,9 +43,9 @@ fn write(
             ffi::OK | ffi::FAULT => {
                 // Safety: the call has written this many bytes.
                 unsafe { out.set_len(count(written)?) };
-                return if status == ffi::OK { Ok(out) } else { Err(Error::of(status, &fault, out)) };
+                return if status == ffi::OK { Ok(out) } else { Err(Error::of(status, &fault, capture, 0, limit, out)) };
             }
-            _ => return Err(Error::of(status, &fault, Vec::new())),
+            _ => return Err(Error::of(status, &fault, capture, 0, limit, Vec::new())),
         }
     }
 }
@@ -60,7 +75,7 @@ pub fn normalize(capture: &[u8], limit: u32) -> Result<Vec<u8>, Error> {
     let call = |out, room, written: &mut u64, fault: &mut ffi::Fault| unsafe {
         ffi::linkcap_normalize(capture.as_ptr(), capture.len(), limit, out, room, written, fault)
     };
-    write(call, capture.len() + 16)
+    write(capture, limit, call, capture.len() + 16)
 }
 
 /// What lines show of a capture.
@@ -100,7 +115,7 @@ pub fn lines_with(capture: &[u8], limit: u32, options: LineOptions<'_>) -> Resul
     let call = |out, room, written: &mut u64, fault: &mut ffi::Fault| unsafe {
         ffi::linkcap_show_with(at, length, limit, without_numbers, only.as_ptr(), only.len(), out, room, written, fault)
     };
-    write(call, length.saturating_mul(4)).map(ascii)
+    write(capture, limit, call, length.saturating_mul(4)).map(ascii)
 }
 
 /// What of a refused body isn't accepted. It is displayed as its words.
@@ -110,6 +125,20 @@ pub struct Refusal {
     pub words: String,
     /// Where the attribute begins, in bytes from the capture's start. `NLMSG_ERROR` and `NLMSG_DONE` have none.
     pub offset: Option<u64>,
+}
+
+impl Refusal {
+    /// The same, of bytes that begin `start` bytes later.
+    pub(crate) fn further(self, start: u64) -> Refusal {
+        let Refusal { words, offset } = self;
+        let front = offset.and_then(|offset| words.strip_suffix(&format!(" at {offset}")));
+        match (front, offset) {
+            (Some(front), Some(offset)) => {
+                Refusal { words: format!("{front} at {}", start + offset), offset: Some(start + offset) }
+            }
+            _ => Refusal { words, offset },
+        }
+    }
 }
 
 impl std::fmt::Display for Refusal {
@@ -138,15 +167,11 @@ pub fn why(capture: &[u8], limit: u32) -> Result<Option<Refusal>, Error> {
     // Safety: both pointers have the lengths that are given, and don't overlap.
     let call = |out, room, written: &mut u64, _: &mut ffi::Fault| unsafe {
         match ffi::linkcap_why(capture.as_ptr(), capture.len(), limit, out, room, written, &mut place) {
-            ffi::OK => {
-                *written = 0;
-                ffi::OK
-            }
-            // Words, and no fault.
-            ffi::FAULT => ffi::OK,
+            // No words.
+            ffi::NONE => ffi::OK,
             status => status,
         }
     };
-    let words = write(call, 256).map(ascii)?;
+    let words = write(capture, limit, call, 256).map(ascii)?;
     Ok((!words.is_empty()).then(|| Refusal { words, offset: (place != u64::MAX).then_some(place) }))
 }

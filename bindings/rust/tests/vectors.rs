@@ -1,6 +1,6 @@
 //! The calls over the stored vectors, and at the edges.
 
-use linkcap::{Error, Kind, LineOptions, Message, NormalReader, Reader, Side, DEFAULT_LIMIT};
+use linkcap::{Error, Kind, LineOptions, LineReader, Message, NormalReader, QuirkKind, Reader, Side, DEFAULT_LIMIT};
 use std::fs;
 use std::io::{self, Read};
 use std::path::Path;
@@ -88,7 +88,7 @@ impl Read for Chunks<'_> {
             return Err(io::Error::from(io::ErrorKind::Interrupted));
         }
         let size = self.size.min(to.len());
-        (&mut self.rest).take(size as u64).read(to)
+        Read::take(&mut self.rest, size as u64).read(to)
     }
 }
 
@@ -113,12 +113,15 @@ fn norm_line(capture: &[u8], limit: u32, (text, error): Written) -> String {
     let again = linkcap::measure(capture, limit);
     assert_eq!(linkcap::check(capture, limit).err(), again.clone().err());
     match (error, again) {
-        (None, Ok(numbers)) if count_messages(capture, limit) == Ok(numbers.frames) => format!("{} {} {} {}", hex(&text), numbers.frames, numbers.attributes, numbers.text_len),
+        (None, Ok(sizes)) if count_messages(capture, limit) == Ok(sizes.frames) => {
+            format!("{} {} {} {}", hex(&text), sizes.frames, sizes.attributes, sizes.text_len)
+        }
         (Some(error), Err(again)) => {
             let (fault, other) = (error.fault().expect("a fault"), again.fault().expect("a fault"));
             assert_eq!((fault.kind, fault.offset, fault.side), (other.kind, other.offset, None));
+            assert_eq!(fault.why, other.why);
             assert_eq!(count_messages(capture, limit), Err(again));
-            format!("{} {error}", hex(&text))
+            format!("{} {}", hex(&text), fault.words())
         }
         _ => panic!("a measure with another answer"),
     }
@@ -133,15 +136,27 @@ fn norm() {
     }
 }
 
+fn without_numbers(capture: &[u8], limit: u32) -> Result<String, Error> {
+    linkcap::lines_with(capture, limit, LineOptions { without_numbers: true, only: &[] })
+}
+
 #[test]
 fn same() {
     for (limit, captures, line) in answered("same") {
         let answer = match linkcap::same(&captures[0], &captures[1], limit) {
             Ok(true) => "same".to_string(),
             Ok(false) => "different".to_string(),
-            Err(error) => error.to_string(),
+            Err(error) => error.fault().expect("a fault").words(),
         };
         assert_eq!(answer, line);
+        let ignoring = linkcap::same_ignoring_numbers(&captures[0], &captures[1], limit);
+        match linkcap::same(&captures[0], &captures[1], limit) {
+            Ok(is_same) => {
+                let are_shown_alike = without_numbers(&captures[0], limit) == without_numbers(&captures[1], limit);
+                assert_eq!(ignoring, Ok(is_same || are_shown_alike));
+            }
+            Err(error) => assert_eq!(ignoring, Err(error)),
+        }
     }
 }
 
@@ -158,11 +173,53 @@ fn show() {
             Ok(lines) => answers += &(lines + "legal\n"),
             Err(error) => {
                 answers += std::str::from_utf8(&error.fault().expect("a fault").written).expect("lines");
-                answers += &format!("{error}\n");
+                answers += &format!("{}\n", error.fault().expect("a fault").words());
             }
         }
     }
     assert!(answers == stored.join("\n") + "\n");
+}
+
+/// The lines of each case in pieces.
+#[test]
+fn show_in_pieces() {
+    let (cases, stored) = stored("show");
+    let mut answers = String::new();
+    for (i, case) in cases.iter().enumerate() {
+        let (front, capture) = case.rsplit_once(' ').expect("a capture");
+        let (limit, choice) = front.split_once(' ').unwrap_or((front, ""));
+        let types: Vec<u16> = choice.split(',').filter_map(|word| word.parse().ok()).collect();
+        let options = LineOptions { without_numbers: choice == "without-numbers", only: &types };
+        let mut reader = LineReader::new(limit.parse().expect("a limit"), options).expect("a limit");
+        let (capture, mut lines) = (unhex(capture), Vec::new());
+        let fed = capture.chunks([1, 7, 100][i % 3]).try_for_each(|piece| reader.feed(piece, &mut lines));
+        let end = match fed.and_then(|()| reader.finish(&mut lines)) {
+            Ok(()) => "legal".to_string(),
+            Err(error) => error.fault().expect("a fault").words(),
+        };
+        answers += &(String::from_utf8(lines).expect("lines") + &end + "\n");
+    }
+    assert!(answers == stored.join("\n") + "\n");
+}
+
+#[test]
+fn quirks() {
+    for (limit, captures, line) in answered("spelling") {
+        let (end, found) = match linkcap::quirks(&captures[0], limit) {
+            Ok(found) => ("legal".to_string(), found),
+            Err(error) => {
+                let fault = error.fault().expect("a fault");
+                let before = &captures[0][..usize::try_from(fault.offset).expect("an offset")];
+                (fault.words(), linkcap::quirks(before, limit).expect("legal messages"))
+            }
+        };
+        let words: String = found.iter().map(|quirk| format!("{quirk}; ")).collect();
+        assert_eq!(words + &end, line);
+    }
+    let mut request = read("samples/lo-request.bin");
+    request[17] = 1;
+    let many = linkcap::quirks(&request.repeat(40), DEFAULT_LIMIT).expect("a legal capture");
+    assert_eq!((many.len(), many[1].kind, many[1].offset), (40, QuirkKind::HeaderByte, 48 + 17));
 }
 
 #[test]
@@ -174,7 +231,12 @@ fn refusal() {
                 assert_eq!(found.to_string(), line);
                 assert_eq!(found.offset, line.rsplit_once(" at ").and_then(|(_, place)| place.parse().ok()));
                 let error = linkcap::check(&captures[0], limit).expect_err("a refused body");
-                assert_eq!(error.fault().map(|fault| fault.kind), Some(Kind::Refused));
+                let fault = error.fault().expect("a fault");
+                assert_eq!((fault.kind, fault.why.as_ref()), (Kind::Refused, Some(&found)));
+                assert_eq!(error.to_string(), format!("{}: {line}", fault.words()));
+                // A reader has the last bytes alone.
+                let (_, again) = pieces(&captures[0], limit, 61);
+                assert_eq!(again.expect("a fault").fault().expect("a fault").why.as_ref(), Some(&found));
             }
         }
     }
@@ -183,6 +245,7 @@ fn refusal() {
 #[test]
 fn edges() {
     assert!(linkcap::is_known_version());
+    assert!(text("bindings/c/linkcap.h").contains(&format!("\n#define LINKCAP_FORMAT {}\n", linkcap::format())));
     assert_eq!(linkcap::normalize(&[], 16), Ok(Vec::new()));
     assert_eq!(linkcap::lines(&[], 16), Ok(String::new()));
     assert_eq!(linkcap::same(&[], &[], 16), Ok(true));
@@ -195,6 +258,9 @@ fn edges() {
         assert_eq!(linkcap::why(&[], limit), Err(Error::Limit));
         assert_eq!(linkcap::same(&[], &[], limit), Err(Error::Limit));
         assert!(matches!(Reader::new(limit), Err(Error::Limit)));
+        assert!(matches!(LineReader::new(limit, LineOptions::default()), Err(Error::Limit)));
+        assert_eq!(linkcap::quirks(&[], limit), Err(Error::Limit));
+        assert_eq!(linkcap::same_ignoring_numbers(&[], &[], limit), Err(Error::Limit));
     }
     let capture = read("samples/lo-request.bin");
     let error = linkcap::same(&capture, &capture[..47], DEFAULT_LIMIT).expect_err("a cut frame");

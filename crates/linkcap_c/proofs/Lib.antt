@@ -1,1 +1,6 @@
 mod Passing
+mod Following
+mod Apart
+mod Bodies
+mod Errors
+mod Quirking

@@ -20,7 +20,7 @@ pub record Writes (text : List ℕ) (answer size : ℕ) (old new : List ℕ) : T
 
 -- A fault is written only where one is reported: of a fault, and where an allocation fails.
 abbrev pub KeepsFault : ℕ → LinkcapFault → LinkcapFault → Type 0
-KeepsFault answer old new = (answer ≡ 0) ⊎ (answer ≡ 1) ⊎ (answer ≡ 3) ⊎ (answer ≡ 4) → new ≡ old
+KeepsFault answer old new = (answer ≡ 0) ⊎ (answer ≡ 1) ⊎ (answer ≡ 3) ⊎ (answer ≡ 4) ⊎ (answer ≡ 6) → new ≡ old
 
 -- A length is written only where a text is, or where the buffer is too small for it.
 abbrev pub KeepsSize : ℕ → ℕ → ℕ → Type 0

@@ -3,3 +3,6 @@ pub mod Pieces
 pub mod Told
 pub mod Choices
 pub mod Answers
+pub mod Messages
+pub mod Quirks
+pub mod Apart

@@ -9,10 +9,10 @@ use crate::statuses::{FAULT, OK, WRONG, is_limit};
 use crate::told::{LinkcapFault, of_one};
 use link_capture_checks::{check, measure};
 
-/// The numbers of a legal capture.
+/// The sizes of a legal capture.
 #[repr(C)]
 #[derive(Drop)]
-pub struct LinkcapMeasure {
+pub struct LinkcapSizes {
     /// Its frames.
     pub frames: u64,
     /// The attribute headers in the bodies of its link messages, at all depths.
@@ -43,20 +43,20 @@ pub extern "C" fn linkcap_check(capture: &[u8], limit: u32, fault: &mut LinkcapF
     }
 }
 
-/// The numbers of a legal capture, or its first fault. It takes no memory.
+/// The sizes of a legal capture, or its first fault. It takes no memory.
 #[unsafe(no_mangle)]
 pub extern "C" fn linkcap_measure(
     capture: &[u8],
     limit: u32,
-    numbers: &mut LinkcapMeasure,
+    sizes: &mut LinkcapSizes,
     fault: &mut LinkcapFault,
 ) -> u32
     ensures judged { Judges limit capture.now result fault.new }
-    ensures frames { result ≡ 0 → numbers.new.frames ≡ frames limit capture.now }
-    ensures attributes { result ≡ 0 → numbers.new.attributes ≡ attributes limit capture.now }
-    ensures text { result ≡ 0 → numbers.new.text_low + 2 ^ 64 * numbers.new.text_high
+    ensures frames { result ≡ 0 → sizes.new.frames ≡ frames limit capture.now }
+    ensures attributes { result ≡ 0 → sizes.new.attributes ≡ attributes limit capture.now }
+    ensures text { result ≡ 0 → sizes.new.text_low + 2 ^ 64 * sizes.new.text_high
         ≡ length (texts limit capture.now) }
-    ensures unmeasured { (result ≡ 2) ⊎ (result ≡ 3) → numbers.new ≡ numbers.old }
+    ensures unmeasured { (result ≡ 2) ⊎ (result ≡ 3) → sizes.new ≡ sizes.old }
     ensures kept { KeepsFault result fault.old fault.new }
     ensures answers { IsJudgement result }
 {
@@ -65,7 +65,7 @@ pub extern "C" fn linkcap_measure(
     }
     match measure(capture, limit) {
         Ok(found) => {
-            *numbers = LinkcapMeasure {
+            *sizes = LinkcapSizes {
                 frames: found.frames,
                 attributes: found.attributes,
                 text_low: (found.text_len & u64::MAX as u128) as u64,

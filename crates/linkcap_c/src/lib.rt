@@ -1,9 +1,13 @@
-// The calls for C: captures judged, measured, normalised, compared and shown.
+// The calls for C: captures judged, measured, normalised, compared and shown, their messages and their quirks.
 #![tactic(auto)]
 
+mod choices;
 mod comparing;
 mod judging;
+mod messages;
+mod numbers;
 mod pieces;
+mod quirks;
 mod refusing;
 mod room;
 mod statuses;

@@ -1,4 +1,4 @@
-//! What calls answer: those of the program `linkcap`, and two more. `linkcap.h` has the same numbers.
+//! What calls return: the statuses of the program `linkcap`, and three more. `linkcap.h` has the same numbers.
 
 ghost use Rattle.std.specs.Prelude.{◌≤◌, ◌↔◌, IsTrue};
 
@@ -19,6 +19,9 @@ pub const NO_ROOM: u32 = 4;
 
 /// No memory.
 pub const NO_MEMORY: u32 = 5;
+
+/// There is nothing to return: no message at the offset, or no refused body.
+pub const NONE: u32 = 6;
 
 /// Whether a run can have this limit.
 pub(crate) fn is_limit(limit: u32) -> bool

@@ -1,6 +1,6 @@
-//! The words of faults, and the version, for C.
+//! The words of faults, and the versions, for C.
 
-ghost use Rattle.std.specs.Prelude.{◌≡◌, ◌≢◌, true, false};
+ghost use Rattle.std.specs.Prelude.{◌≡◌, ◌≢◌, ◌≤◌, ◌⊎◌, true, false};
 ghost use Rattle.link_capture_grammar.specs.declared.fault.CaptureFault.{CaptureFault};
 ghost use Rattle.link_capture_grammar.specs.Faults.{fault_text};
 ghost use Rattle.linkcap_c.specs.Buffers.{HandsOver};
@@ -13,7 +13,10 @@ use link_capture_checks::SideFault;
 use link_capture_grammar::fault::CaptureFault;
 
 /// The version of the interface.
-const VERSION: u32 = 1;
+const VERSION: u32 = 2;
+
+/// The format version of normal texts and lines.
+const FORMAT: u32 = 2;
 
 /// A fault of one of two captures.
 fn of_side(fault: CaptureFault, second: bool) -> SideFault
@@ -34,6 +37,8 @@ pub extern "C" fn linkcap_fault_text(fault: &LinkcapFault, out: &mut [u8], size:
     ensures wrong { result ≡ 3 → IsFault fault.now → ⊥ }
     ensures right { result ≢ 3 → IsFault fault.now }
     ensures kept { result ≡ 3 → (out.new ≡ out.old) × (size.new ≡ size.old) }
+    ensures short { (result ≡ 0) ⊎ (result ≡ 4) → size.new ≤ 127 }
+    ensures answers { (result ≡ 0) ⊎ (result ≡ 3) ⊎ (result ≡ 4) }
 {
     let Some(kind) = kind_of(fault.kind) else {
         return WRONG;
@@ -63,7 +68,15 @@ pub extern "C" fn linkcap_fault_text(fault: &LinkcapFault, out: &mut [u8], size:
 /// The version of the interface, which `linkcap.h` has as `LINKCAP_VERSION`.
 #[unsafe(no_mangle)]
 pub extern "C" fn linkcap_version() -> u32
-    ensures { result ≡ 1 }
+    ensures { result ≡ 2 }
 {
     VERSION
+}
+
+/// The format version of normal texts and lines, which `linkcap.h` has as `LINKCAP_FORMAT`.
+#[unsafe(no_mangle)]
+pub extern "C" fn linkcap_format() -> u32
+    ensures { result ≡ 2 }
+{
+    FORMAT
 }

@@ -15,6 +15,7 @@ ghost use Rattle.linkcap_c.specs.Choices.{asked};
 ghost use Rattle.linkcap_c.specs.Pieces.{IsAccepted};
 ghost use Rattle.linkcap_c.specs.Told.{TellsMemory, told};
 
+use crate::choices::line_options;
 use crate::room::hand_over;
 use crate::statuses::{FAULT, NO_MEMORY, NO_ROOM, OK, WRONG, is_limit};
 use crate::told::{LinkcapFault, of_one};
@@ -217,9 +218,6 @@ pub extern "C" fn linkcap_show_with(
     ensures cause { result ≡ 5 → WantsMemoryAt limit capture.now fault.new.offset }
     ensures shown { 16 ≤ limit → GoesByMeaning (asked without_numbers only.now) limit capture.now }
 {
-    let options = LineOptions {
-        without_numbers,
-        only: if only.is_empty() { None } else { Some(only) },
-    };
+    let options = line_options(without_numbers, only);
     show_as(alloc, capture, limit, options, out, size, fault)
 }

@@ -1,0 +1,107 @@
+//! Encodings that some kernels treat differently from their normal texts.
+
+use crate::writing::{count, words_of};
+use crate::{ffi, Error};
+use std::fmt;
+
+/// The rows of linkcap's `docs/kernels.md`, numbered as in linkcap.h.
+#[derive(Clone, Copy, Debug, PartialEq, Eq, Hash)]
+#[non_exhaustive]
+pub enum QuirkKind {
+    /// `IFLA_PROTINFO` with the nested bit, under `AF_BRIDGE`.
+    NestedPortSettings = 1,
+    /// `IFLA_INET_CONF` not of 132 bytes.
+    ResizedSettings,
+    /// `IFLA_GRE_PMTUDISC` over 1.
+    PathDiscoveryOverOne,
+    /// The peer of `veth` or `vxcan` behind another attribute.
+    LaterPeer,
+    /// `IFLA_IFALIAS` of 255 bytes without a NUL.
+    LongAlias,
+    /// A name without a NUL.
+    NameWithoutNul,
+    /// A flag with a payload.
+    FlagWithPayload,
+    /// A boolean over 1 that kernels check.
+    BooleanOverOne,
+    /// The nested bit on a kind that isn't nested.
+    StrayNestedBit,
+    /// An entry of another kind in `IFLA_VFINFO_LIST`.
+    ForeignFunction,
+    /// The second byte of the header of `RTM_GETLINK` isn't 0.
+    HeaderByte,
+    /// `IFLA_MAP` under 32 bytes.
+    ShortMap,
+}
+
+/// An encoding that some kernels treat differently from its normal text. It is displayed as its words and its offset, as
+/// `flag with a payload at 76`.
+#[derive(Clone, Copy, Debug, PartialEq, Eq, Hash)]
+pub struct Quirk {
+    pub kind: QuirkKind,
+    /// Where the attribute that has it starts, or the header's byte, in bytes from the capture's start.
+    pub offset: u64,
+}
+
+fn kind_of(number: u32) -> QuirkKind {
+    match number {
+        1 => QuirkKind::NestedPortSettings,
+        2 => QuirkKind::ResizedSettings,
+        3 => QuirkKind::PathDiscoveryOverOne,
+        4 => QuirkKind::LaterPeer,
+        5 => QuirkKind::LongAlias,
+        6 => QuirkKind::NameWithoutNul,
+        7 => QuirkKind::FlagWithPayload,
+        8 => QuirkKind::BooleanOverOne,
+        9 => QuirkKind::StrayNestedBit,
+        10 => QuirkKind::ForeignFunction,
+        11 => QuirkKind::HeaderByte,
+        // There is no other one.
+        _ => QuirkKind::ShortMap,
+    }
+}
+
+impl fmt::Display for Quirk {
+    fn fmt(&self, f: &mut fmt::Formatter<'_>) -> fmt::Result {
+        let quirk = ffi::Quirk { offset: self.offset, kind: self.kind as u32 };
+        // Safety: the buffer has the room that is given.
+        f.pad(&words_of(|out, room, length| unsafe { ffi::linkcap_quirk_text(&quirk, out, room, length) }))
+    }
+}
+
+/// Each encoding of a legal capture that some kernels treat differently from its normal text, in the order of the bytes. A
+/// normal text has none.
+///
+/// # Errors
+///
+/// [`Error::Fault`] with the capture's first fault; [`Error::Limit`], or [`Error::Memory`].
+///
+/// ```
+/// use linkcap::{quirks, QuirkKind, DEFAULT_LIMIT};
+///
+/// // An RTM_GETLINK whose header of a link has 1 in its second byte.
+/// let request = b"\x20\0\0\0\x12\0\x01\0\x01\0\0\0\0\0\0\0\0\x01\0\0\0\0\0\0\0\0\0\0\0\0\0\0";
+/// let found = quirks(request, DEFAULT_LIMIT)?;
+/// assert_eq!((found[0].kind, found[0].offset), (QuirkKind::HeaderByte, 17));
+/// assert_eq!(found[0].to_string(), "second byte of the header of RTM_GETLINK at 17");
+/// # Ok::<(), linkcap::Error>(())
+/// ```
+pub fn quirks(capture: &[u8], limit: u32) -> Result<Vec<Quirk>, Error> {
+    let mut found: Vec<ffi::Quirk> = Vec::new();
+    let mut wanted = 16;
+    loop {
+        let (mut number, mut fault) = (0, ffi::Fault::default());
+        found.try_reserve(wanted).map_err(|_| Error::Memory)?;
+        found.resize(wanted, ffi::Quirk::default());
+        let (from, length, to, room) = (capture.as_ptr(), capture.len(), found.as_mut_ptr(), found.len());
+        // Safety: both pointers have the lengths that are given, and don't overlap.
+        match unsafe { ffi::linkcap_quirks(from, length, limit, to, room, &mut number, &mut fault) } {
+            ffi::OK => {
+                let quirk = |one: &ffi::Quirk| Quirk { kind: kind_of(one.kind), offset: one.offset };
+                return Ok(found.iter().take(count(number)?).map(quirk).collect());
+            }
+            ffi::NO_ROOM => wanted = count(number)?,
+            status => return Err(Error::of(status, &fault, capture, 0, limit, Vec::new())),
+        }
+    }
+}

@@ -1,0 +1,16 @@
+-- Bodies and captures compared without sequence and port numbers.
+use Rattle.std.specs.Prelude.{ℕ, nat_le, nat_eq, cond, List, length}
+use Rattle.link_capture_grammar.specs.Same.{SameCapture}
+use Rattle.link_capture_numbers.specs.Cleared.{zeros_at, numbers_cleared}
+
+-- the body of an NLMSG_ERROR, with zeros over the numbers of the header that it repeats, if it does
+abbrev pub error_cleared : List ℕ → List ℕ
+error_cleared body = cond (nat_le 20 (length body)) (zeros_at 12 body) body
+
+-- a body of a message of a type
+abbrev pub body_without_numbers : ℕ → List ℕ → List ℕ
+body_without_numbers t body = cond (nat_eq t 2) (error_cleared body) body
+
+-- the captures mean the same after zeroing their sequence and port numbers
+abbrev pub SameButNumbers : ℕ → List ℕ → List ℕ → Type 0
+SameButNumbers limit a b = SameCapture limit (numbers_cleared a) (numbers_cleared b)

@@ -1,0 +1,173 @@
+//! The encodings of a capture that some kernels treat differently from its normal text, for C.
+
+ghost use Rattle.std.specs.Prelude.{◌≡◌, ◌≤◌, ◌<◌, ◌-◌, ◌^◌, ◌++◌, ◌↔◌, ◌⊎◌, length, drop, min, IfSome, IfNone};
+ghost use Rattle.link_capture_grammar.specs.Captures.{first_fault};
+ghost use Rattle.link_capture_spellings.specs.declared.placed.PlacedSpelling.{PlacedSpelling};
+ghost use Rattle.link_capture_spellings.specs.SpellingWords.{placed_text};
+ghost use Rattle.linkcap_c.specs.Answers.{Judges, KeepsFault};
+ghost use Rattle.linkcap_c.specs.Buffers.{HandsOver};
+ghost use Rattle.linkcap_c.specs.Quirks.{quirk_number, quirk_told, quirks, IsQuirk};
+
+use crate::room::hand_over;
+use crate::statuses::{FAULT, NO_ROOM, OK, WRONG, is_limit};
+use crate::told::{LinkcapFault, of_one};
+use link_capture_grammar::fault::CaptureFault;
+use link_capture_spellings::{PlacedSpelling, Spelling};
+use link_capture_spellings::spelling;
+
+/// An encoding that some kernels treat differently from its normal text.
+#[repr(C)]
+#[derive(Drop)]
+pub struct LinkcapQuirk {
+    /// Where the attribute that has it starts, or the header's byte, in bytes from the capture's start.
+    pub offset: u64,
+    /// From 1 to 12, in the order of `Spelling`.
+    pub kind: u32,
+}
+
+/// The number of an encoding.
+fn number(found: Spelling) -> u32
+    ensures { result ≡ quirk_number found }
+{
+    match found {
+        Spelling::NestedPortSettings => 1,
+        Spelling::ResizedSettings => 2,
+        Spelling::PathDiscoveryOverOne => 3,
+        Spelling::LaterPeer => 4,
+        Spelling::LongAlias => 5,
+        Spelling::NameWithoutNul => 6,
+        Spelling::FlagWithPayload => 7,
+        Spelling::TruthOverOne => 8,
+        Spelling::StrayNestedBit => 9,
+        Spelling::ForeignFunction => 10,
+        Spelling::HeaderByte => 11,
+        Spelling::ShortMap => 12,
+    }
+}
+
+/// The encoding with a number.
+fn spelling_of(number: u32) -> Option<Spelling>
+    ensures some { IfSome result (λ found. quirk_number found ≡ number) }
+    ensures none { IfNone result ((number ≡ 0) ⊎ (12 < number)) }
+{
+    match number {
+        1 => Some(Spelling::NestedPortSettings),
+        2 => Some(Spelling::ResizedSettings),
+        3 => Some(Spelling::PathDiscoveryOverOne),
+        4 => Some(Spelling::LaterPeer),
+        5 => Some(Spelling::LongAlias),
+        6 => Some(Spelling::NameWithoutNul),
+        7 => Some(Spelling::FlagWithPayload),
+        8 => Some(Spelling::TruthOverOne),
+        9 => Some(Spelling::StrayNestedBit),
+        10 => Some(Spelling::ForeignFunction),
+        11 => Some(Spelling::HeaderByte),
+        12 => Some(Spelling::ShortMap),
+        _ => None,
+    }
+}
+
+/// A quirk as C has it.
+fn of_placed(found: PlacedSpelling) -> LinkcapQuirk
+    ensures { result ≡ quirk_told found }
+{
+    LinkcapQuirk {
+        offset: found.offset,
+        kind: number(found.spelling),
+    }
+}
+
+/// How many quirks a capture has before its first fault, at most 2^64 - 1, and that fault.
+fn count_quirks(capture: &[u8], limit: u32) -> (u64, Option<CaptureFault>)
+    ensures count { result.0 ≡ min (length (quirks limit capture.now)) (2 ^ 64 - 1) }
+    ensures fault { result.1 ≡ first_fault limit capture.now }
+{
+    let mut left = spelling(capture, limit);
+    let mut count = 0u64;
+    'quirks: loop {
+        match left.next() {
+            Some(Ok(_)) => count = count.saturating_add(1),
+            Some(Err(fault)) => return (count, Some(fault)),
+            None => return (count, None),
+        }
+    }
+}
+
+/// Writes the quirks of a capture to the start of `out`.
+fn write_quirks(capture: &[u8], limit: u32, out: &mut [LinkcapQuirk])
+    requires { length (quirks limit capture.now) ≤ length out.old }
+    ensures { out.new ≡ quirks limit capture.now
+        ++ drop (length (quirks limit capture.now)) out.old }
+{
+    let mut left = spelling(capture, limit);
+    let mut written = 0;
+    'quirks: loop {
+        match left.next() {
+            Some(Ok(found)) => {
+                out[written] = of_placed(found);
+                written += 1;
+            }
+            Some(Err(_)) | None => return,
+        }
+    }
+}
+
+/// Writes the quirks of a capture to the start of `out`, in the order of their offsets, or those before its first fault.
+/// If there are more than `out` has room for, it is unchanged. Their number goes to `count`. It takes no memory.
+#[unsafe(no_mangle)]
+pub extern "C" fn linkcap_quirks(
+    capture: &[u8],
+    limit: u32,
+    out: &mut [LinkcapQuirk],
+    count: &mut u64,
+    fault: &mut LinkcapFault,
+) -> u32
+    ensures judged { Judges limit capture.now result fault.new }
+    ensures written { (result ≡ 0) ⊎ (result ≡ 2) → (count.new ≡ length (quirks limit capture.now))
+        × (out.new ≡ quirks limit capture.now ++ drop count.new out.old) }
+    ensures room { 16 ≤ limit
+        → (result ≡ 4) ↔ (length out.old < length (quirks limit capture.now)) }
+    ensures wanted { result ≡ 4 → count.new ≡ min (length (quirks limit capture.now)) (2 ^ 64 - 1) }
+    ensures kept { (result ≡ 3) ⊎ (result ≡ 4) → out.new ≡ out.old }
+    ensures kept_count { result ≡ 3 → count.new ≡ count.old }
+    ensures kept_fault { KeepsFault result fault.old fault.new }
+    ensures answers { (result ≡ 0) ⊎ ((2 ≤ result) × (result ≤ 4)) }
+{
+    if !is_limit(limit) {
+        return WRONG;
+    }
+    let (found, first) = count_quirks(capture, limit);
+    *count = found;
+    if found > out.len() as u64 {
+        return NO_ROOM;
+    }
+    write_quirks(capture, limit, out);
+    match first {
+        Some(found) => {
+            *fault = of_one(found);
+            FAULT
+        }
+        None => OK,
+    }
+}
+
+/// Writes the words of a quirk and its offset to the start of `out`.
+#[unsafe(no_mangle)]
+pub extern "C" fn linkcap_quirk_text(quirk: &LinkcapQuirk, out: &mut [u8], size: &mut u64) -> u32
+    ensures text { (found : PlacedSpelling) → quirk.now ≡ quirk_told found
+        → HandsOver 0 (placed_text found) result size.new out.old out.new }
+    ensures wrong { result ≡ 3 → IsQuirk quirk.now → ⊥ }
+    ensures right { (result ≡ 0) ⊎ (result ≡ 4) → IsQuirk quirk.now }
+    ensures kept { result ≡ 3 → (out.new ≡ out.old) × (size.new ≡ size.old) }
+    ensures short { (result ≡ 0) ⊎ (result ≡ 4) → size.new ≤ 127 }
+    ensures answers { (result ≡ 0) ⊎ (result ≡ 3) ⊎ (result ≡ 4) }
+{
+    let Some(found) = spelling_of(quirk.kind) else {
+        return WRONG;
+    };
+    let placed = PlacedSpelling {
+        spelling: found,
+        offset: quirk.offset,
+    };
+    hand_over(placed.text().as_str().as_bytes(), OK, out, size)
+}

@@ -12,8 +12,7 @@ use crate::room::hand_over;
 use crate::statuses::{FAULT, NO_ROOM, OK, WRONG, is_limit};
 use crate::told::{LinkcapFault, of_one};
 use link_capture_grammar::fault::CaptureFault;
-use link_capture_spellings::{PlacedSpelling, Spelling};
-use link_capture_spellings::spelling;
+use link_capture_spellings::{PlacedSpelling, Spelling, spelling};
 
 /// An encoding that some kernels treat differently from its normal text.
 #[repr(C)]

@@ -169,7 +169,8 @@ class _Message:
         elif depth == 1 and _is_struct(word):
             self.json["header"] = {"struct": tokens.take(), **_fields(tokens)}
         else:
-            self._list(depth).append({"struct": tokens.take(), "fields": _fields(tokens)} if _is_struct(word) else _attribute(tokens))
+            entry = {"struct": tokens.take(), "fields": _fields(tokens)} if _is_struct(word) else _attribute(tokens)
+            self._list(depth).append(entry)
 
     @staticmethod
     def _request(tokens: _Tokens) -> Json:

@@ -1,6 +1,6 @@
 #!/usr/bin/env bash
 # Runs `linkcap norm`, `linkcap same` and `linkshow` where the machine has to play along: on devices that fail, under a
-# name that is no text, and with little memory; and compares status, output and what is told with what docs/frames.md
+# name that is no text, and with little memory; and compares status, output and standard error with what docs/frames.md
 # says.
 #
 #     bench/devices.sh [PROGRAM [SHOW]]
@@ -27,7 +27,7 @@ claimed() {
     head -c $(($1 - 16)) /dev/zero
 }
 
-# wants NAME STATUS TOLD WRITTEN: compares the run of before, whose status is in `status`, with these. TOLD is the line on
+# wants NAME STATUS REPORT WRITTEN: compares the run of before, whose status is in `status`, with these. REPORT is the line on
 # standard error, WRITTEN the size of the output.
 wants() {
     local told written

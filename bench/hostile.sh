@@ -4,7 +4,7 @@
 #     bench/hostile.sh [SEED [COUNT]]
 #
 # makes COUNT captures (1000000 where none is given) from the samples and the vectors by the mutations of
-# bench/hostile.py, the same ones for the same SEED (1), and has the programs vectors and linkcap answer them. It builds
+# bench/hostile.py, the same ones for the same SEED (1), and runs the programs vectors and linkcap on them. It builds
 # nothing, and no gate runs it.
 set -euo pipefail
 cd "$(dirname "$0")/.."

@@ -5,7 +5,7 @@
 #     bench/peers.sh [PROGRAM [BEFORE [MEGABYTES]]]
 #
 # PROGRAM is crates/linkcap/out/linkcap where none is given, BEFORE an older one beside it (`-` for none), and MEGABYTES
-# 50. Beside them stand `cat`, libnl's objects, one for each message, and a walk by libmnl over all attributes, which
+# 50. Beside them are `cat`, libnl's objects, one for each message, and a walk by libmnl over all attributes, which
 # checks sizes and writes nothing: two small programs in bench/peers/, built here from Debian's packages libnl-3-dev,
 # libnl-route-3-dev and libmnl-dev. They read the input whole, and go through it once. The last column is the walk from
 # memory: what four rounds more over the same bytes take.

@@ -7,7 +7,7 @@
 # RTM_NEWLINK messages of LENGTH bytes (at least 44), with attributes of 36 bytes.
 #
 # It builds nothing and no gate runs it: speed is measured here, and promised nowhere. Each program reads one file and
-# writes another, so that no pipe stands between. Of five rounds, in which the two take turns, the best time and the
+# writes another, so that no pipe is between. Of five rounds, in which the two take turns, the best time and the
 # greatest memory count. 1 MB is 1,000,000 bytes.
 set -euo pipefail
 cd "$(dirname "$0")/.."

@@ -1,5 +1,5 @@
 #!/usr/bin/env bash
-# Runs `linkshow` with each kind of words, files and captures, and compares status, output and what is told.
+# Runs `linkshow` with each kind of arguments, files and captures, and compares status, output and standard error.
 #
 #     bench/show_words.sh [PROGRAM]
 #
@@ -23,7 +23,7 @@ run() {
     status=$?
 }
 
-# wants NAME STATUS TOLD WRITTEN: compares the last run with these. TOLD is what standard error has, WRITTEN a file with
+# wants NAME STATUS REPORT WRITTEN: compares the last run with these. REPORT is what standard error has, WRITTEN a file with
 # the output.
 wants() {
     local told
@@ -96,7 +96,7 @@ wants "the limits in the help" "0:N the greatest length of a message in bytes, f
 status=$?
 wants "help that can't be printed" 2 "write failed at 0" "$work/nothing"
 
-# Wrong words.
+# Usage errors.
 for words in "--limit" "--limit 15" "--limit +48" "--limit 4294967296" "--limit 48 --limit" "--limit=48" "--only" "--only RTM_NEWLINK" "--only newlink," "--only ,2" "--only 65536" "--only +2" "--only NEWLINK" "--kernels --unknown" "-x" \
     "a b" "- a" "a --kernels" "--help a" "--version --kernels"; do
     # shellcheck disable=SC2086
@@ -148,7 +148,7 @@ wants "no messages, with notes" 0 "no messages" "$work/nothing"
 cat "$request" <(head -c 20 "$request") > "$work/cut"
 run "$work/cut"
 wants "lines before a fault are written" 2 "cut frame at 48" "$lines"
-# A link whose IFLA_MTU has 3 bytes, alone; behind 1,365 requests, so that it lies across pieces of 65,536 bytes; and a
+# A link whose IFLA_MTU has 3 bytes, alone; after 1,365 requests, so that it lies across pieces of 65,536 bytes; and a
 # NLMSG_DONE of 2 bytes.
 { printf '\x28\0\0\0\x10\0\0\0'; head -c 24 /dev/zero; printf '\7\0\4\0\1\2\3\0'; } > "$work/odd"
 run "$work/odd"

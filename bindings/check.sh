@@ -61,7 +61,7 @@ cut_vectors() {
     sed -n "$first,${last}p" crates/vectors/stdout > "$work/$kind.answers"
 }
 
-# Answers the vectors of a kind, and compares.
+# Computes the vectors of a kind, and compares.
 answers() {
     local what=$1 kind=$2
     shift 2

@@ -3,7 +3,7 @@
 #
 #     samples/norm_one.sh FILE [LIMIT]
 #
-# The normal text goes to FILE.text, which is there only where the capture is legal. The status is that of the program,
+# The normal text goes to FILE.text, which is there only if the capture is legal. The status is that of the program,
 # `linkcap` or what the variable LINKCAP names, and 4 where the file can't be read.
 [ "${1:-}" != --help ] || { sed -n '2,/^[^#]/s/^# \{0,1\}//p' "$0"; exit 0; }
 [ $# -eq 1 ] || [ $# -eq 2 ] || { echo "usage: $0 FILE [LIMIT]" >&2; exit 3; }

@@ -223,7 +223,7 @@ wants "a pcapng file" 0 "$rest" "$linkrec" pcap pcapng < "$work/a"
 head -c 60 "$work/pcap" > "$work/broken"
 wants "a pcap file that ends early" 1 "linkrec: the file ends inside a packet" "$linkrec" pcap broken < /dev/null
 wants "a pcapng file that ends early" 1 "linkrec: the file ends inside a block" "$linkrec" pcap <(head -c 100 "$work/pcapng") < /dev/null
-# nanoseconds, the highest byte first, and cooked packets of the second kind: a header of 20 bytes
+# nanoseconds, big-endian, and cooked packets of the second kind: a header of 20 bytes
 cooked() { printf '\0\0\0\0\0\0\0\1\3\x38\0\0\0\0\0\0\0\0\0\0'; cat "$work/a"; }
 {
     printf '\xa1\xb2\x3c\x4d\0\2\0\4\0\0\0\0\0\0\0\0\0\4\0\0\0\0\1\x14'

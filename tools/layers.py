@@ -20,7 +20,7 @@ COLUMNS = ["netlink_packet_core", "attribute", "link_info", "link_message", "lin
 OTHERS = "programs, users, tests"
 # Crates that have another column than their names say.
 ELSEWHERE = {"link_tables": "attribute", "link_interpreter": "attribute"}
-# Those of which the depth is told below the picture.
+# Those whose depth is given below the picture.
 TOLD = ["netlink_packet_core", "link_info", "link_message", "link_capture", "link_lines", "linkcap", "linkshow"]
 
 

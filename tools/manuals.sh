@@ -26,7 +26,7 @@ usage() {
     grep -rhoE "usage: $1 [^\";\\\\]*" crates/*/src | sed -E 's/^usage: //; s/ +$//' | sort -u | tr '[:upper:]' '[:lower:]'
 }
 
-# What completion offers behind some words.
+# What completion offers after some words.
 offered() {
     bash -c '. man/linkcap.bash; COMP_WORDS=("$@"); COMP_CWORD=$(($# - 1)); "_$1"; printf "%s\n" "${COMPREPLY[@]}"' - "$@"
 }

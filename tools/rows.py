@@ -64,7 +64,7 @@ TYPES = {
 # The names under which a type is offered, where its own is another.
 OFFERED = {"IpVlanData": "InfoIpVlan`, `InfoIpVtap", "InfoMacVlan": "InfoMacVlan`, `InfoMacVtap", "InfoVrf": "InfoVrf`, `InfoVrfPort"}
 PAIRS = {"veth": "InfoVeth", "vxcan": "InfoVxcan"}
-# The families of the tables whose variants go by them.
+# The families of the tables whose variants depend on them.
 FAMILY = {"link_unspec": "Unspec", "link_bridge": "Bridge", "link_inet6": "Inet6"}
 # Tables of which another one has most rows.
 AS_OF = {"ip6_tunnel": "ip4_tunnel", "macvlan_address": "macvlan", "link_bridge": "link_unspec", "link_inet6": "link_unspec", "link_other": "link_unspec"}

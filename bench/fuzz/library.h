@@ -74,7 +74,7 @@ Result measure(const Bytes &capture, uint32_t limit, linkcap_sizes &sizes);
 Result same(const Bytes &first, const Bytes &second, uint32_t limit);
 Result same_ignoring_numbers(const Bytes &first, const Bytes &second, uint32_t limit);
 Result normalize(const Bytes &capture, uint32_t limit);
-// With `room` bytes of room, which is too little: `out` has to stay as it was.
+// With a capacity of `room` bytes, which is too small: `out` has to stay as it was.
 uint64_t wanted_room(const Bytes &capture, uint32_t limit, size_t room);
 Result lines(const Bytes &capture, uint32_t limit, const LineChoice &choice);
 Reason why(const Bytes &capture, uint32_t limit);

@@ -1,4 +1,4 @@
-/* Reads a capture from standard input, and walks each link message with libmnl: every attribute is cut and held against
+/* Reads a capture from standard input, and walks each link message with libmnl: every attribute is cut and compared with
  * the least size of its type, link info and what is inside it too. Prints how many attributes there were.
  *
  *     walk [ROUNDS] < CAPTURE

@@ -233,7 +233,7 @@ uint32_t linkcap_show_some(const uint8_t *piece, size_t length, bool last, uint3
 
 /*
  * Writes each encoding of a capture that some kernels treat differently from its normal text, in the order of the bytes, to
- * the array quirks, which has room for that many, and their number to *count. docs/kernels.md says what kernels do. It
+ * the array quirks, which has space for that many, and their number to *count. docs/kernels.md says what kernels do. It
  * allocates nothing.
  *
  * LINKCAP_OK           the capture is legal, and its quirks are written. A normal text has none.

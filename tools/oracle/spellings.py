@@ -25,7 +25,7 @@ def no_nul(p):
     return b"\0" not in p
 
 
-# (table, kind proper) -> (words, whether a payload is spelled so)
+# (table, kind proper) -> (words, whether a payload is encoded so)
 PAYLOADS = {
     ("inet", 1): ("IFLA_INET_CONF not of 132 bytes", lambda p: len(p) != 132),
     ("gre", 10): ("IFLA_GRE_PMTUDISC over 1", lambda p: p[0] > 1),

@@ -9,7 +9,7 @@ import linkoracle as o      # noqa: E402
 
 TOP = os.path.normpath(os.path.join(os.path.dirname(os.path.abspath(__file__)), "..", ".."))
 
-# in the order in which they are stored; answers of the last alone have several lines
+# in the order in which they are stored; results of the last alone have several lines
 KINDS = ("norm", "same", "spelling", "refusal", "link_info", "show")
 OUTCOME = re.compile("legal|(%s) at [0-9]+" % "|".join(words for _, words in o.FAULT_KINDS.values()))
 

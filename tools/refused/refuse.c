@@ -1,6 +1,6 @@
 /*
- * Makes one request for memory of a program fail: loaded by LD_PRELOAD, it answers the call of malloc, realloc or
- * aligned_alloc whose number is REFUSE_AT with NULL, and hands all others on. The numbers begin at 1.
+ * Makes one request for memory of a program fail: loaded by LD_PRELOAD, it returns NULL from the call of malloc, realloc or
+ * aligned_alloc whose number is REFUSE_AT, and passes all others on. The numbers begin at 1.
  */
 #define _GNU_SOURCE
 #include <dlfcn.h>

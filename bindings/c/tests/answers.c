@@ -1,5 +1,5 @@
 /*
- * Answers stored cases of a kind, a line each on standard input without the word of the kind, as the program vectors does:
+ * Prints the results of stored cases of a kind, a line each on standard input without the word of the kind, as the program vectors does:
  *
  *     sed -n 's/^norm //p' crates/vectors/stdin | answers norm|pieces|same|show|show-pieces|why|quirks
  *
@@ -105,7 +105,7 @@ static uint32_t show_some(const uint8_t *piece, size_t length, bool last, uint32
                              progress, fault);
 }
 
-/* The same by pieces, of which the greatest frame and text have to find room. */
+/* The same by pieces, with space for the greatest frame and text. */
 static struct bytes write_pieces(writes_some *call, struct bytes capture, size_t size, uint32_t limit, uint32_t *status,
                                  struct linkcap_fault *fault)
 {
@@ -266,7 +266,7 @@ static void answer_show(struct bytes capture, uint32_t limit, size_t size)
 
 static bool is_reason;
 
-/* linkcap_why in the form of the calls that write. The place is told in the words, too. */
+/* linkcap_why in the form of the calls that write. The offset is in the text, too. */
 static uint32_t why(const uint8_t *capture, size_t length, uint32_t limit, uint8_t *out, size_t room, uint64_t *written,
                     struct linkcap_fault *fault)
 {
@@ -306,7 +306,7 @@ static void answer_why(struct bytes capture, uint32_t limit)
     free(words.at);
 }
 
-/* Quirks in an array that has no room to spare, and then the end. */
+/* Quirks in an array that is just large enough, and then the end. */
 static void answer_quirks(struct bytes capture, uint32_t limit)
 {
     struct linkcap_fault fault;

@@ -75,7 +75,7 @@ static struct bytes read_file(const char *name)
     return bytes;
 }
 
-/* The start of the message in which `cut` bytes of a legal capture end, or `cut` where they end behind one. */
+/* The start of the message in which `cut` bytes of a legal capture end, or `cut` if they end after one. */
 static size_t frame_at(struct bytes capture, size_t cut)
 {
     size_t at = 0;
@@ -199,7 +199,7 @@ static void test_limit_of_15(struct bytes capture)
 
 typedef uint32_t writes(const uint8_t *, size_t, uint32_t, uint8_t *, size_t, uint64_t *, struct linkcap_fault *);
 
-/* Each room from none to what is wanted and a byte more; `step` leaves some out of long texts. */
+/* Each capacity from none to what is wanted and a byte more; `step` leaves some out of long texts. */
 static void test_room(writes *call, struct bytes capture, size_t cut, uint32_t status, size_t step)
 {
     uint64_t wanted = 0, length;
@@ -227,7 +227,7 @@ static void test_cut_at_each_byte(struct bytes capture)
         uint64_t length;
         struct linkcap_fault fault;
         struct linkcap_progress progress;
-        /* what is behind the last message is padding, of which the text has all */
+        /* what follows the last message is padding, of which the text has all */
         size_t text = whole == cut ? (cut + 3) / 4 * 4 : whole;
         uint8_t *piece = __real_malloc(cut ? cut : 1);
         memcpy(piece, capture.at, cut);
@@ -252,7 +252,7 @@ static void test_cut_at_each_byte(struct bytes capture)
     __real_free(out);
 }
 
-/* Refuses each request of a call in turn. Nothing is kept, and the answer is want of memory or the one that it had. */
+/* Refuses each request of a call in turn. Nothing is kept, and the result is out of memory or the one that it had. */
 static long test_refused(writes *call, struct bytes capture, size_t cut)
 {
     uint64_t wanted = 0, length;

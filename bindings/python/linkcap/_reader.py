@@ -29,7 +29,7 @@ class _Pieces(Generic[Written]):
     """
 
     _call: str
-    #: what stands between the limit and the buffer of the call
+    #: what lies between the limit and the buffer of the call
     _options: Tuple[Any, ...] = ()
 
     def __init__(self, limit: SupportsIndex = DEFAULT_LIMIT) -> None:

@@ -8,7 +8,7 @@ use std::{fmt, io};
 #[derive(Clone, Copy, Debug, PartialEq, Eq, Hash)]
 #[non_exhaustive]
 pub enum Kind {
-    /// Fewer bytes are left than a header has, or than it tells.
+    /// Fewer bytes are left than a header has, or than its length says.
     Cut = 1,
     /// The header's length is under 16.
     ShortLength,
@@ -116,7 +116,7 @@ impl Fault {
             side: self.side.map_or(0, |side| side as u32),
             offset: self.offset,
         };
-        // Safety: the buffer has the room that is given.
+        // Safety: the buffer has the capacity that is given.
         words_of(|out, room, length| unsafe { ffi::linkcap_fault_text(&fault, out, room, length) })
     }
 }

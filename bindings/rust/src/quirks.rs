@@ -14,7 +14,7 @@ pub enum QuirkKind {
     ResizedSettings,
     /// `IFLA_GRE_PMTUDISC` over 1.
     PathDiscoveryOverOne,
-    /// The peer of `veth` or `vxcan` behind another attribute.
+    /// The peer of `veth` or `vxcan` after another attribute.
     LaterPeer,
     /// `IFLA_IFALIAS` of 255 bytes without a NUL.
     LongAlias,
@@ -64,7 +64,7 @@ fn kind_of(number: u32) -> QuirkKind {
 impl fmt::Display for Quirk {
     fn fmt(&self, f: &mut fmt::Formatter<'_>) -> fmt::Result {
         let quirk = ffi::Quirk { offset: self.offset, kind: self.kind as u32 };
-        // Safety: the buffer has the room that is given.
+        // Safety: the buffer has the capacity that is given.
         f.pad(&words_of(|out, room, length| unsafe { ffi::linkcap_quirk_text(&quirk, out, room, length) }))
     }
 }

@@ -5,7 +5,7 @@ use crate::{ffi, Error};
 /// The longest words of a fault or a quirk.
 const WORDS: usize = 127;
 
-/// Reserves room for `wanted` bytes after those of a vector.
+/// Reserves capacity for `wanted` bytes after those of a vector.
 pub(crate) fn reserve(out: &mut Vec<u8>, wanted: usize) -> Result<(), Error> {
     out.try_reserve(wanted).map_err(|_| Error::Memory)
 }
@@ -25,7 +25,7 @@ pub(crate) fn words_of(call: impl FnOnce(*mut u8, usize, &mut u64) -> u32) -> St
     ascii(words.to_vec())
 }
 
-/// What a call writes of a capture to a buffer, which has room for `wanted` bytes at first.
+/// What a call writes of a capture to a buffer, which has capacity for `wanted` bytes at first.
 fn write(
     capture: &[u8],
     limit: u32,

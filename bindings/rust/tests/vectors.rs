@@ -26,7 +26,7 @@ fn cases_of(stdin: &str) -> impl Iterator<Item = &str> {
     stdin.lines().filter(|line| !line.starts_with("# "))
 }
 
-/// The stored cases of a kind, and the lines of their answers: one each, but of `show`, the last kind.
+/// The stored cases of a kind, and the lines of their results: one each, but of `show`, the last kind.
 fn stored(kind: &str) -> (Vec<String>, Vec<String>) {
     let (stdin, stdout) = (text("crates/vectors/stdin"), text("crates/vectors/stdout"));
     let word = format!("{kind} ");
@@ -39,7 +39,7 @@ fn stored(kind: &str) -> (Vec<String>, Vec<String>) {
     (cases, answers)
 }
 
-/// The limit and the captures of each case of a kind, and its answer.
+/// The limit and the captures of each case of a kind, and its result.
 fn answered(kind: &str) -> Vec<(u32, Vec<Vec<u8>>, String)> {
     let (cases, answers) = stored(kind);
     cases

@@ -132,7 +132,7 @@ installed() {
     "$work/prefix/bin/linkcap" norm < samples/req-veth.bin | cmp - samples/req-veth.bin || return
     "$work/prefix/bin/linkshow" < samples/req-veth.bin | cmp - samples/req-veth.lines || return
     "$work/prefix/bin/linkshow" --version | grep -qw "lines $(sed -n 's/^#define LINKCAP_FORMAT //p' "$lib/linkcap.h")" || return
-    PATH=$work/prefix/bin:$PATH linkjson samples/req-veth.bin | grep -q '"value": "veth"' || return
+    PATH=$work/prefix/bin:$PATH linkjson samples/req-veth.bin > "$work/json" && grep -q '"value": "veth"' "$work/json" || return
     PATH=$work/prefix/bin:$PATH linkgold samples/req-veth.lines samples/req-veth.bin || return
     cmp man/linkshow.1 "$work/prefix/share/man/man1/linkshow.1" || return
     cmp man/linkcap.3 "$work/prefix/share/man/man3/linkcap_normalize_some.3" || return

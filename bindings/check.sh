@@ -16,6 +16,7 @@ trap 'rm -rf "$work"' EXIT
 cc=${CC:-cc}
 cxx=${CXX:-c++}
 passed=0 failed=0 skipped=0
+export PYTHONDONTWRITEBYTECODE=1
 
 # Runs a command quietly, and counts it; its words are shown where it fails.
 step() {
@@ -228,7 +229,6 @@ test_python() {
         skip Python "no module venv"
         return
     fi
-    export PYTHONDONTWRITEBYTECODE=1
     step "Python: pip install without a network" env LINKCAP_LIB_DIR="$lib" "$work/venv/bin/pip" install --no-index "$top/bindings/python"
     local run=("$work/venv/bin/python") tests=bindings/python/tests
     mkdir -p "$work/python"
@@ -236,8 +236,6 @@ test_python() {
     step "Python: calls that are interrupted" env -C $tests "${run[@]}" -m unittest -q test_reentry
     step "Python: installs" env -C $tests "${run[@]}" -m unittest -q test_install
     "${run[@]}" -c 'import numpy' 2> /dev/null || skip "Python: captures of numpy" "no numpy"
-    test_other_pythons
-    test_python_types
     if ! "${run[@]}" -c 'import pytest' 2> /dev/null; then
         skip "Python: the fixture and the page" "no pytest"
         return
@@ -363,8 +361,24 @@ done
 lib=$work/lib
 step "the library" bindings/c/build.sh "$lib"
 [ "$failed" -eq 0 ] || finish
-test_c
-test_python
-test_rust
-test_go
+
+# Runs a part of the tests beside the others, in a folder of its own, which gets the counts.
+beside() {
+    (
+        work=$work/$1 passed=0 failed=0 skipped=0
+        mkdir "$work"
+        "test_$1"
+        echo "$passed $failed $skipped" > "$work/counts"
+    ) > "$work/$1.log" 2>&1 &
+}
+
+parts=(c python other_pythons python_types rust go)
+for part in "${parts[@]}"; do beside "$part"; done
+wait
+for part in "${parts[@]}"; do
+    cat "$work/$part.log"
+    [ -s "$work/$part/counts" ] || echo "0 1 0" > "$work/$part/counts"
+    read -r more broken left < "$work/$part/counts"
+    passed=$((passed + more)) failed=$((failed + broken)) skipped=$((skipped + left))
+done
 finish

@@ -263,9 +263,9 @@ uint32_t linkcap_fault_text(const struct linkcap_fault *fault, uint8_t *out, siz
  * What of a refused body isn't accepted, if the first fault is LINKCAP_REFUSED: the attribute's names from outside in, the
  * reason and the offset, in ASCII, as `IFLA_LINKINFO > IFLA_INFO_DATA > IFLA_VRF_TABLE: a payload of 3 bytes at 60`.
  *
- * LINKCAP_OK           the words are written to the start of out, their length to *written, and to *place where the
+ * LINKCAP_OK           the words are written to the start of out, their length to *written, and to *offset where the
  *                      attribute begins, in bytes from the capture's start: UINT64_MAX for NLMSG_ERROR and NLMSG_DONE.
- * LINKCAP_NONE         the capture is legal, or its first fault is another one: *written is 0 and *place UINT64_MAX.
+ * LINKCAP_NONE         the capture is legal, or its first fault is another one: *written is 0 and *offset UINT64_MAX.
  * LINKCAP_WRONG        a limit under 16. Nothing is written.
  * LINKCAP_NO_ROOM      out is too small for the words: *written has their length, and nothing else is written.
  * LINKCAP_NO_MEMORY    out of memory for the words. Nothing is written.
@@ -273,7 +273,7 @@ uint32_t linkcap_fault_text(const struct linkcap_fault *fault, uint8_t *out, siz
  * No null byte is written after the words.
  */
 uint32_t linkcap_why(const uint8_t *capture, size_t length, uint32_t limit, uint8_t *out, size_t room,
-                     uint64_t *written, uint64_t *place);
+                     uint64_t *written, uint64_t *offset);
 
 /* LINKCAP_VERSION of the library, and its LINKCAP_FORMAT. */
 uint32_t linkcap_version(void);

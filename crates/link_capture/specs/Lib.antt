@@ -19,7 +19,7 @@ pub use Rattle.link_capture_messages.specs.Routes
 pub use Rattle.link_capture_messages.specs.Texts
 pub use Rattle.link_capture_messages.specs.Messages
 pub use Rattle.link_capture_messages.specs.EqualRoutes
-pub use Rattle.link_message_laws.specs.EqualTexts
+pub use Rattle.link_message.specs.EqualTexts
 pub use Rattle.link_capture_messages.specs.declared.route.RouteLink
 pub use Rattle.link_capture_grammar.specs.declared.fault.CaptureFault
 pub use Rattle.link_capture_reader.specs.Joined

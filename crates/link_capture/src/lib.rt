@@ -19,4 +19,4 @@ pub use link_capture_reader::{
 pub use link_capture_refusals::laws::{refused_bodies_are_told, refused_frames_stand_alone};
 pub use link_capture_refusals::{Reason, Refusal, why, why_frame};
 pub use link_capture_spellings::{PlacedSpelling, Spelling, Spellings, spelling};
-pub use link_message_laws::laws::equal_texts_mean_equal_messages;
+pub use link_message::laws::equal_texts_mean_equal_messages;

@@ -7,7 +7,7 @@ use lib.Pointwise.{bytes_decides}
 use Rattle.link_message.specs.declared.message.LinkMessage.{LinkMessage}
 use Rattle.link_message.specs.LinkMessages.{link_message_text, link_message_fits}
 use Rattle.link_message.specs.contracts.message.LinkMessageEq.TheImpl.Laws.{laws-law}
-use Rattle.link_message_laws.proofs.Messages.{messages_injective}
+use Rattle.link_message.proofs.Messages.{messages_injective}
 use Rattle.link_capture_messages.specs.KeptTypes.{IsKeptType}
 use Rattle.link_capture_messages.specs.Readable.{IsReadFrom, IsReadable, equal_messages, says_the_same}
 use Rattle.link_capture_messages.specs.RoundTrips.{round_trip}

@@ -7,7 +7,7 @@ use Rattle.link_message_grammar.specs.Body.{link_body}
 use Rattle.link_message.specs.declared.message.LinkMessage.{LinkMessage}
 use Rattle.link_message.specs.LinkMessages.{link_message_text, link_message_fits}
 use Rattle.link_message.specs.contracts.message.LinkMessageEq.TheImpl.Laws.{laws-law}
-use Rattle.link_message_laws.specs.EqualTexts.{EqualTextsMeanEqualMessages}
+use Rattle.link_message.specs.EqualTexts.{EqualTextsMeanEqualMessages}
 use Rattle.link_capture_messages.specs.Readable.{IsReadFrom, IsReadable, ReadsAsAnother, equal_messages, says_the_same}
 use Rattle.link_capture_messages.proofs.ReadAgain.{own}
 

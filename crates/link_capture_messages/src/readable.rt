@@ -13,7 +13,7 @@ use super::types::ReadableLink;
 use link_capture_grammar::laws::bodies_are_normal;
 use link_message::{LinkMessage, check};
 use link_message_grammar::laws::bodies_are_headers_and_attributes;
-use link_message_laws::laws::equal_texts_mean_equal_messages;
+use link_message::laws::equal_texts_mean_equal_messages;
 use netlink_packet_core::Emitable;
 use std::alloc::Global;
 use thiserror::Error;

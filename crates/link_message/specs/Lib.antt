@@ -22,6 +22,8 @@ pub use Rattle.link_message_types.specs.declared.address_family.AddressFamily
 pub use Rattle.link_message_types.specs.declared.header.LinkHeader
 pub use Rattle.link_message_types.specs.declared.link_flag.LinkFlags
 pub use Rattle.link_message_types.specs.declared.link_layer_type.LinkLayerType
+pub mod EqualTexts
+pub mod Injective
 pub mod LinkMessages
 pub use Rattle.link_message_checks.specs.Measures as BodyMeasures
 pub use Rattle.link_message_grammar.specs.NestedTables

@@ -1,4 +1,6 @@
-//! Facts of the definitions, stated in the crates below.
+//! Facts of the definitions, some of them stated in the crates below. No function here makes a call.
+
+ghost use Rattle.link_message.specs.EqualTexts.{EqualTextsMeanEqualMessages};
 
 pub use link_message_grammar::laws::{
     attributes_are_lawful, attributes_are_looked_up, bodies_are_headers_and_attributes,
@@ -12,3 +14,11 @@ pub use link_message_types::laws::{
     constants_are_named, headers_are_sixteen_bytes, layer_types_are_named, masks_are_kept,
     numbers_are_kept,
 };
+
+/// The text of a message determines it, up to `==`: messages of one address family that are written
+/// as the same bytes are equal, if each value is the variant that its row names. `LinkMessage::parse`
+/// promises family, text and variants, so messages that are read from the same bytes are equal.
+#[tactic(auto, using(crate::proofs::Messages::messages_injective))]
+pub fn equal_texts_mean_equal_messages()
+    ensures { EqualTextsMeanEqualMessages }
+{}

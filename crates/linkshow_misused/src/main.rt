@@ -1,9 +1,0 @@
-// The program linkshow once more, for a stored run with one word too many.
-#![tactic(auto)]
-
-use linkshow_program::outcome;
-use std::process::ExitCode;
-
-fn main(rt: HostRuntime) -> ExitCode {
-    outcome(&rt)
-}

@@ -4,7 +4,7 @@
  *     sed -n 's/^norm //p' crates/vectors/stdin | answers norm|pieces|same|show|show-pieces|why|quirks
  *
  * `pieces` and `show-pieces` give each capture in pieces of 1, 7 and 100 bytes, in turn, and write what `norm` and `show`
- * write. `why` answers cases of the kind `refusal`, and `quirks` of the kind `spelling`.
+ * write. `why` takes cases of the kind `refusal`, and `quirks` of the kind `spelling`.
  */
 #include <inttypes.h>
 #include <stdio.h>

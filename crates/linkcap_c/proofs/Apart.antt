@@ -36,7 +36,7 @@ framed c f =
     and_from (nat_le 16 (length c)) (nat_le 16 (frame_length c) && nat_le (frame_length c) (length c)) (le-leb 16 (length c) f.has_header)
     (and_from (nat_le 16 (frame_length c)) (nat_le (frame_length c) (length c)) (le-leb 16 (frame_length c) f.covers_header) (le-leb (frame_length c) (length c) f.within))
 
--- what a capture that begins with a whole frame has in front after zeroing, and behind that frame
+-- after zeroing, a capture that begins with a whole frame begins with that frame, zeroed; the rest is the rest, zeroed
 pub record IsCleared (c d : List ℕ) : Type 0 where
   pub header : take 12 (drop 4 d) ≡ take 4 (drop 4 c) ++ zeros 8
   pub kind : frame_type d ≡ frame_type c
@@ -153,7 +153,7 @@ module _ (law : SamenessGoesByFrames link_body) (cleared : ClearedCapturesHaveCl
   ended : length a ≡ 0 → length b ≡ 0 → SameButNumbers limit left right
   ended n m = so_far.same.0 (law.ended limit (numbers_cleared a) (numbers_cleared b) (nothing a n) (nothing b m))
 
-  -- the left one has ended: the answer is whether the right one has
+  -- the left one has ended: they are equivalent if and only if the right one has too
   pub left_ended : length a ≡ 0 → (answer : Bool) → answer ≡ eqb (length b) 0 → (answer ≡ true) ↔ SameButNumbers limit left right
   left_ended n answer e = (λ h. ended n (no_bytes b answer h e), by answer refl)
     where

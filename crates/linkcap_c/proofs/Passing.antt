@@ -1,4 +1,4 @@
--- What was used of a piece, one frame further, and behind what came before the piece.
+-- What was used of a piece once one frame more is written, whatever came before the piece.
 use Rattle.std.proofs.Common.{◌≡◌, ℕ, ◌+◌, ◌-◌, ◌%◌, ◌^◌, ◌<◌, ◌≤◌, ◌⊎◌, inl, inr, Bool, true, false, min, Option, None, Some, Ok, Err, List, [], ◌++◌, length, take, drop, refl, sym, ap, subst, ◌∙◌, arith, append_assoc}
 use Rattle.std.proofs.lemmas.List.{length-take, length-drop, length-append, append-nil, take_all, take-append-drop, take_at, drop_at, drop-drop, drop_all}
 use Rattle.std.proofs.Math.Seq.{take-add}
@@ -42,7 +42,7 @@ is_form steps joins limit l (Some o) = record { none = steps.none (choice_of o) 
 pub used_none : (form : Form) (limit : ℕ) (last : Bool) (c : List ℕ) → IsForm limit form → IsUsed form limit last c 0 0
 used_none form limit last c f = record { inside = omega arith; legal = fault_nil limit; padded = inl refl; written = sym (ap length (ap form (texts_nil limit) ∙ f.none)) }
 
--- a place in front of more bytes is one at which a frame starts
+-- a frame also starts at an offset if more bytes follow
 pub starts : (form : Form) (limit : ℕ) (last : Bool) (c : List ℕ) (used written : ℕ) → IsUsed form limit last c used written → used < length c → used % 4 ≡ 0
 starts form limit last c used written u l = elim u.padded [ inl h ↦ h | inr h ↦ omega (arith, h.1) ]
 
@@ -59,7 +59,7 @@ le_or_le a b = elim (cases_lt a b) [ inl h ↦ inl (omega arith) | inr h ↦ inr
 reaches : (size used read whole : ℕ) → read ≡ min whole (size - used) → used ≤ size → (read ≡ whole) ⊎ (used + read ≡ size)
 reaches size used read whole e l = elim (le_or_le whole (size - used)) [ inl h ↦ inl (omega arith) | inr h ↦ inr (omega arith) ]
 
--- A text written behind others in a buffer.
+-- A text that is written after others in a buffer.
 written_behind : (at n : ℕ) (front text init out new : List ℕ) → length front ≡ at → out ≡ front ++ drop at init → new ≡ text ++ drop n (drop at out) → put_mid at (length out - at) out new ≡ (front ++ text) ++ drop (at + n) init
 written_behind at n front text init out new e b w =
     let f : take at out ≡ front = rw b (take_at front (drop at init) at e) in
@@ -136,7 +136,7 @@ ended limit false c used h = inl (ap (first_frame limit) (drop_all used c h) ∙
 pub stops_there : (form : Form) (limit : ℕ) (last : Bool) (rest left : List ℕ) (room free : ℕ) (stop : Stop) → rest ≡ left → room ≡ free → Stops form limit last rest room stop → Stops form limit last left free stop
 stops_there form limit last rest left room free stop r e h = subst (λ n. Stops form limit last left n stop) e (subst (λ x. Stops form limit last x room stop) r h)
 
--- behind a whole capture
+-- after a whole capture
 module _ (faults : JoinedFaults link_body) (joins : JoinedTexts link_body) where
   -- the frame that has a fault, whatever follows
   there : FramesStandAlone link_body → (limit : ℕ) (last : Bool) (rest more : List ℕ) (kind : FaultKind) → (last ≡ true → more ≡ []) → IsFaulty limit last rest kind → first_frame limit (rest ++ more) ≡ Err kind
@@ -166,7 +166,7 @@ module _ (faults : JoinedFaults link_body) (joins : JoinedTexts link_body) where
             ∙ shaped.joined before (texts limit (take used c));
       }
 
--- what was used is legal behind a whole capture, and written by itself
+-- what was used is legal after a whole capture, and its text is written independently of it
 pub goes_on : JoinedLegal link_body → JoinedTexts link_body → (form : Form) (limit : ℕ) → IsForm limit form → (last : Bool) (c : List ℕ) (used written : ℕ) (before : List ℕ) → IsUsed form limit last c used written → IsWhole limit before → GoesOn form limit last (take used c) before
 goes_on legals joins form limit shaped last c used written before u b =
     let legal = (legals limit before (take used c) b.legal b.padded).1 u.legal in
@@ -183,7 +183,7 @@ goes_on legals joins form limit shaped last c used written before u b =
     padded f (inl h) = omega (arith, length-append before (take used c), size, h, b.padded)
     padded f (inr h) = absurd (let z : true ≡ false = sym h.0 ∙ f in cc)
 
--- what stands before the first fault is legal, and has all texts
+-- the bytes before the first fault are legal, and have all texts
 module _ (go : CapturesGoByFrames link_body) where
   reached : (limit : ℕ) (c : List ℕ) (fault : CaptureFault) → first_fault limit c ≡ Some fault → take (reach limit c) (c ++ []) ≡ take fault.offset c
   reached limit c fault h = ap (take (reach limit c)) (append-nil c) ∙ ap (λ n. take n c) (ap (reach_by (length c)) h)

@@ -40,7 +40,7 @@ most = 2 ^ 64 - 1
 
 -- ---- counted
 
--- so many were yielded, or as many as can be counted
+-- the number of quirks that were yielded, or the greatest number that can be counted
 pub record Counted (limit : ℕ) (c : List ℕ) (left : Yielded) (count : ℕ) : Type 0 where
   pub fits : count ≤ most
   pub all : min (count + length (found left)) most ≡ min (length (quirks limit c)) most
@@ -78,7 +78,7 @@ put_one : {A : Type 0} (done rest : List A) (x : A) → 0 < length rest → set 
 put_one done [] x h = absurd (omega (arith, h))
 put_one done (y ∷ rest) x h = set-append_seam done y rest x ∙ sym (append_assoc done (x ∷ []) rest)
 
--- so many are written
+-- this number of quirks is written
 pub record Written (limit : ℕ) (c : List ℕ) (init out : List LinkcapQuirk) (left : Yielded) (written : ℕ) : Type 0 where
   pub done : List LinkcapQuirk
   pub size : length done ≡ written

@@ -1,32 +1,32 @@
--- What calls answer of a capture.
+-- The result of a call on one capture.
 use Rattle.std.specs.Prelude.{◌≡◌, ℕ, ◌<◌, ◌≤◌, ◌↔◌, ◌⊎◌, List, length}
 use Rattle.link_capture_grammar.specs.Captures.{IsLegal}
 use Rattle.linkcap_c.specs.Buffers.{Holds}
 use Rattle.linkcap_c.specs.Told.{TellsFault}
 use Rattle.linkcap_c.specs.declared.told.LinkcapFault.{LinkcapFault}
 
--- The capture is legal; or its first fault is told; or no run can have this limit.
+-- The capture is legal; or its first fault is reported; or the limit is under 16.
 pub record Judges (limit : ℕ) (c : List ℕ) (answer : ℕ) (fault : LinkcapFault) : Type 0 where
   pub legal : answer ≡ 0 → IsLegal limit c
   pub faulty : answer ≡ 2 → TellsFault 0 limit c fault
   pub wrong : (answer ≡ 3) ↔ (limit < 16)
 
--- The text of a capture that is judged, up to its first fault, is in the buffer's front; or the buffer lacks room for it. Where a text isn't
--- written, the buffer stays as it was.
+-- The text of a capture, up to its first fault, is at the start of the buffer; or the buffer is too
+-- small for it. If no text is written, the buffer is unchanged.
 pub record Writes (text : List ℕ) (answer size : ℕ) (old new : List ℕ) : Type 0 where
   pub held : (answer ≡ 0) ⊎ (answer ≡ 2) → Holds text size old new
   pub room : answer ≡ 4 → length old < length text
   pub kept : (answer ≡ 3) ⊎ (answer ≡ 4) ⊎ (answer ≡ 5) → new ≡ old
 
--- A fault is written only where one is reported: of a fault, and where an allocation fails.
+-- A fault is written only if one is reported, be it out of memory; otherwise the caller's struct is unchanged.
 abbrev pub KeepsFault : ℕ → LinkcapFault → LinkcapFault → Type 0
 KeepsFault answer old new = (answer ≡ 0) ⊎ (answer ≡ 1) ⊎ (answer ≡ 3) ⊎ (answer ≡ 4) ⊎ (answer ≡ 6) → new ≡ old
 
--- A length is written only where a text is, or where the buffer is too small for it.
+-- A length is written only if a text is, or if the buffer is too small for it.
 abbrev pub KeepsSize : ℕ → ℕ → ℕ → Type 0
 KeepsSize answer old new = (answer ≡ 3) ⊎ (answer ≡ 5) → new ≡ old
 
--- the answers of calls that judge a capture, and of those that write a text
+-- The results of calls that judge a capture.
 abbrev pub IsJudgement : ℕ → Type 0
 IsJudgement answer = (answer ≡ 0) ⊎ (answer ≡ 2) ⊎ (answer ≡ 3)
 

@@ -4,7 +4,7 @@ use Rattle.netlink_packet_core_grammar.specs.Frames.{frame_type}
 use Rattle.link_capture_grammar.specs.Captures.{first_frame, first_fault, texts, raised}
 use Rattle.link_capture_grammar.specs.Numbers.{frames}
 
--- the frame in front is accepted, and has this length and type
+-- The first frame of these bytes is accepted, and has this length and type.
 abbrev pub IsMessage : ℕ → List ℕ → ℕ → ℕ → Type 0
 IsMessage limit rest size kind = (text : List ℕ) × (first_frame limit rest ≡ Ok (size, text)) × (kind ≡ frame_type rest)
 

@@ -24,14 +24,14 @@ abbrev pub form_of : Option LineOptions → Form
 form_of None = as_text
 form_of (Some o) = as_lines (choice_of o)
 
--- of c's front so many bytes were used; what is written of their texts has this length
+-- `used` bytes at the start of c were used; what is written of their texts has the length `size`.
 pub record IsUsed (form : Form) (limit : ℕ) (last : Bool) (c : List ℕ) (used size : ℕ) : Type 0 where
   pub inside : used ≤ length c
   pub legal : IsLegal limit (take used c)
   pub padded : (used % 4 ≡ 0) ⊎ ((last ≡ true) × (used ≡ length c))
   pub written : size ≡ length (form (texts limit (take used c)))
 
--- the frame in front is accepted, and has this text
+-- The first frame of these bytes is accepted, and this is its text.
 abbrev pub HasText : ℕ → List ℕ → List ℕ → Type 0
 HasText limit rest text = (n : ℕ) × (first_frame limit rest ≡ Ok (n, text))
 
@@ -39,26 +39,26 @@ HasText limit rest text = (n : ℕ) × (first_frame limit rest ≡ Ok (n, text))
 abbrev pub IsAccepted : ℕ → List ℕ → Type 0
 IsAccepted limit rest = (text : List ℕ) × HasText limit rest text
 
--- the frame in front is accepted, and its padding isn't all there
+-- The first frame is accepted, and its padding is incomplete.
 abbrev pub LacksPadding : ℕ → List ℕ → Type 0
 LacksPadding limit rest = (n : ℕ) × (text : List ℕ) × (first_frame limit rest ≡ Ok (n, text)) × (length rest < nla_align n)
 
--- nothing is left of the last piece; or no frame in front is whole with its padding
+-- The last piece is used up; or these bytes don't begin with a whole frame and its padding.
 abbrev pub IsEnded : ℕ → Bool → List ℕ → Type 0
 IsEnded limit true rest = rest ≡ []
 IsEnded limit false rest = (first_frame limit rest ≡ Err Cut) ⊎ LacksPadding limit rest
 
--- the frame in front has this fault, and it isn't that more bytes are to come
+-- The first frame has this fault, and more bytes can't mend it.
 pub record IsFaulty (limit : ℕ) (last : Bool) (rest : List ℕ) (kind : FaultKind) : Type 0 where
   pub more : 0 < length rest
   pub is : first_frame limit rest ≡ Err kind
   pub for_good : last ≡ false → kind ≢ Cut
 
--- what is written of the text in front wants so much room
+-- What is written of the first frame's text has `wanted` bytes.
 abbrev pub Wants : Form → ℕ → List ℕ → ℕ → Type 0
 Wants form limit rest wanted = (text : List ℕ) × HasText limit rest text × (wanted ≡ length (form text))
 
--- why writing stopped in front of these bytes, where so much room was left
+-- Why writing stopped before these bytes, when the buffer had a capacity of `room` bytes left.
 abbrev pub Stops : Form → ℕ → Bool → List ℕ → ℕ → Stop → Type 0
 Stops form limit last rest room Ended = IsEnded limit last rest
 Stops form limit last rest room (Fault kind) = IsFaulty limit last rest kind
@@ -70,13 +70,15 @@ pub record IsWhole (limit : ℕ) (s : List ℕ) : Type 0 where
   pub legal : IsLegal limit s
   pub padded : length s % 4 ≡ 0
 
--- Behind each whole capture, what was used of the piece is legal, is written by itself, and is whole where more is to come.
+-- After each whole capture, the used bytes of the piece are legal, their text is written independently of the capture's, and
+-- the result is whole if more is to come.
 pub record GoesOn (form : Form) (limit : ℕ) (last : Bool) (used before : List ℕ) : Type 0 where
   pub legal : IsLegal limit (before ++ used)
   pub written : form (texts limit (before ++ used)) ≡ form (texts limit before) ++ form (texts limit used)
   pub whole : last ≡ false → IsWhole limit (before ++ used)
 
--- A piece stands behind a whole capture and in front of more, and so much of it was used: the first fault of all, and what is written before it.
+-- A piece follows a whole capture, and more bytes follow the piece; `used` bytes of the piece were used. This is the first
+-- fault of all of it, and what is written before that fault.
 pub record Fails (form : Form) (limit : ℕ) (kind : FaultKind) (used : ℕ) (piece before more : List ℕ) : Type 0 where
   pub fault : first_fault limit (before ++ (piece ++ more)) ≡ Some (record { kind = kind; offset = length before + used })
   pub written : form (texts limit (before ++ (piece ++ more))) ≡ form (texts limit before) ++ form (texts limit (take used piece))

@@ -1,4 +1,4 @@
--- Faults as C is told of them.
+-- Faults as C has them.
 use Rattle.std.specs.Prelude.{◌≡◌, ◌⊎◌, ℕ, ◌-◌, ◌^◌, Bool, cond, List, Option, None, Some, option_map}
 use Rattle.link_capture_grammar.specs.declared.fault.FaultKind.{FaultKind}
 use Rattle.link_capture_grammar.specs.declared.fault.FaultKind.TheVariants.{Cut, ShortLength, OverLimit, Refused, EmptyPorts, Unfit, TextOverLimit, Memory, Read, Write, TooLong, Failed}
@@ -38,15 +38,15 @@ IsFault fault = (found : CaptureFault) × ((fault ≡ told 0 found) ⊎ (fault �
 abbrev pub words_of_side : Bool → CaptureFault → List ℕ
 words_of_side second fault = side_text (record { second = second; fault = fault })
 
--- the first fault of a capture with this number of its side is told so
+-- This is the first fault of a capture, with this number of its side.
 abbrev pub TellsFault : ℕ → ℕ → List ℕ → LinkcapFault → Type 0
 TellsFault side limit c fault = option_map (told side) (first_fault limit c) ≡ Some fault
 
--- want of memory is told at a place where a frame starts, before which the capture is legal
+-- Out of memory is reported at an offset where a frame starts, and the capture is legal up to there.
 abbrev pub TellsMemory : ℕ → List ℕ → LinkcapFault → Type 0
 TellsMemory limit c fault = (fault.kind ≡ kind_number Memory) × (fault.side ≡ 0) × StopsAt limit c fault.offset
 
--- the number for a place: the greatest where there is none
+-- The number for an offset: 2^64 - 1 if there is none.
 abbrev pub place_number : Option ℕ → ℕ
 place_number None = 2 ^ 64 - 1
 place_number (Some place) = place

@@ -16,7 +16,7 @@ use link_capture_grammar::laws::texts_tell_meanings;
 use link_capture_numbers::laws::cleared_captures_have_cleared_texts;
 
 /// Whether two captures mean the same under a limit; else the first fault of the first one, or of the second where the
-/// first is legal. It takes no memory.
+/// first is legal. Allocates nothing.
 #[unsafe(no_mangle)]
 pub extern "C" fn linkcap_same(
     first: &[u8],
@@ -52,8 +52,8 @@ pub extern "C" fn linkcap_same(
 }
 
 /// Whether two captures mean the same after zeroing their sequence and port numbers, those too of the request's header
-/// that an NLMSG_ERROR repeats; else the first fault of the first one, or of the second if the first is legal. It takes no
-/// memory.
+/// that an NLMSG_ERROR repeats; else the first fault of the first one, or of the second if the first is legal. Allocates
+/// nothing.
 #[unsafe(no_mangle)]
 pub extern "C" fn linkcap_same_ignoring_numbers(
     first: &[u8],

@@ -23,8 +23,8 @@ pub struct LinkcapSizes {
     pub text_high: u64,
 }
 
-/// Whether a capture is legal under a limit on the bytes of a message and of its text, or its first fault. It takes no
-/// memory.
+/// Whether a capture is legal under a limit on the bytes of a message and of its text, or its first fault. Allocates
+/// nothing.
 #[unsafe(no_mangle)]
 pub extern "C" fn linkcap_check(capture: &[u8], limit: u32, fault: &mut LinkcapFault) -> u32
     ensures judged { Judges limit capture.now result fault.new }
@@ -43,7 +43,7 @@ pub extern "C" fn linkcap_check(capture: &[u8], limit: u32, fault: &mut LinkcapF
     }
 }
 
-/// The sizes of a legal capture, or its first fault. It takes no memory.
+/// The sizes of a legal capture, or its first fault. Allocates nothing.
 #[unsafe(no_mangle)]
 pub extern "C" fn linkcap_measure(
     capture: &[u8],

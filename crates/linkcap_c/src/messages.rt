@@ -27,7 +27,7 @@ pub struct LinkcapMessage {
     pub message_type: u32,
 }
 
-/// The message at an offset where one starts, or its fault; nothing at the end. It takes no memory.
+/// The message at an offset where one starts, or its fault; nothing at the end. Allocates nothing.
 #[unsafe(no_mangle)]
 pub extern "C" fn linkcap_next_message(
     capture: &[u8],

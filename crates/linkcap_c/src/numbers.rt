@@ -68,7 +68,7 @@ fn same_frame(left: &[u8], right: &[u8], limit: u32) -> bool
     &left[4..8] == &right[4..8] && same_body(message_type, frame_body(left), frame_body(right))
 }
 
-/// What follows the frame in front and its padding.
+/// The bytes after the first frame and its padding.
 fn behind(bytes: &[u8]) -> &[u8]
     requires { IsFrame bytes.now }
     ensures { result.now ≡ drop (nla_align (frame_length bytes.now)) bytes.now }
@@ -77,7 +77,7 @@ fn behind(bytes: &[u8]) -> &[u8]
     &bytes[len.min(bytes.len())..]
 }
 
-/// Whether two legal captures mean the same after zeroing their sequence and port numbers. It takes no memory.
+/// Whether two legal captures mean the same after zeroing their sequence and port numbers. Allocates nothing.
 pub(crate) fn same_but_numbers(left: &[u8], right: &[u8], limit: u32) -> bool
     requires left { IsLegal limit left.now }
     requires right { IsLegal limit right.now }

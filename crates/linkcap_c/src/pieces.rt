@@ -25,7 +25,7 @@ pub(crate) enum Stop {
     Ended,
     /// The frame there has this fault.
     Fault(FaultKind),
-    /// The text there, or its lines, want so much room, in bytes, and there is less.
+    /// The text of the next frame, or its lines, have this length in bytes, which the buffer lacks.
     Room(usize),
     /// There is no memory for the text there, or for its lines.
     Memory,
@@ -41,7 +41,7 @@ pub(crate) struct Progress {
     pub stop: Stop,
 }
 
-/// Copies some bytes to the front of `out`. The answer is their number, or how much room they want.
+/// Copies bytes to the start of `out`. Returns their number, or as an Err the capacity that they need.
 fn put(text: &[u8], out: &mut [u8]) -> Result<usize, Stop>
     ensures ok { IfOk result (λ size. (size ≡ length text.now) × (size ≤ length out.old)
         × (out.new ≡ text.now ++ drop size out.old)) }
@@ -55,7 +55,7 @@ fn put(text: &[u8], out: &mut [u8]) -> Result<usize, Stop>
     Ok(text.len())
 }
 
-/// Copies a frame's text to the front of `out`, or its lines, by way of `lines`, if options are given.
+/// Copies a frame's text to the start of `out`, or its lines, by way of `lines`, if options are given.
 fn put_form(
     text: &[u8],
     form: Option<LineOptions<'_>>,
@@ -79,8 +79,8 @@ fn put_form(
     put(lines.as_slice(), out)
 }
 
-/// Writes the text of the frame in front, or its lines, to the front of `out`, by way of `text` and `lines`. The answer
-/// is how many bytes the frame has, with its padding, and how many were written.
+/// Writes the text of the first frame, or its lines, to the start of `out`, by way of `text` and `lines`. Returns the
+/// length of the frame with its padding, and the number of bytes written.
 fn write_frame(
     text: &mut Vec<u8>,
     lines: &mut Vec<u8>,
@@ -118,8 +118,8 @@ fn write_frame(
     }
 }
 
-/// Writes the texts, or lines, of the frames in front that are whole with their padding, and of the last one of the last
-/// piece, to the front of `out`, as far as there is room.
+/// Writes the texts, or lines, of the leading frames that are whole with their padding, and of the last one of the last
+/// piece, to the start of `out`, as far as it has capacity.
 fn write_frames(
     alloc: Global,
     bytes: &[u8],

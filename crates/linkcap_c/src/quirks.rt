@@ -112,7 +112,7 @@ fn write_quirks(capture: &[u8], limit: u32, out: &mut [LinkcapQuirk])
 }
 
 /// Writes the quirks of a capture to the start of `out`, in the order of their offsets, or those before its first fault.
-/// If there are more than `out` has room for, it is unchanged. Their number goes to `count`. It takes no memory.
+/// If `out` is too small for them, it is unchanged. Their number goes to `count`. Allocates nothing.
 #[unsafe(no_mangle)]
 pub extern "C" fn linkcap_quirks(
     capture: &[u8],

@@ -11,7 +11,7 @@ use crate::statuses::{NO_MEMORY, NONE, OK, WRONG, is_limit};
 use link_capture_refusals::why;
 use std::alloc::Global;
 
-/// The number for a place: 2^64 - 1 where there is none.
+/// The number for an offset: 2^64 - 1 if there is none.
 fn number_of(place: Option<u64>) -> u64
     ensures { result ≡ place_number place }
 {
@@ -24,7 +24,7 @@ fn number_of(place: Option<u64>) -> u64
 /// Writes the reason of a refused body to the start of `out`, if the capture's first fault is one: the names of
 /// attributes from outside in, why, and the offset. If `out` is too small, it and `place` are unchanged, and `size` is the
 /// length that is needed; all three are unchanged if memory runs out. If the first fault is another one or there is none,
-/// the length is 0, and there is no place.
+/// the length is 0, and there is no offset.
 #[unsafe(no_mangle)]
 pub extern "C" fn linkcap_why(
     alloc: Global,

@@ -1,11 +1,11 @@
-//! Texts handed over in a caller's buffer.
+//! Texts copied to a caller's buffer.
 
 ghost use Rattle.std.specs.Prelude.{◌≡◌};
 ghost use Rattle.linkcap_c.specs.Buffers.{HandsOver};
 
 use crate::statuses::NO_ROOM;
 
-/// Copies a text to the front of a buffer, and answers with this status; or leaves the buffer alone where it lacks room.
+/// Copies a text to the start of a buffer, and returns `status`; or leaves a buffer that is too small unchanged.
 /// The text's length goes to `size`.
 pub(crate) fn hand_over(text: &[u8], status: u32, out: &mut [u8], size: &mut u64) -> u32
     ensures { HandsOver status text.now result size.new out.old out.new }

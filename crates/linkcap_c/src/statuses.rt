@@ -8,13 +8,13 @@ pub const OK: u32 = 0;
 /// Both captures are legal and don't mean the same.
 pub const DIFFERENT: u32 = 1;
 
-/// A fault, which is told with its place.
+/// A fault, which is reported with its offset.
 pub const FAULT: u32 = 2;
 
 /// A limit under 16, or a fault that is none.
 pub const WRONG: u32 = 3;
 
-/// The buffer has less room than what is to be written.
+/// The buffer is too small.
 pub const NO_ROOM: u32 = 4;
 
 /// No memory.

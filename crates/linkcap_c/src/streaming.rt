@@ -99,8 +99,8 @@ fn write_some(
 }
 
 /// Writes the texts of the frames that are whole in one piece of a capture, with their padding, as far as `out` has
-/// room; of the last piece the last frame may lack padding. The caller gives the bytes that weren't used again, with
-/// more behind them.
+/// capacity; of the last piece the last frame may lack padding. The caller gives the bytes that weren't used again, with
+/// more after them.
 #[unsafe(no_mangle)]
 pub extern "C" fn linkcap_normalize_some(
     alloc: Global,

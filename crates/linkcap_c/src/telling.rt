@@ -25,7 +25,7 @@ fn of_side(fault: CaptureFault, second: bool) -> SideFault
     SideFault { second, fault }
 }
 
-/// Writes the words of a fault and its place to the front of `out`, behind the word of its side where it has one.
+/// Writes the text of a fault and its offset to the start of `out`, after the name of its side if it has one.
 #[unsafe(no_mangle)]
 pub extern "C" fn linkcap_fault_text(fault: &LinkcapFault, out: &mut [u8], size: &mut u64) -> u32
     ensures alone { (found : CaptureFault) → fault.now ≡ told 0 found

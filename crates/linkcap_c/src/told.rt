@@ -1,4 +1,4 @@
-//! Faults as C is told of them.
+//! Faults as C has them.
 
 ghost use Rattle.std.specs.Prelude.{◌≡◌, ◌<◌, ◌⊎◌, IfSome, IfNone};
 ghost use Rattle.linkcap_c.specs.Told.{kind_number, side_number, told};
@@ -14,7 +14,7 @@ pub struct LinkcapFault {
     pub kind: u32,
     /// Of two captures 1 for the first and 2 for the second, else 0.
     pub side: u32,
-    /// The place, in bytes from the capture's start.
+    /// The offset, in bytes from the capture's start.
     pub offset: u64,
 }
 

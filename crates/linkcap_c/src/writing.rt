@@ -70,8 +70,8 @@ fn report(status: u32, found: CaptureFault, fault: &mut LinkcapFault) -> u32
     status
 }
 
-/// Writes the normal text of a capture to the front of `out`, or the texts before its first fault. Where there is less
-/// room than for these, `out` stays as it was, and their length is told; so it does where memory is wanting.
+/// Writes the normal text of a capture to the start of `out`, or the texts before its first fault. If `out` is too small for
+/// these, it is unchanged, and their length is reported. It is unchanged, too, if an allocation fails.
 #[unsafe(no_mangle)]
 pub extern "C" fn linkcap_normalize(
     alloc: Global,
@@ -88,11 +88,11 @@ pub extern "C" fn linkcap_normalize(
     ensures kept_fault { KeepsFault result fault.old fault.new }
     ensures kept_size { KeepsSize result size.old size.new }
     ensures answers { IsAnswer result }
-    // Room is answered first.
+    // A buffer that is too small is reported first.
     ensures room { 16 ≤ limit
         → (result ≡ 4) ↔ (length out.old < length (texts limit capture.now)) }
     ensures wanted { result ≡ 4 → size.new ≡ told_length (texts limit capture.now) }
-    // Memory is wanting only for the text of an accepted frame.
+    // Only the text of an accepted frame can run out of memory.
     ensures cause { result ≡ 5 → IsAccepted limit (drop fault.new.offset capture.now) }
     // A normal text is legal, and its own normal text.
     ensures normal { 16 ≤ limit → IsLegal limit (texts limit capture.now)
@@ -123,7 +123,7 @@ pub extern "C" fn linkcap_normalize(
     }
 }
 
-/// Writes what is shown of a capture to the front of `out`, or of what stands before its first fault.
+/// Writes what is shown of a capture, up to its first fault, to the start of `out`.
 fn show_as(
     alloc: Global,
     capture: &[u8],
@@ -161,8 +161,8 @@ fn show_as(
     }
 }
 
-/// Writes the lines of a capture to the front of `out`, or those before its first fault. Where there is less room than
-/// for these, `out` stays as it was, and their length is told; it stays, too, where memory is wanting.
+/// Writes the lines of a capture to the start of `out`, or those before its first fault. If `out` is too small for these,
+/// it is unchanged, and their length is reported. It is unchanged, too, if an allocation fails.
 #[unsafe(no_mangle)]
 pub extern "C" fn linkcap_show(
     alloc: Global,

@@ -1,4 +1,4 @@
--- what is counted, and the fault behind it
+-- the quirks that are counted, and the fault that follows them
 use Rattle.std.proofs.Common.{◌≡◌, Err, ◌∷◌, ap, ◌∙◌}
 use Rattle.link_capture_spellings.specs.Spellings.{answers_left}
 use Rattle.linkcap_c.proofs.Quirking.{counted_none, counted_fault, counted_all}

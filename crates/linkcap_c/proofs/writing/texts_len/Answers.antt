@@ -1,4 +1,4 @@
--- what stands before the first fault is measured by itself
+-- the bytes before the first fault are measured independently of what follows
 use Rattle.std.proofs.Common.{◌∙◌, length, ap, sym}
 use Rattle.linkcap_c.proofs.Passing.{legal_before, texts_before}
 use Rattle.linkcap_c.proofs.writing.texts_len.Goals as goal

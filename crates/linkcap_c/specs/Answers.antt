@@ -2,8 +2,8 @@
 use Rattle.std.specs.Prelude.{◌≡◌, ℕ, ◌<◌, ◌≤◌, ◌↔◌, ◌⊎◌, List, length}
 use Rattle.link_capture_grammar.specs.Captures.{IsLegal}
 use Rattle.linkcap_c.specs.Buffers.{Holds}
-use Rattle.linkcap_c.specs.Told.{TellsFault}
-use Rattle.linkcap_c.specs.declared.told.LinkcapFault.{LinkcapFault}
+use Rattle.linkcap_c.specs.Faults.{TellsFault}
+use Rattle.linkcap_c.specs.declared.faults.LinkcapFault.{LinkcapFault}
 
 -- The capture is legal; or its first fault is reported; or the limit is under 16.
 pub record Judges (limit : ℕ) (c : List ℕ) (answer : ℕ) (fault : LinkcapFault) : Type 0 where

@@ -1,6 +1,6 @@
 pub mod Buffers
 pub mod Pieces
-pub mod Told
+pub mod Faults
 pub mod Choices
 pub mod Answers
 pub mod Messages

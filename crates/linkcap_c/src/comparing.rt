@@ -6,11 +6,11 @@ ghost use Rattle.link_capture_grammar.specs.Same.{SameCapture};
 ghost use Rattle.link_capture_numbers.specs.Cleared.{numbers_cleared};
 ghost use Rattle.linkcap_c.specs.Answers.{KeepsFault};
 ghost use Rattle.linkcap_c.specs.Apart.{SameButNumbers};
-ghost use Rattle.linkcap_c.specs.Told.{TellsFault};
+ghost use Rattle.linkcap_c.specs.Faults.{TellsFault};
 
 use crate::numbers::same_but_numbers;
 use crate::statuses::{DIFFERENT, FAULT, OK, WRONG, is_limit};
-use crate::told::{LinkcapFault, of_two};
+use crate::faults::{LinkcapFault, of_two};
 use link_capture_checks::{SideFault, check, same};
 use link_capture_grammar::laws::texts_tell_meanings;
 use link_capture_numbers::laws::cleared_captures_have_cleared_texts;

@@ -6,7 +6,7 @@ ghost use Rattle.link_capture_grammar.specs.Numbers.{attributes, frames};
 ghost use Rattle.linkcap_c.specs.Answers.{IsJudgement, Judges, KeepsFault};
 
 use crate::statuses::{FAULT, OK, WRONG, is_limit};
-use crate::told::{LinkcapFault, of_one};
+use crate::faults::{LinkcapFault, of_one};
 use link_capture_checks::{check, measure};
 
 /// The sizes of a legal capture.

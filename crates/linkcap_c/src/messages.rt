@@ -6,10 +6,10 @@ ghost use Rattle.link_capture_grammar.specs.declared.fault.FaultKind.{FaultKind}
 ghost use Rattle.link_capture_grammar.specs.Captures.{first_fault, first_frame};
 ghost use Rattle.linkcap_c.specs.Answers.{KeepsFault};
 ghost use Rattle.linkcap_c.specs.Messages.{IsFollowed, IsMessage};
-ghost use Rattle.linkcap_c.specs.Told.{told};
+ghost use Rattle.linkcap_c.specs.Faults.{told};
 
 use crate::statuses::{FAULT, NONE, OK, WRONG, is_limit};
-use crate::told::{LinkcapFault, of_one};
+use crate::faults::{LinkcapFault, of_one};
 use link_capture_checks::measure_frame;
 use link_capture_grammar::fault::CaptureFault;
 use link_capture_grammar::laws::{captures_are_counted, captures_go_by_frames};

@@ -8,9 +8,9 @@ ghost use Rattle.linkcap_c.specs.Answers.{Judges, KeepsFault};
 ghost use Rattle.linkcap_c.specs.Buffers.{HandsOver};
 ghost use Rattle.linkcap_c.specs.Quirks.{quirk_number, quirk_told, quirks, IsQuirk};
 
-use crate::room::hand_over;
+use crate::buffers::hand_over;
 use crate::statuses::{FAULT, NO_ROOM, OK, WRONG, is_limit};
-use crate::told::{LinkcapFault, of_one};
+use crate::faults::{LinkcapFault, of_one};
 use link_capture_grammar::fault::CaptureFault;
 use link_capture_spellings::{PlacedSpelling, Spelling, spelling};
 

@@ -4,9 +4,9 @@ ghost use Rattle.std.specs.Prelude.{◌≡◌, ◌<◌, ◌≤◌, ◌↔◌, �
 ghost use Rattle.link_capture_refusals.specs.Refusals.{Found, refusal};
 ghost use Rattle.link_capture_refusals.specs.RefusalWords.{refusal_text};
 ghost use Rattle.linkcap_c.specs.Buffers.{Holds, Lacks};
-ghost use Rattle.linkcap_c.specs.Told.{place_number};
+ghost use Rattle.linkcap_c.specs.Faults.{place_number};
 
-use crate::room::hand_over;
+use crate::buffers::hand_over;
 use crate::statuses::{NO_MEMORY, NONE, OK, WRONG, is_limit};
 use link_capture_refusals::why;
 use std::alloc::Global;

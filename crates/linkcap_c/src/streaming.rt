@@ -8,12 +8,12 @@ ghost use Rattle.linkcap_c.specs.Answers.{IsAnswer, KeepsFault};
 ghost use Rattle.linkcap_c.specs.Buffers.{Holds};
 ghost use Rattle.linkcap_c.specs.Pieces.{as_text, as_lines, form_of, IsUsed, IsAccepted, IsEnded, IsFaulty, Wants, IsWhole, GoesOn, Fails};
 ghost use Rattle.linkcap_c.specs.Choices.{asked};
-ghost use Rattle.linkcap_c.specs.Told.{kind_number, told};
+ghost use Rattle.linkcap_c.specs.Faults.{kind_number, told};
 
 use crate::choices::line_options;
 use crate::pieces::{Stop, write_piece};
 use crate::statuses::{FAULT, NO_MEMORY, NO_ROOM, OK, WRONG, is_limit};
-use crate::told::{LinkcapFault, of_one};
+use crate::faults::{LinkcapFault, of_one};
 use link_capture_grammar::fault::{CaptureFault, FaultKind};
 use link_lines::LineOptions;
 use std::alloc::Global;

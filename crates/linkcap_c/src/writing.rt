@@ -13,12 +13,12 @@ ghost use Rattle.linkcap_c.specs.Answers.{IsAnswer, Judges, KeepsFault, KeepsSiz
 ghost use Rattle.linkcap_c.specs.Buffers.{told_length};
 ghost use Rattle.linkcap_c.specs.Choices.{asked};
 ghost use Rattle.linkcap_c.specs.Pieces.{IsAccepted};
-ghost use Rattle.linkcap_c.specs.Told.{TellsMemory, told};
+ghost use Rattle.linkcap_c.specs.Faults.{TellsMemory, told};
 
 use crate::choices::line_options;
-use crate::room::hand_over;
+use crate::buffers::hand_over;
 use crate::statuses::{FAULT, NO_MEMORY, NO_ROOM, OK, WRONG, is_limit};
-use crate::told::{LinkcapFault, of_one};
+use crate::faults::{LinkcapFault, of_one};
 use link_capture_checks::{measure, normal_len};
 use link_capture_grammar::fault::{CaptureFault, FaultKind};
 use link_capture_grammar::laws::{captures_go_by_frames, faults_stand_at_frames};

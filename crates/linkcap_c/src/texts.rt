@@ -4,11 +4,11 @@ ghost use Rattle.std.specs.Prelude.{◌≡◌, ◌≢◌, ◌≤◌, ◌⊎◌, 
 ghost use Rattle.link_capture_grammar.specs.declared.fault.CaptureFault.{CaptureFault};
 ghost use Rattle.link_capture_grammar.specs.Faults.{fault_text};
 ghost use Rattle.linkcap_c.specs.Buffers.{HandsOver};
-ghost use Rattle.linkcap_c.specs.Told.{IsFault, told, words_of_side};
+ghost use Rattle.linkcap_c.specs.Faults.{IsFault, told, words_of_side};
 
-use crate::room::hand_over;
+use crate::buffers::hand_over;
 use crate::statuses::{OK, WRONG};
-use crate::told::{LinkcapFault, kind_of};
+use crate::faults::{LinkcapFault, kind_of};
 use link_capture_checks::SideFault;
 use link_capture_grammar::fault::CaptureFault;
 

@@ -1,9 +1,9 @@
 -- a fault whose kind and side are known is one
 use Rattle.std.proofs.Common.{◌≡◌, ℕ, inl, inr, sym, ap, ◌∙◌}
 use Rattle.link_capture_grammar.specs.declared.fault.FaultKind.{FaultKind}
-use Rattle.linkcap_c.specs.declared.told.LinkcapFault.{LinkcapFault}
-use Rattle.linkcap_c.specs.Told.{kind_number, told}
-use Rattle.linkcap_c.proofs.telling.linkcap_fault_text.Goals as goal
+use Rattle.linkcap_c.specs.declared.faults.LinkcapFault.{LinkcapFault}
+use Rattle.linkcap_c.specs.Faults.{kind_number, told}
+use Rattle.linkcap_c.proofs.texts.linkcap_fault_text.Goals as goal
 
 is_told : (f : LinkcapFault) (kind : FaultKind) (side : ℕ) → kind_number kind ≡ f.kind → f.side ≡ side → f ≡ told side (record { kind = kind; offset = f.offset })
 is_told f kind side k s =

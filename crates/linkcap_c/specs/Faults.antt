@@ -5,7 +5,7 @@ use Rattle.link_capture_grammar.specs.declared.fault.FaultKind.TheVariants.{Cut,
 use Rattle.link_capture_grammar.specs.declared.fault.CaptureFault.{CaptureFault}
 use Rattle.link_capture_grammar.specs.Captures.{first_fault, StopsAt}
 use Rattle.link_capture_checks.specs.Sides.{side_text}
-use Rattle.linkcap_c.specs.declared.told.LinkcapFault.{LinkcapFault}
+use Rattle.linkcap_c.specs.declared.faults.LinkcapFault.{LinkcapFault}
 
 -- the number of a kind
 abbrev pub kind_number : FaultKind → ℕ

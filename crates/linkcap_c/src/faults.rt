@@ -1,7 +1,7 @@
 //! Faults as C has them.
 
 ghost use Rattle.std.specs.Prelude.{◌≡◌, ◌<◌, ◌⊎◌, IfSome, IfNone};
-ghost use Rattle.linkcap_c.specs.Told.{kind_number, side_number, told};
+ghost use Rattle.linkcap_c.specs.Faults.{kind_number, side_number, told};
 
 use link_capture_checks::SideFault;
 use link_capture_grammar::fault::{CaptureFault, FaultKind};

@@ -20,7 +20,7 @@ attribute_length e = 4 + length e.payload
 abbrev pub zeros : ℕ → List ℕ
 zeros n = replicate n 0
 
--- two numbers of two bytes, the lower byte first
+-- two numbers of two bytes, little-endian
 abbrev pub attribute_header : ℕ → ℕ → List ℕ
 attribute_header size kind = size % 256 ∷ size / 256 ∷ kind % 256 ∷ kind / 256 ∷ []
 

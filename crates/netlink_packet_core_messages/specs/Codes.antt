@@ -1,4 +1,4 @@
--- Signed codes of 32 bits in front of the bodies of DONE and ERROR messages (netlink.h, struct nlmsgerr), the lowest byte first.
+-- Signed codes of 32 bits in front of the bodies of DONE and ERROR messages (netlink.h, struct nlmsgerr), little-endian.
 use Rattle.std.specs.Prelude.{◌≢◌, ℕ, ℤ, Option, None, Some, List, pos, cond}
 use Rattle.std.specs.Ordering.{int_eq}
 use Rattle.std.specs.Int.{w32, cast_signed, cast_unsigned}

@@ -7,7 +7,7 @@ ghost use Rattle.netlink_packet_core_numbers.specs.Errors.{is_memory};
 
 use super::error::DecodeError;
 
-/// Writes a number into the first 2 bytes, in native order, the lowest first.
+/// Writes a number into the first 2 bytes, in native byte order (little-endian).
 /// A shorter buffer is refused and left as it is.
 #[tactic(auto, using(netlink_packet_core_grammar::proofs::Numbers::digits))]
 pub fn emit_u16(buffer: &mut [u8], value: u16) -> Result<(), DecodeError>
@@ -23,7 +23,7 @@ pub fn emit_u16(buffer: &mut [u8], value: u16) -> Result<(), DecodeError>
     Ok(())
 }
 
-/// Writes a number into the first 2 bytes, the highest first.
+/// Writes a number into the first 2 bytes, big-endian.
 /// A shorter buffer is refused and left as it is.
 #[tactic(auto, using(netlink_packet_core_grammar::proofs::Numbers::digits))]
 pub fn emit_u16_be(buffer: &mut [u8], value: u16) -> Result<(), DecodeError>
@@ -39,7 +39,7 @@ pub fn emit_u16_be(buffer: &mut [u8], value: u16) -> Result<(), DecodeError>
     Ok(())
 }
 
-/// Writes a number into the first 2 bytes, the lowest first.
+/// Writes a number into the first 2 bytes, little-endian.
 /// A shorter buffer is refused and left as it is.
 pub fn emit_u16_le(buffer: &mut [u8], value: u16) -> Result<(), DecodeError>
     ensures size { IsOk result ↔ (2 ≤ length buffer.old) }
@@ -50,7 +50,7 @@ pub fn emit_u16_le(buffer: &mut [u8], value: u16) -> Result<(), DecodeError>
     emit_u16(buffer, value)
 }
 
-/// Writes a number into the first 4 bytes, in native order, the lowest first.
+/// Writes a number into the first 4 bytes, in native byte order (little-endian).
 /// A shorter buffer is refused and left as it is.
 #[tactic(auto, using(netlink_packet_core_grammar::proofs::Numbers::digits))]
 pub fn emit_u32(buffer: &mut [u8], value: u32) -> Result<(), DecodeError>
@@ -66,7 +66,7 @@ pub fn emit_u32(buffer: &mut [u8], value: u32) -> Result<(), DecodeError>
     Ok(())
 }
 
-/// Writes a number into the first 4 bytes, the highest first.
+/// Writes a number into the first 4 bytes, big-endian.
 /// A shorter buffer is refused and left as it is.
 #[tactic(auto, using(netlink_packet_core_grammar::proofs::Numbers::digits))]
 pub fn emit_u32_be(buffer: &mut [u8], value: u32) -> Result<(), DecodeError>
@@ -82,7 +82,7 @@ pub fn emit_u32_be(buffer: &mut [u8], value: u32) -> Result<(), DecodeError>
     Ok(())
 }
 
-/// Writes a number into the first 4 bytes, the lowest first.
+/// Writes a number into the first 4 bytes, little-endian.
 /// A shorter buffer is refused and left as it is.
 pub fn emit_u32_le(buffer: &mut [u8], value: u32) -> Result<(), DecodeError>
     ensures size { IsOk result ↔ (4 ≤ length buffer.old) }
@@ -93,7 +93,7 @@ pub fn emit_u32_le(buffer: &mut [u8], value: u32) -> Result<(), DecodeError>
     emit_u32(buffer, value)
 }
 
-/// Writes a number into the first 8 bytes, in native order, the lowest first.
+/// Writes a number into the first 8 bytes, in native byte order (little-endian).
 /// A shorter buffer is refused and left as it is.
 #[tactic(auto, using(netlink_packet_core_grammar::proofs::Numbers::digits))]
 pub fn emit_u64(buffer: &mut [u8], value: u64) -> Result<(), DecodeError>
@@ -109,7 +109,7 @@ pub fn emit_u64(buffer: &mut [u8], value: u64) -> Result<(), DecodeError>
     Ok(())
 }
 
-/// Writes a number into the first 8 bytes, the highest first.
+/// Writes a number into the first 8 bytes, big-endian.
 /// A shorter buffer is refused and left as it is.
 #[tactic(auto, using(netlink_packet_core_grammar::proofs::Numbers::digits))]
 pub fn emit_u64_be(buffer: &mut [u8], value: u64) -> Result<(), DecodeError>
@@ -125,7 +125,7 @@ pub fn emit_u64_be(buffer: &mut [u8], value: u64) -> Result<(), DecodeError>
     Ok(())
 }
 
-/// Writes a number into the first 8 bytes, the lowest first.
+/// Writes a number into the first 8 bytes, little-endian.
 /// A shorter buffer is refused and left as it is.
 pub fn emit_u64_le(buffer: &mut [u8], value: u64) -> Result<(), DecodeError>
     ensures size { IsOk result ↔ (8 ≤ length buffer.old) }
@@ -136,7 +136,7 @@ pub fn emit_u64_le(buffer: &mut [u8], value: u64) -> Result<(), DecodeError>
     emit_u64(buffer, value)
 }
 
-/// Writes a number into the first 16 bytes, in native order, the lowest first.
+/// Writes a number into the first 16 bytes, in native byte order (little-endian).
 /// A shorter buffer is refused and left as it is.
 #[tactic(auto, unfolding(netlink_packet_core_grammar::specs::Numbers::le16))]
 pub fn emit_u128(buffer: &mut [u8], value: u128) -> Result<(), DecodeError>
@@ -152,7 +152,7 @@ pub fn emit_u128(buffer: &mut [u8], value: u128) -> Result<(), DecodeError>
     Ok(())
 }
 
-/// Writes a number into the first 16 bytes, the highest first.
+/// Writes a number into the first 16 bytes, big-endian.
 /// A shorter buffer is refused and left as it is.
 #[tactic(auto, unfolding(netlink_packet_core_grammar::specs::Numbers::be16))]
 pub fn emit_u128_be(buffer: &mut [u8], value: u128) -> Result<(), DecodeError>
@@ -168,7 +168,7 @@ pub fn emit_u128_be(buffer: &mut [u8], value: u128) -> Result<(), DecodeError>
     Ok(())
 }
 
-/// Writes a number into the first 16 bytes, the lowest first.
+/// Writes a number into the first 16 bytes, little-endian.
 /// A shorter buffer is refused and left as it is.
 pub fn emit_u128_le(buffer: &mut [u8], value: u128) -> Result<(), DecodeError>
     ensures size { IsOk result ↔ (16 ≤ length buffer.old) }
@@ -179,7 +179,7 @@ pub fn emit_u128_le(buffer: &mut [u8], value: u128) -> Result<(), DecodeError>
     emit_u128(buffer, value)
 }
 
-/// Writes a signed number into the first 2 bytes, in native order, the lowest first.
+/// Writes a signed number into the first 2 bytes, in native byte order (little-endian).
 /// A shorter buffer is refused and left as it is.
 pub fn emit_i16(buffer: &mut [u8], value: i16) -> Result<(), DecodeError>
     ensures size { IsOk result ↔ (2 ≤ length buffer.old) }
@@ -190,7 +190,7 @@ pub fn emit_i16(buffer: &mut [u8], value: i16) -> Result<(), DecodeError>
     emit_u16_le(buffer, value.cast_unsigned())
 }
 
-/// Writes a signed number into the first 2 bytes, the highest first.
+/// Writes a signed number into the first 2 bytes, big-endian.
 /// A shorter buffer is refused and left as it is.
 pub fn emit_i16_be(buffer: &mut [u8], value: i16) -> Result<(), DecodeError>
     ensures size { IsOk result ↔ (2 ≤ length buffer.old) }
@@ -201,7 +201,7 @@ pub fn emit_i16_be(buffer: &mut [u8], value: i16) -> Result<(), DecodeError>
     emit_u16_be(buffer, value.cast_unsigned())
 }
 
-/// Writes a signed number into the first 2 bytes, the lowest first.
+/// Writes a signed number into the first 2 bytes, little-endian.
 /// A shorter buffer is refused and left as it is.
 pub fn emit_i16_le(buffer: &mut [u8], value: i16) -> Result<(), DecodeError>
     ensures size { IsOk result ↔ (2 ≤ length buffer.old) }
@@ -212,7 +212,7 @@ pub fn emit_i16_le(buffer: &mut [u8], value: i16) -> Result<(), DecodeError>
     emit_i16(buffer, value)
 }
 
-/// Writes a signed number into the first 4 bytes, in native order, the lowest first.
+/// Writes a signed number into the first 4 bytes, in native byte order (little-endian).
 /// A shorter buffer is refused and left as it is.
 pub fn emit_i32(buffer: &mut [u8], value: i32) -> Result<(), DecodeError>
     ensures size { IsOk result ↔ (4 ≤ length buffer.old) }
@@ -223,7 +223,7 @@ pub fn emit_i32(buffer: &mut [u8], value: i32) -> Result<(), DecodeError>
     emit_u32_le(buffer, value.cast_unsigned())
 }
 
-/// Writes a signed number into the first 4 bytes, the highest first.
+/// Writes a signed number into the first 4 bytes, big-endian.
 /// A shorter buffer is refused and left as it is.
 pub fn emit_i32_be(buffer: &mut [u8], value: i32) -> Result<(), DecodeError>
     ensures size { IsOk result ↔ (4 ≤ length buffer.old) }
@@ -234,7 +234,7 @@ pub fn emit_i32_be(buffer: &mut [u8], value: i32) -> Result<(), DecodeError>
     emit_u32_be(buffer, value.cast_unsigned())
 }
 
-/// Writes a signed number into the first 4 bytes, the lowest first.
+/// Writes a signed number into the first 4 bytes, little-endian.
 /// A shorter buffer is refused and left as it is.
 pub fn emit_i32_le(buffer: &mut [u8], value: i32) -> Result<(), DecodeError>
     ensures size { IsOk result ↔ (4 ≤ length buffer.old) }
@@ -245,7 +245,7 @@ pub fn emit_i32_le(buffer: &mut [u8], value: i32) -> Result<(), DecodeError>
     emit_i32(buffer, value)
 }
 
-/// Writes a signed number into the first 8 bytes, in native order, the lowest first.
+/// Writes a signed number into the first 8 bytes, in native byte order (little-endian).
 /// A shorter buffer is refused and left as it is.
 pub fn emit_i64(buffer: &mut [u8], value: i64) -> Result<(), DecodeError>
     ensures size { IsOk result ↔ (8 ≤ length buffer.old) }
@@ -256,7 +256,7 @@ pub fn emit_i64(buffer: &mut [u8], value: i64) -> Result<(), DecodeError>
     emit_u64_le(buffer, value.cast_unsigned())
 }
 
-/// Writes a signed number into the first 8 bytes, the highest first.
+/// Writes a signed number into the first 8 bytes, big-endian.
 /// A shorter buffer is refused and left as it is.
 pub fn emit_i64_be(buffer: &mut [u8], value: i64) -> Result<(), DecodeError>
     ensures size { IsOk result ↔ (8 ≤ length buffer.old) }
@@ -267,7 +267,7 @@ pub fn emit_i64_be(buffer: &mut [u8], value: i64) -> Result<(), DecodeError>
     emit_u64_be(buffer, value.cast_unsigned())
 }
 
-/// Writes a signed number into the first 8 bytes, the lowest first.
+/// Writes a signed number into the first 8 bytes, little-endian.
 /// A shorter buffer is refused and left as it is.
 pub fn emit_i64_le(buffer: &mut [u8], value: i64) -> Result<(), DecodeError>
     ensures size { IsOk result ↔ (8 ≤ length buffer.old) }
@@ -278,7 +278,7 @@ pub fn emit_i64_le(buffer: &mut [u8], value: i64) -> Result<(), DecodeError>
     emit_i64(buffer, value)
 }
 
-/// Writes a signed number into the first 16 bytes, in native order, the lowest first.
+/// Writes a signed number into the first 16 bytes, in native byte order (little-endian).
 /// A shorter buffer is refused and left as it is.
 pub fn emit_i128(buffer: &mut [u8], value: i128) -> Result<(), DecodeError>
     ensures size { IsOk result ↔ (16 ≤ length buffer.old) }
@@ -289,7 +289,7 @@ pub fn emit_i128(buffer: &mut [u8], value: i128) -> Result<(), DecodeError>
     emit_u128_le(buffer, value.cast_unsigned())
 }
 
-/// Writes a signed number into the first 16 bytes, the highest first.
+/// Writes a signed number into the first 16 bytes, big-endian.
 /// A shorter buffer is refused and left as it is.
 pub fn emit_i128_be(buffer: &mut [u8], value: i128) -> Result<(), DecodeError>
     ensures size { IsOk result ↔ (16 ≤ length buffer.old) }
@@ -300,7 +300,7 @@ pub fn emit_i128_be(buffer: &mut [u8], value: i128) -> Result<(), DecodeError>
     emit_u128_be(buffer, value.cast_unsigned())
 }
 
-/// Writes a signed number into the first 16 bytes, the lowest first.
+/// Writes a signed number into the first 16 bytes, little-endian.
 /// A shorter buffer is refused and left as it is.
 pub fn emit_i128_le(buffer: &mut [u8], value: i128) -> Result<(), DecodeError>
     ensures size { IsOk result ↔ (16 ≤ length buffer.old) }

@@ -35,7 +35,7 @@ pub enum AddressFault {
 pub const ADDRESS_HEADER_LEN: usize = 8;
 
 /// The header of an address, `struct ifaddrmsg` of `linux/if_addr.h`. On the wire 8 bytes: four
-/// numbers of one byte, and the index, 4 bytes with the lowest first. The default is 8 zeros.
+/// numbers of one byte, and the index, 4 bytes with little-endian. The default is 8 zeros.
 #[derive(Clone, Copy, Debug, PartialEq, Eq, Default)]
 pub struct AddressHeader {
     /// The family, an `AF_` number: 2 for IPv4, and 10 for IPv6. `ifa_family`.

@@ -48,7 +48,7 @@ module _ (law : FirstIsWithin) where
       walk-by b bytes ∙ ap (walk_on (walk_within (length bytes))) h
       ∙ ap (λ r. Some e ∷ r) (walk-enough (length bytes) (length rest) rest (omega arith) (omega arith))
 
--- ---- the same, by places
+-- ---- the same, by offsets
 
 at_end : (bytes : List ℕ) → length bytes ≡ 0 → attribute_walk bytes ≡ []
 at_end [] e = walk-empty

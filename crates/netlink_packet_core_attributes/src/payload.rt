@@ -10,7 +10,7 @@ use netlink_packet_core_numbers::{
 };
 use std::net::{IpAddr, Ipv4Addr, Ipv6Addr};
 
-/// A payload that holds no attributes: a number, a truth, an address, a text or bytes.
+/// A payload that holds no attributes: a number, a boolean, an address, a text or bytes.
 #[derive(Clone, Copy)]
 pub enum Field<'a> {
     /// No bytes.

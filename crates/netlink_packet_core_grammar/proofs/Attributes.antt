@@ -190,7 +190,7 @@ IsAttributeList-joined a b (e ∷ es) fs four p q =
     let j = first_attribute_joined a b e p.0 four p.1 in
     (p.0 ++ b, j.0, IsAttributeList-joined p.0 b es fs j.1 p.2 q)
 
--- what is joined behind is cut by itself
+-- the bytes joined after a list are themselves cut into the attributes that follow
 pub IsAttributeList-rest : (a b : List ℕ) (es gs : List Attribute) → length a % 4 ≡ 0 → IsAttributeList a es → IsAttributeList (a ++ b) gs → (fs : List Attribute) × (gs ≡ es ++ fs) × IsAttributeList b fs
 IsAttributeList-rest a b [] gs four p q = (gs, refl, subst (λ x. IsAttributeList (x ++ b) gs) p q)
 IsAttributeList-rest a b (e ∷ es) [] four p q =

@@ -1,4 +1,4 @@
--- The first attribute, by places, as code reads it.
+-- The first attribute, by offsets, as code reads it.
 use Rattle.std.proofs.Common.{◌≡◌, ℕ, ◌+◌, ◌-◌, ◌*◌, ◌<◌, ◌≤◌, false, List, [], ◌∷◌, length, take, drop, Option, Some, None, inl, inr, refl, sym, ap, subst, ◌∙◌, arith}
 use Rattle.std.specs.Prelude.{◌&&◌, nat_le, option_map, slice_index}
 use Rattle.std.proofs.lemmas.Bool.{and_left, and_right, lt-leb, cases_lt}

@@ -15,7 +15,7 @@ pub u16_at-bytes : (a b : ℕ) (c : List ℕ) → u16_at 0 (a ∷ b ∷ c) ≡ a
 unfolding u16_at
 u16_at-bytes a b c = omega arith
 
--- a number does not hang on what follows it
+-- a number doesn't depend on the bytes that follow it
 pub u16_at-append : (c d : List ℕ) → 2 ≤ length c → u16_at 0 (c ++ d) ≡ u16_at 0 c
 unfolding u16_at
 u16_at-append (a ∷ b ∷ c) d h = refl
@@ -26,7 +26,7 @@ unfolding u32_at
 u32_at-append (a ∷ b ∷ c ∷ d' ∷ e) d h = refl
 u32_at-append c d h = absurd (omega arith)
 
--- the number at place 4 is the first one of what stands from there on
+-- the number at offset 4 is the first one of the bytes from there on
 pub u16_at-drop_4 : (c : List ℕ) → u16_at 4 c ≡ u16_at 0 (drop 4 c)
 unfolding u16_at
 u16_at-drop_4 (a ∷ b ∷ c ∷ d ∷ e) = refl

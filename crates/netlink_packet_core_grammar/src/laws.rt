@@ -14,7 +14,7 @@ pub fn attributes_are_the_relation()
     ensures { AttributesAreCut }
 {}
 
-/// Bytes behind a list whose size is a multiple of 4 are cut by themselves.
+/// Bytes after a list whose size is a multiple of 4 are cut into attributes independently of it.
 pub fn lists_are_joined()
     ensures { Joined }
 {}
@@ -30,18 +30,19 @@ pub fn first_attributes_are_viewed()
     ensures { FirstIsViewed }
 {}
 
-/// The first attribute of some bytes ends within them, and what follows it is as long as what is
-/// left behind its padding.
+/// The first attribute ends within the bytes; the bytes after it are those that remain after its
+/// padding.
 pub fn first_attributes_are_within()
     ensures { FirstIsWithin }
 {}
 
-/// An attribute that is written in front of some bytes is their first one, and these follow it.
+/// If an attribute's encoding is followed by other bytes, the attribute is the first one, and these
+/// bytes are the rest.
 pub fn written_attributes_come_first()
     ensures { WrittenIsFirst }
 {}
 
-/// A number at the front of some bytes does not hang on what follows it.
+/// A number at the start of a byte string doesn't depend on the bytes that follow it.
 pub fn numbers_stand_alone()
     ensures { NumbersStandAlone }
 {}

@@ -1,11 +1,11 @@
--- Numbers of sixteen bytes: what is read from bytes is written as these bytes.
+-- Numbers of sixteen bytes: a number that is read from bytes is written as the same bytes.
 use Rattle.std.proofs.Common.{◌≡◌, ℕ, zero, suc, ◌+◌, ◌*◌, ◌/◌, ◌%◌, ◌^◌, ◌<◌, List, [], ◌∷◌, length, get_or, slice_index, reverse, refl, ap, ◌∙◌, sym, arith}
 use Rattle.std.proofs.Math.Nat as nat
 use Rattle.std.proofs.lemmas.Nat.{div-mul-add, mod-mul-add}
 use Rattle.std.specs.Int.{w128, byte_at, byte_worth, bytes_low_first, sum_through, from_le_bytes, to_le_bytes, from_be_bytes, to_be_bytes}
 use Rattle.netlink_packet_core_grammar.specs.Bytes.{AreBytes}
 
--- what bytes are worth, little-endian
+-- the value of bytes, little-endian
 abbrev worth : List ℕ → ℕ
 worth [] = 0
 worth (b ∷ bs) = worth bs * 256 + b
@@ -76,7 +76,7 @@ turned-bytes bs small = (small 15, (small 14, (small 13, (small 12, (small 11, (
 pub be_bytes_16 : (bs : List ℕ) (n : ℕ) → length bs ≡ 16 → ((i : ℕ) → get_or bs i 0 < 256) → n ≡ from_be_bytes w128 bs → to_be_bytes w128 n ≡ bs
 be_bytes_16 bs n l small is = ap reverse (from_worth (turned_gets bs) n refl (turned-bytes bs small) (is ∙ turned-worth bs)) ∙ gets-all bs l
 
--- ---- what is written is read
+-- ---- a number that is written is read back
 
 worth-written : (k n : ℕ) → n < 256 ^ k → worth (bytes_low_first 0 k n) ≡ n
 worth-written zero n h = omega (arith, nat.pow-zero 256)

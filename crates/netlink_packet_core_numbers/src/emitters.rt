@@ -1,4 +1,4 @@
-//! Writes numbers into the front of a buffer.
+//! Writes numbers at the start of a buffer.
 
 ghost use Rattle.std.specs.Prelude.{◌≡◌, ◌↔◌, ◌≤◌, ◌++◌, false, length, drop, IfErr, IsOk, OnOk, OnErr};
 ghost use Rattle.std.specs.Int.{w16, w32, w64, w128, cast_unsigned};
@@ -8,7 +8,10 @@ ghost use Rattle.netlink_packet_core_numbers.specs.Errors.{is_memory};
 use super::error::DecodeError;
 
 /// Writes a number into the first 2 bytes, in native byte order (little-endian).
-/// A shorter buffer is refused and left as it is.
+///
+/// # Errors
+///
+/// [`DecodeError::buffer_too_small`] if the buffer is shorter; it is left unchanged.
 #[tactic(auto, using(netlink_packet_core_grammar::proofs::Numbers::digits))]
 pub fn emit_u16(buffer: &mut [u8], value: u16) -> Result<(), DecodeError>
     ensures size { IsOk result ↔ (2 ≤ length buffer.old) }
@@ -24,7 +27,10 @@ pub fn emit_u16(buffer: &mut [u8], value: u16) -> Result<(), DecodeError>
 }
 
 /// Writes a number into the first 2 bytes, big-endian.
-/// A shorter buffer is refused and left as it is.
+///
+/// # Errors
+///
+/// [`DecodeError::buffer_too_small`] if the buffer is shorter; it is left unchanged.
 #[tactic(auto, using(netlink_packet_core_grammar::proofs::Numbers::digits))]
 pub fn emit_u16_be(buffer: &mut [u8], value: u16) -> Result<(), DecodeError>
     ensures size { IsOk result ↔ (2 ≤ length buffer.old) }
@@ -40,7 +46,10 @@ pub fn emit_u16_be(buffer: &mut [u8], value: u16) -> Result<(), DecodeError>
 }
 
 /// Writes a number into the first 2 bytes, little-endian.
-/// A shorter buffer is refused and left as it is.
+///
+/// # Errors
+///
+/// [`DecodeError::buffer_too_small`] if the buffer is shorter; it is left unchanged.
 pub fn emit_u16_le(buffer: &mut [u8], value: u16) -> Result<(), DecodeError>
     ensures size { IsOk result ↔ (2 ≤ length buffer.old) }
     ensures ok { OnOk result (buffer.new ≡ le2 value ++ drop 2 buffer.old) }
@@ -51,7 +60,10 @@ pub fn emit_u16_le(buffer: &mut [u8], value: u16) -> Result<(), DecodeError>
 }
 
 /// Writes a number into the first 4 bytes, in native byte order (little-endian).
-/// A shorter buffer is refused and left as it is.
+///
+/// # Errors
+///
+/// [`DecodeError::buffer_too_small`] if the buffer is shorter; it is left unchanged.
 #[tactic(auto, using(netlink_packet_core_grammar::proofs::Numbers::digits))]
 pub fn emit_u32(buffer: &mut [u8], value: u32) -> Result<(), DecodeError>
     ensures size { IsOk result ↔ (4 ≤ length buffer.old) }
@@ -67,7 +79,10 @@ pub fn emit_u32(buffer: &mut [u8], value: u32) -> Result<(), DecodeError>
 }
 
 /// Writes a number into the first 4 bytes, big-endian.
-/// A shorter buffer is refused and left as it is.
+///
+/// # Errors
+///
+/// [`DecodeError::buffer_too_small`] if the buffer is shorter; it is left unchanged.
 #[tactic(auto, using(netlink_packet_core_grammar::proofs::Numbers::digits))]
 pub fn emit_u32_be(buffer: &mut [u8], value: u32) -> Result<(), DecodeError>
     ensures size { IsOk result ↔ (4 ≤ length buffer.old) }
@@ -83,7 +98,10 @@ pub fn emit_u32_be(buffer: &mut [u8], value: u32) -> Result<(), DecodeError>
 }
 
 /// Writes a number into the first 4 bytes, little-endian.
-/// A shorter buffer is refused and left as it is.
+///
+/// # Errors
+///
+/// [`DecodeError::buffer_too_small`] if the buffer is shorter; it is left unchanged.
 pub fn emit_u32_le(buffer: &mut [u8], value: u32) -> Result<(), DecodeError>
     ensures size { IsOk result ↔ (4 ≤ length buffer.old) }
     ensures ok { OnOk result (buffer.new ≡ le4 value ++ drop 4 buffer.old) }
@@ -94,7 +112,10 @@ pub fn emit_u32_le(buffer: &mut [u8], value: u32) -> Result<(), DecodeError>
 }
 
 /// Writes a number into the first 8 bytes, in native byte order (little-endian).
-/// A shorter buffer is refused and left as it is.
+///
+/// # Errors
+///
+/// [`DecodeError::buffer_too_small`] if the buffer is shorter; it is left unchanged.
 #[tactic(auto, using(netlink_packet_core_grammar::proofs::Numbers::digits))]
 pub fn emit_u64(buffer: &mut [u8], value: u64) -> Result<(), DecodeError>
     ensures size { IsOk result ↔ (8 ≤ length buffer.old) }
@@ -110,7 +131,10 @@ pub fn emit_u64(buffer: &mut [u8], value: u64) -> Result<(), DecodeError>
 }
 
 /// Writes a number into the first 8 bytes, big-endian.
-/// A shorter buffer is refused and left as it is.
+///
+/// # Errors
+///
+/// [`DecodeError::buffer_too_small`] if the buffer is shorter; it is left unchanged.
 #[tactic(auto, using(netlink_packet_core_grammar::proofs::Numbers::digits))]
 pub fn emit_u64_be(buffer: &mut [u8], value: u64) -> Result<(), DecodeError>
     ensures size { IsOk result ↔ (8 ≤ length buffer.old) }
@@ -126,7 +150,10 @@ pub fn emit_u64_be(buffer: &mut [u8], value: u64) -> Result<(), DecodeError>
 }
 
 /// Writes a number into the first 8 bytes, little-endian.
-/// A shorter buffer is refused and left as it is.
+///
+/// # Errors
+///
+/// [`DecodeError::buffer_too_small`] if the buffer is shorter; it is left unchanged.
 pub fn emit_u64_le(buffer: &mut [u8], value: u64) -> Result<(), DecodeError>
     ensures size { IsOk result ↔ (8 ≤ length buffer.old) }
     ensures ok { OnOk result (buffer.new ≡ le8 value ++ drop 8 buffer.old) }
@@ -137,7 +164,10 @@ pub fn emit_u64_le(buffer: &mut [u8], value: u64) -> Result<(), DecodeError>
 }
 
 /// Writes a number into the first 16 bytes, in native byte order (little-endian).
-/// A shorter buffer is refused and left as it is.
+///
+/// # Errors
+///
+/// [`DecodeError::buffer_too_small`] if the buffer is shorter; it is left unchanged.
 #[tactic(auto, unfolding(netlink_packet_core_grammar::specs::Numbers::le16))]
 pub fn emit_u128(buffer: &mut [u8], value: u128) -> Result<(), DecodeError>
     ensures size { IsOk result ↔ (16 ≤ length buffer.old) }
@@ -153,7 +183,10 @@ pub fn emit_u128(buffer: &mut [u8], value: u128) -> Result<(), DecodeError>
 }
 
 /// Writes a number into the first 16 bytes, big-endian.
-/// A shorter buffer is refused and left as it is.
+///
+/// # Errors
+///
+/// [`DecodeError::buffer_too_small`] if the buffer is shorter; it is left unchanged.
 #[tactic(auto, unfolding(netlink_packet_core_grammar::specs::Numbers::be16))]
 pub fn emit_u128_be(buffer: &mut [u8], value: u128) -> Result<(), DecodeError>
     ensures size { IsOk result ↔ (16 ≤ length buffer.old) }
@@ -169,7 +202,10 @@ pub fn emit_u128_be(buffer: &mut [u8], value: u128) -> Result<(), DecodeError>
 }
 
 /// Writes a number into the first 16 bytes, little-endian.
-/// A shorter buffer is refused and left as it is.
+///
+/// # Errors
+///
+/// [`DecodeError::buffer_too_small`] if the buffer is shorter; it is left unchanged.
 pub fn emit_u128_le(buffer: &mut [u8], value: u128) -> Result<(), DecodeError>
     ensures size { IsOk result ↔ (16 ≤ length buffer.old) }
     ensures ok { OnOk result (buffer.new ≡ le16 value ++ drop 16 buffer.old) }
@@ -180,7 +216,10 @@ pub fn emit_u128_le(buffer: &mut [u8], value: u128) -> Result<(), DecodeError>
 }
 
 /// Writes a signed number into the first 2 bytes, in native byte order (little-endian).
-/// A shorter buffer is refused and left as it is.
+///
+/// # Errors
+///
+/// [`DecodeError::buffer_too_small`] if the buffer is shorter; it is left unchanged.
 pub fn emit_i16(buffer: &mut [u8], value: i16) -> Result<(), DecodeError>
     ensures size { IsOk result ↔ (2 ≤ length buffer.old) }
     ensures ok { OnOk result (buffer.new ≡ le2 (cast_unsigned w16 value) ++ drop 2 buffer.old) }
@@ -191,7 +230,10 @@ pub fn emit_i16(buffer: &mut [u8], value: i16) -> Result<(), DecodeError>
 }
 
 /// Writes a signed number into the first 2 bytes, big-endian.
-/// A shorter buffer is refused and left as it is.
+///
+/// # Errors
+///
+/// [`DecodeError::buffer_too_small`] if the buffer is shorter; it is left unchanged.
 pub fn emit_i16_be(buffer: &mut [u8], value: i16) -> Result<(), DecodeError>
     ensures size { IsOk result ↔ (2 ≤ length buffer.old) }
     ensures ok { OnOk result (buffer.new ≡ be2 (cast_unsigned w16 value) ++ drop 2 buffer.old) }
@@ -202,7 +244,10 @@ pub fn emit_i16_be(buffer: &mut [u8], value: i16) -> Result<(), DecodeError>
 }
 
 /// Writes a signed number into the first 2 bytes, little-endian.
-/// A shorter buffer is refused and left as it is.
+///
+/// # Errors
+///
+/// [`DecodeError::buffer_too_small`] if the buffer is shorter; it is left unchanged.
 pub fn emit_i16_le(buffer: &mut [u8], value: i16) -> Result<(), DecodeError>
     ensures size { IsOk result ↔ (2 ≤ length buffer.old) }
     ensures ok { OnOk result (buffer.new ≡ le2 (cast_unsigned w16 value) ++ drop 2 buffer.old) }
@@ -213,7 +258,10 @@ pub fn emit_i16_le(buffer: &mut [u8], value: i16) -> Result<(), DecodeError>
 }
 
 /// Writes a signed number into the first 4 bytes, in native byte order (little-endian).
-/// A shorter buffer is refused and left as it is.
+///
+/// # Errors
+///
+/// [`DecodeError::buffer_too_small`] if the buffer is shorter; it is left unchanged.
 pub fn emit_i32(buffer: &mut [u8], value: i32) -> Result<(), DecodeError>
     ensures size { IsOk result ↔ (4 ≤ length buffer.old) }
     ensures ok { OnOk result (buffer.new ≡ le4 (cast_unsigned w32 value) ++ drop 4 buffer.old) }
@@ -224,7 +272,10 @@ pub fn emit_i32(buffer: &mut [u8], value: i32) -> Result<(), DecodeError>
 }
 
 /// Writes a signed number into the first 4 bytes, big-endian.
-/// A shorter buffer is refused and left as it is.
+///
+/// # Errors
+///
+/// [`DecodeError::buffer_too_small`] if the buffer is shorter; it is left unchanged.
 pub fn emit_i32_be(buffer: &mut [u8], value: i32) -> Result<(), DecodeError>
     ensures size { IsOk result ↔ (4 ≤ length buffer.old) }
     ensures ok { OnOk result (buffer.new ≡ be4 (cast_unsigned w32 value) ++ drop 4 buffer.old) }
@@ -235,7 +286,10 @@ pub fn emit_i32_be(buffer: &mut [u8], value: i32) -> Result<(), DecodeError>
 }
 
 /// Writes a signed number into the first 4 bytes, little-endian.
-/// A shorter buffer is refused and left as it is.
+///
+/// # Errors
+///
+/// [`DecodeError::buffer_too_small`] if the buffer is shorter; it is left unchanged.
 pub fn emit_i32_le(buffer: &mut [u8], value: i32) -> Result<(), DecodeError>
     ensures size { IsOk result ↔ (4 ≤ length buffer.old) }
     ensures ok { OnOk result (buffer.new ≡ le4 (cast_unsigned w32 value) ++ drop 4 buffer.old) }
@@ -246,7 +300,10 @@ pub fn emit_i32_le(buffer: &mut [u8], value: i32) -> Result<(), DecodeError>
 }
 
 /// Writes a signed number into the first 8 bytes, in native byte order (little-endian).
-/// A shorter buffer is refused and left as it is.
+///
+/// # Errors
+///
+/// [`DecodeError::buffer_too_small`] if the buffer is shorter; it is left unchanged.
 pub fn emit_i64(buffer: &mut [u8], value: i64) -> Result<(), DecodeError>
     ensures size { IsOk result ↔ (8 ≤ length buffer.old) }
     ensures ok { OnOk result (buffer.new ≡ le8 (cast_unsigned w64 value) ++ drop 8 buffer.old) }
@@ -257,7 +314,10 @@ pub fn emit_i64(buffer: &mut [u8], value: i64) -> Result<(), DecodeError>
 }
 
 /// Writes a signed number into the first 8 bytes, big-endian.
-/// A shorter buffer is refused and left as it is.
+///
+/// # Errors
+///
+/// [`DecodeError::buffer_too_small`] if the buffer is shorter; it is left unchanged.
 pub fn emit_i64_be(buffer: &mut [u8], value: i64) -> Result<(), DecodeError>
     ensures size { IsOk result ↔ (8 ≤ length buffer.old) }
     ensures ok { OnOk result (buffer.new ≡ be8 (cast_unsigned w64 value) ++ drop 8 buffer.old) }
@@ -268,7 +328,10 @@ pub fn emit_i64_be(buffer: &mut [u8], value: i64) -> Result<(), DecodeError>
 }
 
 /// Writes a signed number into the first 8 bytes, little-endian.
-/// A shorter buffer is refused and left as it is.
+///
+/// # Errors
+///
+/// [`DecodeError::buffer_too_small`] if the buffer is shorter; it is left unchanged.
 pub fn emit_i64_le(buffer: &mut [u8], value: i64) -> Result<(), DecodeError>
     ensures size { IsOk result ↔ (8 ≤ length buffer.old) }
     ensures ok { OnOk result (buffer.new ≡ le8 (cast_unsigned w64 value) ++ drop 8 buffer.old) }
@@ -279,7 +342,10 @@ pub fn emit_i64_le(buffer: &mut [u8], value: i64) -> Result<(), DecodeError>
 }
 
 /// Writes a signed number into the first 16 bytes, in native byte order (little-endian).
-/// A shorter buffer is refused and left as it is.
+///
+/// # Errors
+///
+/// [`DecodeError::buffer_too_small`] if the buffer is shorter; it is left unchanged.
 pub fn emit_i128(buffer: &mut [u8], value: i128) -> Result<(), DecodeError>
     ensures size { IsOk result ↔ (16 ≤ length buffer.old) }
     ensures ok { OnOk result (buffer.new ≡ le16 (cast_unsigned w128 value) ++ drop 16 buffer.old) }
@@ -290,7 +356,10 @@ pub fn emit_i128(buffer: &mut [u8], value: i128) -> Result<(), DecodeError>
 }
 
 /// Writes a signed number into the first 16 bytes, big-endian.
-/// A shorter buffer is refused and left as it is.
+///
+/// # Errors
+///
+/// [`DecodeError::buffer_too_small`] if the buffer is shorter; it is left unchanged.
 pub fn emit_i128_be(buffer: &mut [u8], value: i128) -> Result<(), DecodeError>
     ensures size { IsOk result ↔ (16 ≤ length buffer.old) }
     ensures ok { OnOk result (buffer.new ≡ be16 (cast_unsigned w128 value) ++ drop 16 buffer.old) }
@@ -301,7 +370,10 @@ pub fn emit_i128_be(buffer: &mut [u8], value: i128) -> Result<(), DecodeError>
 }
 
 /// Writes a signed number into the first 16 bytes, little-endian.
-/// A shorter buffer is refused and left as it is.
+///
+/// # Errors
+///
+/// [`DecodeError::buffer_too_small`] if the buffer is shorter; it is left unchanged.
 pub fn emit_i128_le(buffer: &mut [u8], value: i128) -> Result<(), DecodeError>
     ensures size { IsOk result ↔ (16 ≤ length buffer.old) }
     ensures ok { OnOk result (buffer.new ≡ le16 (cast_unsigned w128 value) ++ drop 16 buffer.old) }

@@ -9,7 +9,7 @@ use netlink_packet_core::{
 };
 use std::test::Fail;
 
-/// The numbers of a header, read one by one at any storage.
+/// Reads the numbers of a header, one by one, from any storage.
 fn header_of<T: ByteView>(view: &NetlinkBuffer<T>) -> NetlinkHeader
     requires { 16 ≤ length (T.bytes (storage view.now)) }
 {
@@ -22,7 +22,7 @@ fn header_of<T: ByteView>(view: &NetlinkBuffer<T>) -> NetlinkHeader
     }
 }
 
-/// A setter at a slice: its caller learns what the slice holds.
+/// Calls a setter over a slice, and returns the slice.
 fn set_flags_of(bytes: &mut [u8])
     requires { 16 ≤ length bytes.old }
     ensures { bytes.new ≡ put_at 6 (le2 5) bytes.old }
@@ -31,7 +31,7 @@ fn set_flags_of(bytes: &mut [u8])
     view.set_flags(5);
 }
 
-/// A body at a slice is written through `inner_mut`.
+/// Writes a body over a slice through `inner_mut`.
 fn set_first_of_body(bytes: &mut [u8])
     requires frame { IsFrame bytes.old }
     requires more { 17 ≤ frame_length bytes.old }

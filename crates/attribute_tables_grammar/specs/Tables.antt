@@ -13,7 +13,7 @@ mutual
     plain : Shape → Payload
     peer : Payload
     list : ListForm → Table → Payload
-    link_info : ListForm → Names → Names → Payload  -- a list in which the kind's name determines the data, and the port kind's name the port data
+    link_info : ListForm → Names → Names → Payload  -- a list; the kind's name determines the data, the port kind's the port data
 
   -- The rows of kinds without flag bits; a kind without a row is a raw attribute.
   pub data Table : Type 0 where

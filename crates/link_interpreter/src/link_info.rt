@@ -13,12 +13,12 @@ use crate::shapes::Measured;
 use attribute_tables_grammar::laws::measures_tell_rules;
 use netlink_packet_core_numbers::DecodeError;
 
-/// What a list of link info is written as.
+/// The measure of a list of link info.
 #[derive(Clone, Copy, Debug, PartialEq, Eq)]
 pub struct ListMeasure {
-    /// The length of the canonical text in bytes.
+    /// The length of the canonical encoding in bytes.
     pub text_len: u128,
-    /// The attribute headers, at all depths.
+    /// The number of attributes, at all depths.
     pub attributes: u64,
     /// Whether each length in the text is at most 65535.
     pub fits: bool,

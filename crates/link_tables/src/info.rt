@@ -1,5 +1,5 @@
-//! Link info: a list in which a kind's name determines the data, and a port kind's name the port data
-//! (if_link.h, IFLA_INFO_*).
+//! Link info: a list in which the kind's name determines the data, and the port kind's name the
+//! port data (if_link.h, IFLA_INFO_*).
 
 ghost use Rattle.std.specs.Prelude.{◌≡◌, IfSome, IfNone};
 ghost use Rattle.attribute_tables_grammar.specs.Peers.{Peer};

@@ -14,7 +14,7 @@ pub enum Shape {
     Exact(u16),
     /// One of two sizes.
     Either(u16, u16),
-    /// No more bytes than that.
+    /// At most that many bytes.
     AtMost(u16),
     /// A boolean of one byte: false if and only if it is 0.
     NonzeroByte,

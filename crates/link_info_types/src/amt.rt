@@ -10,8 +10,8 @@ use netlink_packet_core::DecodeError;
 use std::fmt;
 use std::str::FromStr;
 
-/// Which end of an AMT tunnel the device is, `AMT_MODE_*` of `linux/amt.h`. It is encoded in 4
-/// bytes, in native byte order.
+/// Which end of an AMT tunnel the device is, `AMT_MODE_*` of `linux/amt.h`. Encoded in 4 bytes, in
+/// native byte order.
 #[derive(Debug, PartialEq, Eq, Clone, Copy)]
 pub enum AmtMode {
     /// The gateway, at the receivers of multicast: `AMT_MODE_GATEWAY`, 0.

@@ -11,7 +11,7 @@ use std::fmt;
 use std::str::FromStr;
 
 /// The "don't fragment" bit of the outer IPv4 header of a GENEVE tunnel, `GENEVE_DF_*` of
-/// `linux/if_link.h`. It is encoded in 1 byte.
+/// `linux/if_link.h`. Encoded in 1 byte.
 #[derive(Debug, PartialEq, Eq, Clone, Copy)]
 pub enum GeneveDf {
     /// Not set: `GENEVE_DF_UNSET`, 0.

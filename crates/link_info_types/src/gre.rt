@@ -10,8 +10,8 @@ use bitflags::{Flag, Flags};
 use itoa::Buffer;
 use std::fmt;
 
-/// The flags of a GRE header, `GRE_*` of `linux/if_tunnel.h`. It is encoded in 2 bytes, big-endian;
-/// all bits are kept.
+/// The flags of a GRE header, `GRE_*` of `linux/if_tunnel.h`. Encoded in 2 bytes, big-endian; all
+/// bits are kept.
 #[derive(Debug, Clone, Copy, PartialEq, Eq)]
 pub struct GreIOFlags(u16);
 
@@ -106,7 +106,7 @@ impl Default for GreIOFlags {
 }
 
 /// The checksums in the outer UDP header of a GRE tunnel, `TUNNEL_ENCAP_FLAG_*` of
-/// `linux/if_tunnel.h`. It is encoded in 2 bytes, in native byte order; all bits are kept.
+/// `linux/if_tunnel.h`. Encoded in 2 bytes, in native byte order; all bits are kept.
 #[derive(Debug, Clone, Copy, PartialEq, Eq)]
 pub struct GreEncapFlags(u16);
 
@@ -164,8 +164,8 @@ impl Default for GreEncapFlags {
     }
 }
 
-/// The encapsulation of a GRE tunnel, `TUNNEL_ENCAP_*` of `linux/if_tunnel.h`. It is encoded in 2
-/// bytes, in native byte order.
+/// The encapsulation of a GRE tunnel, `TUNNEL_ENCAP_*` of `linux/if_tunnel.h`. Encoded in 2 bytes,
+/// in native byte order.
 #[derive(Debug, PartialEq, Eq, Clone, Copy, Default)]
 pub enum GreEncapType {
     /// Nothing: `TUNNEL_ENCAP_NONE`, 0.
@@ -228,7 +228,7 @@ impl fmt::Display for GreEncapType {
 }
 
 /// The direction of the frames that an ERSPAN tunnel of version 2 mirrors, as in
-/// `IFLA_GRE_ERSPAN_DIR`. It is encoded in 1 byte.
+/// `IFLA_GRE_ERSPAN_DIR`. Encoded in 1 byte.
 #[derive(Debug, PartialEq, Eq, Clone, Copy, Default)]
 pub enum ErSpanDir {
     /// Ingress, received frames: 0.

@@ -6,8 +6,8 @@ ghost use Rattle.link_info_types.specs.GtpTypes.{gtp_role_number, gtp_role_of, g
 use itoa::Buffer;
 use std::fmt;
 
-/// Which end of a GTP tunnel the device is, `GTP_ROLE_*` of `linux/if_link.h`. It is encoded in 4
-/// bytes, in native byte order.
+/// Which end of a GTP tunnel the device is, `GTP_ROLE_*` of `linux/if_link.h`. Encoded in 4 bytes,
+/// in native byte order.
 #[derive(Debug, PartialEq, Eq, Clone, Copy, Default)]
 pub enum GtpRole {
     /// The gateway: `GTP_ROLE_GGSN`, 0.

@@ -9,8 +9,8 @@ use bitflags::{Flag, Flags};
 use itoa::Buffer;
 use std::fmt;
 
-/// The encapsulation of an IP tunnel, `TUNNEL_ENCAP_*` of `linux/if_tunnel.h`. It is encoded in 2
-/// bytes, in native byte order.
+/// The encapsulation of an IP tunnel, `TUNNEL_ENCAP_*` of `linux/if_tunnel.h`. Encoded in 2 bytes,
+/// in native byte order.
 #[derive(Debug, PartialEq, Eq, Clone, Copy)]
 pub enum TunnelEncapType {
     /// Nothing: `TUNNEL_ENCAP_NONE`, 0.
@@ -73,7 +73,7 @@ impl fmt::Display for TunnelEncapType {
 }
 
 /// The checksums in the outer UDP header of an IP tunnel, `TUNNEL_ENCAP_FLAG_*` of
-/// `linux/if_tunnel.h`. It is encoded in 2 bytes, in native byte order; all bits are kept.
+/// `linux/if_tunnel.h`. Encoded in 2 bytes, in native byte order; all bits are kept.
 #[derive(Debug, Clone, Copy, PartialEq, Eq, Hash)]
 pub struct TunnelEncapFlags(u16);
 
@@ -124,8 +124,8 @@ impl Flags for TunnelEncapFlags {
 }
 
 /// How an IPv6 tunnel makes its outer header, and its capabilities, `IP6_TNL_F_*` of
-/// `linux/ip6_tunnel.h`, the last three of the kernel's `net/ip6_tunnel.h`. It is encoded in 4
-/// bytes, in native byte order; all bits are kept.
+/// `linux/ip6_tunnel.h`, the last three of the kernel's `net/ip6_tunnel.h`. Encoded in 4 bytes, in
+/// native byte order; all bits are kept.
 #[derive(Debug, Clone, Copy, PartialEq, Eq, Hash)]
 pub struct Ip6TunnelFlags(u32);
 

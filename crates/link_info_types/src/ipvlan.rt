@@ -12,8 +12,8 @@ use netlink_packet_core::DecodeError;
 use std::fmt;
 use std::str::FromStr;
 
-/// At which layer an IPVLAN device switches packets, `IPVLAN_MODE_*` of `linux/if_link.h`. It is
-/// encoded in 2 bytes, in native byte order.
+/// At which layer an IPVLAN device switches packets, `IPVLAN_MODE_*` of `linux/if_link.h`. Encoded
+/// in 2 bytes, in native byte order.
 #[derive(Debug, PartialEq, Eq, Clone, Copy)]
 pub enum IpVlanMode {
     /// At layer 2: `IPVLAN_MODE_L2`, 0.
@@ -92,8 +92,8 @@ impl FromStr for IpVlanMode {
 /// The mode of an IPVTAP device, with the numbers of IPVLAN.
 pub type IpVtapMode = IpVlanMode;
 
-/// How an IPVLAN device treats its neighbours, `IPVLAN_F_*` of `linux/if_link.h`. It is encoded in
-/// 2 bytes, in native byte order; all bits are kept.
+/// How an IPVLAN device treats its neighbours, `IPVLAN_F_*` of `linux/if_link.h`. Encoded in 2
+/// bytes, in native byte order; all bits are kept.
 #[derive(Debug, Clone, Copy, PartialEq, Eq)]
 pub struct IpVlanFlags(u16);
 

@@ -14,7 +14,7 @@ use std::fmt;
 use std::str::FromStr;
 
 /// How the MACVLAN devices of one parent reach one another, `MACVLAN_MODE_*` of `linux/if_link.h`.
-/// It is encoded in 4 bytes, in native byte order.
+/// Encoded in 4 bytes, in native byte order.
 #[derive(Debug, PartialEq, Eq, Clone, Copy)]
 pub enum MacVlanMode {
     /// Not at all: `MACVLAN_MODE_PRIVATE`, 1.
@@ -108,8 +108,8 @@ pub type MacVtapMode = MacVlanMode;
 /// The flags of a MACVTAP device: those of MACVLAN.
 pub type MacVtapFlags = MacVlanFlags;
 
-/// How a MACVLAN device treats its parent, `MACVLAN_FLAG_*` of `linux/if_link.h`. It is encoded in
-/// 2 bytes, in native byte order; all bits are kept.
+/// How a MACVLAN device treats its parent, `MACVLAN_FLAG_*` of `linux/if_link.h`. Encoded in 2
+/// bytes, in native byte order; all bits are kept.
 #[derive(Debug, Clone, Copy, PartialEq, Eq)]
 pub struct MacVlanFlags(u16);
 
@@ -155,7 +155,7 @@ impl Flags for MacVlanFlags {
 }
 
 /// The operation on the list of source addresses of a MACVLAN device, `MACVLAN_MACADDR_*` of
-/// `linux/if_link.h`. It is encoded in 4 bytes, in native byte order.
+/// `linux/if_link.h`. Encoded in 4 bytes, in native byte order.
 #[derive(Debug, PartialEq, Eq, Clone, Copy)]
 pub enum MacVlanMacAddressMode {
     /// One address is added: `MACVLAN_MACADDR_ADD`, 0.

@@ -15,8 +15,8 @@ const MACSEC_CIPHER_ID_GCM_AES_XPN_128: u64 = 0x0080C20001000003;
 
 const MACSEC_CIPHER_ID_GCM_AES_XPN_256: u64 = 0x0080C20001000004;
 
-/// The cipher suite of a MACsec device, `MACSEC_CIPHER_ID_*` of `linux/if_macsec.h`. It is encoded
-/// in 8 bytes, in native byte order.
+/// The cipher suite of a MACsec device, `MACSEC_CIPHER_ID_*` of `linux/if_macsec.h`. Encoded in 8
+/// bytes, in native byte order.
 #[derive(Debug, PartialEq, Eq, Clone, Copy)]
 pub enum MacSecCipherId {
     /// The number that GCM-AES-128 had before the standard's: `MACSEC_DEFAULT_CIPHER_ID`.
@@ -66,8 +66,8 @@ impl From<MacSecCipherId> for u64 {
     }
 }
 
-/// How strictly received frames are validated, `MACSEC_VALIDATE_*` of `linux/if_link.h`. It is
-/// encoded in 1 byte.
+/// How strictly received frames are validated, `MACSEC_VALIDATE_*` of `linux/if_link.h`. Encoded in
+/// 1 byte.
 #[derive(Debug, PartialEq, Eq, Clone, Copy)]
 pub enum MacSecValidate {
     /// Frames aren't validated: `MACSEC_VALIDATE_DISABLED`, 0.
@@ -110,7 +110,7 @@ impl From<MacSecValidate> for u8 {
 }
 
 /// The part of the hardware that MACsec is offloaded to, `MACSEC_OFFLOAD_*` of `linux/if_link.h`.
-/// It is encoded in 1 byte.
+/// Encoded in 1 byte.
 #[derive(Debug, PartialEq, Eq, Clone, Copy)]
 pub enum MacSecOffload {
     /// None: `MACSEC_OFFLOAD_OFF`, 0.

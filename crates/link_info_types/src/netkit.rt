@@ -13,8 +13,8 @@ use netlink_packet_core::DecodeError;
 use std::fmt;
 use std::str::FromStr;
 
-/// At which layer a NETKIT pair works, `NETKIT_L2` and `NETKIT_L3` of `linux/if_link.h`. It is
-/// encoded in 4 bytes, in native byte order.
+/// At which layer a NETKIT pair works, `NETKIT_L2` and `NETKIT_L3` of `linux/if_link.h`. Encoded in
+/// 4 bytes, in native byte order.
 #[derive(Debug, PartialEq, Eq, Clone, Copy)]
 pub enum NetkitMode {
     /// With Ethernet headers: `NETKIT_L2`, 0.
@@ -85,7 +85,7 @@ impl FromStr for NetkitMode {
 }
 
 /// The policy for packets if no program decides, `NETKIT_PASS`, `NETKIT_DROP` and `NETKIT_REDIRECT`
-/// of `linux/if_link.h`. It is encoded in 4 bytes, in native byte order.
+/// of `linux/if_link.h`. Encoded in 4 bytes, in native byte order.
 #[derive(Debug, PartialEq, Eq, Clone, Copy)]
 pub enum NetkitPolicy {
     /// They pass: `NETKIT_PASS`, 0.
@@ -167,8 +167,8 @@ impl FromStr for NetkitPolicy {
 }
 
 /// Whether the metadata of a packet, such as marks, are cleared when it passes to the peer,
-/// `NETKIT_SCRUB_*` of `linux/if_link.h`. It is encoded in 4 bytes, in native byte order. Any
-/// number except 0 is read as `Default`, which is written as 1.
+/// `NETKIT_SCRUB_*` of `linux/if_link.h`. Encoded in 4 bytes, in native byte order. Any number
+/// except 0 is read as `Default`, which is written as 1.
 #[derive(Debug, PartialEq, Eq, Clone, Copy)]
 pub enum NetkitScrub {
     /// They are kept: `NETKIT_SCRUB_NONE`, 0.

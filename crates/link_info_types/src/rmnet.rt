@@ -5,8 +5,8 @@ ghost use Rattle.link_info_types.specs.RmNetTypes.{rm_net_flags_bits, rm_net_fla
 
 use bitflags::{Flag, Flags};
 
-/// How an RMNET device processes the packets of its modem, `RMNET_FLAGS_*` of `linux/if_link.h`. It
-/// is encoded in 4 bytes, in native byte order; all bits are kept.
+/// How an RMNET device processes the packets of its modem, `RMNET_FLAGS_*` of `linux/if_link.h`.
+/// Encoded in 4 bytes, in native byte order; all bits are kept.
 #[derive(Debug, Clone, Copy, PartialEq, Eq)]
 pub struct RmNetFlags(u32);
 

@@ -7,7 +7,7 @@ use itoa::Buffer;
 use std::fmt;
 
 /// The "don't fragment" bit of the outer IPv4 header of a VXLAN tunnel, `VXLAN_DF_*` of
-/// `linux/if_link.h`. It is encoded in 1 byte.
+/// `linux/if_link.h`. Encoded in 1 byte.
 #[derive(Debug, PartialEq, Eq, Clone, Copy)]
 pub enum VxlanDf {
     /// Not set: `VXLAN_DF_UNSET`, 0.

@@ -34,6 +34,11 @@ pub trait EntryReader {
     ghost may_want_memory: { Self → List ℕ → Bool };
 
     /// Reads one entry.
+    ///
+    /// # Errors
+    ///
+    /// Out of memory only if `may_want_memory` holds; any other [`DecodeError`] only if the row
+    /// rejects the payload.
     fn read(&self, alloc: Global, buf: &NlaBuffer<&[u8]>) -> Result<Self::Value, DecodeError>
         requires whole { IsAttribute (storage buf.now).now }
         requires one { is_of_kind_one (viewed_attribute (storage buf.now).now) ≡ true }

@@ -34,6 +34,11 @@ pub trait Reader {
     ghost may_want_memory: { Self → List ℕ → Bool };
 
     /// Reads one attribute.
+    ///
+    /// # Errors
+    ///
+    /// Out of memory only if `may_want_memory` holds; any other [`DecodeError`] only if the row
+    /// rejects the payload.
     fn read(&self, alloc: Global, buf: &NlaBuffer<&[u8]>) -> Result<Self::Value, DecodeError>
         requires { IsAttribute (storage buf.now).now }
         ensures judged { SucceedsWhere result

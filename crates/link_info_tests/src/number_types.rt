@@ -17,11 +17,19 @@ where
 }
 
 /// Returns whether a value is displayed as this text.
+///
+/// # Errors
+///
+/// [`Fail`] if an allocation fails.
 pub fn is_displayed<T: Copy + Display>(alloc: Global, value: T, text: &str) -> Result<bool, Fail> {
     Ok(format!(in alloc; "{value}")?.as_str() == text)
 }
 
 /// Returns whether a value is displayed as this text, and the text names the value.
+///
+/// # Errors
+///
+/// [`Fail`] if an allocation fails.
 pub fn is_named<T>(alloc: Global, value: T, text: &str) -> Result<bool, Fail>
 where
     T: Copy + Display + PartialEq + FromStr<Err = DecodeError>,

@@ -49,7 +49,7 @@ fn macvlan(rt: HostRuntime) -> Result<(), Fail> {
     Ok(())
 }
 
-/// Returns a list of source addresses, read by the attribute's reader.
+/// A list of source addresses is read by the attribute's reader.
 #[test]
 fn an_attribute_of_macvlan_is_read_alone(rt: HostRuntime) -> Result<(), Fail> {
     let bytes: &[u8] = &[16, 0, 5, 0, 10, 0, 4, 0, 2, 0, 0, 0, 0, 1, 0, 0];

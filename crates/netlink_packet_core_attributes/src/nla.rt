@@ -28,7 +28,7 @@ pub const NLA_ALIGNTO: usize = 4;
 /// The bytes of an attribute's header: length and kind.
 pub const NLA_HEADER_SIZE: usize = 4;
 
-/// The least multiple of 4 not below `n`.
+/// Returns the least multiple of 4 that is at least `n`.
 pub fn nla_align(n: usize) -> usize
     requires { n ≤ 18446744073709551611 }
     ensures { result ≡ nla_align n }

@@ -50,7 +50,7 @@ pub enum Field<'a> {
 impl<'a> Field<'a> {
     ghost use Rattle.std.specs.Prelude.{◌≡◌};
 
-    /// How many bytes there are.
+    /// Returns the length in bytes.
     #[tactic(auto, using(netlink_packet_core_grammar::proofs::Sizes::sizes, netlink_packet_core_numbers::proofs::Sizes::range))]
     pub fn len(self) -> usize
         ensures { result ≡ as_usize (length (field_bytes self.entry)) }

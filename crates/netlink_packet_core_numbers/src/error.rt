@@ -52,7 +52,7 @@ impl DecodeError {
         DecodeError::of(Cause::Memory)
     }
 
-    /// The buffer of a `name` has `received` bytes, fewer than `minimum`.
+    /// Returns the error of a `name`'s buffer that has `received` bytes, fewer than `minimum`.
     pub fn invalid_buffer(name: &'static str, received: usize, minimum: usize) -> Self
         ensures refusal { result ≡ invalid_buffer name.entry received minimum }
         ensures cause { is_memory result ≡ false }
@@ -60,7 +60,7 @@ impl DecodeError {
         DecodeError::of(Cause::Buffer(name, received, minimum))
     }
 
-    /// A hardware address has `received` bytes, not 6.
+    /// Returns the error of a hardware address of `received` bytes, not 6.
     pub fn invalid_mac_address(received: usize) -> Self
         ensures refusal { result ≡ invalid_mac_address received }
         ensures cause { is_memory result ≡ false }
@@ -68,7 +68,7 @@ impl DecodeError {
         DecodeError::of(Cause::MacAddress(received))
     }
 
-    /// An Internet protocol address has `received` bytes, neither 4 nor 16.
+    /// Returns the error of an Internet protocol address of `received` bytes, neither 4 nor 16.
     pub fn invalid_ip_address(received: usize) -> Self
         ensures refusal { result ≡ invalid_ip_address received }
         ensures cause { is_memory result ≡ false }
@@ -76,7 +76,8 @@ impl DecodeError {
         DecodeError::of(Cause::IpAddress(received))
     }
 
-    /// A number of `expected` bytes was expected in `received` bytes.
+    /// Returns the error of a payload of `received` bytes instead of the `expected` bytes of a
+    /// number.
     pub fn invalid_number(expected: usize, received: usize) -> Self
         ensures refusal { result ≡ invalid_number expected received }
         ensures cause { is_memory result ≡ false }
@@ -84,8 +85,8 @@ impl DecodeError {
         DecodeError::of(Cause::Number(expected, received))
     }
 
-    /// A buffer of `buffer_len` bytes is too small for an attribute's header, or for its `nla_len`
-    /// bytes.
+    /// Returns the error of a buffer of `buffer_len` bytes that is too small for an attribute's
+    /// header, or for its `nla_len` bytes.
     pub fn nla_buffer_too_small(buffer_len: usize, nla_len: usize) -> Self
         ensures refusal { result ≡ nla_buffer_too_small buffer_len nla_len }
         ensures cause { is_memory result ≡ false }
@@ -93,7 +94,8 @@ impl DecodeError {
         DecodeError::of(Cause::NlaBufferTooSmall(buffer_len, nla_len))
     }
 
-    /// The length in an attribute's header, `nla_len`, exceeds the buffer's, `buffer_len`.
+    /// Returns the error of an attribute whose length, `nla_len`, exceeds the buffer's,
+    /// `buffer_len`.
     pub fn nla_length_mismatch(buffer_len: usize, nla_len: usize) -> Self
         ensures refusal { result ≡ nla_length_mismatch buffer_len nla_len }
         ensures cause { is_memory result ≡ false }
@@ -101,7 +103,8 @@ impl DecodeError {
         DecodeError::of(Cause::NlaLengthMismatch(buffer_len, nla_len))
     }
 
-    /// The length in an attribute's header, `nla_len`, is less than the size of the header.
+    /// Returns the error of an attribute whose length, `nla_len`, is less than the size of its
+    /// header.
     pub fn nla_invalid_length(buffer_len: usize, nla_len: usize) -> Self
         ensures refusal { result ≡ nla_invalid_length buffer_len nla_len }
         ensures cause { is_memory result ≡ false }
@@ -109,7 +112,8 @@ impl DecodeError {
         DecodeError::of(Cause::NlaInvalidLength(buffer_len, nla_len))
     }
 
-    /// A buffer of `buffer_len` bytes is too small for a value of `value_len` bytes.
+    /// Returns the error of a buffer of `buffer_len` bytes that is too small for a value of
+    /// `value_len` bytes.
     pub fn buffer_too_small(buffer_len: usize, value_len: usize) -> Self
         ensures refusal { result ≡ buffer_too_small buffer_len value_len }
         ensures cause { is_memory result ≡ false }

@@ -46,7 +46,7 @@ fn set_first_of_body(bytes: &mut [u8])
 /// The body of an ERROR message: a code of -2, and three bytes.
 const ERROR: [u8; 7] = [0xfe, 0xff, 0xff, 0xff, 1, 2, 3];
 
-/// A frame of 18 bytes, in a buffer of 20.
+/// Returns a frame of 18 bytes, in a buffer of 20.
 #[tactic(auto, unfolding(netlink_packet_core_grammar::specs::Numbers::u32_at))]
 fn frame() -> [u8; 20]
     ensures frame { IsFrame result }

@@ -22,7 +22,7 @@ use netlink_packet_core_grammar::laws::first_attributes_are_viewed;
 use std::alloc::Global;
 use std::marker::PhantomData;
 
-/// Reads the attributes of a family.
+/// A reader of the attributes of a family.
 #[derive(Drop)]
 pub struct FamilyReader<F>(PhantomData<F>);
 

@@ -64,7 +64,7 @@ never_behind : (f : List Attribute → Bool) (e : Attribute) → ((es : List Att
 never_behind f e h None = refl
 never_behind f e h (Some es) = h es
 
--- ---- whole lists, by their form
+-- ---- whole lists, by their list kind
 
 same_read : Grammar → ListForm → Option (List Attribute) → Option (List Attribute) → Bool
 same_read g form o p = if_read false (λ es. if_read false (λ fs. all_same g nothing nothing (kept form es) (kept form fs)) p) o

@@ -8,19 +8,20 @@ infixr 12 ◌↪◌
 infixr 12 ◌↠◌
 infixr 12 ◌⇉◌
 infixr 10 ◌⸴◌
--- A row whose payload has a shape, as `4 ↪ exact 2`. Byte order is of no concern here, only for typed values.
+-- `k ↪ s`: a row of kind k whose payload has the shape s, as `4 ↪ exact 2`. Byte order is of no concern here, only for
+-- typed values.
 abbrev pub ◌↪◌ : ℕ → Shape → Table → Table
 k ↪ s = λ t. row k false (plain s) t
 
--- A row whose payload is no shape, as `5 ↠ list any t`.
+-- `k ↠ s`: a row of kind k whose payload s is no shape, as `5 ↠ list any t`.
 abbrev pub ◌↠◌ : ℕ → Payload → Table → Table
 k ↠ s = λ t. row k false s t
 
--- A row whose payload is no shape, and whose kind is written with the nested bit.
+-- `k ⇉ s`: a row of kind k whose payload s is no shape, and whose kind is written with the nested bit.
 abbrev pub ◌⇉◌ : ℕ → Payload → Table → Table
 k ⇉ s = λ t. row k true s t
 
--- A row, followed by the rows of t.
+-- `line ⸴ t`: a row, followed by the rows of t.
 abbrev pub ◌⸴◌ : (Table → Table) → Table → Table
 line ⸴ t = line t
 

@@ -221,7 +221,7 @@ impl InfoMacVlan {
     }
 }
 
-/// Reads the attributes of a list of source addresses.
+/// A reader of the attributes of a list of source addresses.
 #[derive(Drop)]
 struct AddressReader;
 
@@ -256,7 +256,7 @@ fn parse_addresses(alloc: Global, bytes: &[u8]) -> Result<Vec<InfoMacVlan>, Deco
     parse_list(alloc, &AddressReader, bytes)
 }
 
-/// Reads the attributes of the data of `macvlan` or of `macvtap`.
+/// A reader of the attributes of the data of `macvlan` or of `macvtap`.
 #[derive(Drop)]
 pub struct MacVlanReader;
 

@@ -103,7 +103,9 @@ impl FieldNla for InfoMacSec {
 }
 
 impl InfoMacSec {
-    // The attribute of a kind that holds 8 bytes, little-endian.
+    // The attribute of a kind that holds 8 bytes, little-endian. Each payload type has a function
+    // of its own, since the prover's time for one match is its paths times the variants of its
+    // type.
     fn of_u64(kind: u16, number: u64) -> Option<Self>
         ensures value { IfSome result (λ v. macsec_entry v ≡ attribute kind (le8 number)) }
         ensures names_row { IfSome result (λ v. macsec_names_row v) }

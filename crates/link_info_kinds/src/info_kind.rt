@@ -226,7 +226,8 @@ impl InfoKind {
         }
     }
 
-    // The variant with this name.
+    // The variant with this name. The match is split in two, since the prover's time for one match
+    // is its paths times the variants of its type.
     fn with_name(name: &str) -> Option<InfoKind>
         ensures { result ≡ named_by info_kind_text listed_kinds name.now }
     {

@@ -73,7 +73,9 @@ impl FieldNla for InfoAmt {
 }
 
 impl InfoAmt {
-    // The attribute of a kind that holds 4 bytes, little-endian.
+    // The attribute of a kind that holds 4 bytes, little-endian. Each payload type has a function
+    // of its own, since the prover's time for one match is its paths times the variants of its
+    // type.
     fn of_u32(kind: u16, number: u32) -> Option<Self>
         ensures value { IfSome result (λ v. amt_entry v ≡ attribute kind (le4 number)) }
         ensures names_row { IfSome result (λ v. amt_names_row v) }

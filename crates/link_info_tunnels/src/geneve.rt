@@ -118,7 +118,8 @@ impl FieldNla for InfoGeneve {
 }
 
 impl InfoGeneve {
-    // The attribute of a kind that holds an IPv4 address.
+    // The attribute of a kind that holds an IPv4 address. Each payload type has a function of its
+    // own, since the prover's time for one match is its paths times the variants of its type.
     fn of_ipv4(kind: u16, address: Ipv4Addr) -> Option<Self>
         ensures value { IfSome result (λ v. geneve_entry v ≡ attribute kind (ipv4_octets address)) }
         ensures names_row { IfSome result (λ v. geneve_names_row v) }

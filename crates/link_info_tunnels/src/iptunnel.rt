@@ -170,7 +170,9 @@ impl FieldNla for InfoIpTunnel {
 }
 
 impl InfoIpTunnel {
-    // The attribute of a kind that holds 4 bytes, little-endian.
+    // The attribute of a kind that holds 4 bytes, little-endian. Each payload type has a function
+    // of its own, since the prover's time for one match is its paths times the variants of its
+    // type.
     fn of_u32(kind: u16, number: u32) -> Option<Self>
         ensures value { IfSome result (λ v. ip_tunnel_entry v ≡ attribute kind (le4 number)) }
         ensures names_row { IfSome result
@@ -333,7 +335,7 @@ impl<'a, 'b> ParseableParametrized<NlaBuffer<&'a [u8]>, &'b InfoKind> for InfoIp
     }
 }
 
-/// Reads the attributes of the data of a tunnel over IP, under the kind of the link.
+/// A reader of the attributes of the data of a tunnel over IP, under the kind of the link.
 ///
 /// The variant of the kind decides, not its name. `IFLA_IPTUN_FLAGS` is rejected under every kind
 /// except `ipip`, `sit` and `ip6tnl`.

@@ -20,7 +20,7 @@ pub struct ListMeasure {
     pub text_len: u128,
     /// The number of attributes, at all depths.
     pub attributes: u64,
-    /// Whether each length in the text is at most 65535.
+    /// Whether each length in the canonical encoding is at most 65535.
     pub fits: bool,
 }
 

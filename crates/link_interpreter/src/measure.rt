@@ -30,7 +30,8 @@ pub fn is_kept(form: Form, attribute: Attribute<'_>) -> bool
     }
 }
 
-/// Adds an attribute to a measure, from the measure of its payload.
+/// Adds an attribute to a measure, from the measure of its payload. The flags are joined by `&`,
+/// since `&&` in a struct literal splits the prover's goals.
 pub fn with_attribute(total: Measured, inside: Measured, is_own: bool) -> Measured
     requires len { total.text_len + inside.text_len + 7 < 2 ^ 128 }
     requires headers { total.attributes + inside.attributes + 1 < 2 ^ 64 }

@@ -4,7 +4,7 @@ ghost use Rattle.std.specs.Prelude.{◌≡◌, ◌≤◌, ◌+◌, ◌-◌, ◌+
 ghost use Rattle.netlink_packet_core_grammar.specs.Attributes.{attribute_header, nla_align, zeros};
 ghost use Rattle.link_interpreter.specs.Room.{HasRoom};
 
-/// Appends bytes.
+/// Appends `bytes`.
 pub fn append(bytes: &[u8], out: &mut Vec<u8>)
     requires { HasRoom out.old bytes.now }
     ensures text { out.new.items ≡ out.old.items ++ bytes.now }

@@ -21,6 +21,7 @@ fn has_name(row: NameRow, name: &[u8]) -> bool
     name == &text[..len as usize]
 }
 
+// A loop over a slice, since the prover repeats a constant table inside a loop in each goal.
 fn find_name(rows: &[NameRow], name: &[u8]) -> Held
     requires { names_fit rows.now ≡ true }
     ensures { result ≡ held_by_name rows.now name.now }

@@ -66,7 +66,7 @@ pub enum Held {
 pub enum Row {
     /// The kind, whether it is written with the nested bit, and the payload.
     Listed(u16, bool, Held),
-    /// A kind between those that the table lists.
+    /// A kind between those that the table lists, which has no row.
     Unlisted(u16),
 }
 

@@ -21,11 +21,11 @@ use std::marker::Model;
 pub const NLA_F_NESTED: u16 = 0x8000;
 /// The flag of a kind whose payload is a number in network byte order (netlink.h).
 pub const NLA_F_NET_BYTEORDER: u16 = 0x4000;
-/// The 14 bits of a kind that are no flags.
+/// The mask of a kind without its flags: the low 14 bits.
 pub const NLA_TYPE_MASK: u16 = 0x3fff;
-/// Attributes begin at multiples of this many bytes.
+/// The alignment of attributes in bytes.
 pub const NLA_ALIGNTO: usize = 4;
-/// The bytes of an attribute's header: length and kind.
+/// The size of an attribute's header in bytes: length and kind.
 pub const NLA_HEADER_SIZE: usize = 4;
 
 /// Returns the least multiple of 4 that is at least `n`.

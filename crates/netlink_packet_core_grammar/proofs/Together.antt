@@ -1,4 +1,4 @@
--- The laws that want more than one lemma.
+-- The laws that need more than one lemma.
 use Rattle.std.proofs.Common.{◌≡◌, ℕ, ◌%◌, List, ◌++◌, length, Option, Some, None, refl, sym, ◌∙◌}
 use Rattle.std.specs.Prelude.{option_map}
 use Rattle.netlink_packet_core_grammar.specs.Attributes.{Attribute, IsAttributeList, attributes_of}

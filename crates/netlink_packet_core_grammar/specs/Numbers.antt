@@ -1,4 +1,4 @@
--- Numbers as bytes, in either byte order, and the numbers at an offset of some bytes.
+-- Numbers as bytes, in either byte order, and the number at an offset of a byte string.
 use Rattle.std.specs.Prelude.{ℕ, ℤ, suc, pos, negsuc, ◌+◌, ◌-◌, ◌*◌, ◌/◌, ◌^◌, cond, nat_lt, List, [], ◌∷◌, min, slice_index}
 use Rattle.std.specs.Int.{w16, w32, w64, w128, byte_at, from_le_bytes, to_le_bytes, to_be_bytes}
 

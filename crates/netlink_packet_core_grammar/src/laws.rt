@@ -1,15 +1,15 @@
-//! Facts of the definitions. No function here makes a call.
+//! Laws of the definitions. No function here makes a call.
 #![tactic(auto, using(crate::proofs::Together::laws))]
 
 ghost use Rattle.netlink_packet_core_grammar.specs.Laws.{OneCut, AttributesAreCut, Joined, TextIsCut, FirstIsViewed};
 ghost use Rattle.netlink_packet_core_grammar.specs.Laws.{FirstIsWithin, WrittenIsFirst, NumbersStandAlone};
 
-/// Bytes are cut into attributes in one way only.
+/// A byte string is a list of attributes in at most one way.
 pub fn attributes_are_cut_in_one_way()
     ensures { OneCut }
 {}
 
-/// The attributes that the function computes are those of the relation.
+/// The function that cuts bytes into attributes computes the relation.
 pub fn attributes_are_the_relation()
     ensures { AttributesAreCut }
 {}
@@ -19,13 +19,13 @@ pub fn lists_are_joined()
     ensures { Joined }
 {}
 
-/// What is written is cut into what was written.
+/// The encoding of attributes is cut into the same attributes, and its length is their size.
 pub fn texts_are_cut_again()
     ensures { TextIsCut }
 {}
 
-/// The first attribute of some bytes is the one that a view of them sees, with what follows its
-/// padding. Bytes that begin with no whole attribute have none.
+/// The first attribute of a byte string is the one that a view of it shows, and the rest is what
+/// follows its padding. Bytes that don't begin with a whole attribute have no first attribute.
 pub fn first_attributes_are_viewed()
     ensures { FirstIsViewed }
 {}

@@ -22,7 +22,7 @@ pub const NLMSG_ERROR: u16 = 2;
 pub const NLMSG_DONE: u16 = 3;
 /// The type of a message that reports lost data.
 pub const NLMSG_OVERRUN: u16 = 4;
-/// Frames begin at multiples of this many bytes.
+/// The alignment of frames in bytes.
 pub const NLMSG_ALIGNTO: u16 = 4;
 
 /// The body of a message: that of a control message, of the types 1 to 4, or one of the protocol.

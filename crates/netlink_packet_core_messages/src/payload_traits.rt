@@ -7,7 +7,7 @@ use std::alloc::Global;
 
 /// A message of a protocol that can be written.
 pub trait NetlinkSerializable {
-    /// Its type, and the bytes of its body.
+    /// The message's type, and the bytes of its body.
     ghost entry: { Self → TypedBody };
 
     /// The condition under which the message can be written.

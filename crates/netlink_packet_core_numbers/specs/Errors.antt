@@ -25,39 +25,39 @@ caused_by c = record { cause = c; contexts = replicate 4 None }
 abbrev pub out_of_memory : DecodeError
 out_of_memory = caused_by Memory
 
--- A buffer of the named kind is shorter than its minimum.
+-- The error of a buffer of the named kind that is shorter than its minimum.
 abbrev pub invalid_buffer : Bor (List ℕ) → ℕ → ℕ → DecodeError
 invalid_buffer name received minimum = caused_by (Buffer name received minimum)
 
--- A hardware address hasn't 6 bytes.
+-- The error of a hardware address that hasn't 6 bytes.
 abbrev pub invalid_mac_address : ℕ → DecodeError
 invalid_mac_address received = caused_by (MacAddress received)
 
--- An Internet protocol address has neither 4 nor 16 bytes.
+-- The error of an Internet protocol address that has neither 4 nor 16 bytes.
 abbrev pub invalid_ip_address : ℕ → DecodeError
 invalid_ip_address received = caused_by (IpAddress received)
 
--- A number hasn't the expected size.
+-- The error of a number that hasn't the expected size.
 abbrev pub invalid_number : ℕ → ℕ → DecodeError
 invalid_number expected received = caused_by (Number expected received)
 
--- A buffer is too small for an attribute.
+-- The error of a buffer that is too small for an attribute.
 abbrev pub nla_buffer_too_small : ℕ → ℕ → DecodeError
 nla_buffer_too_small buffer_len nla_len = caused_by (NlaBufferTooSmall buffer_len nla_len)
 
--- An attribute's length exceeds its buffer.
+-- The error of an attribute whose length exceeds its buffer.
 abbrev pub nla_length_mismatch : ℕ → ℕ → DecodeError
 nla_length_mismatch buffer_len nla_len = caused_by (NlaLengthMismatch buffer_len nla_len)
 
--- An attribute's length is shorter than its header.
+-- The error of an attribute whose length is less than the size of its header.
 abbrev pub nla_invalid_length : ℕ → ℕ → DecodeError
 nla_invalid_length buffer_len nla_len = caused_by (NlaInvalidLength buffer_len nla_len)
 
--- A buffer is too small for a value.
+-- The error of a buffer that is too small for a value.
 abbrev pub buffer_too_small : ℕ → ℕ → DecodeError
 buffer_too_small buffer_len value_len = caused_by (BufferTooSmall buffer_len value_len)
 
--- The error has this message.
+-- The error with this message.
 abbrev pub of_text : Bor (List ℕ) → DecodeError
 of_text t = caused_by (Text t)
 

@@ -279,7 +279,7 @@ impl ContextText for &'static str {
 
 /// Adds to an error what was being read when it occurred.
 pub trait ErrorContext: Sized {
-    /// whether there is an error
+    /// Whether there is an error.
     ghost fails: { Self → Bool };
 
     /// the same with one more context; only the first four are kept

@@ -1,4 +1,4 @@
-//! Facts of the definitions. No function here makes a call.
+//! Laws of the definitions. No function here makes a call.
 
 ghost use Rattle.netlink_packet_core_numbers.specs.Laws.{NumbersAreTold, NumbersHaveSizes};
 

@@ -267,7 +267,7 @@ fn frames_are_refused(rt: HostRuntime) {
     }
 }
 
-/// A frame of 17 bytes, and what follows it.
+/// A frame of 17 bytes, followed by three zeros.
 const FRAME: [u8; 20] = [
     0x11, 0, 0, 0, 0x14, 0, 0, 0, 0, 0, 0, 0, 0, 0, 0, 0, 0x61, 0, 0, 0,
 ];

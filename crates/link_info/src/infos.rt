@@ -104,8 +104,8 @@ struct InForce<'a> {
     port_kind: Option<&'a str>,
 }
 
-// The kinds in force after an attribute that was read. Whether an attribute is rejected for lack of
-// a kind doesn't depend on peers.
+// The kinds in force after an attribute that was read. If this fails, the attribute is rejected
+// under every rule of peers.
 fn next_in_force<'a>(
     force: InForce<'a>,
     buf: &NlaBuffer<&'a [u8]>,

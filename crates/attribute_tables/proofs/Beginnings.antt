@@ -1,4 +1,4 @@
--- What a list begins with, as its readers know it.
+-- The first attribute of a list, from the facts that its reader has.
 use Rattle.std.proofs.Common.{◌≡◌, ℕ, zero, suc, ◌≤◌, Bool, true, false, cond, List, [], ◌∷◌, length, Option, Some, None, refl, ap, ◌∙◌, arith}
 use Rattle.std.specs.Prelude.{◌&&◌, ◌||◌, is_some}
 use Rattle.netlink_packet_core_grammar.specs.Attributes.{Attribute, first_attribute, if_some}
@@ -29,24 +29,24 @@ module _ (first : FirstIsViewed) where
   unfolding begins_readable
   begins-accepted rows may b h a = ap (λ w. w && (is_accepted_by rows b || may b)) (begun b h) ∙ ap (λ x. x || may b) a
 
-  -- reading the first attribute may want memory
+  -- reading the first attribute may run out of memory
   pub begins-wanting : (rows : ℕ → Row) (may : List ℕ → Bool) (b : List ℕ) → IsAttribute b → may b ≡ true → begins_readable rows may b ≡ true
   unfolding begins_readable
   begins-wanting rows may b h m = ap (λ w. w && (is_accepted_by rows b || may b)) (begun b h) ∙ or_right (is_accepted_by rows b) (may b) m
 
-  -- what is accepted is told apart from what may want memory
+  -- either the attribute is accepted, or reading it may run out of memory
   pub accepted-begins : (rows : ℕ → Row) (b : List ℕ) → IsAttribute b → is_accepted_by rows b ≡ true → begins_accepted rows b ≡ true
   unfolding begins_accepted
   accepted-begins rows b h a = ap (λ w. w && is_accepted_by rows b) (begun b h) ∙ a
 
--- a family's attribute wants memory only where it is accepted
+-- reading a family's attribute runs out of memory only if the attribute is accepted
 pub family-begins : (t : Table) (b : List ℕ) → begins_readable (family_row t) (may_want_memory t) b ≡ true → begins_accepted (family_row t) b ≡ true
 unfolding begins_readable begins_accepted
 family-begins t b e = either_accepted (begins_with_attribute b) (accepts t b) _ e
 
 -- ---- lists of which the attributes of kind 1 are kept
 
--- an attribute is cut off in front
+-- the first attribute is cut off
 after_cut : (m n : ℕ) (o : Option (Attribute × List ℕ)) → ((x : Attribute × List ℕ) → o ≡ Some x → first_entry_within m x.1 ≡ first_entry_within n x.1) →
     if_some o (λ x. cond (is_of_kind_one x.0) (Some x.0) (first_entry_within m x.1)) ≡ if_some o (λ x. cond (is_of_kind_one x.0) (Some x.0) (first_entry_within n x.1))
 after_cut m n None h = refl
@@ -74,7 +74,7 @@ module _ (within : FirstIsWithin) where
         ∙ ap (λ o. if_some o (λ x. cond (is_of_kind_one x.0) (Some x.0) (first_entry_within (length b) x.1))) f
         ∙ ap (λ r. cond (is_of_kind_one (viewed_attribute b)) (Some (viewed_attribute b)) r) (enough (length b) (length (after_first b)) (after_first b) (omega (arith, r)) (omega arith))
 
-    -- an entry stands in front
+    -- the first attribute is an entry
     pub entries-here : (r : Row) (may : List ℕ → Bool) (b : List ℕ) → IsAttribute b → is_of_kind_one (viewed_attribute b) ≡ true → (r.rule.accepted (viewed_payload b) || may (viewed_payload b)) ≡ true → entries_begin_readable r may b ≡ true
     unfolding entries_begin_readable
     entries-here r may b h one e = ap (is_readable_entry r may) (entry_step b h ∙ ap (λ t. cond t (Some (viewed_attribute b)) (first_entry (after_first b))) one) ∙ e
@@ -85,7 +85,7 @@ module _ (within : FirstIsWithin) where
     pub entries-wanting : (r : Row) (may : List ℕ → Bool) (b : List ℕ) → IsAttribute b → is_of_kind_one (viewed_attribute b) ≡ true → may (viewed_payload b) ≡ true → entries_begin_readable r may b ≡ true
     entries-wanting r may b h one m = entries-here r may b h one (or_right (r.rule.accepted (viewed_payload b)) (may (viewed_payload b)) m)
 
-    -- another attribute stands in front
+    -- the first attribute is of another kind
     pub entries-past : (r : Row) (may : List ℕ → Bool) (b : List ℕ) → IsAttribute b → is_of_kind_one (viewed_attribute b) ≡ false → entries_begin_readable r may (after_first b) ≡ true → entries_begin_readable r may b ≡ true
     unfolding entries_begin_readable
     entries-past r may b h other e = ap (is_readable_entry r may) (entry_step b h ∙ ap (λ t. cond t (Some (viewed_attribute b)) (first_entry (after_first b))) other) ∙ e

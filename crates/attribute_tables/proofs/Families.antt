@@ -1,4 +1,4 @@
--- The rule of a family's list is the rule of its rows, and what holds no attributes fits.
+-- The rule of a family's list is that of its rows, and a payload without attributes fits.
 use Rattle.std.proofs.Common.{◌≡◌, ℕ, List, true}
 use Rattle.attribute_tables_grammar.specs.Laws.{RowsAreLookedUp, RowsWithoutListsFit}
 use Rattle.attribute_tables_grammar.specs.Lists.{any}
@@ -12,7 +12,7 @@ family-list law t = law.named bytes_peer any t
 
 pub ruleset family_lists = (family-list, family-begins)
 
--- what an attribute of a table without lists holds fits
+-- the payload of a table without lists fits
 pub family-fits : RowsWithoutListsFit → (t : Table) → holds_no_lists t ≡ true → (k : ℕ) (bytes : List ℕ) → (table_row bytes_peer t k).rule.fits bytes ≡ true
 family-fits law t h k bytes = law bytes_peer t h k bytes
 

@@ -50,10 +50,10 @@ module _ (alone : FirstAloneIsRead) (tell : ReadingsTellRules) (rows : ℕ → R
   pub first_none : (IsAttribute b → ⊥) → (rows_rule first_alone rows).accepted b ≡ false
   first_none h = tell.denies_rows first_alone rows b (alone.missing (without_context rows) b h)
 
--- ---- the same of a family
+-- ---- the same for a family
 
 module _ (alone : FirstAloneIsRead) (tell : ReadingsTellRules) (looked_up : RowsAreLookedUp) (t : Table) (b : List ℕ) where
-  -- an attribute that may want memory is accepted
+  -- an attribute of which reading may run out of memory is accepted
   if_wanting : (m : Bool) → (m ≡ false → (rows_rule first_alone (family_row t)).accepted b ≡ false) → (m ≡ true → IsAttribute b) → (m ≡ true → may_want_memory t b ≡ true) → (rows_rule first_alone (family_row t)).accepted b ≡ m
   if_wanting true denied whole wants = (first_of alone tell (family_row t) b (written_by (viewed_row (family_row t) b) (viewed_attribute b)) (whole refl) (and_parts _ _ (wants refl)).1 refl).accepted
   if_wanting false denied whole wants = denied refl

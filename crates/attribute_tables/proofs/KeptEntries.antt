@@ -1,4 +1,4 @@
--- The steps of a list of which the attributes of kind 1 are kept, as the loop takes them.
+-- The steps of the loop over a list of which the attributes of kind 1 are kept.
 use Rattle.std.proofs.Common.{◌≡◌, ℕ, ◌<◌, Bool, true, false, cond, List, [], ◌∷◌, ◌++◌, length, map, Some, sym, ap, subst, ◌∙◌}
 use Rattle.std.proofs.lemmas.List.{map-append}
 use Rattle.netlink_packet_core_grammar.specs.Attributes.{Attribute, list_text}
@@ -14,11 +14,11 @@ use Rattle.attribute_tables.proofs.Lists.{all_written, entries_written}
 is_row : (r : Row) (e : Attribute) → is_of_kind_one e ≡ true → r ≡ row_of (without_context (only_one r)) nothing e
 is_row r e one = sym (ap (λ b. cond b r raw_row) one)
 
--- what holds between two turns of the loop
+-- the loop's invariant
 pub record Entries {V : Type 0} (r : Row) (entry : V → Attribute) (inside : V → Bool) (bytes : List ℕ) (vs : List V) (rest : List ℕ) : Type 0 where
   pub so_far : SoFar of_kind_one (without_context (only_one r)) bytes (map (written_as entry inside) vs) nothing rest
 
--- what was read, once nothing is left
+-- what was read, once nothing remains
 pub record EntriesDone {V : Type 0} (r : Row) (entry : V → Attribute) (inside : V → Bool) (bytes : List ℕ) (vs : List V) : Type 0 where
   pub read : reading_as of_kind_one (without_context (only_one r)) bytes ≡ Some (map (written_as entry inside) vs)
   pub accepted : (rows_rule of_kind_one (only_one r)).accepted bytes ≡ true
@@ -47,7 +47,7 @@ module _ (steps : ReadingsGoBySteps) {V : Type 0} (r : Row) (entry : V → Attri
   pub entries_past : (vs : List V) (rest : List ℕ) → IsAttribute rest → is_of_kind_one (viewed_attribute rest) ≡ false → Entries r entry inside bytes vs rest → Entries r entry inside bytes vs (after_first rest)
   entries_past vs rest h other s = record { so_far = steps.past of_kind_one (without_context (only_one r)) bytes (map (written_as entry inside) vs) nothing rest h other s.so_far }
 
-  -- what the rule says of the bytes, once the loop ends
+  -- the results of the rule, once the loop ends
   module _ (tell : ReadingsTellRules) where
     pub entries_refused : (vs : List V) (rest : List ℕ) → IsAttribute rest → is_of_kind_one (viewed_attribute rest) ≡ true → r.rule.accepted (viewed_payload rest) ≡ false → Entries r entry inside bytes vs rest → (rows_rule of_kind_one (only_one r)).accepted bytes ≡ false
     entries_refused vs rest h one a s =

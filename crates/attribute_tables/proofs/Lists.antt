@@ -1,4 +1,4 @@
--- Lists of values and what they are written as.
+-- Lists of values and their encoding.
 use Rattle.std.proofs.Common.{◌≡◌, ◌+◌, Bool, List, [], ◌∷◌, length, map, refl, sym, ap, ◌∙◌}
 use Rattle.std.specs.Prelude.{◌&&◌}
 use Rattle.std.proofs.lemmas.List.Sums.{sum_by-cons}
@@ -22,7 +22,7 @@ size_by-list : {V : Type 0} (entry : V → Attribute) (vs : List V) → list_siz
 size_by-list entry [] = refl
 size_by-list entry (v ∷ vs) = ap (λ n. nla_align (attribute_length (entry v)) + n) (size_by-list entry vs) ∙ sym (sum_by-cons (λ w. nla_align (attribute_length (entry w))) v vs)
 
--- the bytes of values are as many as their sizes say
+-- the length of the values' encoding is their size
 pub length-text_by : {V : Type 0} (entry : V → Attribute) (vs : List V) → length (text_by entry vs) ≡ size_by entry vs
 length-text_by entry vs = length-list_text (map entry vs) ∙ size_by-list entry vs
 

@@ -1,4 +1,4 @@
--- What a list begins with, under its rows: all that is judged before the list first takes memory.
+-- The first attribute of a list under its rows: everything that is checked before reading the list first allocates.
 use Rattle.std.specs.Prelude.{ℕ, zero, suc, ◌&&◌, ◌||◌, Bool, true, false, cond, List, length, Option, Some, None, is_some}
 use Rattle.netlink_packet_core_grammar.specs.Attributes.{Attribute, first_attribute, if_some, proper_kind}
 use Rattle.netlink_packet_core_grammar.specs.AttributeViews.{viewed_kind, viewed_payload}
@@ -9,48 +9,49 @@ use Rattle.attribute_tables_grammar.specs.Tables.{Payload, Payload.list, Table}
 use Rattle.netlink_packet_core.specs.Families.{family_row}
 use Rattle.attribute_tables.specs.Views.{is_accepted_by}
 
--- the bytes begin with a whole attribute
+-- The bytes begin with a whole attribute.
 abbrev pub begins_with_attribute : List ℕ → Bool
 begins_with_attribute b = is_some (first_attribute b)
 
--- the bytes begin with an attribute that its row accepts
+-- The bytes begin with an attribute that its row accepts.
 unfoldable pub begins_accepted : (ℕ → Row) → List ℕ → Bool
 begins_accepted rows b = begins_with_attribute b && is_accepted_by rows b
 
--- the bytes begin with an attribute that its row accepts, or of which the reading may want memory
+-- The bytes begin with an attribute that its row accepts, or of which reading may run out of memory.
 unfoldable pub begins_readable : (ℕ → Row) → (List ℕ → Bool) → List ℕ → Bool
 begins_readable rows may b = begins_with_attribute b && (is_accepted_by rows b || may b)
 
--- reading a payload may want memory: bytes and text where they are accepted, and a list where its first attribute is
+-- Reading a payload may run out of memory: bytes and text if they are accepted, a list if its first attribute is.
 abbrev pub payload_may_want_memory : Option Payload → List ℕ → Bool
 payload_may_want_memory None p = true
 payload_may_want_memory (Some (list form t)) p = begins_accepted (family_row t) p
 payload_may_want_memory (Some s) p = payload_holds_bytes s && (payload_rule bytes_peer s).accepted p
 
--- a kind without a row is kept as bytes
+-- Reading the payload of an entry may run out of memory; the payload of a kind without one is kept as bytes.
 abbrev pub line_may_want_memory : Option Line → List ℕ → Bool
 line_may_want_memory None p = true
 line_may_want_memory (Some l) p = payload_may_want_memory (Some l.payload) p
 
--- the same of the attribute that the bytes begin with, by the table's row
+-- Reading the first attribute by its row in the table may run out of memory.
 abbrev pub table_may_want_memory : Table → List ℕ → Bool
 table_may_want_memory t b = line_may_want_memory (line_at t (proper_kind (viewed_kind b))) (viewed_payload b)
 
 -- ---- lists of which the attributes of kind 1 are kept
 
--- the first attribute of kind 1, in at most so many steps; whole attributes of other kinds may come before it
+-- The first attribute of kind 1, found in at most n steps; whole attributes of other kinds may precede it.
 unfoldable pub first_entry_within : ℕ → List ℕ → Option Attribute
 first_entry_within zero b = None
 first_entry_within (suc n) b = if_some (first_attribute b) (λ x. cond (is_of_kind_one x.0) (Some x.0) (first_entry_within n x.1))
 
+-- The first attribute of kind 1; whole attributes of other kinds may precede it.
 abbrev pub first_entry : List ℕ → Option Attribute
 first_entry b = first_entry_within (length b) b
 
--- an attribute that the row accepts, or of which reading the payload may want memory
+-- The row accepts the attribute, or reading its payload may run out of memory.
 abbrev pub is_readable_entry : Row → (List ℕ → Bool) → Option Attribute → Bool
 is_readable_entry r may None = false
 is_readable_entry r may (Some e) = r.rule.accepted e.payload || may e.payload
 
--- the first attribute of kind 1 is one that the row accepts, or of which reading the payload may want memory
+-- The row accepts the first attribute of kind 1, or reading its payload may run out of memory.
 unfoldable pub entries_begin_readable : Row → (List ℕ → Bool) → List ℕ → Bool
 entries_begin_readable r may b = is_readable_entry r may (first_entry b)

@@ -6,7 +6,12 @@ ghost use Rattle.netlink_packet_core.specs.Errors.{is_memory};
 use netlink_packet_core::DecodeError;
 use std::alloc::Global;
 
-/// Reads bytes as they are. No memory is taken for none.
+/// Copies a payload.
+///
+/// # Errors
+///
+/// Out of memory, and no other [`DecodeError`], if the allocation fails; an empty payload is never
+/// allocated.
 pub fn parse_bytes(alloc: Global, payload: &[u8]) -> Result<Vec<u8>, DecodeError>
     ensures value { IfOk result (λ v. v.items ≡ payload.now) }
     ensures err { IfErr result (λ e. is_memory e ≡ true) }

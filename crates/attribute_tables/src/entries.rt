@@ -1,4 +1,4 @@
-//! Lists of which the attributes of kind 1 alone are kept.
+//! Lists of which only the attributes of kind 1 are kept.
 
 ghost use Rattle.std.specs.Prelude.{◌≡◌, ◌<◌, ℕ, List, Bool, true, length, IfOk, IfErr};
 ghost use Rattle.std.specs.List.{All};
@@ -20,20 +20,25 @@ use std::alloc::Global;
 /// The kind of the entries that are kept.
 const ENTRY: u16 = 1;
 
-/// A reader of the entries of a list that keeps those of kind 1 alone.
+/// A reader of the entries of a list that keeps only those of kind 1.
 pub trait EntryReader {
     type Value: Nla + Drop;
 
     /// The row of kind 1.
     ghost entry_row: { Self → Row };
 
-    /// The value is the one that its row names.
+    /// The value is the variant of its row.
     ghost names_row: { Self → Self.Value → Type 0 };
 
-    /// Whether reading the payload of an entry may take memory.
+    /// Whether reading the payload of an entry may run out of memory.
     ghost may_want_memory: { Self → List ℕ → Bool };
 
     /// Reads one entry.
+    ///
+    /// # Errors
+    ///
+    /// Out of memory only if `may_want_memory` holds; any other [`DecodeError`] only if the row
+    /// rejects the payload.
     fn read(&self, alloc: Global, buf: &NlaBuffer<&[u8]>) -> Result<Self::Value, DecodeError>
         requires whole { IsAttribute (storage buf.now).now }
         requires one { is_of_kind_one (viewed_attribute (storage buf.now).now) ≡ true }
@@ -47,9 +52,13 @@ pub trait EntryReader {
 }
 
 /// Reads a list of which the attributes of kind 1 are kept; every other attribute may hold any
-/// bytes, and is dropped. It succeeds exactly where the list is accepted, memory aside; a list of
-/// no bytes is never refused. It answers want of memory only where the first attribute of kind 1
-/// is accepted, or where reading that one may want memory.
+/// bytes, and is dropped. An empty list is accepted.
+///
+/// # Errors
+///
+/// Out of memory if an allocation fails, and only if the row accepts the first attribute of kind 1,
+/// or reading that one may run out of memory; any other [`DecodeError`] only if the list isn't
+/// accepted.
 pub fn parse_entries<R: EntryReader>(
     alloc: Global,
     reader: &R,
@@ -83,8 +92,12 @@ pub fn parse_entries<R: EntryReader>(
     Ok(list)
 }
 
-/// Reads a list of which the attributes of kind 1 are kept, and which has an attribute of any kind
-/// in it. It succeeds exactly where the list is accepted, memory aside.
+/// Reads a list of which the attributes of kind 1 are kept, and which has at least one attribute,
+/// of any kind.
+///
+/// # Errors
+///
+/// Out of memory if an allocation fails; any other [`DecodeError`] only if the list isn't accepted.
 pub fn parse_ports<R: EntryReader>(
     alloc: Global,
     reader: &R,

@@ -1,4 +1,4 @@
-//! The reader of a family, and lists of its attributes.
+//! The reader of a family, and of lists of its attributes.
 
 ghost use Rattle.std.specs.Prelude.{◌≡◌, ◌<◌, true, length, IfOk, IfErr};
 ghost use Rattle.std.specs.List.{All};
@@ -22,12 +22,12 @@ use netlink_packet_core_grammar::laws::first_attributes_are_viewed;
 use std::alloc::Global;
 use std::marker::PhantomData;
 
-/// Reads the attributes of a family.
+/// A reader of the attributes of a family.
 #[derive(Drop)]
 pub struct FamilyReader<F>(PhantomData<F>);
 
 impl<F> FamilyReader<F> {
-    /// The reader of the family. It holds nothing: there is no other.
+    /// Returns the reader of the family. It has no state, so all are equal.
     pub const fn new() -> Self
         ensures { (r : FamilyReader F) → r ≡ result }
     {
@@ -51,9 +51,12 @@ impl<F: Family + Drop> Reader for FamilyReader<F> {
     }
 }
 
-/// Reads a list of attributes of a family. It succeeds exactly where the list is accepted, memory
-/// aside; a list of no bytes is never refused. It answers want of memory only where its first
-/// attribute is accepted.
+/// Reads a list of attributes of a family. An empty list is accepted.
+///
+/// # Errors
+///
+/// Out of memory if an allocation fails, and only if the list's first attribute is accepted; any
+/// other [`DecodeError`] only if the list isn't accepted.
 #[tactic(auto, using(crate::proofs::Families::family_lists))]
 pub fn parse_family<F: Family + Drop>(alloc: Global, bytes: &[u8]) -> Result<Vec<F>, DecodeError>
     ensures judged { SucceedsWhere result ((list_of bytes_peer any F.rows).accepted bytes.now) }
@@ -69,9 +72,13 @@ pub fn parse_family<F: Family + Drop>(alloc: Global, bytes: &[u8]) -> Result<Vec
     parse_list(alloc, &FamilyReader::<F>::new(), bytes)
 }
 
-/// Reads the attribute of a family that a payload begins with; any bytes may follow it, and are
-/// dropped. It succeeds exactly where that attribute is accepted, memory aside. It answers want of
-/// memory only where that attribute holds bytes or a text, and its payload isn't empty.
+/// Reads the attribute of a family at the start of a payload; any bytes may follow it, and are
+/// dropped.
+///
+/// # Errors
+///
+/// Out of memory if the attribute is accepted, holds bytes or a text, isn't empty, and an
+/// allocation fails; any other [`DecodeError`] only if it isn't accepted.
 pub fn parse_first<F: Family + Drop>(alloc: Global, bytes: &[u8]) -> Result<F, DecodeError>
     ensures judged { IsRefusedUnless result
         ((list_of bytes_peer first_alone F.rows).accepted bytes.now) }

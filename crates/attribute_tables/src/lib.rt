@@ -11,10 +11,10 @@ pub use entries::{EntryReader, parse_entries, parse_ports};
 pub use family::{FamilyReader, parse_family, parse_first};
 pub use reader::{Reader, parse_first_by, parse_list};
 
-/// The variant of a payload that was read, or the refusal. A number type or a flag set is made of
+/// The variant of a payload that was read, or the error. A number type or a flag set is made from
 /// the number. Kinds that are read alike may share an arm: `of_u32(kind)` names the function that
-/// makes the variant of a kind. (A `match`, since `?` in each arm of a long table costs the check
-/// twice the time.)
+/// makes the variant of a kind. (A `match`, since `?` in each arm of a long table doubles the time
+/// that the prover takes.)
 #[macro_export]
 macro_rules! typed {
     ($make:ident($kind:ident), $read:expr) => {

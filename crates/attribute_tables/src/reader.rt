@@ -1,4 +1,4 @@
-//! Readers of the attributes of one table, and lists of them.
+//! Readers of the attributes of one table, and of lists of them.
 
 ghost use Rattle.std.specs.Prelude.{◌≡◌, ◌<◌, ◌&&◌, ℕ, List, Bool, true, length, IfOk, IfErr};
 ghost use Rattle.std.specs.List.{All};
@@ -20,20 +20,25 @@ use netlink_packet_core::{DecodeError, Nla, NlaBuffer, skip_first};
 use netlink_packet_core_grammar::laws::first_attributes_are_viewed;
 use std::alloc::Global;
 
-/// A reader of the attributes of one table, under a context that it holds.
+/// A reader of the attributes of one table, in a context that it holds.
 pub trait Reader {
     type Value: Nla + Drop;
 
     /// The row of a kind without its flag bits.
     ghost row_of: { Self → ℕ → Row };
 
-    /// The value is the variant that its row names.
+    /// The value is the variant of its row.
     ghost names_row: { Self → Self.Value → Type 0 };
 
-    /// Whether reading an attribute may take memory.
+    /// Whether reading an attribute may run out of memory.
     ghost may_want_memory: { Self → List ℕ → Bool };
 
     /// Reads one attribute.
+    ///
+    /// # Errors
+    ///
+    /// Out of memory only if `may_want_memory` holds; any other [`DecodeError`] only if the row
+    /// rejects the payload.
     fn read(&self, alloc: Global, buf: &NlaBuffer<&[u8]>) -> Result<Self::Value, DecodeError>
         requires { IsAttribute (storage buf.now).now }
         ensures judged { SucceedsWhere result
@@ -46,9 +51,12 @@ pub trait Reader {
             (may_want_memory self.now (storage buf.now).now ≡ true) };
 }
 
-/// Reads a list of attributes of one table. It succeeds exactly where the list is accepted, memory
-/// aside; a list of no bytes is never refused. It answers want of memory only where its first
-/// attribute is accepted, or where reading that one may want memory.
+/// Reads a list of attributes of one table. An empty list is accepted.
+///
+/// # Errors
+///
+/// Out of memory if an allocation fails, and only if the first attribute is accepted, or reading
+/// that one may run out of memory; any other [`DecodeError`] only if the list isn't accepted.
 pub fn parse_list<R: Reader>(
     alloc: Global,
     reader: &R,
@@ -78,9 +86,13 @@ pub fn parse_list<R: Reader>(
     Ok(list)
 }
 
-/// Reads the attribute of one table that a payload begins with; any bytes may follow it, and are
-/// dropped. It succeeds exactly where that attribute is accepted, memory aside. It answers want of
-/// memory only of a whole attribute of which reading may want memory.
+/// Reads the attribute of one table at the start of a payload; any bytes may follow it, and are
+/// dropped.
+///
+/// # Errors
+///
+/// Out of memory if an allocation fails, and only for a whole attribute of which reading may run
+/// out of memory; any other [`DecodeError`] only if it isn't accepted.
 pub fn parse_first_by<R: Reader>(
     alloc: Global,
     reader: &R,

@@ -34,7 +34,7 @@ same_kind-written_by true true n k l h = let e = eqb-true (proper_kind k) (prope
 same_kind-written_by true false n k l h = let e = eqb-true k l h in (ap proper_kind e, ap (λ x. proper_kind x + cond n 0x8000 0) e)
 same_kind-written_by false u n k l h = let e = eqb-true k l h in (ap proper_kind e, e)
 
--- attributes that are the same are of one kind, and are written with it
+-- equivalent attributes have one kind proper, and are written with it
 same_kind-written : (r s : Row) (k l : ℕ) → same_kind r s k l ≡ true → (proper_kind k ≡ proper_kind l) × (written_kind r k ≡ written_kind r l)
 same_kind-written r s k l h = same_kind-written_by r.is_typed s.is_typed r.is_nested k l h
 
@@ -42,14 +42,14 @@ written-same_kind_by : (t n : Bool) (k l : ℕ) → cond t (proper_kind k + cond
 written-same_kind_by true n k l h = eq-eqb (proper_kind k) (proper_kind l) (omega arith)
 written-same_kind_by false n k l h = eq-eqb k l h
 
--- ---- rows that renew others
+-- ---- rows that migrate canonical payloads
 
--- a row that writes kinds as another does, and makes of its canonical payloads what it makes of the payloads
+-- a row that writes kinds as another does, and has the same canonical payloads for the other's canonical ones
 pub record RenewsRow (r s : Row) : Type 0 where
   pub kinds : (k : ℕ) → written_kind r k ≡ written_kind s k
   pub payloads : Renews r.rule s.rule
 
--- lawful rules and their rows renew themselves
+-- lawful rules and their rows migrate their own canonical payloads
 pub renews_itself : (r : Rule) → Lawful r → Renews r r
 renews_itself r l = record {
   accepted = λ p a b m. (l.again p a m).0;
@@ -81,7 +81,7 @@ module _ (g : Grammar) (lawful : LawfulGrammar g) (rows : Context → ℕ → Ro
   abbrev h : Grammar
   h = record { row = rows; next = g.next }
 
-  -- an attribute and its canonical form have one row
+  -- an attribute and its canonical form have the same row
   row_again : (c : Context) (e : Attribute) → row_of h c (rewrite (row_of g c e) e) ≡ row_of h c e
   row_again c e = ap (rows c) (proper_kind-written (row_of g c e) e.kind)
 
@@ -144,9 +144,10 @@ module _ (g : Grammar) (lawful : LawfulGrammar g) (rows : Context → ℕ → Ro
       and_from _ _ (and_from _ _ size_is inside) (ap (λ d. all_fit h d rest) (next_again g lawful c e x.0) ∙ fit_again (g.next c e) es x.1 y.1 f1.1)
 
 module _ (g : Grammar) (lawful : LawfulGrammar g) where
-  -- ---- the same lists, and equal canonical forms
+  -- ---- equivalent lists, and equal canonical forms
 
-  -- what two lists that are the same begin with: one row, whose payloads have one canonical form; and what follows is the same again
+  -- two equivalent lists begin with attributes of one row, whose payloads have one canonical form, and the rests are
+  -- equivalent
   record SameFronts (c : Context) (e f : Attribute) (es fs : List Attribute) : Type 0 where
     kinds : written_kind (row_of g c e) e.kind ≡ written_kind (row_of g c e) f.kind
     rows : row_of g c f ≡ row_of g c e
@@ -198,7 +199,7 @@ module _ (g : Grammar) (lawful : LawfulGrammar g) where
       ∙ ap (λ x. rewrite (row_of g c f) f ∷ x) rest
       ∙ ap (λ d. rewrite (row_of g c f) f ∷ rewritten g d fs) w.contexts
 
-  -- the same lists leave the same in force
+  -- equivalent lists leave the same kinds in force
   pub one_context : (c : Context) (es fs : List Attribute) → all_accepted g c es ≡ true → all_accepted g c fs ≡ true → all_same g c c es fs ≡ true → context_after g c es ≡ context_after g c fs
   unfolding all_accepted all_same context_after
   one_context c [] [] a b s = refl
@@ -230,6 +231,6 @@ module _ (g : Grammar) (lawful : LawfulGrammar g) where
       let one : same_attribute r r e f ≡ true = and_from _ _ (written-same_kind_by r.is_typed r.is_nested e.kind f.kind w_is) (and_from _ _ meaning meaning) in
       and_from _ _ (ap (λ q. same_attribute r q e f) row_is ∙ one) (ap (λ d. all_same g (g.next c e) d es fs) (sym next_is) ∙ rest)
 
--- equal texts are texts of equal lists
+-- equal encodings are those of equal lists
 pub one_list : (es fs : List Attribute) → list_text es ≡ list_text fs → es ≡ fs
 one_list es fs h = got_is es fs (sym (attributes_of_text es) ∙ ap attributes_of h ∙ attributes_of_text fs)

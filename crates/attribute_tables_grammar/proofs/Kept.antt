@@ -1,4 +1,4 @@
--- Which attributes a form shows, and which it keeps, one after another.
+-- Which attributes a list kind reads, and which it keeps, one after another.
 use Rattle.std.proofs.Common.{◌≡◌, ℕ, ◌<◌, Bool, true, false, cond, List, [], ◌∷◌, length, Option, Some, None, refl, ap, arith}
 use Rattle.std.specs.Prelude.{filter}
 use Rattle.netlink_packet_core_grammar.specs.Attributes.{Attribute, if_some, attributes_within, attributes_of}
@@ -23,7 +23,7 @@ pub kept_none : (form : ListForm) → kept form [] ≡ []
 kept_none any = refl
 kept_none form = refl
 
--- some bytes are no list without an attribute
+-- bytes that are a list of no attributes are empty
 pub bytes_not_empty : (bytes : List ℕ) → 0 < length bytes → if_some (attributes_of bytes) not_empty ≡ attributes_of bytes
 bytes_not_empty bytes l = by (attributes_of bytes) refl
   where
@@ -32,7 +32,7 @@ bytes_not_empty bytes l = by (attributes_of bytes) refl
     by (Some []) h = absurd (omega (arith, ap length (attributes_cut bytes [] h)))
     by (Some (e ∷ es)) h = refl
 
--- bytes whose attributes are walked show these
+-- bytes whose attributes are walked are read as these
 pub read_walked : (form : ListForm) (bytes : List ℕ) → IsWalked form bytes → read_as form bytes ≡ attributes_of bytes
 read_walked any bytes w = refl
 read_walked of_kind_one bytes w = refl
@@ -40,7 +40,7 @@ read_walked non_empty bytes w = bytes_not_empty bytes w
 read_walked ports bytes w = bytes_not_empty bytes w
 read_walked first_alone bytes w = absurd w
 
--- no bytes show nothing to a form that wants an attribute
+-- the empty list is rejected by a list kind that requires an attribute
 pub read_none : (form : ListForm) (bytes : List ℕ) → length bytes ≡ 0 → WantsAttribute form → read_as form bytes ≡ None
 unfolding attributes_within
 read_none non_empty [] l w = refl

@@ -16,7 +16,7 @@ pub read_true : (f : List Attribute → Bool) (o : Option (List Attribute)) → 
 read_true f None h = absurd cc
 read_true f (Some es) h = (es, refl, h)
 
--- ---- what is shown
+-- ---- the attributes that are read
 
 not_empty_is : (es fs : List Attribute) → not_empty es ≡ Some fs → es ≡ fs
 not_empty_is [] fs h = absurd cc
@@ -32,7 +32,7 @@ first_alone_attribute bytes es h =
     let s = option_map-got (λ (x : Attribute × List ℕ). x.0 ∷ []) (first_attribute bytes) es h in
     (s.0.0, s.0.1, s.1, sym s.2)
 
--- attributes that some bytes show: they are no longer, and hold bytes where these are bytes
+-- the attributes that are read are no longer than the bytes, and hold bytes if these are bytes
 record Shown (bytes : List ℕ) (es : List Attribute) : Type 0 where
   size : weight es ≤ length bytes
   are_attributes : AreBytes bytes → AreAttributes es
@@ -67,7 +67,7 @@ kept_count of_kind_one es = weight-filter is_of_kind_one es
 kept_count ports es = weight-filter is_of_kind_one es
 kept_count form es = omega arith
 
--- ---- the text of what is kept
+-- ---- the encoding of the attributes that are kept
 
 module _ (g : Grammar) where
   of_kind_one_again : (c : Context) (es : List Attribute) → filter is_of_kind_one (rewritten g c (filter is_of_kind_one es)) ≡ rewritten g c (filter is_of_kind_one es)
@@ -100,7 +100,7 @@ module _ (g : Grammar) where
   read_non_empty : (rs : List Attribute) → not_empty rs ≡ Some rs → if_some (attributes_of (list_text rs)) not_empty ≡ Some rs
   read_non_empty rs h = ap (λ o. if_some o not_empty) (attributes_of_text rs) ∙ h
 
-  -- the canonical text shows what was kept, rewritten, and keeps it all
+  -- the canonical encoding is read as the kept attributes in their canonical form, and keeps them all
   pub read_again : (form : ListForm) (c : Context) (bytes : List ℕ) (es : List Attribute) → read_as form bytes ≡ Some es → is_empty_ports form (kept form es) ≡ false →
       (read_as form (list_text (rewritten g c (kept form es))) ≡ Some (rewritten g c (kept form es))) × (kept form (rewritten g c (kept form es)) ≡ rewritten g c (kept form es))
   unfolding list_text rewritten
@@ -126,7 +126,7 @@ module _ (g : Grammar) where
   none_again d f ports c [] h = (refl, refl)
   none_again d f form c es h = absurd cc
 
--- what is known of accepted bytes
+-- the facts about accepted bytes
 pub record AcceptedList (form : ListForm) (g : Grammar) (bytes : List ℕ) : Type 0 where
   pub es : List Attribute
   pub reads : read_as form bytes ≡ Some es
@@ -145,7 +145,7 @@ module _ (form : ListForm) (g : Grammar) (lawful : LawfulGrammar g) (rows : Cont
   abbrev h : Grammar
   h = record { row = rows; next = g.next }
 
-  -- what both accept
+  -- the facts about bytes that both rules accept
   accepted_too : (p : List ℕ) (k : AcceptedList form g p) → (list_rule form h).accepted p ≡ true → all_accepted h nothing (kept form k.es) ≡ true
   accepted_too p k b = sym (ap (if_read false (λ es. all_accepted h nothing (kept form es))) k.reads) ∙ b
 
@@ -202,7 +202,7 @@ module _ (form : ListForm) (g : Grammar) (lawful : LawfulGrammar g) where
   itself : Renews (list_rule form g) (list_rule form g)
   itself = list_renews form g lawful g.row (λ c k. row_renews_itself (g.row c k) (lawful.rows c k))
 
-  -- a list's text is at most 77 times as long
+  -- a list's canonical encoding is at most 77 times as long
   pub list_small : (p : List ℕ) → (list_rule form g).accepted p ≡ true → length ((list_rule form g).canonical p) ≤ 77 * length p
   list_small p a =
       let k = accepted_list form g p a in

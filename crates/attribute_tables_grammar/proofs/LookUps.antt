@@ -1,4 +1,4 @@
--- The look-up of a kind finds the row that the table has, so a list of a table's rows has the rule of what is looked up.
+-- Looking up a kind finds the row that the table has, so a list of a table's rows has the rule of the rows found.
 use Rattle.std.proofs.Common.{◌≡◌, ℕ, Bool, true, false, cond, List, Option, Some, None, refl, sym, ap, ◌∙◌}
 use Rattle.std.specs.Prelude.{◌==◌, bytes_eq}
 use Rattle.attribute_tables_grammar.specs.Rules.{Rule}
@@ -18,7 +18,7 @@ picked : (p : Peer) (b n : Bool) (s : Payload) (r : Row) (o : Option Line) → r
 picked p true n s r o h = ap (λ (q : Rule). record { is_typed = true; is_nested = n; rule = q }) (sym (payload-rule p s))
 picked p false n s r o h = h
 
--- the row that is looked up is the table's
+-- the row found is the table's
 pub row-table : (p : Peer) (t : Table) (k : ℕ) → row_in p t k ≡ table_row p t k
 row-table p end k = refl
 row-table p (row l n s t) k = picked p (k == l) n s (row_in p t k) (line_at t k) (row-table p t k)
@@ -26,7 +26,7 @@ row-table p (row l n s t) k = picked p (k == l) n s (row_in p t k) (line_at t k)
 pub grammar-table : (p : Peer) (t : Table) → grammar p t ≡ without_context (table_row p t)
 grammar-table p t = λ i. record { row = λ c k. row-table p t k i; next = λ c e. c }
 
--- the rule of a list of a table's rows is the rule of the rows that are looked up, for any form
+-- the rule of a list of a table's rows is that of the rows found, for any list kind
 pub list-rows : (p : Peer) (form : ListForm) (t : Table) → list_of p form t ≡ rows_rule form (table_row p t)
 unfolding list_of rows_rule
 list-rows p form t = ap (list_rule form) (grammar-table p t)
@@ -35,7 +35,7 @@ pub rule-rows : (p : Peer) (form : ListForm) (t : Table) → rule p (list form t
 unfolding rows_rule
 rule-rows p form t = ap (list_rule form) (grammar-table p t)
 
--- ---- tables of kind 1 alone
+-- ---- tables with a row for kind 1 only
 
 one_line : (p : Peer) (b : Bool) (l : Line) → row_of_line p (cond b (Some l) None) ≡ cond b (row_of_line p (Some l)) (row_of_line p None)
 one_line p true l = refl
@@ -63,7 +63,7 @@ picked_rule : (p : Peer) (b : Bool) (s : Payload) (r : Rule) (o : Option Payload
 picked_rule p true s r o h = sym (payload-rule p s)
 picked_rule p false s r o h = h
 
--- the rule under a name is that of the payload that is looked up
+-- the rule of a name is that of the payload found
 pub named-payload : (p : Peer) (ns : Names) (n : List ℕ) → named p ns n ≡ rule_or_raw p (payload_at ns n)
 named-payload p others n = refl
 named-payload p (name m s ns) n = picked_rule p (bytes_eq n m) s (named p ns n) (payload_at ns n) (named-payload p ns n)

@@ -1,4 +1,5 @@
--- What a loop over a list measures, attribute by attribute: over any rows, in the context where the rest begins.
+-- The state of a loop that measures a list, attribute by attribute, over any rows and in the context at the start of
+-- the rest.
 use Rattle.std.proofs.Common.{◌≡◌, ℕ, ◌+◌, ◌<◌, Bool, true, false, cond, List, [], ◌∷◌, length, Option, Some, None, refl, sym, ap, ◌∙◌, arith}
 use Rattle.std.specs.Prelude.{◌==◌, option_map}
 use Rattle.std.proofs.Math.Bool.{and-true, or-false}
@@ -36,7 +37,7 @@ unfolding size_or
 dropped_size None m h = absurd cc
 dropped_size (Some y) m h = let e : 0 + y.size ≡ m.size = ap size_or h in (y, refl, omega (arith, e))
 
--- ports keep nothing exactly where their text is empty
+-- a list of ports keeps no entry if and only if its encoding is empty
 abbrev EmptyBy : Grammar → List Attribute → Type 0
 EmptyBy g es = (c : Context) (m : Measure) → measures ports g c es ≡ Some m → is_empty_ports ports (kept ports es) ≡ (m.size == 0)
 
@@ -83,11 +84,11 @@ whole_by form g bytes w =
     whole_of_attributes form g (attributes_of bytes)
     ∙ ap (λ o. if_some o (λ es. option_map (or_empty (is_empty_ports form (kept form es))) (measures form g nothing es))) (sym (read_walked form bytes w))
 
--- what the whole is, once the walk ends
+-- the measure of the whole list, once the walk ends
 ended : (form : ListForm) (g : Grammar) (bytes : List ℕ) (o : Option Measure) → IsWalked form bytes → walk form g nothing bytes ≡ o → option_map (closed form) o ≡ measure (list_rule form g) bytes
 ended form g bytes o w h = ap (option_map (closed form)) (sym h) ∙ whole_by form g bytes w ∙ walk_list form g bytes
 
--- ---- what a measure tells of the rule
+-- ---- how a measure determines the results of the rule
 
 pub tells : (r : Rule) (p : List ℕ) (m : Measure) → Some m ≡ measure r p → IsMeasure r p m
 tells r p m h =
@@ -107,7 +108,7 @@ denies_by false m h = refl
 pub denies : (r : Rule) (p : List ℕ) → None ≡ measure r p → r.accepted p ≡ false
 denies r p h = denies_by (r.accepted p) (record { size = length (r.canonical p); attributes = r.attributes p; fits = r.fits p; empty_ports = r.empty_ports p }) h
 
--- ---- the first attribute alone, and lists that want one
+-- ---- the first attribute only, and list kinds that require one
 
 alone : (g : Grammar) → Option (Attribute × List ℕ) → Option Measure
 alone g o = if_some (option_map (λ x. x.0 ∷ []) o) (λ es. option_map (or_empty (is_empty_ports first_alone (kept first_alone es))) (measures first_alone g nothing es))
@@ -133,7 +134,7 @@ unfolding walk_as
 none_there form g bytes l w =
     sym (ap (λ o. if_some o (λ es. option_map (or_empty (is_empty_ports form (kept form es))) (measures form g nothing es))) (read_none form bytes l w)) ∙ walk_list form g bytes
 
--- a list of some bytes is measured alike, whether or not its form wants an attribute
+-- the same bytes have the same measure, whether or not the list kind requires an attribute
 whole_of : Grammar → Option (List Attribute) → Option Measure
 whole_of g o = measure (record {
   accepted = λ b. if_read false (λ es. all_accepted g nothing es) o;

@@ -1,4 +1,4 @@
--- An attribute that is padded with zeros is its own text, and a list is where its attributes are.
+-- An attribute that is padded with zeros is already canonical, and a list is if its attributes are.
 use Rattle.std.proofs.Common.{◌≡◌, ℕ, ◌+◌, ◌-◌, ◌*◌, ◌/◌, ◌%◌, ◌<◌, ◌++◌, true, List, [], ◌∷◌, length, take, drop, get_or, Option, Some, None, refl, sym, ap, subst, ◌∙◌, append_assoc, arith}
 use Rattle.std.specs.Prelude.{option_map}
 use Rattle.std.proofs.lemmas.List.{take-append-drop, drop-drop, length-take-le}
@@ -49,7 +49,7 @@ own_attribute bytes e after b f z =
 
 -- ---- the steps of a list
 
--- the text of an attribute in front of the text of others
+-- the encoding of an attribute before that of others
 in_front : (form : ListForm) (g : Grammar) (c : Context) (e : Attribute) → is_kept form e ≡ true → (o : Option (List Attribute)) → option_map (λ es. list_text (rewritten g c (kept form es))) (option_map (λ es. e ∷ es) o) ≡ option_map (λ t. attribute_text (rewrite (row_of g c e) e) ++ t) (option_map (λ es. list_text (rewritten g (g.next c e) (kept form es))) o)
 unfolding rewritten list_text
 in_front form g c e k None = refl
@@ -64,7 +64,7 @@ unfolding text_from attributes_within rewritten list_text
 at_end form g c [] l = ap (λ ks. Some (list_text (rewritten g c ks))) (kept_none form)
 at_end form g c (b ∷ rest) l = absurd (omega arith)
 
--- an attribute whose kind and payload are written as they stand
+-- an attribute whose kind and payload are already canonical
 own : (g : Grammar) (c : Context) (e : Attribute) → written_kind (row_of g c e) e.kind ≡ e.kind → (row_of g c e).rule.canonical e.payload ≡ e.payload → rewrite (row_of g c e) e ≡ e
 own g c e n p = λ i. record { kind = n i; payload = p i }
 
@@ -72,7 +72,7 @@ unfoldable pub text_or : Option (List ℕ) → List ℕ
 text_or None = []
 text_or (Some t) = t
 
--- what a list is written as, where it is walked
+-- the canonical encoding of a list that is walked
 canonical_of : (form : ListForm) (g : Grammar) (o : Option (List Attribute)) → text_or (option_map (λ es. list_text (rewritten g nothing (kept form es))) o) ≡ if_read [] (λ es. list_text (rewritten g nothing (kept form es))) o
 unfolding text_or
 canonical_of form g None = refl
@@ -96,7 +96,7 @@ own_texts_go_by_steps = record {
     whole = λ h. s.whole (step form g c rest e after f k ∙ ap (option_map (λ x. attribute_text (rewrite (row_of g c e) e) ++ x)) h ∙ ap (λ x. Some (attribute_text x ++ after)) (own g c e n p) ∙ ap Some (sym t));
   };
   done = λ form g bytes rest c w l s. sym (canonical_text form g bytes w) ∙ ap text_or (s.whole (at_end form g c rest l));
-  -- of the first attribute alone
+  -- the first attribute only
   alone = λ g bytes e after f l n p t.
       ap (λ o. if_read [] (λ es. list_text (rewritten g nothing es)) (option_map (λ (x : Attribute × List ℕ). x.0 ∷ []) o)) f
       ∙ ap (λ x. attribute_text x ++ []) (own g nothing e n p) ∙ text_end e after l ∙ sym t;

@@ -1,4 +1,4 @@
--- A payload without peers has one rule, whatever the rule of peers is, and so has a row.
+-- The rule of a payload or a row without peers is the same under all rules of peers.
 use Rattle.std.proofs.Common.{◌≡◌, ℕ, Bool, true, false, cond, List, Option, Some, refl, sym, ap, ◌∙◌}
 use Rattle.std.specs.Prelude.{◌==◌, ◌||◌, bytes_eq}
 use Rattle.std.proofs.lemmas.Bool.{and_parts, eqb-true}
@@ -31,11 +31,11 @@ module _ (p q : Peer) where
         let parts = and_parts (holds_no_peers s) (names_hold_no_peers ns) h in
         λ i. elim (bytes_eq n m) [ true ↦ one_rule s parts.0 i | false ↦ one_named ns parts.1 n i ]
 
--- of a payload
+-- for a payload
 one_payload : (p q : Peer) (s : Payload) → holds_no_peers s ≡ true → payload_rule p s ≡ payload_rule q s
 one_payload p q s h = payload-rule p s ∙ one_rule p q s h ∙ sym (payload-rule q s)
 
--- of a row
+-- for a row
 picked : (p q : Peer) (b n : Bool) (s : Payload) (o : Option Line) → (b ≡ true → holds_no_peers s ≡ true) → row_of_line p o ≡ row_of_line q o →
     row_of_line p (cond b (Some (record { is_nested = n; payload = s })) o) ≡ row_of_line q (cond b (Some (record { is_nested = n; payload = s })) o)
 picked p q true n s o h more = ap (λ r. record { is_typed = true; is_nested = n; rule = r }) (one_payload p q s (h refl))

@@ -1,4 +1,4 @@
--- A canonical text is read as the bytes that it is the text of.
+-- A canonical encoding is read as the bytes that it was made from.
 use Rattle.std.proofs.Common.{◌≡◌, ◌+◌, ℕ, true, false, cond, List, [], ◌∷◌, length, refl, sym, ap, ◌∙◌}
 use Rattle.std.specs.Prelude.{◌&&◌, nat_le, Option, Some, None, option_map}
 use Rattle.std.proofs.lemmas.Bool.{and_parts, or_parts}
@@ -17,7 +17,7 @@ canonical_is_cut form g bytes es h =
 -- ---- attributes, one after another
 
 module _ (g : Grammar) (lawful : LawfulGrammar g) where
-  -- an attribute that was rewritten is accepted, and read as it was
+  -- an attribute in canonical form is accepted, and has the same reading
   one_again : (c : Context) (e : Attribute) → (row_of g c e).rule.accepted e.payload ≡ true → (row_of g c e).rule.empty_ports e.payload ≡ false → (row_of g c e).rule.fits e.payload ≡ true →
       ((row_of g c (rewrite (row_of g c e) e)).rule.accepted (rewrite (row_of g c e) e).payload ≡ true) × (written_by (row_of g c (rewrite (row_of g c e) e)) (rewrite (row_of g c e) e) ≡ written_by (row_of g c e) e)
   one_again c e a m f =

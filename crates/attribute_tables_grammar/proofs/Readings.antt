@@ -1,4 +1,5 @@
--- A reading tells what the rule of a list tells, and goes on by steps; as laws, over the first attribute as a view of the bytes sees it.
+-- A reading determines the results of a list's rule, and unfolds attribute by attribute; as laws, over the first
+-- attribute as a view of the bytes shows it.
 use Rattle.std.proofs.Common.{◌≡◌, ℕ, ◌+◌, ◌<◌, Bool, true, false, cond, List, [], ◌∷◌, ◌++◌, length, map, Option, Some, None, refl, sym, ap, ◌∙◌, arith, append_assoc, append-nil}
 use Rattle.std.specs.Prelude.{◌==◌, ◌&&◌, ◌||◌, option_map}
 use Rattle.std.proofs.lemmas.Bool.{ne_eqb}
@@ -56,7 +57,7 @@ module _ (form : ListForm) (g : Grammar) where
   unfolding reading
   reading_stop c bytes f l = ap (λ o. if_some o (λ es. written_list g c (kept form es))) (attributes_stop bytes f l)
 
--- ---- a loop's state: what was read, and the rest in its context
+-- ---- the state of a loop: what was read, and the rest in its context
 
 followed_nil : (o : Option (List Written)) → followed_by [] o ≡ o
 followed_nil None = refl
@@ -84,7 +85,7 @@ readings_go_by_steps = record {
 
 -- ---- the reading of whole bytes
 
--- a form that takes no bytes as well reads all others alike
+-- a list kind that requires an attribute reads non-empty bytes as the one that doesn't
 pub record AlikeOn (r s : ListForm) (g : Grammar) (bytes : List ℕ) : Type 0 where
   pub accepted : (list_rule r g).accepted bytes ≡ (list_rule s g).accepted bytes
   pub canonical : (list_rule r g).canonical bytes ≡ (list_rule s g).canonical bytes
@@ -111,20 +112,20 @@ non_empty_alike g bytes l = alike_by non_empty any g bytes (bytes_not_empty byte
 ports_alike : (g : Grammar) (bytes : List ℕ) → 0 < length bytes → AlikeOn ports of_kind_one g bytes
 ports_alike g bytes l = alike_by ports of_kind_one g bytes (bytes_not_empty bytes l) (λ es. refl)
 
--- a form that wants an attribute refuses no bytes
+-- a list kind that requires an attribute rejects the empty list
 refuses : (form : ListForm) (g : Grammar) (bytes : List ℕ) → WantsAttribute form → length bytes ≡ 0 → (list_rule form g).accepted bytes ≡ false
 refuses form g bytes w l = ap (if_read false (λ es. all_accepted g nothing (kept form es))) (read_none form bytes l w)
 
 pub non_empty_refuses : (g : Grammar) (bytes : List ℕ) → length bytes ≡ 0 → (list_rule non_empty g).accepted bytes ≡ false
 non_empty_refuses g bytes = refuses non_empty g bytes tt
 
--- nothing is kept exactly where no text is left
+-- nothing is kept if and only if the encoding is empty
 no_text : (g : Grammar) (c : Context) (ks : List Attribute) → is_empty_ports ports ks ≡ (length (list_text (rewritten g c ks)) == 0)
 unfolding list_text rewritten
 no_text g c [] = refl
 no_text g c (e ∷ es) = sym (ne_eqb (length (list_text (rewritten g c (e ∷ es)))) 0 (λ z. absurd (omega (arith, z, length-list_text (rewritten g c (e ∷ es))))))
 
--- legal ports are empty exactly where they leave no text, or where ports inside are
+-- legal ports are empty if and only if their encoding is, or a list of ports inside is
 ports_told : (g : Grammar) (o : Option (List Attribute)) → if_read false (λ es. all_accepted g nothing (kept ports es)) (if_some o not_empty) ≡ true →
     if_read false (λ es. is_empty_ports ports (kept ports es) || some_empty_ports g nothing (kept ports es)) (if_some o not_empty)
     ≡ ((length (if_read [] (λ es. list_text (rewritten g nothing (kept of_kind_one es))) o) == 0) || if_read false (λ es. is_empty_ports of_kind_one (kept of_kind_one es) || some_empty_ports g nothing (kept of_kind_one es)) o)
@@ -132,7 +133,7 @@ ports_told g None h = absurd cc
 ports_told g (Some []) h = absurd cc
 ports_told g (Some (e ∷ es)) h = let ks = kept ports (e ∷ es) in ap (λ b. b || some_empty_ports g nothing ks) (no_text g nothing ks)
 
--- ---- one attribute, and any bytes
+-- ---- one attribute, followed by any bytes
 
 pub first_attributes_are_read_alone : FirstAloneIsRead
 unfolding reading_as written_list
@@ -148,7 +149,7 @@ first_attributes_are_read_alone = record {
         if_some (option_map (λ (x : Attribute × List ℕ). x.0 ∷ []) o) (λ es. written_list g nothing es) ≡ if_some (option_map (λ (x : Attribute × List ℕ). x.0 ∷ []) p) (λ es. written_list g nothing es)
     alone g = ap (λ o. if_some (option_map (λ (x : Attribute × List ℕ). x.0 ∷ []) o) (λ es. written_list g nothing es))
 
--- ---- what a reading tells of the rule
+-- ---- how a reading determines the results of the rule
 
 written_all : Grammar → Context → List Attribute → List Written
 written_all g c [] = []

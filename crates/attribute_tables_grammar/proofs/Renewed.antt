@@ -1,4 +1,5 @@
--- Under a rule of peers a text that was canonical while peers were bytes is accepted, and becomes what the first bytes become.
+-- Under a rule of peers, an encoding that was canonical while peers were bytes is accepted, and has the canonical
+-- encoding of the original bytes.
 use Rattle.std.proofs.Common.{◌≡◌, ℕ, zero, suc, Bool, true, false, List, Option, Some, None, refl}
 use Rattle.std.specs.Prelude.{◌==◌, bytes_eq}
 use Rattle.std.proofs.lemmas.Bool.{and_parts}

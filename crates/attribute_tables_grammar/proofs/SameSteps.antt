@@ -1,4 +1,4 @@
--- Two lists mean the same attribute by attribute, over any rows.
+-- Two lists are compared attribute by attribute, over any rows.
 use Rattle.std.proofs.Common.{◌≡◌, ℕ, zero, suc, Bool, true, false, cond, List, [], ◌∷◌, length, Option, Some, None, inl, inr, refl, sym, ap, ◌∙◌, arith}
 use Rattle.std.specs.Prelude.{◌==◌, ◌&&◌, ◌||◌, option_map}
 use Rattle.std.proofs.lemmas.Bool.{eqb-true, ne_eqb, and_parts}
@@ -14,7 +14,7 @@ use Rattle.attribute_tables_grammar.specs.Sameness.{kept_of, same_kept, same_wal
 use Rattle.attribute_tables_grammar.specs.Laws.{KeptBySteps, SamenessGoesBySteps, AttributesAreCompared}
 use Rattle.attribute_tables_grammar.proofs.Kept.{kept_more, kept_past, kept_none, bytes_not_empty, read_walked, read_none}
 
--- ---- what a list keeps
+-- ---- the attributes that a list keeps
 
 kept_front : (form : ListForm) (e : Attribute) → is_kept form e ≡ true → (o : Option (List Attribute)) → option_map (kept form) (option_map (λ es. e ∷ es) o) ≡ option_map (λ es. e ∷ es) (option_map (kept form) o)
 kept_front form e k None = refl
@@ -55,7 +55,7 @@ module _ (g : Grammar) (c : Context) where
   front_differs e f s (Some es) None = refl
   front_differs e f s (Some es) (Some fs) = ap (λ b. b && all_same g (g.next c e) (g.next c f) es fs) (sym s)
 
--- what fails of each list fails, and of each with an attribute in front
+-- a test that fails for each list also fails for each with one more attribute at the start
 never : (f : List Attribute → Bool) → ((es : List Attribute) → false ≡ f es) → (o : Option (List Attribute)) → false ≡ if_read false f o
 never f h None = refl
 never f h (Some es) = h es
@@ -64,7 +64,7 @@ never_behind : (f : List Attribute → Bool) (e : Attribute) → ((es : List Att
 never_behind f e h None = refl
 never_behind f e h (Some es) = h es
 
--- ---- whole lists, by their form
+-- ---- whole lists, by their list kind
 
 same_read : Grammar → ListForm → Option (List Attribute) → Option (List Attribute) → Bool
 same_read g form o p = if_read false (λ es. if_read false (λ fs. all_same g nothing nothing (kept form es) (kept form fs)) p) o
@@ -79,7 +79,7 @@ no_right_read : (g : Grammar) (form : ListForm) (o : Option (List Attribute)) �
 unfolding same_read
 no_right_read g form = never (λ es. false) (λ es. refl)
 
--- ---- the first attribute alone
+-- ---- the first attribute only
 
 alone : Option (Attribute × List ℕ) → Option (List Attribute)
 alone o = option_map (λ x. x.0 ∷ []) o

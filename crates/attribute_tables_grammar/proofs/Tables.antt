@@ -1,4 +1,4 @@
--- Every payload of a table that passes the test is a lawful rule.
+-- Every payload of a table that passes the checks has a lawful rule.
 use Rattle.std.proofs.Common.{◌≡◌, ℕ, zero, suc, Bool, true, false, List, [], ◌∷◌, ◌++◌, Option, Some, None, refl, sym, ap, ◌∙◌, arith}
 use Rattle.std.specs.Prelude.{bytes_eq, ◌==◌}
 use Rattle.std.proofs.lemmas.Bool.{and_parts}
@@ -37,7 +37,7 @@ bytes_peer_lawful = record {
   bytes = λ b a h. h;
 }
 
--- ---- what holds of each rule that a row may have holds of the row
+-- ---- a property of each rule that a row may have is one of the row
 
 module _ (P : Rule → Type 0) where
   pub pick_row : (b : Bool) (r s : Row) → P r.rule → P s.rule → P (elim b as (λ x. Row) [ true ↦ r | false ↦ s ]).rule

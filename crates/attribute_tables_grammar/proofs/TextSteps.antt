@@ -1,4 +1,4 @@
--- The canonical text of an accepted list that fits, written attribute by attribute.
+-- Writing the canonical encoding of an accepted list that fits, attribute by attribute.
 use Rattle.std.proofs.Common.{◌≡◌, ℕ, ◌+◌, ◌-◌, ◌≤◌, ◌++◌, Bool, true, false, List, [], ◌∷◌, length, Option, Some, None, refl, sym, ap, ◌∙◌, append_assoc, append-nil, arith, length-append}
 use Rattle.std.specs.Prelude.{◌&&◌, nat_le, option_map}
 use Rattle.std.proofs.lemmas.Bool.{and_parts, leb-true}
@@ -16,7 +16,7 @@ use Rattle.attribute_tables_grammar.proofs.Walks.{walk_list, walk_step, walk_sto
 use Rattle.attribute_tables_grammar.proofs.MeasureSteps.{whole_by, tells, denies, first_some, first_none}
 use Rattle.attribute_tables_grammar.proofs.OwnTexts.{step, at_end, canonical_text, text_or}
 
--- ---- what two measures together say of each
+-- ---- from the sum of two measures to each
 
 fits_or : Option Measure → Bool
 fits_or None = true
@@ -47,7 +47,7 @@ unfolding fits_or
 behind None m h f = absurd cc
 behind (Some y) m h f = record { ahead = y; walked = refl; fits = ap fits_or h ∙ f }
 
--- ---- what stands behind an attribute
+-- ---- the bytes after an attribute
 
 record Split (e : List ℕ) (o : Option (List ℕ)) (t : List ℕ) : Type 0 where
   text : List ℕ
@@ -67,7 +67,7 @@ text_past : (form : ListForm) (g : Grammar) (c : Context) (rest : List ℕ) (e :
 unfolding text_from
 text_past form g c rest e after f k = ap (option_map (λ es. list_text (rewritten g c (kept form es)))) (attributes_step rest e after f) ∙ past_front form g c e k (attributes_of after)
 
--- ---- where a walk begins
+-- ---- the start of a walk
 
 closed_fits : (form : ListForm) (m : Measure) → (closed form m).fits ≡ m.fits
 closed_fits ListForm.ports m = refl
@@ -82,7 +82,7 @@ begins_by form g bytes (Some m) w h a f =
 begins : (form : ListForm) (g : Grammar) (bytes : List ℕ) → IsWalked form bytes → (list_rule form g).accepted bytes ≡ true → (list_rule form g).fits bytes ≡ true → Fitting (walk form g nothing bytes)
 begins form g bytes w = begins_by form g bytes (walk form g nothing bytes) refl (whole_by form g bytes w ∙ walk_list form g bytes)
 
--- a list that is walked has a text
+-- a list that is walked has an encoding
 has_text_by : (form : ListForm) (g : Grammar) (c : Context) (o : Option (List Attribute)) (m : Measure) → if_some o (measures form g c) ≡ Some m → (t : List ℕ) × (option_map (λ es. list_text (rewritten g c (kept form es))) o ≡ Some t)
 has_text_by form g c None m h = absurd cc
 has_text_by form g c (Some es) m h = (list_text (rewritten g c (kept form es)), refl)
@@ -91,7 +91,7 @@ has_text : (form : ListForm) (g : Grammar) (c : Context) (rest : List ℕ) (m : 
 unfolding walk text_from
 has_text form g c rest m h = has_text_by form g c (attributes_of rest) m h
 
--- ---- one attribute further
+-- ---- one more attribute
 
 record Next (form : ListForm) (g : Grammar) (c : Context) (e : Attribute) (after text : List ℕ) : Type 0 where
   front : InFront (measure (row_of g c e).rule e.payload) (walk form g (g.next c e) after)
@@ -112,7 +112,7 @@ nothing_left : (rest : List ℕ) → length rest ≡ 0 → rest ≡ []
 nothing_left [] l = refl
 nothing_left (b ∷ rest) l = absurd (omega arith)
 
--- ---- the first attribute alone
+-- ---- the first attribute only
 
 alone_text : (g : Grammar) (bytes : List ℕ) (e : Attribute) (after : List ℕ) → first_attribute bytes ≡ Some (e, after) → (list_rule first_alone g).canonical bytes ≡ attribute_text (rewrite (row_of g nothing e) e)
 unfolding rewritten list_text

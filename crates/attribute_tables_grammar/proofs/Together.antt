@@ -1,4 +1,4 @@
--- The laws that want more than one lemma, and what all laws go by.
+-- The laws that need more than one lemma, and the facts that all laws are proved from.
 use Rattle.std.proofs.Common.{subst, sym}
 use Rattle.attribute_tables_grammar.specs.Rules.{Rule, Lawful}
 use Rattle.attribute_tables_grammar.specs.Tables.{rule}
@@ -31,7 +31,7 @@ texts_keep_meanings p l s m = keeps_meaning (rule p s) (lawful p l s m)
 pub table_rows_lawful : TableRowsAreLawful
 table_rows_lawful p l t b k = subst (λ r. Lawful r.rule) (row-table p t k) (rows_lawful p l t b k)
 
--- what the laws go by: rules and tables, look-ups, and the steps of loops
+-- what the laws are proved from: rules and tables, look-ups, and the steps of loops
 pub ruleset rules_and_tables = (lawful, table_lawful, table_rows_lawful, bytes_peer_lawful, texts_tell_meanings, texts_keep_meanings, short_fits, rules_without_peers_are_one, renewed)
 
 pub ruleset look_ups = (rule-rows, list-rows, list-one, fits-without_lists, named-payload)

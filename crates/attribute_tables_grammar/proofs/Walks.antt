@@ -1,4 +1,4 @@
--- A walk tells what the rule of a list tells, and goes on by steps.
+-- A walk determines the results of a list's rule, and unfolds attribute by attribute.
 use Rattle.std.proofs.Common.{◌≡◌, ℕ, suc, ◌+◌, ◌<◌, Bool, true, false, cond, List, [], ◌∷◌, length, Option, Some, None, refl, sym, ap, ◌∙◌, arith, add_assoc}
 use Rattle.std.proofs.Math.Bool.{and_assoc, or_assoc}
 use Rattle.std.proofs.Math.Nat.{zero-add}
@@ -32,7 +32,7 @@ both_none (Some m) = refl
 
 -- ---- the steps of a walk
 
--- what an attribute in front adds
+-- the measure with that of the first attribute added
 in_front : (form : ListForm) (g : Grammar) (c : Context) (e : Attribute) → Option Measure → Option Measure → Option Measure
 in_front form g c e more past = cond (is_kept form e) (both (option_map with_header (measure (row_of g c e).rule e.payload)) more) (both (Some dropped) past)
 
@@ -46,7 +46,7 @@ unfolding measures in_front
 if_some_map form None g c e = in_front_none form g c e (is_kept form e) refl
 if_some_map form (Some es) g c e = refl
 
--- by whether the attribute in front is kept
+-- by whether the first attribute is kept
 pub walk_step : (form : ListForm) (g : Grammar) (c : Context) (bytes : List ℕ) (e : Attribute) (rest : List ℕ) (b : Bool) → first_attribute bytes ≡ Some (e, rest) → is_kept form e ≡ b →
     walk form g c bytes ≡ cond b (both (option_map with_header (measure (row_of g c e).rule e.payload)) (walk form g (g.next c e) rest)) (both (Some dropped) (walk form g c rest))
 unfolding walk in_front
@@ -81,7 +81,7 @@ regroup : (l h n : ℕ) → 1 + h + (l + n) ≡ suc l + (h + n)
 regroup l h n = omega arith
 
 module _ (form : ListForm) (g : Grammar) where
-  -- the attributes of a list, of which these are kept
+  -- the attributes of a list, and those that are kept
   found_of : Context → ℕ → List Attribute → Option Measure
   found_of c n ks = cond (all_accepted g c ks) (Some (record { size = list_size (rewritten g c ks); attributes = n + attributes_inside g c ks; fits = all_fit g c ks; empty_ports = some_empty_ports g c ks })) None
 
@@ -123,7 +123,7 @@ module _ (form : ListForm) (g : Grammar) where
       ∙ closed (all_accepted g nothing ks) (is_empty_ports form ks) (list_size (rewritten g nothing ks)) (length es + attributes_inside g nothing ks) (all_fit g nothing ks) (some_empty_ports g nothing ks)
       ∙ ap (λ n. cond (all_accepted g nothing ks) (Some (record { size = n; attributes = length es + attributes_inside g nothing ks; fits = all_fit g nothing ks; empty_ports = is_empty_ports form ks || some_empty_ports g nothing ks })) None) (sym (length-list_text (rewritten g nothing ks)))
 
-  -- a walk of whole bytes tells what the rule tells, for any form
+  -- a walk of whole bytes has the measure of their rule, for any list kind
   pub walk_list : (bytes : List ℕ) → walk_as form g bytes ≡ measure (list_rule form g) bytes
   unfolding walk_as
   walk_list bytes = whole (read_as form bytes)

@@ -13,73 +13,78 @@ use Rattle.attribute_tables_grammar.specs.OwnTexts.{OwnSoFar}
 use Rattle.attribute_tables_grammar.specs.Writing.{IsWritable, WrittenSoFar}
 use Rattle.attribute_tables_grammar.specs.Sameness.{kept_of, same_walk, goes_on, same_kinds}
 
--- a canonical text is cut into the written kinds and canonical payloads of what was kept
+-- The canonical encoding of a list is cut into the attributes that the list keeps, each in its canonical form.
 abbrev pub CanonicalIsCut : Type 0
 CanonicalIsCut = (form : ListForm) (g : Grammar) (bytes : List ℕ) (es : List Attribute) → read_as form bytes ≡ Some es → attributes_of ((list_rule form g).canonical bytes) ≡ Some (rewritten g nothing (kept form es))
 
--- every payload of a table without large rows is lawful, over every lawful rule of peers
+-- Every payload of a table without large rows has a lawful rule, under every lawful rule of peers.
 abbrev pub TablesAreLawful : Type 0
 TablesAreLawful = (p : Peer) → LawfulPeer p → (s : Payload) → payload_bounded s ≡ true → Lawful (rule p s)
 
--- peers that are bytes are lawful
+-- The rule that keeps peers as bytes is lawful.
 abbrev pub BytesAreLawful : Type 0
 BytesAreLawful = LawfulPeer bytes_peer
 
--- two accepted payloads mean the same exactly where they have one canonical payload
+-- Two accepted payloads are equivalent if and only if their canonical payloads are equal.
 abbrev pub OneTextEach : Rule → Type 0
 OneTextEach r = (a b : List ℕ) → r.accepted a ≡ true → r.accepted b ≡ true → (r.same a b ≡ true) ↔ (r.canonical a ≡ r.canonical b)
 
+-- Under every payload of a table without large rows, canonical payloads decide equivalence.
 abbrev pub TextsTellMeanings : Type 0
 TextsTellMeanings = (p : Peer) → LawfulPeer p → (s : Payload) → payload_bounded s ≡ true → OneTextEach (rule p s)
 
--- a canonical text means what the bytes mean
+-- A payload is equivalent to its canonical payload, if no list of ports inside it keeps nothing.
 abbrev pub KeepsMeaning : Rule → Type 0
 KeepsMeaning r = (b : List ℕ) → r.accepted b ≡ true → r.empty_ports b ≡ false → r.same b (r.canonical b) ≡ true
 
+-- Under every payload of a table without large rows, canonical payloads keep the meaning.
 abbrev pub TextsKeepMeanings : Type 0
 TextsKeepMeanings = (p : Peer) → LawfulPeer p → (s : Payload) → payload_bounded s ≡ true → KeepsMeaning (rule p s)
 
--- a short canonical payload fits: no attribute inside is longer than the whole
+-- A canonical payload of at most 65535 bytes fits: no length inside it exceeds that of the whole.
 abbrev pub ShortFit : Rule → Type 0
 ShortFit r = (b : List ℕ) → r.accepted b ≡ true → length (r.canonical b) ≤ 65535 → r.fits b ≡ true
 
--- that of every payload of every table does, under every rule of peers
+-- Short canonical payloads fit for every payload of every table, under every rule of peers.
 abbrev pub ShortTextsFit : Type 0
 ShortTextsFit = (p : Peer) (s : Payload) → ShortFit (rule p s)
 
--- a payload without peers has one rule, whatever the rule of peers is, and so has a row
+-- The rule of a payload or a row without peers is the same under all rules of peers.
 pub record RulesWithoutPeersAreOne : Type 0 where
   pub payloads : (p q : Peer) (s : Payload) → holds_no_peers s ≡ true → payload_rule p s ≡ payload_rule q s
   pub rows : (p q : Peer) (c : ℕ) (t : Table) → holds_no_peers_but c t ≡ true → (k : ℕ) → (k == c) ≡ false → table_row p t k ≡ table_row q t k
 
--- under a rule of peers an old text is accepted, and becomes what the first bytes become
+-- Canonical payloads that were written while peers were bytes are migrated by every rule of peers: a payload that this
+-- rule accepts too stays acceptable in its old canonical form, and has the same new one.
 abbrev pub OldTextsAreRenewed : Type 0
 OldTextsAreRenewed = (p : Peer) → (s : Payload) → payload_bounded s ≡ true → Renews (rule bytes_peer s) (rule p s)
 
--- lists that are the same leave the same in force, so that both stand in one context
+-- Equivalent lists leave the same kinds in force, so that one context is enough to compare two lists.
 abbrev pub OneContext : Type 0
 OneContext = (g : Grammar) → LawfulGrammar g → (c : Context) (es fs : List Attribute) → all_accepted g c es ≡ true → all_accepted g c fs ≡ true → all_same g c c es fs ≡ true → context_after g c es ≡ context_after g c fs
 
--- the rows of a table without large rows are lawful, over every lawful rule of peers
+-- The rows of a table without large rows are lawful, under every lawful rule of peers.
 abbrev pub TableGrammarsAreLawful : Type 0
 TableGrammarsAreLawful = (p : Peer) → LawfulPeer p → (t : Table) → rows_bounded t ≡ true → LawfulGrammar (grammar p t)
 
--- a list of a table's rows has the rule of the rows that a look-up of each kind finds, for any form; the same by the list's name, and where kind 1 alone has a row
+-- A list of a table's rows has the rule of the rows that looking up each kind finds, for any list kind; `named` states
+-- this for a named list, `of_one` for a table that has a row for kind 1 only.
 pub record RowsAreLookedUp : Type 0 where
   pub payload : (p : Peer) (form : ListForm) (t : Table) → rule p (list form t) ≡ rows_rule form (table_row p t)
   pub named : (p : Peer) (form : ListForm) (t : Table) → list_of p form t ≡ rows_rule form (table_row p t)
   pub of_one : (p : Peer) (form : ListForm) (n : Bool) (s : Payload) → list_of p form (row 1 n s end) ≡ rows_rule form (only_one (row_of_line p (Some (record { is_nested = n; payload = s }))))
 
--- what a row of a table without lists holds fits
+-- The payload of a row fits, if the table holds no lists.
 abbrev pub RowsWithoutListsFit : Type 0
 RowsWithoutListsFit = (p : Peer) (t : Table) → holds_no_lists t ≡ true → (k : ℕ) (bytes : List ℕ) → (table_row p t k).rule.fits bytes ≡ true
 
--- the rule under a name is that of the payload that a look-up of the name finds, and of raw bytes where it finds none
+-- The rule of a name is that of the payload that looking up the name finds, else the rule of raw bytes.
 abbrev pub NamesAreLookedUp : Type 0
 NamesAreLookedUp = (p : Peer) (names : Names) (n : List ℕ) → named p names n ≡ rule_or_raw p (payload_at names n)
 
--- what a list is read as is found by steps: an attribute that is kept adds what its row makes of it, and one that the form drops adds nothing;
--- a kept one that its row refuses, or bytes that begin with no attribute, leave nothing read; and once nothing is left, what was read is the whole
+-- Reading a list unfolds attribute by attribute: a kept attribute adds its canonical form by its row, a dropped one
+-- adds nothing; nothing is read if a row rejects a kept attribute, or if the rest begins with no attribute; at the end,
+-- what was read is the whole list.
 pub record ReadingsGoBySteps : Type 0 where
   pub start : (form : ListForm) (g : Grammar) (bytes : List ℕ) → SoFar form g bytes [] nothing bytes
   pub more : (form : ListForm) (g : Grammar) (bytes : List ℕ) (ws : List Written) (c : Context) (rest : List ℕ) (w : Written) → IsAttribute rest → is_kept form (viewed_attribute rest) ≡ true →
@@ -94,8 +99,9 @@ pub record ReadingsGoBySteps : Type 0 where
   pub done : (form : ListForm) (g : Grammar) (bytes : List ℕ) (ws : List Written) (c : Context) (rest : List ℕ) → length rest ≡ 0 →
       SoFar form g bytes ws c rest → reading form g nothing bytes ≡ Some ws
 
--- what bytes are read as tells their rule: accepted, with that text, where something was read, and refused where nothing was.
--- Lists of any attributes, and those of which kind 1 is kept, are read from their first byte on
+-- The reading of a list determines the results of its rule: if there is one, the rule accepts the bytes, with its
+-- encoding as the canonical one; otherwise the rule rejects them. For lists of any attributes and lists of entries of
+-- kind 1, the reading is that of all attributes from the first byte on.
 pub record ReadingsTellRules : Type 0 where
   pub of_any : (g : Grammar) (bytes : List ℕ) → reading_as any g bytes ≡ reading any g nothing bytes
   pub of_entries : (g : Grammar) (bytes : List ℕ) → reading_as of_kind_one g bytes ≡ reading of_kind_one g nothing bytes
@@ -104,14 +110,15 @@ pub record ReadingsTellRules : Type 0 where
   pub tells_rows : (form : ListForm) (f : ℕ → Row) (bytes : List ℕ) (ws : List Written) → reading_as form (without_context f) bytes ≡ Some ws → Tells (rows_rule form f) bytes ws
   pub denies_rows : (form : ListForm) (f : ℕ → Row) (bytes : List ℕ) → reading_as form (without_context f) bytes ≡ None → (rows_rule form f).accepted bytes ≡ false
 
--- a list of its first attribute alone is read as what that attribute's row makes of it; as nothing where the row refuses it, or where there is none
+-- A list of only its first attribute is read as that attribute's canonical form; there is no reading if its row rejects
+-- it, or if the bytes begin with no attribute.
 pub record FirstAloneIsRead : Type 0 where
   pub read : (g : Grammar) (bytes : List ℕ) (w : Written) → IsAttribute bytes → (row_of g nothing (viewed_attribute bytes)).rule.accepted (viewed_attribute bytes).payload ≡ true →
       w ≡ written_by (row_of g nothing (viewed_attribute bytes)) (viewed_attribute bytes) → reading_as first_alone g bytes ≡ Some (w ∷ [])
   pub refused : (g : Grammar) (bytes : List ℕ) → IsAttribute bytes → (row_of g nothing (viewed_attribute bytes)).rule.accepted (viewed_attribute bytes).payload ≡ false → reading_as first_alone g bytes ≡ None
   pub missing : (g : Grammar) (bytes : List ℕ) → (IsAttribute bytes → ⊥) → reading_as first_alone g bytes ≡ None
 
--- a list of ports that holds bytes is one of which the attributes of kind 1 are kept; no bytes are none
+-- A non-empty list of ports has the rule of a list of entries of kind 1; an empty one is rejected.
 pub record PortsAreEntries : Type 0 where
   pub accepted : (f : ℕ → Row) (bytes : List ℕ) → 0 < length bytes → (rows_rule ports f).accepted bytes ≡ (rows_rule of_kind_one f).accepted bytes
   pub canonical : (f : ℕ → Row) (bytes : List ℕ) → 0 < length bytes → (rows_rule ports f).canonical bytes ≡ (rows_rule of_kind_one f).canonical bytes
@@ -119,26 +126,30 @@ pub record PortsAreEntries : Type 0 where
   pub attributes : (f : ℕ → Row) (bytes : List ℕ) → 0 < length bytes → (rows_rule ports f).attributes bytes ≡ (rows_rule of_kind_one f).attributes bytes
   pub read : (f : ℕ → Row) (bytes : List ℕ) → 0 < length bytes → reading_as ports (without_context f) bytes ≡ reading_as of_kind_one (without_context f) bytes
   pub empty : (f : ℕ → Row) (bytes : List ℕ) → length bytes ≡ 0 → (rows_rule ports f).accepted bytes ≡ false
-  -- legal ports are empty exactly where no entry is kept, so that no text is left, or where ports inside an entry are
+  -- A legal list of ports is empty if and only if it keeps no entry, so that nothing is written, or a list of ports
+  -- inside an entry is empty.
   pub empty_ports : (f : ℕ → Row) (bytes : List ℕ) → (rows_rule ports f).accepted bytes ≡ true →
       (rows_rule ports f).empty_ports bytes ≡ ((length ((rows_rule of_kind_one f).canonical bytes) == 0) || (rows_rule of_kind_one f).empty_ports bytes)
 
--- a list that is accepted and fits, and in which no ports are left empty, is read from its canonical text as from its own bytes
+-- A list of the kind `any` that is accepted and fits, and in which no ports are empty, is read from its canonical
+-- encoding as from its own bytes.
 abbrev pub ListsAreReadAgain : Type 0
 ListsAreReadAgain = (g : Grammar) → LawfulGrammar g → (b : List ℕ) → (list_rule any g).accepted b ≡ true → (list_rule any g).empty_ports b ≡ false → (list_rule any g).fits b ≡ true →
     reading_as any g ((list_rule any g).canonical b) ≡ reading_as any g b
 
--- what a list leaves in force is found by steps, and an attribute leaves in force what its canonical form does
+-- The context after a list unfolds attribute by attribute, and an attribute leaves in force what its canonical form
+-- does.
 pub record ContextsGoBySteps : Type 0 where
   pub more : (g : Grammar) (c : Context) (es : List Attribute) (e : Attribute) → context_after g c (es ++ e ∷ []) ≡ g.next (context_after g c es) e
   pub canonical : (g : Grammar) → LawfulGrammar g → (c : Context) (e : Attribute) → (row_of g c e).rule.accepted e.payload ≡ true → g.next c (rewrite (row_of g c e) e) ≡ g.next c e
 
--- the row that is looked up of a kind is lawful, in a table without large rows
+-- The row that looking up a kind finds is lawful, in a table without large rows.
 abbrev pub TableRowsAreLawful : Type 0
 TableRowsAreLawful = (p : Peer) → LawfulPeer p → (t : Table) → rows_bounded t ≡ true → (k : ℕ) → Lawful (table_row p t k).rule
 
--- the measure of a list is found by steps: a kept attribute adds what its row measures of its payload, with a header, and one that the form drops adds that it is there;
--- a kept one that its row refuses, or bytes that begin with no attribute, leave nothing measured; and once nothing is left, what was measured is the whole's
+-- Measuring a list unfolds attribute by attribute: a kept attribute adds the measure of its payload, with a header; a
+-- dropped one counts only as an attribute; there is no measure if a row rejects a kept attribute, or if the rest begins
+-- with no attribute; at the end, the sum is the measure of the whole list.
 pub record MeasuresGoBySteps : Type 0 where
   pub start : (form : ListForm) (g : Grammar) (bytes : List ℕ) → MeasuredSoFar form g bytes none_yet nothing bytes
   pub more : (form : ListForm) (g : Grammar) (bytes rest : List ℕ) (c : Context) (e : Attribute) (after : List ℕ) (so_far m : Measure) → first_attribute rest ≡ Some (e, after) → is_kept form e ≡ true →
@@ -151,11 +162,12 @@ pub record MeasuresGoBySteps : Type 0 where
       MeasuredSoFar form g bytes so_far c rest → None ≡ measure (list_rule form g) bytes
   pub done : (form : ListForm) (g : Grammar) (bytes rest : List ℕ) (c : Context) (so_far : Measure) → IsWalked form bytes → length rest ≡ 0 →
       MeasuredSoFar form g bytes so_far c rest → Some (closed form so_far) ≡ measure (list_rule form g) bytes
-  -- what an attribute adds is bounded by its bytes
+  -- The measure of an attribute is bounded by its bytes.
   pub small : (r : Rule) → Lawful r → (rest : List ℕ) (e : Attribute) (after : List ℕ) (m : Measure) → first_attribute rest ≡ Some (e, after) → Some m ≡ measure r e.payload → IsSmall rest after m
 
--- what a walk tells of whole bytes is the measure of their rule, and a measure tells what the rule says; a list of its first attribute alone has the measure of that one;
--- a form that wants an attribute refuses no bytes, and measures all others alike
+-- The measure of a walk over whole bytes is that of their rule, and determines the rule's results. A list of only its
+-- first attribute has the measure of that attribute. A list kind that requires an attribute rejects the empty list, and
+-- measures all others as `any` does.
 pub record MeasuresTellRules : Type 0 where
   pub walked : (form : ListForm) (g : Grammar) (bytes : List ℕ) → walk_as form g bytes ≡ measure (list_rule form g) bytes
   pub tells : (r : Rule) (p : List ℕ) (m : Measure) → Some m ≡ measure r p → IsMeasure r p m
@@ -166,7 +178,8 @@ pub record MeasuresTellRules : Type 0 where
   pub no_bytes : (form : ListForm) (g : Grammar) (bytes : List ℕ) → length bytes ≡ 0 → WantsAttribute form → None ≡ measure (list_rule form g) bytes
   pub non_empty : (g : Grammar) (bytes : List ℕ) → 0 < length bytes → measure (list_rule non_empty g) bytes ≡ measure (list_rule any g) bytes
 
--- bytes are their own canonical text where their attributes are, one after another: the form keeps each, its kind and its payload are written as they stand, and it is padded with zeros
+-- Bytes are already canonical if the list kind keeps each attribute, its kind and its payload are already canonical,
+-- and it is padded with zeros.
 pub record OwnTextsGoBySteps : Type 0 where
   pub padded : (bytes : List ℕ) (e : Attribute) (after : List ℕ) → ((i : ℕ) → get_or bytes i 0 < 256) → first_attribute bytes ≡ Some (e, after) →
       take (nla_align (attribute_length e) - attribute_length e) (drop (attribute_length e) bytes) ≡ zeros (nla_align (attribute_length e) - attribute_length e) → bytes ≡ attribute_text e ++ after
@@ -177,8 +190,10 @@ pub record OwnTextsGoBySteps : Type 0 where
   pub alone : (g : Grammar) (bytes : List ℕ) (e : Attribute) (after : List ℕ) → first_attribute bytes ≡ Some (e, after) → length after ≡ 0 → written_kind (row_of g nothing e) e.kind ≡ e.kind →
       (row_of g nothing e).rule.canonical e.payload ≡ e.payload → bytes ≡ attribute_text e ++ after → (list_rule first_alone g).canonical bytes ≡ bytes
 
--- the text of an accepted list that fits is written by steps: an attribute that is kept has a text that fits and for which there is room, and then the rest is written; one that the form drops adds nothing;
--- bytes that begin with no attribute aren't met; and once nothing is left, the whole is written. A list of its first attribute alone is written as that
+-- Writing an accepted list that fits unfolds attribute by attribute: the payload of a kept attribute is accepted and
+-- fits, and the remaining capacity is enough for it; a dropped one adds nothing; the rest never begins with no
+-- attribute; at the end, the canonical encoding is written. For a list of only its first attribute, that attribute is
+-- written.
 pub record TextsAreWrittenBySteps : Type 0 where
   pub start : (form : ListForm) (g : Grammar) (bytes old : List ℕ) → IsWalked form bytes → (list_rule form g).accepted bytes ≡ true → (list_rule form g).fits bytes ≡ true → WrittenSoFar form g bytes old old nothing bytes
   pub writable : (form : ListForm) (g : Grammar) (bytes old out rest : List ℕ) (c : Context) (e : Attribute) (after : List ℕ) → first_attribute rest ≡ Some (e, after) → is_kept form e ≡ true →
@@ -193,15 +208,17 @@ pub record TextsAreWrittenBySteps : Type 0 where
       IsWritable (row_of g nothing e).rule e.payload (length ((list_rule first_alone g).canonical bytes)) × ((list_rule first_alone g).canonical bytes ≡ attribute_text (rewrite (row_of g nothing e) e))
   pub none_alone : (g : Grammar) (bytes : List ℕ) → first_attribute bytes ≡ None → (list_rule first_alone g).accepted bytes ≡ true → ⊥
 
--- what a list keeps is found by steps: an attribute that its form keeps, and then what is kept behind it; one that the form drops adds nothing; no bytes keep nothing, and bytes that begin with no attribute are no list
+-- The attributes that a list keeps unfold attribute by attribute: a kept one comes first, followed by those of the
+-- rest; a dropped one adds nothing; the empty list keeps none, and bytes that begin with no attribute are no list.
 pub record KeptBySteps : Type 0 where
   pub more : (form : ListForm) (rest : List ℕ) (e : Attribute) (after : List ℕ) → first_attribute rest ≡ Some (e, after) → is_kept form e ≡ true → kept_of form rest ≡ goes_on form e after
   pub past : (form : ListForm) (rest : List ℕ) (e : Attribute) (after : List ℕ) → first_attribute rest ≡ Some (e, after) → is_kept form e ≡ false → kept_of form rest ≡ kept_of form after
   pub ended : (form : ListForm) (rest : List ℕ) → length rest ≡ 0 → kept_of form rest ≡ Some []
   pub stopped : (form : ListForm) (rest : List ℕ) → first_attribute rest ≡ None → 0 < length rest → kept_of form rest ≡ None
 
--- whether two lists mean the same is found by steps: they do as far as what each keeps next says the same, and as what is behind it does; where one ends they do as far as both end.
--- Nothing needs to be accepted. A form that wants an attribute has no list of no bytes, and of a first attribute alone nothing else is looked at
+-- Comparing two lists unfolds over the attributes that each keeps: they are equivalent if the next two attributes are,
+-- and the rests; if one list ends, then only if both do. This holds whether or not the lists are accepted. A list kind
+-- that requires an attribute rejects the empty list; a list of only its first attribute is compared by that one.
 pub record SamenessGoesBySteps : Type 0 where
   pub whole : (form : ListForm) (g : Grammar) (a b : List ℕ) → IsWalked form a → IsWalked form b → same_walk form g nothing a b ≡ (list_rule form g).same a b
   pub more : (form : ListForm) (g : Grammar) (c : Context) (a b : List ℕ) (e f : Attribute) (x y : List ℕ) → kept_of form a ≡ goes_on form e x → kept_of form b ≡ goes_on form f y →
@@ -222,7 +239,8 @@ pub record SamenessGoesBySteps : Type 0 where
   pub ports : (g : Grammar) (a b : List ℕ) → 0 < length a → 0 < length b → (list_rule of_kind_one g).same a b ≡ (list_rule ports g).same a b
   pub no_first_right : (g : Grammar) (a b : List ℕ) → first_attribute b ≡ None → false ≡ (list_rule first_alone g).same a b
 
--- two attributes under one look-up say the same exactly where their kinds do and the first one's row says that the payloads do; what they leave in force of link info is then the same
+-- Two attributes under one look-up are equivalent if and only if their kinds are equal and their payloads are
+-- equivalent under the first one's row; equivalent attributes of link info leave the same kinds in force.
 pub record AttributesAreCompared : Type 0 where
   pub by_kind : (f : ℕ → Row) (e h : Attribute) → (same_kinds (row_at f e) e.kind h.kind && (row_at f e).rule.same e.payload h.payload) ≡ same_attribute (row_at f e) (row_at f h) e h
   pub one_context : (data' ports : List ℕ → Rule) (c : Context) (e h : Attribute) → same_attribute (row_of (names_grammar data' ports) c e) (row_of (names_grammar data' ports) c h) e h ≡ true →

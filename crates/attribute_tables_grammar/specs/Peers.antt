@@ -1,14 +1,17 @@
--- What a peer's payload means: four definitions over bytes, and their laws.
+-- The rule of a peer, the other link of a pair: four functions on bytes, and their laws.
 use Rattle.std.specs.Prelude.{◌≡◌, ℕ, ◌*◌, ◌≤◌, Bool, true, false, List, length, bytes_eq}
 use Rattle.netlink_packet_core_grammar.specs.Bytes.{AreBytes}
 use Rattle.attribute_tables_grammar.specs.Rules.{Rule}
 
+-- A rule for peers: which are accepted, which are equivalent, the canonical bytes, and the number of attributes inside.
 pub record Peer : Type 0 where
   pub accepted : List ℕ → Bool
   pub same : List ℕ → List ℕ → Bool
   pub canonical : List ℕ → List ℕ
   pub attributes : List ℕ → ℕ
 
+-- The laws of a rule for peers: canonical bytes are accepted and idempotent, they decide equivalence, they are at most
+-- 77 times as long, and the attributes inside take at least 4 bytes each.
 pub record LawfulPeer (p : Peer) : Type 0 where
   pub again : (b : List ℕ) → p.accepted b ≡ true → p.accepted (p.canonical b) ≡ true
   pub itself : (b : List ℕ) → p.accepted b ≡ true → p.canonical (p.canonical b) ≡ p.canonical b
@@ -18,10 +21,11 @@ pub record LawfulPeer (p : Peer) : Type 0 where
   pub counted : (b : List ℕ) → p.accepted b ≡ true → 4 * p.attributes b ≤ length b
   pub bytes : (b : List ℕ) → p.accepted b ≡ true → AreBytes b → AreBytes (p.canonical b)
 
--- a peer whose bytes are kept
+-- The rule that keeps a peer as bytes.
 abbrev pub bytes_peer : Peer
 bytes_peer = record { accepted = λ b. true; same = λ a b. bytes_eq a b; canonical = λ b. b; attributes = λ b. 0 }
 
+-- A rule for peers as a rule for payloads.
 abbrev pub peer_rule : Peer → Rule
 peer_rule p = record {
   accepted = p.accepted;

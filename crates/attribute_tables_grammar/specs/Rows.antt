@@ -1,4 +1,4 @@
--- Rows of tables, as they are written down: a kind, an arrow, and what its payload holds.
+-- The notation for rows of tables: a kind, an arrow, and its payload.
 use Rattle.std.specs.Prelude.{ℕ, true, false}
 use Rattle.attribute_tables_grammar.specs.Shapes.{Shape}
 use Rattle.attribute_tables_grammar.specs.Lists.{any}
@@ -8,22 +8,23 @@ infixr 12 ◌↪◌
 infixr 12 ◌↠◌
 infixr 12 ◌⇉◌
 infixr 10 ◌⸴◌
--- a kind whose payload has a shape, as `4 ↪ exact 2`; a byte order concerns typed values alone
+-- `k ↪ s`: a row of kind k whose payload has the shape s, as `4 ↪ exact 2`. Byte order is of no concern here, only for
+-- typed values.
 abbrev pub ◌↪◌ : ℕ → Shape → Table → Table
 k ↪ s = λ t. row k false (plain s) t
 
--- a kind whose payload holds something else, as `5 ↠ list any t`
+-- `k ↠ s`: a row of kind k whose payload s is no shape, as `5 ↠ list any t`.
 abbrev pub ◌↠◌ : ℕ → Payload → Table → Table
 k ↠ s = λ t. row k false s t
 
--- the same for a kind that is written with the nested bit
+-- `k ⇉ s`: a row of kind k whose payload s is no shape, and whose kind is written with the nested bit.
 abbrev pub ◌⇉◌ : ℕ → Payload → Table → Table
 k ⇉ s = λ t. row k true s t
 
--- a row, and those after it
+-- `line ⸴ t`: a row, followed by the rows of t.
 abbrev pub ◌⸴◌ : (Table → Table) → Table → Table
 line ⸴ t = line t
 
--- a list of raw attributes, for whose kinds there is no row
+-- A list of raw attributes: none of their kinds has a row.
 abbrev pub raw_list : Payload
 raw_list = list any end

@@ -1,21 +1,24 @@
--- A rule for payloads, and what makes it a lawful one.
+-- Rules for payloads, and the laws of a lawful rule.
 use Rattle.std.specs.Prelude.{◌≡◌, ℕ, ◌+◌, ◌*◌, ◌≤◌, Bool, true, false, List, length, bytes_eq}
 use Rattle.netlink_packet_core_grammar.specs.Attributes.{nla_align}
 use Rattle.netlink_packet_core_grammar.specs.Bytes.{AreBytes}
 use Rattle.attribute_tables_grammar.specs.Shapes.{Shape, raw, accepts, meaning, spelling}
 
+-- A rule for payloads: which are accepted, which are equivalent, and their canonical encoding.
 pub record Rule : Type 0 where
   pub accepted : List ℕ → Bool
-  -- two accepted payloads mean the same
+  -- Two accepted payloads are equivalent.
   pub same : List ℕ → List ℕ → Bool
   pub canonical : List ℕ → List ℕ
-  -- the attribute headers inside, at all depths
+  -- The number of attributes inside, at all depths.
   pub attributes : List ℕ → ℕ
-  -- each length inside the canonical payload is at most 65535
+  -- Each length inside the canonical payload is at most 65535.
   pub fits : List ℕ → Bool
-  -- inside is a list that keeps nothing and may not be empty
+  -- A list of ports inside keeps no entry, and its kind may not be empty.
   pub empty_ports : List ℕ → Bool
 
+-- The laws of a rule: canonical payloads are accepted, fit and are idempotent; they decide equivalence; they are at
+-- most 77 times as long, with headers; the attributes inside take at least 4 bytes each.
 pub record Lawful (r : Rule) : Type 0 where
   pub again : (p : List ℕ) → r.accepted p ≡ true → r.empty_ports p ≡ false → (r.accepted (r.canonical p) ≡ true) × (r.empty_ports (r.canonical p) ≡ false)
   pub fits_again : (p : List ℕ) → r.accepted p ≡ true → r.fits p ≡ true → r.fits (r.canonical p) ≡ true
@@ -26,14 +29,15 @@ pub record Lawful (r : Rule) : Type 0 where
   pub counted : (p : List ℕ) → r.accepted p ≡ true → 4 * r.attributes p ≤ length p
   pub bytes : (p : List ℕ) → r.accepted p ≡ true → r.fits p ≡ true → AreBytes p → AreBytes (r.canonical p)
 
--- r's canonical payloads under s, of payloads that both accept: s accepts them too, and makes of them what it makes of the payloads
+-- Rule s migrates the canonical payloads of rule r: for a payload that both accept, s accepts its canonical payload
+-- under r, which has the same canonical payload under s as the payload itself.
 pub record Renews (r s : Rule) : Type 0 where
   pub accepted : (p : List ℕ) → r.accepted p ≡ true → s.accepted p ≡ true → r.empty_ports p ≡ false → s.accepted (r.canonical p) ≡ true
   pub empty_ports : (p : List ℕ) → r.accepted p ≡ true → s.accepted p ≡ true → r.empty_ports p ≡ false → s.empty_ports (r.canonical p) ≡ false
   pub fits : (p : List ℕ) → r.accepted p ≡ true → s.accepted p ≡ true → s.fits p ≡ true → s.fits (r.canonical p) ≡ true
   pub canonical : (p : List ℕ) → r.accepted p ≡ true → s.accepted p ≡ true → s.canonical (r.canonical p) ≡ s.canonical p
 
--- the rule of a shape
+-- The rule of a shape.
 abbrev pub shape_rule : Shape → Rule
 shape_rule s = record {
   accepted = accepts s;
@@ -44,6 +48,6 @@ shape_rule s = record {
   empty_ports = λ p. false;
 }
 
--- any bytes, which mean themselves
+-- The rule of raw bytes: any are accepted, and they are already canonical.
 abbrev pub raw_rule : Rule
 raw_rule = shape_rule raw

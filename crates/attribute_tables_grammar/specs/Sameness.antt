@@ -1,24 +1,24 @@
--- Whether two lists mean the same, as a loop over both goes on.
+-- Whether two lists are equivalent, as a loop over both decides it.
 use Rattle.std.specs.Prelude.{ℕ, ◌==◌, ◌&&◌, ◌||◌, Bool, false, List, ◌∷◌, Option, option_map}
 use Rattle.netlink_packet_core_grammar.specs.Attributes.{Attribute, proper_kind, attributes_of}
 use Rattle.attribute_tables_grammar.specs.Lists.{Context, Row, Grammar, ListForm, kept, if_read, all_same}
 
--- the attributes that a list of this form keeps; None where the bytes end inside an attribute
+-- The attributes that a list of this kind keeps; None if the bytes end inside an attribute.
 unfoldable pub kept_of : ListForm → List ℕ → Option (List Attribute)
 kept_of form bytes = option_map (kept form) (attributes_of bytes)
 
--- what is kept of two lists, pairwise the same, each list in the context where it begins
+-- The attributes that two lists keep are pairwise equivalent, each list in the context at its start.
 unfoldable pub same_kept : Grammar → Context → Context → Option (List Attribute) → Option (List Attribute) → Bool
 same_kept g c d left right = if_read false (λ es. if_read false (λ fs. all_same g c d es fs) right) left
 
--- the rest of two lists in one context
+-- The rests of two lists are equivalent, in one context.
 unfoldable pub same_walk : ListForm → Grammar → Context → List ℕ → List ℕ → Bool
 same_walk form g c left right = same_kept g c c (kept_of form left) (kept_of form right)
 
--- an attribute, and then what is kept of the bytes behind it
+-- An attribute, followed by those that the rest of the list keeps.
 abbrev pub goes_on : ListForm → Attribute → List ℕ → Option (List Attribute)
 goes_on form e after = option_map (λ es. e ∷ es) (kept_of form after)
 
--- the kinds are equal, or are so without their flag bits where the first one's row is of a type
+-- The kinds are equal; if the first one's row is typed, only the kinds proper have to be.
 abbrev pub same_kinds : Row → ℕ → ℕ → Bool
 same_kinds r k l = (k == l) || (r.is_typed && (proper_kind k == proper_kind l))

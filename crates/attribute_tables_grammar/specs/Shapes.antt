@@ -1,32 +1,35 @@
--- Payloads that hold no attributes: which are accepted, what they mean, and how a meaning is spelled.
+-- Shapes, of payloads that hold no attributes: which payloads are accepted, their meaning, and its canonical encoding.
 use Rattle.std.specs.Prelude.{ℕ, ◌+◌, ◌-◌, ◌*◌, ◌==◌, ◌&&◌, ◌||◌, nat_le, Bool, true, false, List, [], ◌∷◌, ◌++◌, length, take, drop, map}
 use Rattle.netlink_packet_core_grammar.specs.Attributes.{nla_align, zeros}
 use Rattle.netlink_packet_core_grammar.specs.Texts.{without_nul, is_text}
 use Rattle.netlink_packet_core_grammar.specs.Truths.{truth_of, one_of}
 
+-- The shape of a payload that holds no attributes.
 pub data Shape : Type 0 where
-  exact : ℕ → Shape  -- that many bytes
+  exact : ℕ → Shape  -- exactly n bytes
   either : ℕ → ℕ → Shape  -- one of two sizes
-  at_most : ℕ → Shape  -- no more bytes than that
-  nonzero_byte : Shape  -- a byte that is zero or not
-  one_byte : Shape  -- a byte that is one or not
-  truth_of_four : Shape  -- a number of 4 bytes that is zero or not
-  presence : Shape  -- there or not, whatever it holds
+  at_most : ℕ → Shape  -- at most n bytes
+  nonzero_byte : Shape  -- a boolean of one byte: false if and only if it is 0
+  one_byte : Shape  -- a boolean of one byte: true if and only if it is 1
+  truth_of_four : Shape  -- a boolean of 4 bytes: false if and only if the number is 0
+  presence : Shape  -- a flag that is set by being present, whatever its bytes
   text : Shape  -- UTF-8, with or without a last NUL
   raw : Shape
   never : Shape  -- no payload is accepted
-  fixed_record : ℕ → ℕ → Shape  -- at least m bytes, of which the first m count, written as n
-  id_and_truth : Shape  -- 4 bytes and a number of 4 bytes that is zero or not
-  resized : ℕ → Shape  -- any number of bytes, cut or filled up to n
+  fixed_record : ℕ → ℕ → Shape  -- at least m bytes, of which the first m count; written as n bytes
+  id_and_truth : Shape  -- 4 bytes, and a boolean of 4 bytes
+  resized : ℕ → Shape  -- any number of bytes, cut or filled up with zeros to n
 
--- the bytes' number, the lower bytes first
+-- The number of the bytes, little-endian.
 abbrev pub number : List ℕ → ℕ
 number [] = 0
 number (b ∷ bytes) = b + 256 * number bytes
 
+-- The boolean of 4 bytes: 1 if their number isn't 0, else 0.
 abbrev pub number_truth : List ℕ → List ℕ
 number_truth bytes = truth_of (number bytes) ∷ 0 ∷ 0 ∷ 0 ∷ []
 
+-- The shape accepts the payload.
 abbrev pub accepts : Shape → List ℕ → Bool
 accepts (exact n) p = length p == n
 accepts (either m n) p = (length p == m) || (length p == n)
@@ -42,7 +45,7 @@ accepts (fixed_record m n) p = nat_le m (length p)
 accepts id_and_truth p = nat_le 8 (length p)
 accepts (resized n) p = true
 
--- two payloads mean the same where this is equal
+-- The meaning of a payload: two payloads are equivalent if and only if their meanings are equal.
 abbrev pub meaning : Shape → List ℕ → List ℕ
 meaning (exact n) p = p
 meaning (either m n) p = p
@@ -58,7 +61,7 @@ meaning (fixed_record m n) p = take m p
 meaning id_and_truth p = take 4 p ++ number_truth (take 4 (drop 4 p))
 meaning (resized n) p = take n (p ++ zeros n)
 
--- the canonical payload of a meaning
+-- The canonical payload of a meaning.
 abbrev pub spelling : Shape → List ℕ → List ℕ
 spelling (exact n) v = v
 spelling (either m n) v = v
@@ -74,7 +77,7 @@ spelling (fixed_record m n) v = v ++ zeros (n - m)
 spelling id_and_truth v = v
 spelling (resized n) v = v
 
--- no attribute of this shape is written more than 77 times as long
+-- No canonical attribute of this shape is more than 77 times as long as the attribute.
 abbrev pub shape_bounded : Shape → Bool
 shape_bounded (fixed_record m n) = nat_le m n && nat_le (nla_align (4 + n)) (77 * (4 + m))
 shape_bounded (resized n) = nat_le (nla_align (4 + n)) 308

@@ -1,38 +1,45 @@
--- What one walk tells of a list: whether it is accepted, and then the size of its text, its attributes, whether it fits, and whether ports in it keep nothing.
+-- The measure of a list, found in one walk: whether it is accepted, and then the size of its canonical encoding, its
+-- attributes, whether it fits, and whether a list of ports in it is empty.
 use Rattle.std.specs.Prelude.{◌≡◌, ℕ, ◌+◌, ◌*◌, ◌==◌, ◌<◌, ◌≤◌, ◌&&◌, ◌||◌, nat_le, Bool, true, false, cond, List, [], ◌∷◌, length, Option, Some, None, option_map}
 use Rattle.netlink_packet_core_grammar.specs.Attributes.{nla_align, Attribute, if_some, attributes_of}
 use Rattle.attribute_tables_grammar.specs.Rules.{Rule}
 use Rattle.attribute_tables_grammar.specs.Lists.{Context, nothing, Grammar, row_of, ListForm, any, non_empty, of_kind_one, ports, first_alone, read_as, kept, is_kept, is_empty_ports}
 
+-- The measure of an accepted payload.
 pub record Measure : Type 0 where
   pub size : ℕ
-  -- the attribute headers, at all depths
+  -- The number of attributes, at all depths.
   pub attributes : ℕ
   pub fits : Bool
   pub empty_ports : Bool
 
+-- The measure of a payload under a rule; None if it is rejected.
 abbrev pub measure : Rule → List ℕ → Option Measure
 measure r p = cond (r.accepted p) (Some (record { size = length (r.canonical p); attributes = r.attributes p; fits = r.fits p; empty_ports = r.empty_ports p })) None
 
+-- The measure of two attributes or lists, one after the other.
 abbrev pub plus : Measure → Measure → Measure
 plus m n = record { size = m.size + n.size; attributes = m.attributes + n.attributes; fits = m.fits && n.fits; empty_ports = m.empty_ports || n.empty_ports }
 
+-- The measure of the empty list.
 abbrev pub none_yet : Measure
 none_yet = record { size = 0; attributes = 0; fits = true; empty_ports = false }
 
--- an attribute that its list drops
+-- The measure of an attribute that its list drops.
 abbrev pub dropped : Measure
 dropped = record { size = 0; attributes = 1; fits = true; empty_ports = false }
 
--- an attribute around a payload
+-- The measure of an attribute, from that of its payload.
 abbrev pub with_header : Measure → Measure
 with_header m = record { size = nla_align (4 + m.size); attributes = 1 + m.attributes; fits = nat_le (4 + m.size) 65535 && m.fits; empty_ports = m.empty_ports }
 
+-- The sum of two measures, if there are both.
 abbrev pub both : Option Measure → Option Measure → Option Measure
 both None n = None
 both (Some m) None = None
 both (Some m) (Some n) = Some (plus m n)
 
+-- The measure of a list's attributes; None if one is rejected.
 unfoldable pub measures : ListForm → Grammar → Context → List Attribute → Option Measure
 measures form g c [] = Some none_yet
 measures form g c (e ∷ es) =
@@ -40,30 +47,31 @@ measures form g c (e ∷ es) =
     (both (option_map with_header (measure (row_of g c e).rule e.payload)) (measures form g (g.next c e) es))
     (both (Some dropped) (measures form g c es))
 
--- of the rest of a list, in the context where it begins
+-- The measure of the rest of a list, in the context at its start.
 unfoldable pub walk : ListForm → Grammar → Context → List ℕ → Option Measure
 walk form g c bytes = if_some (attributes_of bytes) (measures form g c)
 
--- a list of ports that keeps nothing has no text
+-- The measure, with an empty list of ports noted if b is true.
 abbrev pub or_empty : Bool → Measure → Measure
 or_empty b m = record { size = m.size; attributes = m.attributes; fits = m.fits; empty_ports = b || m.empty_ports }
 
--- of whole bytes, by their form
+-- The measure of whole bytes, by their list kind.
 unfoldable pub walk_as : ListForm → Grammar → List ℕ → Option Measure
 walk_as form g bytes = if_some (read_as form bytes) (λ es. option_map (or_empty (is_empty_ports form (kept form es))) (measures form g nothing es))
 
--- ---- as a loop goes on
+-- ---- the state of a loop
 
--- the whole is what was met so far, and then the rest in the context that is in force
+-- The measure of the whole list is that of the attributes so far plus that of the rest in its context.
 pub record MeasuredSoFar (form : ListForm) (g : Grammar) (bytes : List ℕ) (m : Measure) (c : Context) (rest : List ℕ) : Type 0 where
   pub whole : walk form g nothing bytes ≡ both (Some m) (walk form g c rest)
 
--- of a whole list, from that of its attributes: ports keep nothing exactly where they have no text
+-- The measure of a whole list, from that of its attributes: a list of ports keeps no entry if and only if nothing is
+-- written for it.
 abbrev pub closed : ListForm → Measure → Measure
 closed ports m = or_empty (m.size == 0) m
 closed _ m = m
 
--- the form is one whose attributes are walked, and the bytes are there where it wants an attribute
+-- The list kind is one whose attributes are walked, and the bytes aren't empty if it requires an attribute.
 abbrev pub IsWalked : ListForm → List ℕ → Type 0
 IsWalked any bytes = Unit {0}
 IsWalked non_empty bytes = 0 < length bytes
@@ -71,19 +79,20 @@ IsWalked of_kind_one bytes = Unit {0}
 IsWalked ports bytes = 0 < length bytes
 IsWalked first_alone bytes = ⊥
 
--- the form refuses no bytes
+-- The list kind rejects the empty list.
 abbrev pub WantsAttribute : ListForm → Type 0
 WantsAttribute non_empty = Unit {0}
 WantsAttribute ports = Unit {0}
 WantsAttribute _ = ⊥
 
--- an attribute's text is at most 77 times as long, it has four bytes for each header, and the rest is shorter
+-- The attribute's canonical form is at most 77 times as long, it has at least 4 bytes for each attribute in it, and the
+-- rest is shorter than the bytes.
 pub record IsSmall (bytes rest : List ℕ) (m : Measure) : Type 0 where
   pub within : nla_align (4 + m.size) + 77 * length rest ≤ 77 * length bytes
   pub few : 4 * (1 + m.attributes) + length rest ≤ length bytes
   pub shorter : length rest < length bytes
 
--- what a measure says of bytes that a rule accepts
+-- The measure of a payload that the rule accepts.
 pub record IsMeasure (r : Rule) (p : List ℕ) (m : Measure) : Type 0 where
   pub accepted : r.accepted p ≡ true
   pub size : m.size ≡ length (r.canonical p)

@@ -1,4 +1,4 @@
--- A canonical text as it is written, attribute by attribute.
+-- The canonical encoding of a list, as it is written attribute by attribute.
 use Rattle.std.specs.Prelude.{◌≡◌, ℕ, ◌+◌, ◌≤◌, true, List, ◌++◌, length, Some}
 use Rattle.netlink_packet_core_grammar.specs.Attributes.{nla_align}
 use Rattle.attribute_tables_grammar.specs.Rules.{Rule}
@@ -6,14 +6,15 @@ use Rattle.attribute_tables_grammar.specs.Lists.{Context, Grammar, ListForm, lis
 use Rattle.attribute_tables_grammar.specs.Walks.{Measure, walk}
 use Rattle.attribute_tables_grammar.specs.OwnTexts.{text_from}
 
--- a payload that has a text, which fits behind a header, and for which there is room in so many bytes
+-- The payload is accepted and fits an attribute, for which the capacity is enough.
 pub record IsWritable (r : Rule) (p : List ℕ) (room : ℕ) : Type 0 where
   pub accepted : r.accepted p ≡ true
   pub fits : r.fits p ≡ true
   pub short : 4 + length (r.canonical p) ≤ 65535
   pub within : nla_align (4 + length (r.canonical p)) ≤ room
 
--- what was written, with the text of the rest, is what stood there before and the text of the whole
+-- What was written so far, followed by the encoding of the rest, is the old bytes followed by the encoding of the whole
+-- list.
 pub record WrittenSoFar (form : ListForm) (g : Grammar) (bytes old out : List ℕ) (c : Context) (rest : List ℕ) : Type 0 where
   pub ahead : Measure
   pub walked : walk form g c rest ≡ Some ahead

@@ -1,4 +1,4 @@
-//! Facts of the definitions. No function here makes a call.
+//! Laws of the definitions. No function here makes a call.
 #![tactic(auto, using(crate::proofs::Together::laws))]
 
 ghost use Rattle.attribute_tables_grammar.specs.Laws.{CanonicalIsCut, TablesAreLawful, BytesAreLawful, TextsTellMeanings};
@@ -10,49 +10,50 @@ ghost use Rattle.attribute_tables_grammar.specs.Laws.{ContextsGoBySteps, ListsAr
 ghost use Rattle.attribute_tables_grammar.specs.Laws.{TableRowsAreLawful, MeasuresGoBySteps, MeasuresTellRules, OwnTextsGoBySteps};
 ghost use Rattle.attribute_tables_grammar.specs.Laws.{TextsAreWrittenBySteps, KeptBySteps, SamenessGoesBySteps, AttributesAreCompared};
 
-/// A canonical text is cut into the kept attributes, each in its canonical form.
+/// The canonical encoding of a list is cut into the attributes that the list keeps, each in its
+/// canonical form.
 pub fn canonical_texts_are_cut_again()
     ensures { CanonicalIsCut }
 {}
 
-/// Every payload of a table without large rows is lawful.
+/// Every payload of a table without large rows has a lawful rule, under every lawful rule of peers.
 pub fn tables_are_lawful()
     ensures { TablesAreLawful }
 {}
 
-/// Peers whose bytes are kept are lawful.
+/// The rule that keeps peers as bytes is lawful.
 pub fn peers_that_are_bytes_are_lawful()
     ensures { BytesAreLawful }
 {}
 
-/// Two accepted payloads mean the same exactly where they have one canonical payload.
+/// Two accepted payloads are equivalent if and only if their canonical payloads are equal.
 pub fn texts_tell_meanings()
     ensures { TextsTellMeanings }
 {}
 
-/// A canonical payload means what the bytes mean.
+/// A payload is equivalent to its canonical payload, if no list of ports inside it keeps nothing.
 pub fn texts_keep_meanings()
     ensures { TextsKeepMeanings }
 {}
 
-/// The canonical text of a legal payload fits where it is at most 65535 bytes long: no length inside
-/// is greater than that of the whole.
+/// A canonical payload of at most 65535 bytes fits: no length inside it exceeds that of the whole.
 pub fn short_texts_fit()
     ensures { ShortTextsFit }
 {}
 
-/// A payload without peers has one rule, whatever the rule of peers is, and so has a row.
+/// The rule of a payload or a row without peers is the same under all rules of peers.
 pub fn rules_without_peers_are_one()
     ensures { RulesWithoutPeersAreOne }
 {}
 
-/// A text that was canonical while peers were bytes is accepted under any rule of peers that accepts the first bytes, and
-/// becomes what these become; it fits where they do, and has no empty ports.
+/// An encoding that was canonical while peers were bytes is accepted under any rule of peers that
+/// accepts the original bytes, and has their canonical encoding; it fits if they do, and has no
+/// empty ports.
 pub fn old_texts_are_renewed()
     ensures { OldTextsAreRenewed }
 {}
 
-/// Lists that are the same leave the same in force.
+/// Equivalent lists leave the same kinds in force.
 pub fn same_lists_leave_one_context()
     ensures { OneContext }
 {}
@@ -62,108 +63,108 @@ pub fn table_grammars_are_lawful()
     ensures { TableGrammarsAreLawful }
 {}
 
-/// A list of a table's rows has the rule of the rows that a look-up of each kind finds.
+/// A list of a table's rows has the rule of the rows that looking up each kind finds.
 pub fn rows_are_looked_up()
     ensures { RowsAreLookedUp }
 {}
 
-/// What a row of a table without lists holds fits.
+/// The payload of a row fits, if the table holds no lists.
 pub fn rows_without_lists_fit()
     ensures { RowsWithoutListsFit }
 {}
 
-/// The rule under a name is that of the payload that a look-up of the name finds, and that of raw
-/// bytes where it finds none.
+/// The rule of a name is that of the payload that looking up the name finds, else the rule of raw
+/// bytes.
 pub fn names_are_looked_up()
     ensures { NamesAreLookedUp }
 {}
 
-/// What a list is read as is found by steps: each kept attribute adds what its row makes of it,
-/// and one that the form drops adds nothing. A kept attribute that its row refuses, or bytes that
-/// begin with no attribute, leave nothing read; once nothing is left, what was read is the whole.
+/// Reading a list unfolds attribute by attribute: a kept attribute adds its canonical form, a
+/// dropped one adds nothing. Nothing is read if a row rejects a kept attribute, or if the rest
+/// begins with no attribute; at the end, what was read is the whole list.
 pub fn readings_go_by_steps()
     ensures { ReadingsGoBySteps }
 {}
 
-/// What bytes are read as tells their rule: where something was read they are accepted, with that
-/// as their text, and where nothing was they are refused.
+/// The reading of a list determines the results of its rule: if there is one, the rule accepts the
+/// bytes, with its encoding as the canonical one; otherwise the rule rejects them.
 pub fn readings_tell_rules()
     ensures { ReadingsTellRules }
 {}
 
-/// A list of its first attribute alone is read as what that attribute's row makes of it, and as
-/// nothing where the row refuses it, or where there is none.
+/// A list of only its first attribute is read as that attribute's canonical form; there is no
+/// reading if its row rejects it, or if the bytes begin with no attribute.
 pub fn first_attributes_are_read_alone()
     ensures { FirstAloneIsRead }
 {}
 
-/// A list of ports that holds bytes is one of which the attributes of kind 1 are kept. No bytes
-/// are no list of ports. Legal ports are empty exactly where no entry is kept, or where ports inside
-/// an entry are.
+/// A non-empty list of ports has the rule of a list of entries of kind 1; an empty one is rejected.
+/// A legal list of ports is empty if and only if it keeps no entry, or a list of ports inside an
+/// entry is empty.
 pub fn ports_are_entries()
     ensures { PortsAreEntries }
 {}
 
-/// A list that is accepted and fits, and in which no ports are left empty, is read from its
-/// canonical text as from its own bytes.
+/// A list that is accepted and fits, and in which no ports are empty, is read from its canonical
+/// encoding as from its own bytes.
 pub fn lists_are_read_again()
     ensures { ListsAreReadAgain }
 {}
 
-/// What a list leaves in force is found by steps, and an attribute leaves in force what its
-/// canonical form does.
+/// The context after a list unfolds attribute by attribute, and an attribute leaves in force what
+/// its canonical form does.
 pub fn contexts_go_by_steps()
     ensures { ContextsGoBySteps }
 {}
 
-/// The row that is looked up of a kind is lawful, in a table without large rows.
+/// The row that looking up a kind finds is lawful, in a table without large rows.
 pub fn table_rows_are_lawful()
     ensures { TableRowsAreLawful }
 {}
 
-/// The measure of a list is found by steps: each kept attribute adds what its row measures, and one
-/// that the form drops adds that it is there. A kept attribute that its row refuses, or bytes that
-/// begin with no attribute, leave nothing measured; once nothing is left, what was measured is the
-/// whole's.
+/// Measuring a list unfolds attribute by attribute: a kept attribute adds the measure of its
+/// payload, with a header; a dropped one counts only as an attribute. There is no measure if a row
+/// rejects a kept attribute, or if the rest begins with no attribute; at the end, the sum is the
+/// measure of the whole list.
 pub fn measures_go_by_steps()
     ensures { MeasuresGoBySteps }
 {}
 
-/// What a walk tells of whole bytes is the measure of their rule, which tells what the rule says.
-/// A list of its first attribute alone has the measure of that one. A form that wants an attribute
-/// refuses no bytes.
+/// The measure of a walk over whole bytes is that of their rule, and determines the rule's results.
+/// A list of only its first attribute has the measure of that attribute. A list kind that requires
+/// an attribute rejects the empty list.
 pub fn measures_tell_rules()
     ensures { MeasuresTellRules }
 {}
 
-/// Bytes are their own canonical text where each attribute is written as it stands, with zeros
-/// behind it.
+/// Bytes are already canonical if each attribute is, and is padded with zeros.
 pub fn own_texts_go_by_steps()
     ensures { OwnTextsGoBySteps }
 {}
 
-/// The canonical text of an accepted list that fits is written by steps: for each attribute that is
-/// kept there is a text that fits its header, and room for it. Bytes that begin with no attribute are
-/// never met.
+/// Writing an accepted list that fits unfolds attribute by attribute: the payload of a kept
+/// attribute fits, and the remaining capacity is enough for it. The rest never begins with no
+/// attribute.
 pub fn texts_are_written_by_steps()
     ensures { TextsAreWrittenBySteps }
 {}
 
-/// What a list keeps is found by steps: an attribute that its form keeps stands in front of what is
-/// kept behind it, and one that the form drops adds nothing. Bytes that begin with no attribute are
-/// no list.
+/// The attributes that a list keeps unfold attribute by attribute: a kept one comes first, followed
+/// by those of the rest; a dropped one adds nothing. Bytes that begin with no attribute are no
+/// list.
 pub fn what_is_kept_goes_by_steps()
     ensures { KeptBySteps }
 {}
 
-/// Whether two lists mean the same is found by steps over what each keeps, whatever is accepted: as
-/// far as the next two attributes say the same, and the rest does.
+/// Comparing two lists unfolds over the attributes that each keeps, whether or not they are
+/// accepted: they are equivalent if the next two attributes are, and the rests.
 pub fn sameness_goes_by_steps()
     ensures { SamenessGoesBySteps }
 {}
 
-/// Two attributes under one look-up say the same exactly where their kinds do, and their payloads
-/// under the first one's row. In link info they then leave the same in force.
+/// Two attributes under one look-up are equivalent if and only if their kinds are equal and their
+/// payloads are equivalent under the first one's row. Equivalent attributes of link info leave the
+/// same kinds in force.
 pub fn attributes_are_compared()
     ensures { AttributesAreCompared }
 {}

@@ -1,4 +1,4 @@
-// Tables of attributes: shapes of payloads, rules, lists in their forms, look-ups, and their laws.
+// Tables of attributes: shapes of payloads, rules, kinds of lists, look-ups, and their laws.
 #![tactic(auto)]
 
 pub mod laws;

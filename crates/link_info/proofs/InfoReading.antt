@@ -1,4 +1,4 @@
--- The steps of a list of link info, as the loop takes them.
+-- The steps of the loop over a list of link info.
 use Rattle.std.proofs.Common.{◌≡◌, ℕ, ◌<◌, true, false, List, [], ◌∷◌, ◌++◌, length, map, Some, refl, sym, ap, subst, ◌∙◌}
 use Rattle.std.proofs.lemmas.List.{map-append}
 use Rattle.netlink_packet_core_grammar.specs.Attributes.{Attribute, proper_kind, list_text}
@@ -19,9 +19,9 @@ abbrev pub written : List LinkInfo → List Written
 written vs = map (written_as link_info_entry link_info_fits) vs
 
 module _ (p : Peer) where
-  -- ---- the names of values, and the context that they leave
+  -- ---- the names of values, and the context after them
 
-  -- each value is the one that its row names, and this is in force after them
+  -- each value is the variant of its row, and this is the context after them
   pub record Named (vs : List LinkInfo) (c : Context) : Type 0 where
     pub named : all_named (info_grammar_under p) link_info_entry link_info_names_row nothing vs
     pub leaves : context_after (info_grammar_under p) nothing (map link_info_entry vs) ≡ c
@@ -42,12 +42,12 @@ module _ (p : Peer) where
 
   -- ---- the loop
 
-  -- what holds between two turns of the loop
+  -- the loop's invariant
   pub record State (bytes : List ℕ) (vs : List LinkInfo) (c : Context) (rest : List ℕ) : Type 0 where
     pub so_far : SoFar any (info_grammar_under p) bytes (written vs) c rest
     pub named : Named vs c
 
-  -- what was read, once nothing is left
+  -- what was read, once nothing remains
   pub record Done (bytes : List ℕ) (vs : List LinkInfo) : Type 0 where
     pub read : reading_as any (info_grammar_under p) bytes ≡ Some (written vs)
     pub accepted : (info_rule_under p).accepted bytes ≡ true

@@ -7,9 +7,10 @@ use Rattle.link_info_kinds.specs.PortKinds.{info_port_kind_text, listed_port_kin
 use Rattle.attribute_tables_grammar.specs.Peers.{Peer, LawfulPeer}
 use Rattle.link_info_grammar.specs.LinkInfo.{info_rule_under}
 
+-- Link info is lawful under every lawful rule of peers.
 abbrev pub LinkInfoIsLawful : Type 0
 LinkInfoIsLawful = (p : Peer) → LawfulPeer p → Lawful (info_rule_under p)
 
--- each listed name is the name of one variant, in the order of the names
+-- Each listed name is that of one variant, in the order of the names.
 abbrev pub KindsAreTheNames : Type 0
 KindsAreTheNames = (map info_kind_text listed_kinds ≡ kind_names) × (map info_port_kind_text listed_port_kinds ≡ port_kind_names)

@@ -20,8 +20,9 @@ use Rattle.link_info.specs.declared.infos.InForce.{InForce}
 use Rattle.link_info.specs.declared.infos.LinkInfo.{LinkInfo}
 use Rattle.link_info.specs.declared.infos.LinkInfo.TheVariants as Info
 
--- ---- what values are written as
+-- ---- the encoding of values
 
+-- The attribute of a value.
 abbrev pub link_info_entry : LinkInfo → Attribute
 link_info_entry (Info.Xstats x) = record { kind = 3; payload = xstats_bytes x }
 link_info_entry (Info.Kind k) = info_kind_entry k
@@ -30,51 +31,57 @@ link_info_entry (Info.PortKind k) = info_port_kind_entry k
 link_info_entry (Info.PortData d) = info_port_data_entry d
 link_info_entry (Info.Other a) = a
 
+-- Each length inside a value fits the 2 bytes of its header.
 abbrev pub link_info_fits : LinkInfo → Bool
 link_info_fits (Info.Data d) = info_data_fits d
 link_info_fits (Info.PortData d) = info_port_data_fits d
 link_info_fits _ = true
 
--- ---- what is in force
+-- ---- the kinds in force
 
--- the context of a kind's and a port kind's name, where they lie in the list
+-- The context in which a kind and a port kind, borrowed from the list, are in force.
 abbrev pub context_of : Option (Bor (List ℕ)) → Option (Bor (List ℕ)) → Context
 context_of kind port_kind = record { kind = option_map (λ b. b.now) kind; port_kind = option_map (λ b. b.now) port_kind }
 
--- the same, of the names that a reader of the list holds
+-- The context of the names that a reader of the list holds.
 abbrev pub in_force : InForce → Context
 in_force f = context_of f.kind f.port_kind
 
--- ---- the attribute that the bytes begin with, under a rule of peers and where these kinds are in force
+-- ---- the attribute at the start of the bytes, under a rule of peers and in a context
 
+-- The row of the first attribute.
 abbrev pub row_in : Peer → Context → List ℕ → Row
 row_in p c b = link_info_row_under p c (proper_kind (viewed_kind b))
 
+-- The row of the first attribute accepts its payload.
 abbrev pub is_accepted_in : Peer → Context → List ℕ → Bool
 is_accepted_in p c b = (row_in p c b).rule.accepted (viewed_payload b)
 
+-- Everything inside the first attribute fits, by its row.
 abbrev pub fits_in : Peer → Context → List ℕ → Bool
 fits_in p c b = (row_in p c b).rule.fits (viewed_payload b)
 
--- what it is written as
+-- The canonical form of the first attribute.
 abbrev pub written_in : Peer → Context → List ℕ → Attribute
 written_in p c b = rewrite (row_in p c b) (viewed_attribute b)
 
--- what is in force after it
+-- The context after the first attribute.
 abbrev pub context_after_first : Context → List ℕ → Context
 context_after_first c b = info_next c (proper_kind (viewed_kind b)) (viewed_payload b)
 
--- ---- the variants that rows name
+-- ---- values that are the variants of their rows
 
--- data are the variant that the kind of the name in force names
+-- The data are the variant of the kind in force.
 abbrev pub data_names_row : Option (List ℕ) → InfoData → Type 0
 data_names_row None d = ⊥
 data_names_row (Some n) d = (k : InfoKind) × IsNamedBy n k × info_data_names_row k d
 
+-- The port data are the variant of the port kind in force.
 abbrev pub port_data_names_row : Option (List ℕ) → InfoPortData → Type 0
 port_data_names_row None d = ⊥
 port_data_names_row (Some n) d = (k : InfoPortKind) × IsPortNamedBy n k × info_port_data_names_row k d
 
+-- The value is the variant of its row in a context.
 abbrev pub link_info_names_row : Context → LinkInfo → Type 0
 link_info_names_row c (Info.Xstats x) = ⊤
 link_info_names_row c (Info.Kind k) = info_kind_is_named k ≡ true

@@ -1,6 +1,6 @@
-//! Link info (if_link.h, IFLA_LINKINFO): the kind of a link and of the port that it is, with the
-//! data of each. Data and statistics are read under the kind in force, the latest one before them;
-//! port data use the latest port kind up.
+//! Link info (if_link.h, IFLA_LINKINFO): the kind of a link and of its port, with the data of each.
+//! Data and statistics are read under the kind in force, the latest one before them; port data are
+//! read under the latest port kind, which is then no longer in force.
 
 ghost use Rattle.std.specs.Prelude.{◌≡◌, ◌<◌, false, true, length, Some, IfOk, IfErr};
 ghost use Rattle.netlink_packet_core.specs.AttributeViews.{IsAttribute};
@@ -44,7 +44,7 @@ pub enum LinkInfo {
     Data(InfoData),
     /// `IFLA_INFO_SLAVE_KIND`: the port kind, in force until the next one, or until port data.
     PortKind(InfoPortKind),
-    /// `IFLA_INFO_SLAVE_DATA`: data of the port kind in force, which they use up.
+    /// `IFLA_INFO_SLAVE_DATA`: data of the port kind in force, which is then no longer in force.
     PortData(InfoPortData),
     /// Any other kind, kept as it is.
     Other(DefaultNla),
@@ -97,14 +97,15 @@ impl Nla for LinkInfo {
     }
 }
 
-/// The names of the kind and the port kind in force, where they lie in the list.
+/// The names of the kind and the port kind in force, borrowed from the list.
 #[derive(Clone, Copy)]
 struct InForce<'a> {
     kind: Option<&'a str>,
     port_kind: Option<&'a str>,
 }
 
-// What is in force after an attribute that was read. An attribute is refused whatever a peer means.
+// The kinds in force after an attribute that was read. If this fails, the attribute is rejected
+// under every rule of peers.
 fn next_in_force<'a>(
     force: InForce<'a>,
     buf: &NlaBuffer<&'a [u8]>,
@@ -133,7 +134,7 @@ fn next_in_force<'a>(
     }
 }
 
-// Reads the data of the kind that a name names, a peer by a rule.
+// Reads the data of the kind with this name, a peer by a rule.
 fn parse_data<R: PeerRule>(
     alloc: Global,
     name: &str,
@@ -150,7 +151,7 @@ fn parse_data<R: PeerRule>(
     InfoData::parse_with_peers(alloc, payload, &kind, rule)
 }
 
-// Reads the data of the port kind that a name names.
+// Reads the data of the port kind with this name.
 fn parse_port_data(alloc: Global, name: &str, payload: &[u8]) -> Result<InfoPortData, DecodeError>
     ensures judged { SucceedsWhere result ((port_data_rule name.now).accepted payload.now) }
     ensures written { IsWrittenBy result info_port_data_payload info_port_data_fits
@@ -163,7 +164,7 @@ fn parse_port_data(alloc: Global, name: &str, payload: &[u8]) -> Result<InfoPort
 }
 
 impl LinkInfo {
-    // Reads one attribute where these kinds are in force, a peer by a rule.
+    // Reads one attribute with these kinds in force, a peer by a rule.
     fn read<R: PeerRule>(
         alloc: Global,
         force: InForce<'_>,
@@ -205,7 +206,8 @@ impl LinkInfo {
         }
     }
 
-    // Reads link info, peers by a rule, and may tell want of memory in front of a refusal.
+    // Reads link info, peers by a rule; it may run out of memory before it reaches an invalid
+    // attribute.
     fn read_list<R: PeerRule>(
         alloc: Global,
         bytes: &[u8],
@@ -240,9 +242,13 @@ impl LinkInfo {
         Ok(list)
     }
 
-    /// Reads link info. It succeeds exactly where the list is legal, memory aside; a list of no
-    /// bytes is never refused. It answers want of memory of legal lists alone: where a growth was
-    /// refused, the rest of the list is judged without memory.
+    /// Reads link info. An empty list is legal.
+    ///
+    /// # Errors
+    ///
+    /// Out of memory if an allocation fails and the list is legal; any other [`DecodeError`] if and
+    /// only if it isn't. If an allocation fails, the rest of the list is checked without
+    /// allocating.
     pub fn parse_list(alloc: Global, bytes: &[u8]) -> Result<Vec<LinkInfo>, DecodeError>
         ensures judged { IsRefusedUnless result (info_rule.accepted bytes.now) }
         ensures read { ListIsReadAs result link_info_entry link_info_fits
@@ -255,11 +261,15 @@ impl LinkInfo {
         Self::parse_list_with(alloc, bytes, &BytesPeer)
     }
 
-    /// Reads link info, the peers that data of `netkit`, `veth` and `vxcan` hold by a rule, which
-    /// also says what a peer is kept as. It succeeds exactly where the list is legal under the rule,
-    /// memory aside; a list of no bytes is never refused. It answers want of memory of legal lists
-    /// alone: where a growth was refused, the rest of the list is judged without memory.
+    /// Reads link info; a rule decides which peers in the data of `netkit`, `veth` and `vxcan` are
+    /// accepted, and the value of a peer holds its canonical payload. An empty list is legal.
     /// `parse_list` is this under `BytesPeer`.
+    ///
+    /// # Errors
+    ///
+    /// Out of memory if an allocation fails and the list is legal under the rule; any other
+    /// [`DecodeError`] if and only if it isn't. If an allocation fails, the rest of the list is
+    /// checked without allocating.
     pub fn parse_list_with<R: PeerRule>(
         alloc: Global,
         bytes: &[u8],

@@ -1,4 +1,4 @@
-//! Facts of the definitions. No function here makes a call.
+//! Laws of the definitions. No function here makes a call.
 
 ghost use Rattle.link_info.specs.Laws.{LinkInfoIsLawful, KindsAreTheNames};
 
@@ -17,14 +17,14 @@ pub use link_info_grammar::laws::{
 pub use link_info_kinds::laws::{names_tell_kinds, names_tell_port_kinds};
 pub use link_info_types::laws::{constants_are_named, tunnel_constants_are_named};
 
-/// The canonical text of legal link info is legal, its own canonical text, and at most 77 times as
-/// long; two legal lists mean the same exactly where they have one canonical text.
+/// The canonical encoding of legal link info is legal, already canonical, and at most 77 times as
+/// long; two legal lists are equivalent if and only if their canonical encodings are equal.
 #[tactic(auto, using(link_info_grammar::proofs::Families::info_is_lawful))]
 pub fn link_info_is_lawful()
     ensures { LinkInfoIsLawful }
 {}
 
-/// The kinds that aren't `Other` have the listed names, each its own, and so have the port kinds.
+/// The listed names are those of the kinds except `Other`, one each, and of the port kinds.
 pub fn kinds_are_the_names()
     ensures { KindsAreTheNames }
 {}

@@ -1,8 +1,8 @@
 //! Link info (if_link.h, IFLA_LINKINFO): kinds of links and of ports, their data, and lists of them
 //! under the kinds in force.
 //!
-//! This crate offers the items of its parts again, for crates that work on values. Those that work on bytes name the parts
-//! that they need, so that they build no typed crate.
+//! This crate re-exports the items of its parts, for crates that work on values. A crate that works
+//! on bytes names only the parts that it needs, so that it doesn't build the typed ones.
 #![tactic(auto)]
 
 mod infos;

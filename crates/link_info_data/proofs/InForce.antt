@@ -1,4 +1,4 @@
--- The rule under a name in force is the rule of the kind that the name names.
+-- The rule under a name in force is that of the kind with the name.
 use Rattle.std.proofs.Common.{◌≡◌, ℕ, true, List, refl, sym, ap, ◌∙◌}
 use Rattle.std.specs.Prelude.{string_bytes}
 use Rattle.attribute_tables_grammar.specs.LookUps.{payload_at, rule_or_raw}

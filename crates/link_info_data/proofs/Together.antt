@@ -18,5 +18,5 @@ data_alone = without_peers.data_without_peers rules_without_peers_are_one
 pub port_data_alone : PortDataHaveOneRule
 port_data_alone = without_peers.port_data rules_without_peers_are_one named-payload
 
--- what the laws go by
+-- what the laws are proved from
 pub ruleset laws = (names, port_names, data_alone, port_data_alone)

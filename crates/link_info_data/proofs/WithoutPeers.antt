@@ -1,4 +1,4 @@
--- Data that hold no peers have one rule, whatever the rule of peers is.
+-- The rule of data without peers is the same under all rules of peers.
 use Rattle.std.proofs.Common.{◌≡◌, Bool, true, false, cond, List, ℕ, Option, Some, None, refl, sym, ◌∙◌}
 use Rattle.std.specs.Prelude.{bytes_eq}
 use Rattle.std.proofs.lemmas.Bool.{and_parts}
@@ -13,7 +13,7 @@ use Rattle.link_info_kinds.specs.declared.info_kind.InfoKind.TheVariants as Kind
 use Rattle.link_info_data.specs.Data.{data_payload_of, has_peers}
 use Rattle.link_info_data.specs.Laws.{DataWithoutPeersHaveOneRule, PortDataHaveOneRule}
 
--- of a payload, or of raw bytes
+-- for a payload, or raw bytes
 abbrev none_held : Option Payload → Bool
 none_held None = true
 none_held (Some s) = holds_no_peers s
@@ -24,7 +24,7 @@ of_kind Kind.Veth h = absurd cc
 of_kind Kind.Vxcan h = absurd cc
 of_kind _ h = refl
 
--- of a kind that is none of those
+-- for a kind that is none of those
 pub no_peers : (k : InfoKind) → (k ≡ Kind.Netkit → ⊥) → (k ≡ Kind.Veth → ⊥) → (k ≡ Kind.Vxcan → ⊥) → has_peers k ≡ false
 no_peers Kind.Netkit n v x = absurd (n refl)
 no_peers Kind.Veth n v x = absurd (v refl)

@@ -1,4 +1,4 @@
--- The data of a kind of links: the rule of each kind, and what each value is written as.
+-- The data of a kind of link: the rule of each kind, and the payload of each value.
 use Rattle.std.specs.Prelude.{◌≡◌, ℕ, Bool, true, false, ◌⊎◌, List, Option, None}
 use Rattle.std.specs.Option.{is_none}
 use Rattle.std.specs.List.{All}
@@ -37,29 +37,31 @@ use Rattle.link_info_kinds.specs.declared.info_kind.InfoKind.TheVariants as Kind
 use Rattle.link_info_data.specs.declared.info_data.InfoData.{InfoData}
 use Rattle.link_info_data.specs.declared.info_data.InfoData.TheVariants as Data
 
--- the payload of the data of a kind that has a table; a kind counts by its variant, so `Other` has none
+-- The payload of the data of a kind, if it has a table. The variant decides, not the name: `Other` has none.
 abbrev pub data_payload_of : InfoKind → Option Payload
 data_payload_of (Kind.Other s) = None
 data_payload_of k = payload_at kinds (info_kind_text k)
 
--- the rule of the data of a kind: data of every other kind are kept as bytes
+-- The rule of the data of a kind; data of a kind without a table are kept as bytes.
 abbrev pub data_rule_of_under : Peer → InfoKind → Rule
 data_rule_of_under p k = rule_or_raw p (data_payload_of k)
 
+-- The rule of the data of a kind, with peers as bytes.
 abbrev pub data_rule_of : InfoKind → Rule
 data_rule_of = data_rule_of_under bytes_peer
 
--- the kinds whose data hold peers
+-- The kinds whose data hold peers.
 abbrev pub has_peers : InfoKind → Bool
 has_peers Kind.Netkit = true
 has_peers Kind.Veth = true
 has_peers Kind.Vxcan = true
 has_peers _ = false
 
+-- The data of the kind are kept as bytes.
 abbrev pub keeps_bytes : InfoKind → Bool
 keeps_bytes k = is_none (data_payload_of k)
 
--- the payload that a value is written as
+-- The payload of a value.
 abbrev pub info_data_payload : InfoData → List ℕ
 info_data_payload (Data.Bridge vs) = text_by raw_entry vs.items
 info_data_payload (Data.Can vs) = text_by raw_entry vs.items
@@ -98,7 +100,7 @@ info_data_payload (Data.Ip6ErSpan vs) = text_by gre6_entry vs.items
 info_data_payload (Data.Wireguard vs) = text_by raw_entry vs.items
 info_data_payload (Data.Other b) = b.items
 
--- each length inside a value fits the 2 bytes of its header
+-- Each length inside a value fits the 2 bytes of its header.
 abbrev pub info_data_fits : InfoData → Bool
 info_data_fits (Data.Bridge vs) = all_fit_by raw_entry (λ _. true) vs.items
 info_data_fits (Data.Can vs) = all_fit_by raw_entry (λ _. true) vs.items
@@ -137,10 +139,11 @@ info_data_fits (Data.Ip6ErSpan vs) = all_fit_by gre6_entry (λ _. true) vs.items
 info_data_fits (Data.Wireguard vs) = all_fit_by raw_entry (λ _. true) vs.items
 info_data_fits (Data.Other b) = true
 
+-- The attribute of a value: IFLA_INFO_DATA with its payload.
 abbrev pub info_data_entry : InfoData → Attribute
 info_data_entry d = record { kind = 2; payload = info_data_payload d }
 
--- the variant that a kind names, of values that their rows name
+-- The value is the variant of the kind, and so is each value inside, of its row.
 abbrev pub info_data_names_row : InfoKind → InfoData → Type 0
 info_data_names_row k (Data.Bridge vs) = k ≡ Kind.Bridge
 info_data_names_row k (Data.Can vs) = k ≡ Kind.Can

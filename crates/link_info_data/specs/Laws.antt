@@ -9,16 +9,18 @@ use Rattle.link_info_kinds.specs.declared.info_port_kind.InfoPortKind.{InfoPortK
 use Rattle.link_info_data.specs.Data.{data_rule_of_under, has_peers}
 use Rattle.link_info_data.specs.PortData.{port_data_rule_of_under}
 
--- data are read under a name as under the kind that it names
+-- Data under a name have the rule of the kind with that name.
 abbrev pub NamesTellRules : Type 0
 NamesTellRules = (p : Peer) (name : List ℕ) (kind : InfoKind) → IsNamedBy name kind → data_rule_under p name ≡ data_rule_of_under p kind
 
+-- Port data under a name have the rule of the port kind with that name.
 abbrev pub PortNamesTellRules : Type 0
 PortNamesTellRules = (p : Peer) (name : List ℕ) (kind : InfoPortKind) → IsPortNamedBy name kind → port_data_rule_under p name ≡ port_data_rule_of_under p kind
 
--- data that hold no peers have one rule, whatever the rule of peers is, and so have all port data
+-- The rule of data without peers is the same under all rules of peers.
 abbrev pub DataWithoutPeersHaveOneRule : Type 0
 DataWithoutPeersHaveOneRule = (p q : Peer) (kind : InfoKind) → has_peers kind ≡ false → data_rule_of_under p kind ≡ data_rule_of_under q kind
 
+-- The rule of port data is the same under all rules of peers.
 abbrev pub PortDataHaveOneRule : Type 0
 PortDataHaveOneRule = (p q : Peer) (name : List ℕ) → port_data_rule_under p name ≡ port_data_rule_under q name

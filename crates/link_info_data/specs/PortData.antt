@@ -1,4 +1,4 @@
--- The data of a kind of ports: the rule of each port kind, and what each value is written as.
+-- The data of a kind of port: the rule of each port kind, and the payload of each value.
 use Rattle.std.specs.Prelude.{ℕ, Bool, true, ⊤, List, Option, None}
 use Rattle.std.specs.List.{All}
 use Rattle.netlink_packet_core.specs.Attributes.{Attribute}
@@ -16,19 +16,20 @@ use Rattle.link_info_kinds.specs.declared.info_port_kind.InfoPortKind.TheVariant
 use Rattle.link_info_data.specs.declared.info_port.InfoPortData.{InfoPortData}
 use Rattle.link_info_data.specs.declared.info_port.InfoPortData.TheVariants as PortData
 
--- the payload of the data of a port kind that has a table; a port kind counts by its variant, so `Other` has none
+-- The payload of the data of a port kind, if it has a table. The variant decides, not the name: `Other` has none.
 abbrev pub port_data_payload_of : InfoPortKind → Option Payload
 port_data_payload_of (PortKind.Other s) = None
 port_data_payload_of k = payload_at port_kinds (info_port_kind_text k)
 
--- the rule of the data of a port kind: data of every other port kind are kept as bytes
+-- The rule of the data of a port kind; data of a port kind without a table are kept as bytes.
 abbrev pub port_data_rule_of_under : Peer → InfoPortKind → Rule
 port_data_rule_of_under p k = rule_or_raw p (port_data_payload_of k)
 
+-- The rule of the data of a port kind, with peers as bytes.
 abbrev pub port_data_rule_of : InfoPortKind → Rule
 port_data_rule_of = port_data_rule_of_under bytes_peer
 
--- the payload that a value is written as
+-- The payload of a value.
 abbrev pub info_port_data_payload : InfoPortData → List ℕ
 info_port_data_payload (PortData.BondPort vs) = text_by raw_entry vs.items
 info_port_data_payload (PortData.BridgePort vs) = text_by raw_entry vs.items
@@ -36,7 +37,7 @@ info_port_data_payload (PortData.VrfPort vs) = text_by vrf_entry vs.items
 info_port_data_payload (PortData.TeamPort vs) = text_by raw_entry vs.items
 info_port_data_payload (PortData.Other b) = b.items
 
--- each length inside a value fits the 2 bytes of its header
+-- Each length inside a value fits the 2 bytes of its header.
 abbrev pub info_port_data_fits : InfoPortData → Bool
 info_port_data_fits (PortData.BondPort vs) = all_fit_by raw_entry (λ _. true) vs.items
 info_port_data_fits (PortData.BridgePort vs) = all_fit_by raw_entry (λ _. true) vs.items
@@ -44,10 +45,11 @@ info_port_data_fits (PortData.VrfPort vs) = all_fit_by vrf_entry (λ _. true) vs
 info_port_data_fits (PortData.TeamPort vs) = all_fit_by raw_entry (λ _. true) vs.items
 info_port_data_fits (PortData.Other b) = true
 
+-- The attribute of a value: IFLA_INFO_SLAVE_DATA with its payload.
 abbrev pub info_port_data_entry : InfoPortData → Attribute
 info_port_data_entry d = record { kind = 5; payload = info_port_data_payload d }
 
--- the variant that a port kind names, of values that their rows name
+-- The value is the variant of the port kind, and so is each value inside, of its row.
 abbrev pub info_port_data_names_row : InfoPortKind → InfoPortData → Type 0
 info_port_data_names_row PortKind.Bond (PortData.BondPort vs) = ⊤
 info_port_data_names_row PortKind.Bridge (PortData.BridgePort vs) = ⊤

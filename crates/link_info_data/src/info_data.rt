@@ -1,4 +1,4 @@
-//! The data of a kind of links (if_link.h, IFLA_INFO_DATA).
+//! The data of a kind of link (if_link.h, IFLA_INFO_DATA).
 
 ghost use Rattle.std.specs.Prelude.{◌≡◌, ◌<◌, false, true, length, IfOk};
 ghost use Rattle.netlink_packet_core.specs.Errors.{is_memory};
@@ -26,7 +26,7 @@ use std::alloc::Global;
 
 const IFLA_INFO_DATA: u16 = 2;
 
-/// The data of a kind of links: a list of the kind's attributes, or bytes.
+/// The data of a kind of link: a list of the kind's attributes, or bytes.
 #[derive(Debug, PartialEq, Eq, Drop)]
 pub enum InfoData {
     /// Attributes of `bridge`.
@@ -37,7 +37,7 @@ pub enum InfoData {
     Tun(Vec<InfoTun>),
     /// Attributes of `vlan`.
     Vlan(Vec<InfoVlan>),
-    /// The attribute that the data of `veth` begin with.
+    /// The attribute at the start of the data of `veth`.
     Veth(InfoVeth),
     /// Attributes of `vxlan`.
     Vxlan(Vec<InfoVxlan>),
@@ -79,7 +79,7 @@ pub enum InfoData {
     IpTunnel(Vec<InfoIpTunnel>),
     /// Attributes of `netkit`.
     Netkit(Vec<InfoNetkit>),
-    /// The attribute that the data of `vxcan` begin with.
+    /// The attribute at the start of the data of `vxcan`.
     Vxcan(InfoVxcan),
     /// Attributes of `amt`.
     Amt(Vec<InfoAmt>),
@@ -99,11 +99,11 @@ pub enum InfoData {
     Ip6ErSpan(Vec<InfoGre6>),
     /// Attributes of `wireguard`.
     Wireguard(Vec<InfoWireguard>),
-    /// The bytes of every other kind.
+    /// The bytes of any other kind.
     Other(Vec<u8>),
 }
 
-/// A variant of what was read.
+/// Wraps a value that was read in its variant.
 macro_rules! data {
     ($variant:ident, $read:expr) => {
         match $read {
@@ -113,7 +113,8 @@ macro_rules! data {
     };
 }
 
-// What is told where the data of a kind weren't read over these peers. It takes no memory.
+// The error for data of a kind that weren't read, with these peers: out of memory only if the data
+// are accepted. Allocates nothing.
 fn error_of<P: PeerSet>(
     peers: &P,
     kind: &InfoKind,
@@ -132,7 +133,7 @@ fn error_of<P: PeerSet>(
 }
 
 impl InfoData {
-    // Reads the data of a kind, and may tell want of memory in front of a refusal.
+    // Reads the data of a kind; it may run out of memory before it reaches an invalid attribute.
     fn read(alloc: Global, payload: &[u8], kind: &InfoKind) -> Result<InfoData, DecodeError>
         ensures judged { SucceedsWhere result ((data_rule_of kind.now).accepted payload.now) }
         ensures written { IsWrittenBy result info_data_payload info_data_fits
@@ -191,12 +192,16 @@ impl InfoData {
         }
     }
 
-    /// Reads the data of a kind. It succeeds exactly where the kind's table accepts them, memory
-    /// aside, and answers want of memory of accepted data alone: where a growth was refused, the
-    /// rest is judged without memory.
+    /// Reads the data of a kind.
     ///
-    /// The kind counts by its variant: `InfoKind::Other` of a listed name has the row of a name
-    /// that isn't listed, which keeps the bytes.
+    /// The variant of the kind decides, not its name: data of an `InfoKind::Other` with a listed
+    /// name are kept as bytes.
+    ///
+    /// # Errors
+    ///
+    /// Out of memory if an allocation fails and the kind's table accepts the data; any other
+    /// [`DecodeError`] if and only if the table doesn't accept them. If an allocation fails, the
+    /// rest is checked without allocating.
     pub fn parse_with_param(
         alloc: Global,
         payload: &[u8],
@@ -214,7 +219,8 @@ impl InfoData {
         }
     }
 
-    // Reads the data of a kind, peers by a rule, and may tell want of memory in front of a refusal.
+    // Reads the data of a kind, peers by a rule; it may run out of memory before it reaches an
+    // invalid attribute.
     fn read_with<R: PeerRule>(
         alloc: Global,
         payload: &[u8],
@@ -239,10 +245,13 @@ impl InfoData {
         }
     }
 
-    /// Reads the data of a kind, peers by a rule: a value of a peer holds its canonical payload. It
-    /// succeeds exactly where the kind's table accepts them under that rule, memory aside, and
-    /// answers want of memory of accepted data alone. `parse_with_param` is this where peers are
-    /// bytes.
+    /// Reads the data of a kind, peers by a rule: the value of a peer holds its canonical payload.
+    /// `parse_with_param` is this with peers as bytes.
+    ///
+    /// # Errors
+    ///
+    /// Out of memory if an allocation fails and the kind's table accepts the data under the rule;
+    /// any other [`DecodeError`] if and only if the table doesn't accept them.
     pub fn parse_with_peers<R: PeerRule>(
         alloc: Global,
         payload: &[u8],
@@ -263,8 +272,8 @@ impl InfoData {
     }
 }
 
-/// What each list of attributes answers, the one attribute of a kind that has no list, or the
-/// bytes of a kind that has no table.
+/// Matches on the variant: one expression for those with a list of attributes, one for those with a
+/// single attribute, and one for the bytes of a kind that has no table.
 macro_rules! of_variants {
     ($data:expr, $list:ident => $of_list:expr, $one:ident => $of_one:expr, $bytes:pat => $of_bytes:expr) => {
         match $data {

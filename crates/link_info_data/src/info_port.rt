@@ -1,4 +1,4 @@
-//! The data of a kind of ports (if_link.h, IFLA_INFO_SLAVE_DATA).
+//! The data of a kind of port (if_link.h, IFLA_INFO_SLAVE_DATA).
 
 ghost use Rattle.std.specs.Prelude.{◌≡◌, ◌<◌, true, length, IfOk};
 ghost use Rattle.link_info_data.specs.PortData.{info_port_data_entry, info_port_data_fits, info_port_data_payload};
@@ -19,7 +19,7 @@ const IFLA_INFO_PORT_DATA: u16 = 5;
 /// An attribute of the data of a port of a `vrf`.
 pub type InfoVrfPort = InfoVrf;
 
-/// The data of a kind of ports: a list of the kind's attributes, or bytes.
+/// The data of a kind of port: a list of the kind's attributes, or bytes.
 #[derive(Debug, PartialEq, Eq, Drop)]
 pub enum InfoPortData {
     /// Attributes of a port of a `bond`.
@@ -30,11 +30,11 @@ pub enum InfoPortData {
     VrfPort(Vec<InfoVrfPort>),
     /// Attributes of a port of a `team`.
     TeamPort(Vec<InfoTeamPort>),
-    /// The bytes of every other kind.
+    /// The bytes of any other kind.
     Other(Vec<u8>),
 }
 
-// Whether the data of a port kind are accepted. It takes no memory.
+// Whether the data of a port kind are accepted. Allocates nothing.
 fn accepts(kind: &InfoPortKind, payload: &[u8]) -> bool
     ensures { result ≡ (port_data_rule_of kind.now).accepted payload.now }
 {
@@ -46,7 +46,8 @@ fn accepts(kind: &InfoPortKind, payload: &[u8]) -> bool
 }
 
 impl InfoPortData {
-    // Reads the data of a port kind, and may tell want of memory in front of a refusal.
+    // Reads the data of a port kind; it may run out of memory before it reaches an invalid
+    // attribute.
     fn read(alloc: Global, payload: &[u8], kind: &InfoPortKind) -> Result<InfoPortData, DecodeError>
         ensures judged { SucceedsWhere result ((port_data_rule_of kind.now).accepted payload.now) }
         ensures written { IsWrittenBy result info_port_data_payload info_port_data_fits
@@ -63,12 +64,16 @@ impl InfoPortData {
         }
     }
 
-    /// Reads the data of a port kind. It succeeds exactly where the port kind's table accepts them,
-    /// memory aside, and answers want of memory of accepted data alone: where a growth was refused,
-    /// the rest is judged without memory.
+    /// Reads the data of a port kind.
     ///
-    /// The port kind counts by its variant: `InfoPortKind::Other` of a listed name has the row of a
-    /// name that isn't listed, which keeps the bytes.
+    /// The variant of the port kind decides, not its name: data of an `InfoPortKind::Other` with a
+    /// listed name are kept as bytes.
+    ///
+    /// # Errors
+    ///
+    /// Out of memory if an allocation fails and the port kind's table accepts the data; any other
+    /// [`DecodeError`] if and only if the table doesn't accept them. If an allocation fails, the
+    /// rest is checked without allocating.
     pub fn parse_with_param(
         alloc: Global,
         payload: &[u8],

@@ -1,4 +1,4 @@
-//! Payloads that are attributes: as many bytes as their text has, and this text.
+//! Payloads that are attributes: their length and their encoding.
 
 ghost use Rattle.std.specs.Prelude.{◌≡◌, true, length};
 ghost use Rattle.netlink_packet_core.specs.Numbers.{as_usize};
@@ -8,7 +8,7 @@ ghost use Rattle.netlink_packet_core.specs.Lists.{text_by, all_fit_by};
 
 use netlink_packet_core::{Nla, emit_all, len_all};
 
-/// How many bytes a list is written as; `usize::MAX` stands for more.
+/// Returns the length of a list's encoding; it saturates at `usize::MAX`.
 #[tactic(auto, using(attribute_tables::proofs::Lists::lists))]
 pub(crate) fn list_len<N: Nla>(list: &[N]) -> usize
     ensures { result ≡ as_usize (length (text_by N.entry list.now)) }
@@ -26,7 +26,7 @@ pub(crate) fn emit_list<N: Nla>(list: &[N], buffer: &mut [u8])
     emit_all(list, buffer)
 }
 
-/// How many bytes an attribute is written as; `usize::MAX` stands for more.
+/// Returns the length of an attribute's encoding; it saturates at `usize::MAX`.
 #[tactic(auto, using(attribute_tables::proofs::Lists::lists))]
 pub(crate) fn one_len<N: Nla>(one: &N) -> usize
     ensures { result ≡ as_usize (length (attribute_text (N.entry one.now))) }

@@ -1,4 +1,4 @@
-//! The statistics of a kind of links (if_link.h, IFLA_INFO_XSTATS), which its driver fills in
+//! The statistics of a kind of link (if_link.h, IFLA_INFO_XSTATS), which its driver fills in
 //! (`rtnl_link_ops.fill_xstats`).
 
 ghost use Rattle.std.specs.Prelude.{◌≡◌, ⊤, nat_lt, true, length};
@@ -11,7 +11,7 @@ use link_info_kinds::InfoKind;
 use netlink_packet_core::{DecodeError, Emitable, NlaBuffer, ParseableParametrized};
 use std::alloc::Global;
 
-/// The statistics of a kind of links.
+/// The statistics of a kind of link.
 #[derive(Debug, PartialEq, Eq, Drop)]
 pub enum LinkXstats {
     /// The bytes of any kind's statistics.

@@ -1,4 +1,4 @@
--- Where reading may want memory of what is accepted alone, a list that begins readable begins accepted.
+-- If reading may run out of memory only for accepted attributes, a list that begins readable begins accepted.
 use Rattle.std.proofs.Common.{◌≡◌, ℕ, Bool, true, false, List}
 use Rattle.std.specs.Prelude.{◌&&◌, ◌||◌}
 use Rattle.attribute_tables_grammar.specs.Lists.{Row}

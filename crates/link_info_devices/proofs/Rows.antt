@@ -1,4 +1,4 @@
--- The row of values behind a list, as the list's items.
+-- The properties of a list of source addresses, from those of its items.
 use Rattle.std.proofs.Common.{◌≡◌, ◌≢◌, ◌+◌, ◌++◌, ℕ, true, cond, List, refl, sym, ap, ◌∙◌, subst, ne_eqb, Vec, Global}
 use Rattle.std.specs.Prelude.{◌&&◌}
 use Rattle.std.specs.List.{All}
@@ -35,17 +35,17 @@ entry-addresses inner =
     let row = row_of (MacAddrData inner) in
     ap (attribute 5) (texts-items row.0 row.1 ∙ ap (text_by mac_vlan_entry) (items_hidden-the_row-InfoMacVlan-0 inner))
 
--- it fits where its values do
+-- a list of source addresses fits if its values do
 pub fits-addresses : (inner : Vec InfoMacVlan Global) → mac_vlan_fits (MacAddrData inner) ≡ all_fit_by mac_vlan_entry mac_vlan_fits inner.items
 fits-addresses inner =
     let row = row_of (MacAddrData inner) in
     fit-items row.0 row.1 ∙ ap (all_fit_by mac_vlan_entry mac_vlan_fits) (items_hidden-the_row-InfoMacVlan-0 inner)
 
--- its values are named as those of the list
+-- the values are the variants of their rows, as those of the list
 pub names-addresses : (inner : Vec InfoMacVlan Global) → All mac_vlan_address_names_row inner.items → mac_vlan_names_row (MacAddrData inner)
 names-addresses inner h = subst (All mac_vlan_address_names_row) (sym (items_hidden-the_row-InfoMacVlan-0 inner)) h
 
--- what a list of source addresses holds, by its items
+-- the properties of a list of source addresses, by its items
 pub record Addresses (value : InfoMacVlan) (items : List InfoMacVlan) : Type 0 where
   pub payload : (mac_vlan_entry value).payload ≡ text_by mac_vlan_entry items
   pub fits : mac_vlan_fits value ≡ all_fit_by mac_vlan_entry mac_vlan_fits items
@@ -58,7 +58,7 @@ addresses value inner items is them = record {
 
 pub ruleset rows_of_values = (entry-addresses, fits-addresses, names-addresses)
 
--- outside kind 5 the two tables have one row
+-- the two tables have the same rows except for kind 5
 pub same-line : (k : ℕ) → k ≢ 5 → line_at macvlan k ≡ line_at macvlan_address k
 same-line k h = rw (ne_eqb k 5 h) refl
 
@@ -68,13 +68,13 @@ same-row k h = ap (row_of_line bytes_peer) (same-line k h)
 pub no-row-outside : (k : ℕ) → k ≢ 5 → has_no_row macvlan_address k → has_no_row macvlan k
 no-row-outside k h n = same-line k h ∙ n
 
--- what an attribute of the list holds fits
+-- the payload of an attribute in the list fits
 pub address-fits : RowsWithoutListsFit → (k : ℕ) (bytes : List ℕ) → (family_row macvlan_address k).rule.fits bytes ≡ true
 address-fits law k bytes = law bytes_peer macvlan_address refl k bytes
 
 pub ruleset address_rows = (same-row, no-row-outside, address-fits)
 
--- what the row of the list makes of an attribute
+-- the canonical form of an attribute under the row of the list
 pub list-written : (e : Attribute) → proper_kind e.kind ≡ 5 → rewrite (row_at (family_row macvlan) e) e ≡ attribute 5 ((list_of bytes_peer any macvlan_address).canonical e.payload)
 list-written e h = ap (λ k. record {
   kind = cond (family_row macvlan k).is_typed (k + cond (family_row macvlan k).is_nested 0x8000 0) e.kind;

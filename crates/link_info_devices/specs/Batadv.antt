@@ -7,11 +7,12 @@ use Rattle.netlink_packet_core.specs.Families.{attribute}
 use Rattle.link_info_devices.specs.declared.batadv.InfoBatAdv.{InfoBatAdv}
 use Rattle.link_info_devices.specs.declared.batadv.InfoBatAdv.TheVariants.{AlgoName, Other}
 
+-- The attribute of a value.
 abbrev pub batadv_entry : InfoBatAdv → Attribute
 batadv_entry (AlgoName s) = attribute 1 (string_bytes s ++ 0 ∷ [])
 batadv_entry (Other a) = a
 
--- no kind that has a row is read as another attribute
+-- The value is the variant of its row: an attribute whose kind has a row is no `Other`.
 abbrev pub batadv_names_row : InfoBatAdv → Type 0
 batadv_names_row (Other a) = has_no_row batadv (proper_kind a.kind)
 batadv_names_row _ = Unit {0}

@@ -9,13 +9,14 @@ use Rattle.netlink_packet_core.specs.Families.{attribute}
 use Rattle.link_info_devices.specs.declared.ipoib.InfoIpoib.{InfoIpoib}
 use Rattle.link_info_devices.specs.declared.ipoib.InfoIpoib.TheVariants.{Pkey, Mode, UmCast, Other}
 
+-- The attribute of a value.
 abbrev pub ipoib_entry : InfoIpoib → Attribute
 ipoib_entry (Pkey n) = attribute 1 (le2 n)
 ipoib_entry (Mode m) = attribute 2 (le2 (ipoib_mode_number m))
 ipoib_entry (UmCast n) = attribute 3 (le2 n)
 ipoib_entry (Other a) = a
 
--- a number that names a mode is read as that mode, and no kind that has a row as another attribute
+-- The value is the variant of its row: a listed mode is no `Other`, and neither is an attribute whose kind has a row.
 abbrev pub ipoib_names_row : InfoIpoib → Type 0
 ipoib_names_row (Mode m) = m ≡ ipoib_mode_of (ipoib_mode_number m)
 ipoib_names_row (Other a) = has_no_row ipoib (proper_kind a.kind)

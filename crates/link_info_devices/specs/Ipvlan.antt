@@ -9,16 +9,17 @@ use Rattle.netlink_packet_core.specs.Families.{attribute}
 use Rattle.link_info_devices.specs.declared.ipvlan.IpVlanData.{IpVlanData}
 use Rattle.link_info_devices.specs.declared.ipvlan.IpVlanData.TheVariants as IpVlan
 
--- the number of the kind
+-- The number of the kind of link: 0 for ipvlan, 1 for ipvtap.
 abbrev pub ipvlan_number : {n : ℕ} → IpVlanData n → ℕ
 ipvlan_number {n} v = n
 
+-- The attribute of a value.
 abbrev pub ipvlan_entry : {n : ℕ} → IpVlanData n → Attribute
 ipvlan_entry (IpVlan.Mode m) = attribute 1 (le2 (ip_vlan_mode_number m))
 ipvlan_entry (IpVlan.Flags f) = attribute 2 (le2 (ip_vlan_flags_bits f))
 ipvlan_entry (IpVlan.Other a) = a
 
--- a number that names a mode is read as that mode, and no kind that has a row as another attribute
+-- The value is the variant of its row: a listed mode is no `Other`, and neither is an attribute whose kind has a row.
 abbrev pub ipvlan_names_row : {n : ℕ} → IpVlanData n → Type 0
 ipvlan_names_row (IpVlan.Mode m) = m ≡ ip_vlan_mode_of (ip_vlan_mode_number m)
 ipvlan_names_row (IpVlan.Other a) = has_no_row ipvlan (proper_kind a.kind)

@@ -14,7 +14,7 @@ use Rattle.netlink_packet_core.specs.AttributeViews.{viewed_attribute, viewed_ki
 use Rattle.netlink_packet_core.specs.Families.{Gives, attribute, family_row, may_want_memory}
 use Rattle.link_info_devices.specs.declared.mac_vlan.InfoMacVlan.{InfoMacVlan, Row_of-InfoMacVlan, end_of-InfoMacVlan, more_of-InfoMacVlan, items-the_row-InfoMacVlan, Mode, Flags, MacAddrMode, MacAddr, MacAddrData', MacAddrCount, BcQueueLen, BcQueueLenUsed, BcCutoff, Other}
 
--- the kind and the payload of a value, and the text of a list of values
+-- The attribute of a value, and the encoding of a list of values.
 abbrev mutual
   pub mac_vlan_entry : InfoMacVlan → Attribute
   mac_vlan_entry (Mode m) = attribute 1 (le4 (mac_vlan_mode_number m))
@@ -32,7 +32,7 @@ abbrev mutual
   mac_vlan_texts end_of-InfoMacVlan = []
   mac_vlan_texts (more_of-InfoMacVlan v row) = attribute_text (mac_vlan_entry v) ++ mac_vlan_texts row
 
--- each length inside a value fits the 2 bytes of its header, at all depths
+-- Each length inside a value fits the 2 bytes of its header, at all depths.
 abbrev mutual
   pub mac_vlan_fits : InfoMacVlan → Bool
   mac_vlan_fits (MacAddrData' shape row) = mac_vlan_all_fit row
@@ -42,7 +42,8 @@ abbrev mutual
   mac_vlan_all_fit end_of-InfoMacVlan = true
   mac_vlan_all_fit (more_of-InfoMacVlan v row) = (attribute_fits (mac_vlan_entry v) && mac_vlan_fits v) && mac_vlan_all_fit row
 
--- by the rows of a table: a number that has a name is read as what it names, and no kind that has a row as another attribute
+-- The value is the variant of its row in this table: a listed number is no `Other`, and neither is an attribute whose
+-- kind has a row.
 abbrev pub mac_vlan_named_by : Table → (List InfoMacVlan → Type 0) → InfoMacVlan → Type 0
 mac_vlan_named_by t inside (Mode m) = m ≡ mac_vlan_mode_of (mac_vlan_mode_number m)
 mac_vlan_named_by t inside (MacAddrMode m) = m ≡ mac_vlan_mac_address_mode_of (mac_vlan_mac_address_mode_number m)
@@ -50,18 +51,20 @@ mac_vlan_named_by t inside (MacAddrData' shape row) = inside (items-the_row-Info
 mac_vlan_named_by t inside (Other a) = has_no_row t (proper_kind a.kind)
 mac_vlan_named_by t inside _ = Unit {0}
 
--- in the list of source addresses, where no value is a list
+-- The value is the variant of its row in the list of source addresses, in which no value is a list.
 abbrev pub mac_vlan_address_names_row : InfoMacVlan → Type 0
 mac_vlan_address_names_row = mac_vlan_named_by macvlan_address (λ _. ⊥)
 
+-- The value is the variant of its row, and so is each value inside it.
 abbrev pub mac_vlan_names_row : InfoMacVlan → Type 0
 mac_vlan_names_row = mac_vlan_named_by macvlan (All mac_vlan_address_names_row)
 
--- reading an attribute may want memory: the list where its first attribute is accepted, another one where its row holds bytes and accepts it
+-- Reading an attribute may run out of memory: the list of source addresses if its first attribute is accepted, another
+-- one if its row holds bytes and accepts it.
 abbrev pub mac_vlan_may_want_memory : List ℕ → Bool
 mac_vlan_may_want_memory b = cond (proper_kind (viewed_kind b) == 5) (begins_accepted (family_row macvlan_address) (viewed_payload b)) (may_want_memory macvlan b)
 
--- it is the value of the attribute that the bytes begin with
+-- The value is that of the attribute at the start of the bytes.
 pub record MacVlanGives (b : List ℕ) (v : InfoMacVlan) : Type 0 where
   pub entry : Gives macvlan b (mac_vlan_entry v)
   pub fits : mac_vlan_fits v ≡ (row_at (family_row macvlan) (viewed_attribute b)).rule.fits (viewed_payload b)

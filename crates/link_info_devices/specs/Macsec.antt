@@ -9,6 +9,7 @@ use Rattle.netlink_packet_core.specs.Families.{attribute}
 use Rattle.link_info_devices.specs.declared.macsec.InfoMacSec.{InfoMacSec}
 use Rattle.link_info_devices.specs.declared.macsec.InfoMacSec.TheVariants as MacSec
 
+-- The attribute of a value.
 abbrev pub macsec_entry : InfoMacSec → Attribute
 macsec_entry (MacSec.Sci n) = attribute 1 (le8 n)
 macsec_entry (MacSec.Port n) = attribute 2 (be2 n)
@@ -26,7 +27,7 @@ macsec_entry (MacSec.Validation m) = attribute 13 (mac_sec_validate_number m ∷
 macsec_entry (MacSec.Offload m) = attribute 15 (mac_sec_offload_number m ∷ [])
 macsec_entry (MacSec.Other a) = a
 
--- a number that has a name is read as what it names, and no kind that has a row as another attribute
+-- The value is the variant of its row: a listed number is no `Other`, and neither is an attribute whose kind has a row.
 abbrev pub macsec_names_row : InfoMacSec → Type 0
 macsec_names_row (MacSec.CipherSuite m) = m ≡ mac_sec_cipher_id_of (mac_sec_cipher_id_number m)
 macsec_names_row (MacSec.Validation m) = m ≡ mac_sec_validate_of (mac_sec_validate_number m)

@@ -10,6 +10,7 @@ use Rattle.link_info_types.specs.NetkitTypes.{netkit_mode_number, netkit_mode_of
 use Rattle.link_info_devices.specs.declared.netkit.InfoNetkit.{InfoNetkit}
 use Rattle.link_info_devices.specs.declared.netkit.InfoNetkit.TheVariants as Netkit
 
+-- The attribute of a value.
 abbrev pub netkit_entry : InfoNetkit → Attribute
 netkit_entry (Netkit.Peer b) = attribute 1 b.items
 netkit_entry (Netkit.Primary t) = attribute 2 (truth_byte t)
@@ -22,7 +23,8 @@ netkit_entry (Netkit.Headroom n) = attribute 8 (le2 n)
 netkit_entry (Netkit.Tailroom n) = attribute 9 (le2 n)
 netkit_entry (Netkit.Other a) = a
 
--- a number that names a policy or a mode is read as that one, and no kind that has a row as another attribute
+-- The value is the variant of its row: a listed policy or mode is no `Other`, and neither is an attribute whose kind
+-- has a row.
 abbrev pub netkit_names_row : InfoNetkit → Type 0
 netkit_names_row (Netkit.Policy p) = p ≡ netkit_policy_of (netkit_policy_number p)
 netkit_names_row (Netkit.PeerPolicy p) = p ≡ netkit_policy_of (netkit_policy_number p)

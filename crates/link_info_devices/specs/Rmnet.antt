@@ -10,16 +10,17 @@ use Rattle.link_info_devices.specs.declared.rmnet.InfoRmNet.{InfoRmNet}
 use Rattle.link_info_devices.specs.declared.rmnet.InfoRmNet.TheVariants.{MuxId, Flags, Other}
 use Rattle.link_info_devices.specs.declared.rmnet.InfoRmNetFlags.{InfoRmNetFlags}
 
--- the flags, then their mask
+-- The flags, followed by their mask.
 abbrev pub flags_bytes : InfoRmNetFlags → List ℕ
 flags_bytes f = le4 (rm_net_flags_bits f.flags) ++ le4 (rm_net_flags_bits f.mask)
 
+-- The attribute of a value.
 abbrev pub rmnet_entry : InfoRmNet → Attribute
 rmnet_entry (MuxId n) = attribute 1 (le2 n)
 rmnet_entry (Flags f) = attribute 2 (flags_bytes f)
 rmnet_entry (Other a) = a
 
--- no kind that has a row is read as another attribute
+-- The value is the variant of its row: an attribute whose kind has a row is no `Other`.
 abbrev pub rmnet_names_row : InfoRmNet → Type 0
 rmnet_names_row (Other a) = has_no_row rmnet (proper_kind a.kind)
 rmnet_names_row _ = Unit {0}

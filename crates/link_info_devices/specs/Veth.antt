@@ -7,15 +7,16 @@ use Rattle.link_info_grammar.specs.Families.{pair}
 use Rattle.link_info_devices.specs.declared.veth.PairData.{PairData}
 use Rattle.link_info_devices.specs.declared.veth.PairData.TheVariants as Pair
 
--- the number of the kind
+-- The number of the kind of link: 0 for veth, 1 for vxcan.
 abbrev pub pair_number : {n : ℕ} → PairData n → ℕ
 pair_number {n} v = n
 
+-- The attribute of a value.
 abbrev pub pair_entry : {n : ℕ} → PairData n → Attribute
 pair_entry (Pair.Peer b) = attribute 1 b.items
 pair_entry (Pair.Other a) = a
 
--- no kind that has a row is read as another attribute
+-- The value is the variant of its row: an attribute whose kind has a row is no `Other`.
 abbrev pub pair_names_row : {n : ℕ} → PairData n → Type 0
 pair_names_row (Pair.Other a) = has_no_row pair (proper_kind a.kind)
 pair_names_row _ = Unit {0}

@@ -7,11 +7,12 @@ use Rattle.netlink_packet_core.specs.Families.{attribute}
 use Rattle.link_info_devices.specs.declared.vrf.InfoVrf.{InfoVrf}
 use Rattle.link_info_devices.specs.declared.vrf.InfoVrf.TheVariants.{TableId, Other}
 
+-- The attribute of a value.
 abbrev pub vrf_entry : InfoVrf → Attribute
 vrf_entry (TableId n) = attribute 1 (le4 n)
 vrf_entry (Other a) = a
 
--- no kind that has a row is read as another attribute
+-- The value is the variant of its row: an attribute whose kind has a row is no `Other`.
 abbrev pub vrf_names_row : InfoVrf → Type 0
 vrf_names_row (Other a) = has_no_row vrf (proper_kind a.kind)
 vrf_names_row _ = Unit {0}

@@ -7,11 +7,12 @@ use Rattle.netlink_packet_core.specs.Families.{attribute}
 use Rattle.link_info_devices.specs.declared.wwan.InfoWwan.{InfoWwan}
 use Rattle.link_info_devices.specs.declared.wwan.InfoWwan.TheVariants.{LinkId, Other}
 
+-- The attribute of a value.
 abbrev pub wwan_entry : InfoWwan → Attribute
 wwan_entry (LinkId n) = attribute 1 (le4 n)
 wwan_entry (Other a) = a
 
--- no kind that has a row is read as another attribute
+-- The value is the variant of its row: an attribute whose kind has a row is no `Other`.
 abbrev pub wwan_names_row : InfoWwan → Type 0
 wwan_names_row (Other a) = has_no_row wwan (proper_kind a.kind)
 wwan_names_row _ = Unit {0}

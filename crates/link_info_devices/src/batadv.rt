@@ -14,7 +14,7 @@ const IFLA_BATADV_ALGO_NAME: u16 = 1;
 #[derive(Debug, PartialEq, Eq, Drop)]
 pub enum InfoBatAdv {
     /// `IFLA_BATADV_ALGO_NAME`: the name of the routing algorithm; UTF-8 and one NUL, which a
-    /// reader doesn't ask for.
+    /// reader doesn't require.
     AlgoName(String),
     /// Any other kind, kept as it is.
     Other(DefaultNla),

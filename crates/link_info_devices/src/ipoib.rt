@@ -20,9 +20,9 @@ const IFLA_IPOIB_UMCAST: u16 = 3;
 pub enum InfoIpoib {
     /// `IFLA_IPOIB_PKEY`: the partition key; 2 bytes.
     Pkey(u16),
-    /// `IFLA_IPOIB_MODE`: how packets are sent; 2 bytes.
+    /// `IFLA_IPOIB_MODE`: the transport mode; 2 bytes.
     Mode(IpoibMode),
-    /// `IFLA_IPOIB_UMCAST`: whether multicast groups of user space are taken; 2 bytes.
+    /// `IFLA_IPOIB_UMCAST`: whether multicast groups of user space are accepted; 2 bytes.
     UmCast(u16),
     /// Any other kind, kept as it is.
     Other(DefaultNla),

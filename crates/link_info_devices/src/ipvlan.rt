@@ -13,12 +13,13 @@ const IFLA_IPVLAN_MODE: u16 = 1;
 
 const IFLA_IPVLAN_FLAGS: u16 = 2;
 
-/// An attribute of the data of `ipvlan` or of `ipvtap`, by the number of the kind.
+/// An attribute of the data of `ipvlan` or of `ipvtap`; `KIND` is the number of the kind, 0 or 1.
 #[derive(Debug, PartialEq, Eq, Drop)]
 pub enum IpVlanData<const KIND: u16> {
-    /// `IFLA_IPVLAN_MODE`: at which layer packets are switched; 2 bytes.
+    /// `IFLA_IPVLAN_MODE`: the layer at which packets are switched; 2 bytes.
     Mode(IpVlanMode),
-    /// `IFLA_IPVLAN_FLAGS`: how neighbours are treated; 2 bytes, of which every bit is kept.
+    /// `IFLA_IPVLAN_FLAGS`: how devices of one parent reach one another; 2 bytes, of which every
+    /// bit is kept.
     Flags(IpVlanFlags),
     /// Any other kind, kept as it is.
     Other(DefaultNla),

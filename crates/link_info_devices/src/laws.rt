@@ -1,4 +1,4 @@
-//! Facts of the types. No function here makes a call.
+//! Laws of the types. No function here makes a call.
 
 ghost use Rattle.std.specs.Prelude.{◌≡◌};
 ghost use Rattle.link_info_devices.specs.Ipvlan.{ipvlan_number};
@@ -12,19 +12,19 @@ use super::raw_data::{
 };
 use super::veth::{InfoVeth, InfoVxcan};
 
-/// The data of `ipvlan` are those of the kind 0, and the data of `ipvtap` those of the kind 1.
+/// The data of `ipvlan` have the number 0, and those of `ipvtap` the number 1.
 pub fn kinds_are_numbered(ipvlan: &InfoIpVlan, ipvtap: &InfoIpVtap)
     ensures ipvlan { ipvlan_number ipvlan.now ≡ 0 }
     ensures ipvtap { ipvlan_number ipvtap.now ≡ 1 }
 {}
 
-/// The data of `veth` are those of the kind 0, and the data of `vxcan` those of the kind 1.
+/// The data of `veth` have the number 0, and those of `vxcan` the number 1.
 pub fn pairs_are_numbered(veth: &InfoVeth, vxcan: &InfoVxcan)
     ensures veth { pair_number veth.now ≡ 0 }
     ensures vxcan { pair_number vxcan.now ≡ 1 }
 {}
 
-/// The data of each kind of links have a number of their own.
+/// The raw data of each kind of link have a number, different from those of the others.
 pub fn raw_kinds_are_numbered(
     bond: &InfoBond,
     bridge: &InfoBridge,
@@ -45,7 +45,7 @@ pub fn raw_kinds_are_numbered(
     ensures wireguard { raw_number wireguard.now ≡ 7 }
 {}
 
-/// The data of each kind of ports have a number of their own.
+/// The raw data of each kind of port have a number, different from those of the others.
 pub fn port_kinds_are_numbered(bond: &InfoBondPort, bridge: &InfoBridgePort, team: &InfoTeamPort)
     ensures bond { raw_number bond.now ≡ 8 }
     ensures bridge { raw_number bridge.now ≡ 9 }

@@ -1,5 +1,5 @@
-// Link info of devices that are no tunnels, of links that stand on another link or come in pairs, and of kinds whose data
-// are lists of raw attributes: the attributes of their data.
+// Link info of devices that are no tunnels, of links that are stacked on another link or come in
+// pairs, and of kinds whose data are lists of raw attributes: the attributes of their data.
 #![tactic(auto)]
 
 mod batadv;

@@ -1,4 +1,5 @@
-//! Data of the kinds `macvlan` and `macvtap` (if_link.h, IFLA_MACVLAN_*), little-endian.
+//! Data of the kinds `macvlan` and `macvtap` (if_link.h, IFLA_MACVLAN_*). Numbers are
+//! little-endian.
 
 ghost use Rattle.std.specs.Prelude.{◌≡◌, ◌≢◌, ◌<◌, length, true, false, Some, IfOk, IfErr, IfNone};
 ghost use Rattle.std.specs.List.{All};
@@ -52,22 +53,22 @@ pub enum InfoMacVlan {
     Mode(MacVlanMode),
     /// `IFLA_MACVLAN_FLAGS`: how the link treats its parent; 2 bytes, of which every bit is kept.
     Flags(MacVlanFlags),
-    /// `IFLA_MACVLAN_MACADDR_MODE`: what is done to the list of source addresses; 4 bytes.
+    /// `IFLA_MACVLAN_MACADDR_MODE`: the operation on the list of source addresses; 4 bytes.
     MacAddrMode(MacVlanMacAddressMode),
     /// `IFLA_MACVLAN_MACADDR`: a source address; 6 bytes.
     MacAddr([u8; 6]),
-    /// `IFLA_MACVLAN_MACADDR_DATA`: a list of source addresses. What is read holds no list inside
-    /// again: there an attribute of this kind is an `Other`.
+    /// `IFLA_MACVLAN_MACADDR_DATA`: a list of source addresses. A list that was read holds no such
+    /// list itself: an attribute of this kind inside is an `Other`.
     MacAddrData(Vec<InfoMacVlan>),
-    /// `IFLA_MACVLAN_MACADDR_COUNT`: how many source addresses there are; 4 bytes.
+    /// `IFLA_MACVLAN_MACADDR_COUNT`: the number of source addresses; 4 bytes.
     MacAddrCount(u32),
-    /// `IFLA_MACVLAN_BC_QUEUE_LEN`: how many broadcasts may wait, as it is wanted; 4 bytes.
+    /// `IFLA_MACVLAN_BC_QUEUE_LEN`: the requested length of the broadcast queue; 4 bytes.
     BcQueueLen(u32),
-    /// `IFLA_MACVLAN_BC_QUEUE_LEN_USED`: how many may wait, the most that a link of the parent
-    /// wants; 4 bytes.
+    /// `IFLA_MACVLAN_BC_QUEUE_LEN_USED`: the length of the broadcast queue in use, the greatest
+    /// that a link of the parent requests; 4 bytes.
     BcQueueLenUsed(u32),
-    /// `IFLA_MACVLAN_BC_CUTOFF`: from how many links on a multicast address is queued; 4 bytes,
-    /// signed.
+    /// `IFLA_MACVLAN_BC_CUTOFF`: the number of links from which on a multicast address is queued; 4
+    /// bytes, signed.
     BcCutoff(i32),
     /// Any other kind, kept as it is.
     Other(DefaultNla),
@@ -140,7 +141,8 @@ impl Nla for InfoMacVlan {
         }
     }
 
-    // As the trait has it, whose own is for values that hold none of their type.
+    // The same as the trait's default body, which is only for types that hold no values of their
+    // own type.
     #[cycle(texts)]
     fn emit(&self, buffer: &mut [u8]) {
         let size = self.value_len();
@@ -165,8 +167,8 @@ impl Nla for InfoMacVlan {
 }
 
 impl InfoMacVlan {
-    /// Reads the payload of a kind without its flag bits, of those that hold no list; `None` where
-    /// the kind has no row in the list of source addresses.
+    /// Reads the payload of a kind without its flag bits, if it holds no list; `None` if the kind
+    /// has no row in the list of source addresses.
     fn read_row(kind: u16, payload: &[u8]) -> Result<Option<Self>, DecodeError>
         ensures judged { SucceedsExactlyWhere result
             ((family_row macvlan_address kind).rule.accepted payload.now) }
@@ -195,7 +197,7 @@ impl InfoMacVlan {
         }
     }
 
-    /// Reads a payload that holds no list: by its row, or as an attribute that is kept as it is.
+    /// Reads a payload that holds no list: by its row, or as a raw attribute.
     #[tactic(auto, using(netlink_packet_core_attributes::proofs::Families::families, crate::proofs::Rows::address_rows))]
     fn read_address(alloc: Global, buf: &NlaBuffer<&[u8]>) -> Result<Self, DecodeError>
         requires { IsAttribute (storage buf.now).now }
@@ -219,7 +221,7 @@ impl InfoMacVlan {
     }
 }
 
-/// Reads the attributes of a list of source addresses.
+/// A reader of the attributes of a list of source addresses.
 #[derive(Drop)]
 struct AddressReader;
 
@@ -239,8 +241,7 @@ impl Reader for AddressReader {
     }
 }
 
-/// Reads a list of source addresses. It succeeds exactly where the list is accepted, memory aside;
-/// a list of no bytes is never refused.
+/// Reads a list of source addresses. An empty list is accepted.
 #[tactic(auto, using(attribute_tables::proofs::Families::family_lists))]
 fn parse_addresses(alloc: Global, bytes: &[u8]) -> Result<Vec<InfoMacVlan>, DecodeError>
     ensures judged { SucceedsWhere result
@@ -255,7 +256,7 @@ fn parse_addresses(alloc: Global, bytes: &[u8]) -> Result<Vec<InfoMacVlan>, Deco
     parse_list(alloc, &AddressReader, bytes)
 }
 
-/// Reads the attributes of the data of `macvlan` or of `macvtap`.
+/// A reader of the attributes of the data of `macvlan` or of `macvtap`.
 #[derive(Drop)]
 pub struct MacVlanReader;
 
@@ -294,8 +295,11 @@ impl<'a> Parseable<NlaBuffer<&'a [u8]>> for InfoMacVlan {
     }
 }
 
-/// Reads the data of `macvlan` or of `macvtap`. It succeeds exactly where the list is accepted,
-/// memory aside; a list of no bytes is never refused.
+/// Reads the data of `macvlan` or of `macvtap`. An empty list is accepted.
+///
+/// # Errors
+///
+/// Out of memory if an allocation fails; any other [`DecodeError`] only if the list isn't accepted.
 #[tactic(auto, using(attribute_tables::proofs::Families::family_lists))]
 pub fn parse_mac_vlan(alloc: Global, bytes: &[u8]) -> Result<Vec<InfoMacVlan>, DecodeError>
     ensures judged { SucceedsWhere result ((list_of bytes_peer any macvlan).accepted bytes.now) }

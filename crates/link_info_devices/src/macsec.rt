@@ -1,4 +1,4 @@
-//! Data of the kind `macsec` (if_link.h, IFLA_MACSEC_*). Numbers are little-endian unless told.
+//! Data of the kind `macsec` (if_link.h, IFLA_MACSEC_*). Numbers are little-endian unless noted.
 
 ghost use Rattle.std.specs.Prelude.{refl, IfNone, IfSome, [], ◌∷◌, ◌≡◌, ◌≢◌};
 ghost use Rattle.netlink_packet_core.specs.Numbers.{le8};
@@ -45,33 +45,34 @@ const IFLA_MACSEC_OFFLOAD: u16 = 15;
 /// An attribute of the data of `macsec`: MAC security (IEEE 802.1AE).
 #[derive(Debug, PartialEq, Eq, Drop)]
 pub enum InfoMacSec {
-    /// `IFLA_MACSEC_SCI`: the identifier of the secure channel, an address and a port; 8 bytes.
+    /// `IFLA_MACSEC_SCI`: the secure channel identifier, an address and a port; 8 bytes.
     Sci(u64),
     /// `IFLA_MACSEC_PORT`: the port of the secure channel; 2 bytes, big-endian.
     Port(u16),
-    /// `IFLA_MACSEC_ICV_LEN`: how many bytes the check value of a frame has; 1 byte.
+    /// `IFLA_MACSEC_ICV_LEN`: the length of a frame's integrity check value in bytes; 1 byte.
     IcvLen(u8),
-    /// `IFLA_MACSEC_CIPHER_SUITE`: how frames are protected; 8 bytes.
+    /// `IFLA_MACSEC_CIPHER_SUITE`: the cipher suite; 8 bytes.
     CipherSuite(MacSecCipherId),
-    /// `IFLA_MACSEC_WINDOW`: by how many packet numbers a frame may be late; 4 bytes.
+    /// `IFLA_MACSEC_WINDOW`: the size of the replay window, in packet numbers; 4 bytes.
     Window(u32),
-    /// `IFLA_MACSEC_ENCODING_SA`: the association that protects frames sent, 0 to 3; 1 byte.
+    /// `IFLA_MACSEC_ENCODING_SA`: the secure association of sent frames, 0 to 3; 1 byte.
     EncodingSa(u8),
     /// `IFLA_MACSEC_ENCRYPT`: frames are encrypted; 1 byte.
     Encrypt(u8),
-    /// `IFLA_MACSEC_PROTECT`: frames sent are protected; 1 byte.
+    /// `IFLA_MACSEC_PROTECT`: sent frames are protected; 1 byte.
     Protect(u8),
-    /// `IFLA_MACSEC_INC_SCI`: each frame carries the identifier of its channel; 1 byte.
+    /// `IFLA_MACSEC_INC_SCI`: each frame carries the secure channel identifier; 1 byte.
     IncSci(u8),
-    /// `IFLA_MACSEC_ES`: the sender is an end station, which its address alone names; 1 byte.
+    /// `IFLA_MACSEC_ES`: the sender is an end station, which its address identifies without a port;
+    /// 1 byte.
     Es(u8),
-    /// `IFLA_MACSEC_SCB`: frames tell the channel of single-copy broadcast; 1 byte.
+    /// `IFLA_MACSEC_SCB`: single copy broadcast; 1 byte.
     Scb(u8),
-    /// `IFLA_MACSEC_REPLAY_PROTECT`: frames that are later than the window are dropped; 1 byte.
+    /// `IFLA_MACSEC_REPLAY_PROTECT`: frames outside the replay window are dropped; 1 byte.
     ReplayProtect(u8),
-    /// `IFLA_MACSEC_VALIDATION`: what is done with frames that don't pass the check; 1 byte.
+    /// `IFLA_MACSEC_VALIDATION`: how received frames are validated; 1 byte.
     Validation(MacSecValidate),
-    /// `IFLA_MACSEC_OFFLOAD`: which part of the device does the work; 1 byte.
+    /// `IFLA_MACSEC_OFFLOAD`: the part of the device that MACsec is offloaded to; 1 byte.
     Offload(MacSecOffload),
     /// Any other kind, kept as it is.
     Other(DefaultNla),
@@ -102,7 +103,9 @@ impl FieldNla for InfoMacSec {
 }
 
 impl InfoMacSec {
-    // The attribute of a kind that holds 8 bytes, little-endian.
+    // The attribute of a kind that holds 8 bytes, little-endian. Each payload type has a function
+    // of its own, since the prover's time for one match is its paths times the variants of its
+    // type.
     fn of_u64(kind: u16, number: u64) -> Option<Self>
         ensures value { IfSome result (λ v. macsec_entry v ≡ attribute kind (le8 number)) }
         ensures names_row { IfSome result (λ v. macsec_names_row v) }

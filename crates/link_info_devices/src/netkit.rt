@@ -36,32 +36,33 @@ const IFLA_NETKIT_TAILROOM: u16 = 9;
 /// An attribute of the data of `netkit`.
 #[derive(Debug, PartialEq, Eq, Drop)]
 pub enum InfoNetkit {
-    /// `IFLA_NETKIT_PEER_INFO`: the other end, a link message with its header of 16 bytes. The bytes
-    /// are kept as they are; `parse_netkit_with` keeps what its rule writes them as.
+    /// `IFLA_NETKIT_PEER_INFO`: the other end, a link message with its header of 16 bytes. The
+    /// bytes are kept as they are; `parse_netkit_with` keeps the canonical bytes under its rule.
     Peer(Vec<u8>),
-    /// `IFLA_NETKIT_PRIMARY`: whether this end is the one that programs are attached by; 1 byte,
-    /// zero or not.
+    /// `IFLA_NETKIT_PRIMARY`: whether this end is the primary device, through which programs are
+    /// attached; 1 byte, false if and only if it is 0.
     Primary(bool),
-    /// `IFLA_NETKIT_POLICY`: what becomes of packets where no program decides; 4 bytes.
+    /// `IFLA_NETKIT_POLICY`: the policy for packets if no program decides; 4 bytes.
     Policy(NetkitPolicy),
-    /// `IFLA_NETKIT_PEER_POLICY`: the same at the other end; 4 bytes.
+    /// `IFLA_NETKIT_PEER_POLICY`: the policy at the other end; 4 bytes.
     PeerPolicy(NetkitPolicy),
     /// `IFLA_NETKIT_MODE`: whether packets have Ethernet headers; 4 bytes.
     Mode(NetkitMode),
-    /// `IFLA_NETKIT_SCRUB`: whether what the sender noted on a packet is cleared; 4 bytes, zero or
-    /// not.
+    /// `IFLA_NETKIT_SCRUB`: whether the metadata of a packet, such as marks, are cleared; 4 bytes,
+    /// false if and only if all are 0.
     Scrub(NetkitScrub),
-    /// `IFLA_NETKIT_PEER_SCRUB`: the same at the other end; 4 bytes, zero or not.
+    /// `IFLA_NETKIT_PEER_SCRUB`: the scrub setting of the other end; 4 bytes, false if and only if
+    /// all are 0.
     PeerScrub(NetkitScrub),
-    /// `IFLA_NETKIT_HEADROOM`: the room in front of a packet, in bytes; 2 bytes.
+    /// `IFLA_NETKIT_HEADROOM`: the space reserved before a packet, in bytes; 2 bytes.
     Headroom(u16),
-    /// `IFLA_NETKIT_TAILROOM`: the room behind a packet, in bytes; 2 bytes.
+    /// `IFLA_NETKIT_TAILROOM`: the space reserved after a packet, in bytes; 2 bytes.
     Tailroom(u16),
     /// Any other kind, kept as it is.
     Other(DefaultNla),
 }
 
-/// Reads 4 bytes, which are all zero or not.
+/// Reads a boolean of 4 bytes, false if and only if all are 0.
 fn parse_scrub(payload: &[u8]) -> Result<NetkitScrub, DecodeError>
     ensures size { IsOk result ↔ (length payload.now ≡ 4) }
     ensures ok { IfOk result (λ s. le4 (netkit_scrub_number s) ≡ number_truth payload.now) }

@@ -1,4 +1,4 @@
-//! Data of links that come in pairs, whose peers are read by a rule that may be the caller's own.
+//! Data of links that come in pairs, whose peers are read by a rule that the caller may define.
 
 ghost use Rattle.std.specs.Prelude.{◌≡◌, ◌<◌, false, true, length, refl, Some, IfOk, IfErr};
 ghost use Rattle.std.specs.List.{All};
@@ -32,18 +32,18 @@ use std::alloc::Global;
 
 const PEER: u16 = 1;
 
-/// A family of which the attribute of kind 1 holds a peer, and no other does.
+/// A family in which the attribute of kind 1, and no other, holds a peer.
 pub(crate) trait PeerFamily: Family {
-    /// The attribute of a peer that is written with this payload.
+    /// Returns the attribute of a peer with this payload.
     fn of_peer(payload: Vec<u8>) -> Self
         ensures entry { Self.field_entry result ≡ attribute 1 payload.items }
         ensures names_row { Self.names_row result };
 
-    /// Kind 1 is a peer's.
+    /// Kind 1 is that of a peer.
     ghost peer_line: { line_at Self.rows 1
         ≡ Some (record { is_nested = false; payload = Payload.peer }) };
 
-    /// No other kind is.
+    /// No other kind is that of a peer.
     ghost one_peer: { holds_no_peers_but 1 Self.rows ≡ true };
 }
 
@@ -90,7 +90,7 @@ fn read_with<F: PeerFamily, R: PeerRule>(
     read_attribute(alloc, buf)
 }
 
-/// Reads the attributes of the data of `netkit`, their peer by a rule.
+/// A reader of the attributes of the data of `netkit`, their peer by a rule.
 #[derive(Drop)]
 struct NetkitReader<'r, R>(&'r R);
 
@@ -101,7 +101,7 @@ impl<R: PeerRule> Reader for NetkitReader<'_, R> {
 
     ghost names_row = { λ _. netkit_names_row };
 
-    // Only what is accepted.
+    // Reading runs out of memory only for accepted attributes.
     ghost may_want_memory = { λ _. is_accepted_by (table_row R.peer netkit) };
 
     fn read(&self, alloc: Global, buf: &NlaBuffer<&[u8]>) -> Result<InfoNetkit, DecodeError> {
@@ -109,7 +109,7 @@ impl<R: PeerRule> Reader for NetkitReader<'_, R> {
     }
 }
 
-/// Reads the attribute of the data of `veth` or of `vxcan`, a peer by a rule.
+/// A reader of the attribute of the data of `veth` or of `vxcan`, a peer by a rule.
 #[derive(Drop)]
 struct PairReader<'r, R, const KIND: u16>(&'r R);
 
@@ -120,7 +120,7 @@ impl<R: PeerRule, const KIND: u16> Reader for PairReader<'_, R, KIND> {
 
     ghost names_row = { λ _. pair_names_row };
 
-    // Only what is accepted.
+    // Reading runs out of memory only for accepted attributes.
     ghost may_want_memory = { λ _. is_accepted_by (table_row R.peer pair) };
 
     fn read(&self, alloc: Global, buf: &NlaBuffer<&[u8]>) -> Result<PairData<KIND>, DecodeError> {
@@ -128,9 +128,13 @@ impl<R: PeerRule, const KIND: u16> Reader for PairReader<'_, R, KIND> {
     }
 }
 
-/// Reads the data of `netkit`, a list of attributes, their peer by a rule. It succeeds exactly where
-/// the list is accepted, memory aside; a list of no bytes is never refused. It answers want of
-/// memory only where its first attribute is accepted.
+/// Reads the data of `netkit`, a list of attributes, their peer by a rule. An empty list is
+/// accepted.
+///
+/// # Errors
+///
+/// Out of memory if an allocation fails, and only if the first attribute is accepted; any other
+/// [`DecodeError`] only if the list isn't accepted.
 #[tactic(auto, using(crate::proofs::Begins::begins))]
 pub fn parse_netkit_with<R: PeerRule>(
     alloc: Global,
@@ -150,9 +154,13 @@ pub fn parse_netkit_with<R: PeerRule>(
     parse_list(alloc, &NetkitReader(rule), bytes)
 }
 
-/// Reads the data of `veth` or of `vxcan`, the attribute that they begin with, a peer by a rule; any
-/// bytes may follow it, and are dropped. It succeeds exactly where that attribute is accepted,
-/// memory aside. It answers want of memory only where that attribute is accepted.
+/// Reads the data of `veth` or of `vxcan`: the attribute at their start, a peer by a rule; any
+/// bytes may follow it, and are dropped.
+///
+/// # Errors
+///
+/// Out of memory if the attribute is accepted and an allocation fails; any other [`DecodeError`]
+/// only if it isn't accepted.
 #[tactic(auto, using(crate::proofs::Begins::begins))]
 pub fn parse_pair_with<R: PeerRule, const KIND: u16>(
     alloc: Global,

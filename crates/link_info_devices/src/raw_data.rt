@@ -1,5 +1,5 @@
-//! Data of kinds of links and of ports whose attributes have no types of their own yet: each
-//! attribute is kept as it is, with all 16 bits of its kind.
+//! Data of kinds of links and of ports whose attributes aren't typed: each attribute is kept as it
+//! is, with all 16 bits of its kind.
 
 ghost use Rattle.std.specs.Prelude.{⊤, refl};
 ghost use Rattle.link_info_grammar.specs.Families.{untyped};
@@ -61,7 +61,7 @@ pub type InfoTun = RawData<5>;
 /// An attribute of the data of `vlan` (if_link.h, IFLA_VLAN_*).
 pub type InfoVlan = RawData<6>;
 
-/// An attribute of the data of `wireguard`, for which the kernel names no kinds.
+/// An attribute of the data of `wireguard`, whose kinds the kernel doesn't name.
 pub type InfoWireguard = RawData<7>;
 
 /// An attribute of the data of a port of `bond` (if_link.h, IFLA_BOND_SLAVE_*).
@@ -70,5 +70,5 @@ pub type InfoBondPort = RawData<8>;
 /// An attribute of the data of a port of `bridge` (if_link.h, IFLA_BRPORT_*).
 pub type InfoBridgePort = RawData<9>;
 
-/// An attribute of the data of a port of `team`, for which the kernel names no kinds.
+/// An attribute of the data of a port of `team`, whose kinds the kernel doesn't name.
 pub type InfoTeamPort = RawData<10>;

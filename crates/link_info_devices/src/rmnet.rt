@@ -16,18 +16,18 @@ const IFLA_RMNET_MUX_ID: u16 = 1;
 
 const IFLA_RMNET_FLAGS: u16 = 2;
 
-/// What an RMNET device does with packets, and which of these settings are told
-/// (`struct ifla_rmnet_flags`): on the wire 4 bytes of flags, then 4 bytes of mask.
+/// The settings of an RMNET device, and the mask of those that are to be changed (`struct
+/// ifla_rmnet_flags`): 4 bytes of flags, then 4 bytes of mask.
 #[derive(Debug, PartialEq, Eq, Clone, Copy)]
 pub struct InfoRmNetFlags {
     /// The settings.
     pub flags: RmNetFlags,
-    /// The settings that are told.
+    /// The mask of the settings that are to be changed.
     pub mask: RmNetFlags,
 }
 
 impl InfoRmNetFlags {
-    /// Flags under a mask; bits outside the mask stay.
+    /// Returns flags under a mask; both are kept as given, also bits outside the mask.
     pub fn new(flags: RmNetFlags, mask: RmNetFlags) -> Self
         ensures flags { result.flags ≡ flags }
         ensures mask { result.mask ≡ mask }
@@ -53,7 +53,7 @@ fn parse_flags(payload: &[u8]) -> Result<InfoRmNetFlags, DecodeError>
 /// An attribute of the data of `rmnet`.
 #[derive(Debug, PartialEq, Eq, Drop)]
 pub enum InfoRmNet {
-    /// `IFLA_RMNET_MUX_ID`: the channel of the modem; 2 bytes.
+    /// `IFLA_RMNET_MUX_ID`: the multiplexing channel of the modem; 2 bytes.
     MuxId(u16),
     /// `IFLA_RMNET_FLAGS`: `struct ifla_rmnet_flags`, 8 bytes: the flags, then their mask.
     Flags(InfoRmNetFlags),

@@ -1,5 +1,6 @@
 //! Data of the kinds `veth` and `vxcan` (linux/veth.h, VETH_INFO_*, and linux/can/vxcan.h,
-//! VXCAN_INFO_*). They hold one attribute: what follows it is dropped, and empty data are refused.
+//! VXCAN_INFO_*). They hold one attribute: any bytes after it are dropped, and empty data are
+//! rejected.
 
 ghost use Rattle.std.specs.Prelude.{refl};
 ghost use Rattle.link_info_grammar.specs.Families.{pair};
@@ -11,11 +12,12 @@ use std::alloc::Global;
 
 const VETH_INFO_PEER: u16 = 1;
 
-/// The attribute of the data of `veth` or of `vxcan`, by the number of the kind.
+/// The attribute of the data of `veth` or of `vxcan`; `KIND` is the number of the kind, 0 or 1.
 #[derive(Debug, PartialEq, Eq, Drop)]
 pub enum PairData<const KIND: u16> {
     /// `VETH_INFO_PEER` or `VXCAN_INFO_PEER`: the other end, a link message with its header of 16
-    /// bytes. The bytes are kept as they are; `parse_pair_with` keeps what its rule writes them as.
+    /// bytes. The bytes are kept as they are; `parse_pair_with` keeps the canonical bytes under its
+    /// rule.
     Peer(Vec<u8>),
     /// Any other kind, kept as it is.
     Other(DefaultNla),

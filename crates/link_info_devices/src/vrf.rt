@@ -14,7 +14,7 @@ const IFLA_VRF_TABLE: u16 = 1;
 /// An attribute of the data of `vrf`, as a kind or as a port kind.
 #[derive(Debug, PartialEq, Eq, Drop)]
 pub enum InfoVrf {
-    /// `IFLA_VRF_TABLE`: the number of the routing table; 4 bytes.
+    /// `IFLA_VRF_TABLE`: the identifier of the routing table; 4 bytes.
     TableId(u32),
     /// Any other kind, kept as it is.
     Other(DefaultNla),

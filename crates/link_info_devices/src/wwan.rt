@@ -13,7 +13,7 @@ const IFLA_WWAN_LINK_ID: u16 = 1;
 /// An attribute of the data of `wwan`.
 #[derive(Debug, PartialEq, Eq, Drop)]
 pub enum InfoWwan {
-    /// `IFLA_WWAN_LINK_ID`: the link's number at its modem; 4 bytes.
+    /// `IFLA_WWAN_LINK_ID`: the identifier of the link at its modem; 4 bytes.
     LinkId(u32),
     /// Any other kind, kept as it is.
     Other(DefaultNla),

@@ -1,4 +1,4 @@
--- The tables pass the tests, and are lawful.
+-- The tables pass the checks, and are lawful.
 use Rattle.std.proofs.Common.{refl}
 use Rattle.attribute_tables_grammar.specs.Lists.{any}
 use Rattle.attribute_tables_grammar.specs.LookUps.{link_info_of}
@@ -34,5 +34,5 @@ unlisted_names_hold_bytes = record {
   port_kinds = λ p n h. named-lacks p port_kinds n (lacks_name-unlisted port_kinds port_kind_names n tables_are_listed.1 h);
 }
 
--- what the laws go by
+-- what the laws are proved from
 pub ruleset laws = (tables_pass, info_is_lawful, info_grammar_is_lawful, tables_are_listed, info_is_a_payload, unlisted_names_hold_bytes)

@@ -1,4 +1,4 @@
--- A name that a list lacks holds raw bytes.
+-- The data under a name that isn't listed are raw bytes.
 use Rattle.std.proofs.Common.{◌≡◌, ℕ, Bool, true, false, List, refl, sym, ap, ◌∙◌}
 use Rattle.std.specs.Prelude.{not, bytes_eq}
 use Rattle.std.proofs.lemmas.Bool.{and_parts, and_from}
@@ -23,7 +23,7 @@ other true true f h = absurd cc
 other true false f h = absurd (let e : false ≡ true = f refl in cc)
 other false u f h = refl
 
--- a name that is none of the listed ones has no payload of its own
+-- a name that isn't listed has no payload
 pub lacks_name-unlisted : (ns : Names) (names : List (List ℕ)) (n : List ℕ) → are_listed ns names ≡ true → is_unlisted names n ≡ true → lacks_name n ns ≡ true
 lacks_name-unlisted others names n h u = refl
 lacks_name-unlisted (name m s ns) names n h u =

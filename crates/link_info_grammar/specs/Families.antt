@@ -1,6 +1,6 @@
--- What the data of links of each kind hold, and of ports: IFLA_INFO_DATA and IFLA_INFO_SLAVE_DATA (if_link.h).
--- A table has a row in a line, in the order of its header: the kind, its payload, and the kernel's name of the kind,
--- which `tools/rows.py --check` compares with the name that linkshow prints. A kind without a row is a raw attribute.
+-- The data of links and of ports of each kind: IFLA_INFO_DATA and IFLA_INFO_SLAVE_DATA (if_link.h). A table has one row
+-- in a line, in the order of its header: the kind, its payload, and the kernel's name of the kind, which `tools/rows.py
+-- --check` compares with the name that linkshow prints. A kind without a row is a raw attribute.
 use Rattle.std.specs.Prelude.{ℕ, List, [], ◌∷◌, codes}
 use Rattle.attribute_tables_grammar.specs.Shapes.{Shape, exact, either, at_most, nonzero_byte, one_byte, truth_of_four}
 use Rattle.attribute_tables_grammar.specs.Shapes.{presence, text}
@@ -29,7 +29,7 @@ macvlan_after_addresses =
     9 ↪ exact 4 ⸴  -- IFLA_MACVLAN_BC_CUTOFF
     end
 
--- a list of source addresses, which holds no such list again
+-- a list of source addresses, which holds no list of source addresses itself
 abbrev pub macvlan_address : Table
 macvlan_address = macvlan_before_addresses macvlan_after_addresses
 
@@ -40,7 +40,7 @@ macvlan =
     5 ↠ list any macvlan_address ⸴  -- IFLA_MACVLAN_MACADDR_DATA
     macvlan_after_addresses)
 
--- vrf: IFLA_VRF_*; as a port kind, of which kind 1 is IFLA_VRF_PORT_TABLE, IFLA_VRF_PORT_*
+-- vrf: IFLA_VRF_*; as a port kind IFLA_VRF_PORT_*, with kind 1 as IFLA_VRF_PORT_TABLE
 abbrev pub vrf : Table
 vrf =
     1 ↪ exact 4 ⸴  -- IFLA_VRF_TABLE
@@ -183,7 +183,7 @@ ipoib =
     3 ↪ exact 2 ⸴  -- IFLA_IPOIB_UMCAST
     end
 
--- rmnet: IFLA_RMNET_*, of which kind 2 holds flags and their mask
+-- rmnet: IFLA_RMNET_*; kind 2 holds flags and their mask
 abbrev pub rmnet : Table
 rmnet =
     1 ↪ exact 2 ⸴  -- IFLA_RMNET_MUX_ID
@@ -192,7 +192,7 @@ rmnet =
 
 -- ---- if_tunnel.h
 
--- ipip, sit, ip6tnl: IFLA_IPTUN_*; the kind of link determines the shape of the flags
+-- ipip, sit, ip6tnl: IFLA_IPTUN_*; the kind of the link determines the shape of the flags
 abbrev pub ip_tunnel : Shape → Table
 ip_tunnel flags =
     1 ↪ exact 4 ⸴  -- IFLA_IPTUN_LINK
@@ -217,7 +217,7 @@ ip_tunnel flags =
     20 ↪ exact 4 ⸴  -- IFLA_IPTUN_FWMARK
     end
 
--- IFLA_GRE_*, up to the kinds that depend on what is tunnelled over, with the size of an address
+-- IFLA_GRE_*, up to the kinds that depend on the outer protocol, by the size of its addresses
 abbrev pub gre_ends : ℕ → Table → Table
 gre_ends size more =
     1 ↪ exact 4 ⸴  -- IFLA_GRE_LINK
@@ -231,7 +231,7 @@ gre_ends size more =
     9 ↪ exact 1 ⸴  -- IFLA_GRE_TOS
     more
 
--- IFLA_GRE_*, after the kinds that depend on it
+-- IFLA_GRE_*, after the kinds that depend on the outer protocol
 abbrev pub gre_wrapping : Table
 gre_wrapping =
     14 ↪ exact 2 ⸴  -- IFLA_GRE_ENCAP_TYPE
@@ -246,7 +246,7 @@ gre_wrapping =
     24 ↪ exact 2 ⸴  -- IFLA_GRE_ERSPAN_HWID
     end
 
--- gre, gretap, erspan: IFLA_GRE_* over IPv4, where path MTU discovery is on for the byte 1 alone
+-- gre, gretap, erspan: IFLA_GRE_* over IPv4; path MTU discovery is on only for the byte 1
 abbrev pub gre : Table
 gre =
     gre_ends 4 (
@@ -307,18 +307,18 @@ wwan =
 
 -- ---- other kinds
 
--- bridge, bond and others: a list of raw attributes, for whose kinds there is no row
+-- bridge, bond and others: a list of raw attributes, none of whose kinds has a row
 abbrev pub untyped : Table
 untyped = end
 
 -- ---- kinds and port kinds by name
 
--- several names with one payload, and others after them
+-- several names with one payload, followed by the names in ns
 abbrev pub each_of : Payload → List (List ℕ) → Names → Names
 each_of s [] ns = ns
 each_of s (n ∷ names) ns = name n s (each_of s names ns)
 
--- the data of kinds of links, by the kind's name; those of every other kind are raw bytes
+-- the data of links by the name of their kind; for any other name they are raw bytes
 abbrev pub kinds : Names
 kinds =
     each_of (list any untyped)
@@ -347,7 +347,7 @@ kinds =
     (each_of (list first_alone pair) (codes "veth" ∷ codes "vxcan" ∷ [])
     others)))))))))))))))))))))
 
--- the data of kinds of ports, by the kind's name; those of every other kind are raw bytes
+-- the data of ports by the name of their kind; for any other name they are raw bytes
 abbrev pub port_kinds : Names
 port_kinds =
     each_of (list any untyped) (codes "bond" ∷ codes "bridge" ∷ codes "team" ∷ [])

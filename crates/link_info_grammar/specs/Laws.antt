@@ -9,26 +9,27 @@ use Rattle.link_info_grammar.specs.Families.{kinds, port_kinds}
 use Rattle.link_info_grammar.specs.KindNames.{kind_names, port_kind_names, is_unlisted, are_listed}
 use Rattle.link_info_grammar.specs.LinkInfo.{info_grammar_under, info_rule_under}
 
--- no row is written more than 77 times as long, kinds rise, and no name stands twice
+-- No canonical attribute is more than 77 times as long as the attribute, kinds ascend, and no name occurs twice.
 abbrev pub TablesPass : Type 0
 TablesPass = (form : ListForm) → (payload_bounded (link_info form kinds port_kinds) ≡ true) × (rising (link_info form kinds port_kinds) ≡ true)
 
--- link info is lawful under every lawful rule of peers
+-- Link info is lawful under every lawful rule of peers.
 abbrev pub InfoIsLawful : Type 0
 InfoIsLawful = (p : Peer) → LawfulPeer p → Lawful (info_rule_under p)
 
+-- The rows of link info are lawful under every lawful rule of peers.
 abbrev pub InfoGrammarIsLawful : Type 0
 InfoGrammarIsLawful = (p : Peer) → LawfulPeer p → LawfulGrammar (info_grammar_under p)
 
--- each kind and each port kind that has a table has a listed name
+-- Each kind and each port kind that has a table has a listed name.
 abbrev pub TablesAreListed : Type 0
 TablesAreListed = (are_listed kinds kind_names ≡ true) × (are_listed port_kinds port_kind_names ≡ true)
 
--- link info as a payload is the list of link info
+-- Link info as a payload has the rule of a list of link info.
 abbrev pub InfoIsAPayload : Type 0
 InfoIsAPayload = (p : Peer) → link_info_of p any kinds port_kinds ≡ info_rule_under p
 
--- under a name that is not listed stand raw bytes
+-- Data under a name that isn't listed are raw bytes.
 pub record UnlistedNamesHoldBytes : Type 0 where
   pub kinds : (p : Peer) (n : List ℕ) → is_unlisted kind_names n ≡ true → named p kinds n ≡ raw_rule
   pub port_kinds : (p : Peer) (n : List ℕ) → is_unlisted port_kind_names n ≡ true → named p port_kinds n ≡ raw_rule

@@ -1,10 +1,11 @@
-//! Facts of the tables of link info. No function here makes a call.
+//! Laws of the tables of link info. No function here makes a call.
 #![tactic(auto, using(crate::proofs::Families::laws))]
 
 ghost use Rattle.link_info_grammar.specs.Laws.{TablesPass, InfoIsLawful, InfoGrammarIsLawful, TablesAreListed};
 ghost use Rattle.link_info_grammar.specs.Laws.{InfoIsAPayload, UnlistedNamesHoldBytes};
 
-/// No row is written more than 77 times as long, kinds rise, and no name stands twice.
+/// No canonical attribute is more than 77 times as long as the attribute, kinds ascend, and no name
+/// occurs twice.
 pub fn tables_pass()
     ensures { TablesPass }
 {}
@@ -14,7 +15,7 @@ pub fn info_is_lawful()
     ensures { InfoIsLawful }
 {}
 
-/// The rows of link info are lawful wherever they stand, under every lawful rule of peers.
+/// The rows of link info are lawful in every context, under every lawful rule of peers.
 pub fn info_grammar_is_lawful()
     ensures { InfoGrammarIsLawful }
 {}
@@ -24,12 +25,12 @@ pub fn tables_are_listed()
     ensures { TablesAreListed }
 {}
 
-/// Link info as the payload of an attribute is the list of link info.
+/// Link info as the payload of an attribute has the rule of a list of link info.
 pub fn info_is_a_payload()
     ensures { InfoIsAPayload }
 {}
 
-/// Under a name that isn't listed stand raw bytes.
+/// Data under a name that isn't listed are raw bytes.
 pub fn unlisted_names_hold_bytes()
     ensures { UnlistedNamesHoldBytes }
 {}

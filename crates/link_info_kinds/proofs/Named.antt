@@ -1,4 +1,4 @@
--- Values and their texts: what a text finds has that text, and each kind is what its name finds.
+-- Values and their names: the value found by a name has it, and each kind is found by its name.
 use Rattle.std.proofs.Common.{◌≡◌, ℕ, Bool, true, false, cond, List, [], ◌∷◌, ◌++◌, map, Option, Some, None, refl, sym, ap, ◌∙◌}
 use Rattle.std.specs.List.{list_all}
 use Rattle.std.specs.Prelude.{not, bytes_eq, string_bytes}
@@ -22,7 +22,7 @@ module _ {V : Type 0} (text : V → List ℕ) where
         (ap text e ∙ sym (f refl), ap test e ∙ t)
     found_at false v w n o f t g h = g h
 
-    -- what is found by a text has that text, and what holds of all
+    -- the value found by a name has the name, and the properties that all have
     found : (vs : List V) (n : List ℕ) (w : V) → list_all test vs ≡ true → named_by text vs n ≡ Some w → (text w ≡ n) × (test w ≡ true)
     found [] n w a h = absurd cc
     found (v ∷ vs) n w a h =
@@ -33,7 +33,7 @@ module _ {V : Type 0} (text : V → List ℕ) where
   skip true v o h e = absurd cc
   skip false v o h e = e
 
-  -- a text that no value has finds none
+  -- a name that no value has finds none
   not_found : (vs : List V) (n : List ℕ) → is_unlisted (map text vs) n ≡ true → named_by text vs n ≡ None
   not_found [] n h = refl
   not_found (v ∷ vs) n h =
@@ -48,7 +48,7 @@ module _ {V : Type 0} (text : V → List ℕ) where
   second_at true v o p q f h = absurd cc
   second_at false v o p q f h = f h
 
-  -- what is looked for in two lists is found in the first, or else in the second
+  -- a value looked up in two lists is found in the first, or else in the second
   in_first : (vs ws : List V) (n : List ℕ) (w : V) → named_by text vs n ≡ Some w → named_by text (vs ++ ws) n ≡ Some w
   in_first [] ws n w h = absurd cc
   in_first (v ∷ vs) ws n w h = first_at (bytes_eq n (text v)) v w (named_by text vs n) (named_by text (vs ++ ws) n) (in_first vs ws n w) h
@@ -115,7 +115,7 @@ kind-finds Kind.Pfcp h = refl
 kind-finds Kind.RmNet h = refl
 kind-finds (Kind.Other s) h = not_found info_kind_text listed_kinds (string_bytes s) h
 
--- kinds with one name are one variant, or both `Other`
+-- kinds with one name are the same variant, or both `Other`
 pub names_tell_kinds : NamesTellKinds
 names_tell_kinds k m h i e = sym (kind-finds k h) ∙ ap (named_by info_kind_text listed_kinds) e ∙ kind-finds m i
 

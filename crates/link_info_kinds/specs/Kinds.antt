@@ -7,6 +7,7 @@ use Rattle.link_info_grammar.specs.KindNames.{kind_names, is_unlisted}
 use Rattle.link_info_kinds.specs.declared.info_kind.InfoKind.{InfoKind}
 use Rattle.link_info_kinds.specs.declared.info_kind.InfoKind.TheVariants as Kind
 
+-- The name of a kind.
 abbrev pub info_kind_text : InfoKind → List ℕ
 info_kind_text Kind.Dummy = codes "dummy"
 info_kind_text Kind.Ifb = codes "ifb"
@@ -56,45 +57,47 @@ info_kind_text Kind.Pfcp = codes "pfcp"
 info_kind_text Kind.RmNet = codes "rmnet"
 info_kind_text (Kind.Other s) = string_bytes s
 
--- the kinds that have a name of their own, in two parts
+-- The first half of the variants except `Other`, up to `Vrf`: those that `with_early_name` finds.
 abbrev pub early_kinds : List InfoKind
 early_kinds =
     Kind.Dummy ∷ Kind.Ifb ∷ Kind.Bridge ∷ Kind.Tun ∷ Kind.Nlmon ∷ Kind.Vlan ∷ Kind.Veth ∷ Kind.Vxlan ∷ Kind.Bond ∷ Kind.IpVlan ∷ Kind.IpVtap ∷
     Kind.MacVlan ∷ Kind.MacVtap ∷ Kind.GreTap ∷ Kind.GreTap6 ∷ Kind.IpIp ∷ Kind.Ip6Tnl ∷ Kind.SitTun ∷ Kind.GreTun ∷ Kind.GreTun6 ∷ Kind.Vti ∷
     Kind.Vti6 ∷ Kind.Vrf ∷ []
 
+-- The second half of the variants except `Other`, from `Gtp` on: those that `with_late_name` finds.
 abbrev pub late_kinds : List InfoKind
 late_kinds =
     Kind.Gtp ∷ Kind.Ipoib ∷ Kind.Wireguard ∷ Kind.Xfrm ∷ Kind.MacSec ∷ Kind.Hsr ∷ Kind.Geneve ∷ Kind.Netkit ∷ Kind.Vcan ∷ Kind.Vxcan ∷ Kind.Amt ∷
     Kind.BatAdv ∷ Kind.BareUdp ∷ Kind.Netdevsim ∷ Kind.VirtWifi ∷ Kind.Wwan ∷ Kind.Can ∷ Kind.Dsa ∷ Kind.Team ∷ Kind.ErSpan ∷ Kind.Ip6ErSpan ∷
     Kind.Pfcp ∷ Kind.RmNet ∷ []
 
--- as `kind_names` has their names
+-- The variants except `Other`, in the order of `kind_names`.
 abbrev pub listed_kinds : List InfoKind
 listed_kinds = early_kinds ++ late_kinds
 
--- the kind, where it isn't `Other`
+-- The kind, unless it is `Other`.
 abbrev pub listed_kind : InfoKind → Option InfoKind
 listed_kind (Kind.Other s) = None
 listed_kind k = Some k
 
--- the kind is the one that its text names: no listed name stands in `Other`
+-- The kind is the one of its name: no listed name is in an `Other`.
 abbrev pub info_kind_is_named : InfoKind → Bool
 info_kind_is_named (Kind.Other s) = is_unlisted kind_names (string_bytes s)
 info_kind_is_named _ = true
 
--- the kind that a text names
+-- The kind is the one with this name.
 abbrev pub IsNamedBy : List ℕ → InfoKind → Type 0
 IsNamedBy n k = (info_kind_text k ≡ n) × (info_kind_is_named k ≡ true)
 
+-- The attribute of a kind: IFLA_INFO_KIND with the name and a NUL.
 abbrev pub info_kind_entry : InfoKind → Attribute
 info_kind_entry k = record { kind = 1; payload = info_kind_text k ++ 0 ∷ [] }
 
--- the attribute that some bytes begin with is accepted
+-- The attribute at the start of the bytes is accepted as a kind.
 abbrev pub info_kind_accepted : List ℕ → Bool
 info_kind_accepted b = (proper_kind (viewed_kind b) == 1) && is_text (viewed_payload b)
 
--- it is accepted, and its name is kept, being none of those listed
+-- The attribute is accepted, and its name is allocated, since it isn't listed.
 abbrev pub info_kind_takes_memory : List ℕ → Bool
 info_kind_takes_memory b =
     info_kind_accepted b && is_unlisted kind_names (without_nul (viewed_payload b))

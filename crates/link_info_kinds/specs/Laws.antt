@@ -5,10 +5,11 @@ use Rattle.link_info_kinds.specs.PortKinds.{info_port_kind_text, info_port_kind_
 use Rattle.link_info_kinds.specs.declared.info_kind.InfoKind.{InfoKind}
 use Rattle.link_info_kinds.specs.declared.info_port_kind.InfoPortKind.{InfoPortKind}
 
--- kinds with one name are one variant, or both `Other`
+-- Kinds with one name are the same variant, or both `Other`.
 abbrev pub NamesTellKinds : Type 0
 NamesTellKinds = (k m : InfoKind) → info_kind_is_named k ≡ true → info_kind_is_named m ≡ true → info_kind_text k ≡ info_kind_text m → listed_kind k ≡ listed_kind m
 
+-- Port kinds with one name are the same variant, or both `Other`.
 abbrev pub NamesTellPortKinds : Type 0
 NamesTellPortKinds =
     (k m : InfoPortKind) → info_port_kind_is_named k ≡ true → info_port_kind_is_named m ≡ true → info_port_kind_text k ≡ info_port_kind_text m →

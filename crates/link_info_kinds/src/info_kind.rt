@@ -107,10 +107,11 @@ const PFCP: &str = "pfcp";
 
 const RMNET: &str = "rmnet";
 
-/// The kind of a link. On the wire its name, in UTF-8, and one NUL, which a reader doesn't ask for.
+/// The kind of a link. It is encoded as its name, in UTF-8, and one NUL, which a reader doesn't
+/// require.
 #[derive(Debug, PartialEq, Eq, Drop)]
 pub enum InfoKind {
-    /// A device that drops what it is sent. `dummy`.
+    /// A device that drops everything it is sent. `dummy`.
     Dummy,
     /// An intermediate functional block, which redirects traffic. `ifb`.
     Ifb,
@@ -130,11 +131,11 @@ pub enum InfoKind {
     Bond,
     /// An IPVLAN. `ipvlan`.
     IpVlan,
-    /// An IPVLAN with the interface of a tap. `ipvtap`.
+    /// An IPVLAN with a tap interface. `ipvtap`.
     IpVtap,
     /// A MACVLAN. `macvlan`.
     MacVlan,
-    /// A MACVLAN with the interface of a tap. `macvtap`.
+    /// A MACVLAN with a tap interface. `macvtap`.
     MacVtap,
     /// An Ethernet tunnel in GRE over IPv4. `gretap`.
     GreTap,
@@ -162,7 +163,7 @@ pub enum InfoKind {
     Ipoib,
     /// A WireGuard tunnel. `wireguard`.
     Wireguard,
-    /// An interface of IPsec transformations. `xfrm`.
+    /// An IPsec interface, XFRM. `xfrm`.
     Xfrm,
     /// A MACsec channel. `macsec`.
     MacSec,
@@ -176,7 +177,7 @@ pub enum InfoKind {
     Vcan,
     /// One end of a pair of CAN devices. `vxcan`.
     Vxcan,
-    /// A tunnel of multicast without explicit tunnels. `amt`.
+    /// An automatic multicast tunnel. `amt`.
     Amt,
     /// A mesh of batman-adv. `batadv`.
     BatAdv,
@@ -198,16 +199,21 @@ pub enum InfoKind {
     ErSpan,
     /// A mirrored port in GRE over IPv6. `ip6erspan`.
     Ip6ErSpan,
-    /// A tunnel of the PFCP. `pfcp`.
+    /// A PFCP tunnel. `pfcp`.
     Pfcp,
     /// A multiplexed link of a modem. `rmnet`.
     RmNet,
-    /// Every other name.
+    /// Any other name.
     Other(String),
 }
 
 impl InfoKind {
-    /// The kind of a name. It takes memory for a name that no variant has, and for no other.
+    /// Returns the kind with this name.
+    ///
+    /// # Errors
+    ///
+    /// Out of memory, and no other [`DecodeError`], if the allocation of the name fails; a listed
+    /// name is never allocated.
     pub fn from_name(alloc: Global, name: &str) -> Result<InfoKind, DecodeError>
         ensures text { IfOk result (λ k. info_kind_text k ≡ name.now) }
         ensures named { IfOk result (λ k. info_kind_is_named k ≡ true) }
@@ -220,7 +226,8 @@ impl InfoKind {
         }
     }
 
-    // The variant with this name.
+    // The variant with this name. The match is split in two, since the prover's time for one match
+    // is its paths times the variants of its type.
     fn with_name(name: &str) -> Option<InfoKind>
         ensures { result ≡ named_by info_kind_text listed_kinds name.now }
     {
@@ -294,7 +301,7 @@ impl InfoKind {
         }
     }
 
-    /// The name of the kind.
+    /// Returns the name of the kind.
     pub fn as_str(&self) -> &str
         ensures { result.now ≡ info_kind_text self.now }
     {
@@ -389,7 +396,7 @@ impl<'a> Parseable<NlaBuffer<&'a [u8]>> for InfoKind {
 
     ghost accepts = { λ b. info_kind_accepted (storage b).now };
 
-    // Want of memory hides no refusal.
+    // Out of memory occurs only for an accepted attribute.
     ghost may_want_memory = { λ b. info_kind_takes_memory (storage b).now };
 
     ghost gives = { λ b k. IsNamedBy (without_nul (viewed_payload (storage b).now)) k };

@@ -1,5 +1,4 @@
-//! The kind of a port (if_link.h, IFLA_INFO_SLAVE_KIND): the name of the driver of the link that it
-//! is a port of.
+//! The kind of a port (if_link.h, IFLA_INFO_SLAVE_KIND): the name of its master's driver.
 
 ghost use Rattle.std.specs.Prelude.{◌≡◌, ◌++◌, ◌∷◌, [], true, Some, IfOk, IfErr};
 ghost use Rattle.netlink_packet_core.specs.AttributeViews.{IsAttribute, viewed_payload};
@@ -25,7 +24,8 @@ const VRF: &str = "vrf";
 
 const TEAM: &str = "team";
 
-/// The kind of a port. On the wire its name, in UTF-8, and one NUL, which a reader doesn't ask for.
+/// The kind of a port. It is encoded as its name, in UTF-8, and one NUL, which a reader doesn't
+/// require.
 #[derive(Debug, PartialEq, Eq, Drop)]
 pub enum InfoPortKind {
     /// A port of a bond. `bond`.
@@ -36,12 +36,17 @@ pub enum InfoPortKind {
     Vrf,
     /// A port of a team. `team`.
     Team,
-    /// Every other name.
+    /// Any other name.
     Other(String),
 }
 
 impl InfoPortKind {
-    /// The port kind of a name. It takes memory for a name that no variant has, and for no other.
+    /// Returns the port kind with this name.
+    ///
+    /// # Errors
+    ///
+    /// Out of memory, and no other [`DecodeError`], if the allocation of the name fails; a listed
+    /// name is never allocated.
     pub fn from_name(alloc: Global, name: &str) -> Result<InfoPortKind, DecodeError>
         ensures text { IfOk result (λ k. info_port_kind_text k ≡ name.now) }
         ensures named { IfOk result (λ k. info_port_kind_is_named k ≡ true) }
@@ -67,7 +72,7 @@ impl InfoPortKind {
         }
     }
 
-    /// The name of the port kind.
+    /// Returns the name of the port kind.
     pub fn as_str(&self) -> &str
         ensures { result.now ≡ info_port_kind_text self.now }
     {
@@ -120,7 +125,7 @@ impl<'a> Parseable<NlaBuffer<&'a [u8]>> for InfoPortKind {
 
     ghost accepts = { λ b. info_port_kind_accepted (storage b).now };
 
-    // Want of memory hides no refusal.
+    // Out of memory occurs only for an accepted attribute.
     ghost may_want_memory = { λ b. info_port_kind_takes_memory (storage b).now };
 
     ghost gives = { λ b k. IsPortNamedBy (without_nul (viewed_payload (storage b).now)) k };

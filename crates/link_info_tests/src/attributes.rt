@@ -1,12 +1,12 @@
-//! What the tests of families ask of each of them, through its traits.
+//! The checks of each family of attributes, through its traits.
 
 use netlink_packet_core::{DefaultNla, Family, Nla, NlaBuffer, Parseable};
 use std::alloc::Global;
 
-// An attribute of kind 70, with both flags of a kind. No family names it.
+// An attribute of kind 70, which no family lists, with both flags of a kind.
 const UNNAMED: &[u8] = &[5, 0, 0x46, 0xc0, 1, 0, 0, 0];
 
-/// Whether a value is written as these bytes, 64 at most.
+/// Returns whether a value is written as these bytes, at most 64.
 pub fn is_written_as<T: Nla>(value: &T, bytes: &[u8]) -> bool {
     let mut buffer = [0xffu8; 64];
     let size = value.buffer_len();
@@ -17,7 +17,7 @@ pub fn is_written_as<T: Nla>(value: &T, bytes: &[u8]) -> bool {
     &buffer[..size] == bytes
 }
 
-/// Whether an attribute is read as this value.
+/// Returns whether an attribute is read as this value.
 pub fn is_read_as<F>(alloc: Global, bytes: &[u8], value: &F) -> bool
 where
     F: Family + PartialEq + Drop,
@@ -28,7 +28,7 @@ where
     }
 }
 
-/// Whether an attribute is refused, and not for want of memory.
+/// Returns whether an attribute is rejected, by an error other than out of memory.
 pub fn is_refused<F: Family + Drop>(alloc: Global, bytes: &[u8]) -> bool {
     match NlaBuffer::new_checked(bytes) {
         Ok(buf) => matches!(F::parse(alloc, &buf), Err(error) if !error.is_memory()),
@@ -36,8 +36,8 @@ pub fn is_refused<F: Family + Drop>(alloc: Global, bytes: &[u8]) -> bool {
     }
 }
 
-/// The first attribute that isn't read as its value, or isn't written from it; one that the family
-/// does not name comes last, and has to be kept as it is.
+/// Returns the first attribute that isn't read as its value, or isn't written from it. An attribute
+/// that the family doesn't list comes last, and has to be kept as it is.
 pub fn first_wrong<'a, F>(alloc: Global, cases: &[(&'a [u8], F)]) -> Option<&'a [u8]>
 where
     F: Family + PartialEq + Drop,

@@ -13,7 +13,7 @@ const TEXT: [u8; 12] = [12, 0, 2, 0, 6, 0, 1, 0, b'V', 0, 0, 0];
 
 const RAW: [u8; 12] = [12, 0, 2, 0, 5, 0, 1, 0x80, 7, 0, 0, 0];
 
-// The same of a port.
+// Port data of one attribute, of kind 1, as an attribute of link info.
 const PORT_NUMBER: [u8; 12] = [12, 0, 5, 0, 8, 0, 1, 0, 3, 0, 0, 0];
 
 const PORT_RAW: [u8; 12] = [12, 0, 5, 0, 5, 0, 1, 0x80, 7, 0, 0, 0];
@@ -45,7 +45,7 @@ const DATA: [(&str, [u8; 12]); 23] = [
     ("wireguard", RAW),
 ];
 
-// The same of ports.
+// Port kinds by their names, and data of them that aren't kept as bytes.
 const PORT_DATA: [(&str, [u8; 12]); 4] = [
     ("bond", PORT_RAW),
     ("bridge", PORT_RAW),
@@ -53,7 +53,8 @@ const PORT_DATA: [(&str, [u8; 12]); 4] = [
     ("team", PORT_RAW),
 ];
 
-/// Whether the data in an attribute are written as it, and whether they are kept as bytes; None if they aren't read.
+/// Returns whether the data in an attribute are written back unchanged, and whether they are kept
+/// as bytes; `None` if they aren't read.
 fn data_of(alloc: Global, kind: &InfoKind, bytes: &[u8; 12]) -> Option<(bool, bool)> {
     let data = InfoData::parse_with_param(alloc, &bytes[4..], kind).ok()?;
     Some((
@@ -62,7 +63,7 @@ fn data_of(alloc: Global, kind: &InfoKind, bytes: &[u8; 12]) -> Option<(bool, bo
     ))
 }
 
-/// The same of a port.
+/// Returns the same for port data.
 fn port_data_of(alloc: Global, kind: &InfoPortKind, bytes: &[u8; 12]) -> Option<(bool, bool)> {
     let data = InfoPortData::parse_with_param(alloc, &bytes[4..], kind).ok()?;
     Some((
@@ -96,7 +97,7 @@ fn port_data_are_read_by_their_kind(rt: HostRuntime) -> Result<(), Fail> {
     Ok(())
 }
 
-/// The kind that a name names would refuse these bytes.
+/// The data would be rejected under the listed kind of this name.
 #[test]
 fn a_listed_name_in_other_keeps_bytes(rt: HostRuntime) -> Result<(), Fail> {
     let bytes = [12, 0, 2, 0, 1, 2, 3, 4, 5, 6, 7, 8];

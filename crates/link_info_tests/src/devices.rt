@@ -74,7 +74,7 @@ fn wwan(rt: HostRuntime) {
     assert_eq!(rt; first_wrong(rt.alloc(), cases), None);
 }
 
-/// Every family without a table is the same code.
+/// All families without a table share their code.
 #[test]
 fn raw_attributes(rt: HostRuntime) {
     let cases: &[(&[u8], InfoVlan)] = &[];

@@ -4,13 +4,13 @@ use netlink_packet_core::{NlaBuffer, Parseable};
 use std::alloc::Global;
 use std::test::Fail;
 
-/// Whether a name names a kind that is displayed as the name.
+/// Returns whether a name is that of a kind whose display is the name.
 fn is_named(alloc: Global, name: &str, kind: &InfoKind) -> Result<bool, Fail> {
     let named = InfoKind::from_name(alloc, name)?;
     Ok(named == *kind && format!(in alloc; "{kind}")?.as_str() == name)
 }
 
-/// The same of the kind of a port.
+/// Returns whether a name is that of a port kind whose display is the name.
 fn is_port_named(alloc: Global, name: &str, kind: &InfoPortKind) -> Result<bool, Fail> {
     let named = InfoPortKind::from_name(alloc, name)?;
     Ok(named == *kind && format!(in alloc; "{kind}")?.as_str() == name)

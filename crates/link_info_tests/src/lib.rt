@@ -1,4 +1,4 @@
-// Worked cases of link info, as tests. The wanted values come from outside this project's code.
+// Worked cases of link info, as tests. The expected values come from outside this project's code.
 #![tactic(auto)]
 
 #[cfg(test)]

@@ -3,7 +3,7 @@ use netlink_packet_core::{emit_all, fits_all, len_all};
 use std::alloc::Global;
 use std::test::Fail;
 
-// A link of IPsec, with its data.
+// An XFRM link, with its data.
 const XFRM: &[u8] = b"\x09\0\x01\0xfrm\0\0\0\0\
     \x14\0\x02\0\x08\0\x01\0\x02\0\0\0\x08\0\x02\0\x0a\0\0\0";
 
@@ -13,10 +13,11 @@ const BOND_PORT: &[u8] = b"\x09\0\x04\0bond\0\0\0\0\x04\0\x05\0";
 // Data twice under one kind.
 const XFRM_TWICE: &[u8] = b"\x09\0\x01\0xfrm\0\0\0\0\x04\0\x02\0\x04\0\x02\0";
 
-// A name that ends in two NULs: one is dropped, and what is left isn't listed.
+// A name that ends in two NULs: one is dropped, and the rest isn't listed.
 const UNLISTED: &[u8] = b"\x09\0\x01\0vti\0\0\0\0\0\x06\0\x02\0\xab\xcd\0\0";
 
-// Link info, and what is told of it: a word for each value, and whether it is written as it was read.
+// Link info, and the words that describe it: one for each value, and whether it is written back
+// unchanged.
 const LISTS: [(&[u8], &[&str]); 9] = [
     (b"", &["written again"]),
     (XFRM, &["xfrm", "data of xfrm", "written again"]),
@@ -32,14 +33,14 @@ const LISTS: [(&[u8], &[&str]); 9] = [
     (b"\x04\0\x03\0", &["refused"]),
     // port data before a port kind
     (b"\x04\0\x05\0", &["refused"]),
-    // a port kind is used up
+    // a port kind is no longer in force after its port data
     (
         b"\x09\0\x04\0bond\0\0\0\0\x04\0\x05\0\x04\0\x05\0",
         &["refused"],
     ),
 ];
 
-/// A word for a value.
+/// Returns a word for a value.
 fn word_of(value: &LinkInfo) -> &'static str {
     match value {
         LinkInfo::Kind(InfoKind::Xfrm) => "xfrm",
@@ -52,7 +53,7 @@ fn word_of(value: &LinkInfo) -> &'static str {
     }
 }
 
-/// Whether link info, of 64 bytes at most, is written as these bytes.
+/// Returns whether link info, of at most 64 bytes, is written as these bytes.
 fn is_written_as(list: &[LinkInfo], bytes: &[u8]) -> bool {
     let mut buffer = [0xffu8; 64];
     let size = len_all(list);
@@ -63,7 +64,8 @@ fn is_written_as(list: &[LinkInfo], bytes: &[u8]) -> bool {
     &buffer[..size] == bytes
 }
 
-/// What is told of link info. One function owns the values, since each that does is proved to drop them.
+/// Returns the words that describe link info. One function owns the values, since the prover has to
+/// show for each owner that it drops them.
 fn words_of(alloc: Global, bytes: &[u8]) -> Result<Vec<&'static str>, Fail> {
     let mut words = Vec::new(alloc);
     match LinkInfo::parse_list(alloc, bytes) {

@@ -1,4 +1,4 @@
-//! What the tests of number types and flag sets ask of each of them, through its traits.
+//! The checks of number types and flag sets, through their traits.
 
 use link_info::Flags;
 use netlink_packet_core::DecodeError;
@@ -7,7 +7,7 @@ use std::fmt::Display;
 use std::str::FromStr;
 use std::test::Fail;
 
-/// Whether a number is read as this value, which gives the number back.
+/// Returns whether a number is read as this value, and the value has this number.
 pub fn is_numbered<N, T>(number: N, value: T) -> bool
 where
     N: Copy + PartialEq + From<T>,
@@ -16,12 +16,20 @@ where
     T::from(number) == value && N::from(value) == number
 }
 
-/// Whether a value is displayed as this text.
+/// Returns whether a value is displayed as this text.
+///
+/// # Errors
+///
+/// [`Fail`] if an allocation fails.
 pub fn is_displayed<T: Copy + Display>(alloc: Global, value: T, text: &str) -> Result<bool, Fail> {
     Ok(format!(in alloc; "{value}")?.as_str() == text)
 }
 
-/// Whether a value is displayed as this text, and the text names the value.
+/// Returns whether a value is displayed as this text, and the text names the value.
+///
+/// # Errors
+///
+/// [`Fail`] if an allocation fails.
 pub fn is_named<T>(alloc: Global, value: T, text: &str) -> Result<bool, Fail>
 where
     T: Copy + Display + PartialEq + FromStr<Err = DecodeError>,
@@ -29,7 +37,8 @@ where
     Ok(T::from_str(text) == Ok(value) && is_displayed(alloc, value, text)?)
 }
 
-/// Whether a flag has these bits, another flag has others, and a set keeps the bits of both.
+/// Returns whether a flag has these bits, another flag has others, and a set keeps the bits of
+/// both.
 pub fn are_flags<F>(flag: F, bits: F::Bits, other: F) -> bool
 where
     F: Flags + Copy + PartialEq,

@@ -3,7 +3,7 @@ use attribute_tables::parse_first;
 use link_info::{InfoNetkit, InfoVeth, InfoVxcan, NetkitMode, NetkitPolicy, NetkitScrub};
 use std::test::Fail;
 
-// The other end of a pair: a link message that is its header alone, 16 zeros.
+// The other end of a pair: a link message of only a header, 16 zeros.
 const PEER: &[u8] = &[20, 0, 1, 0, 0, 0, 0, 0, 0, 0, 0, 0, 0, 0, 0, 0, 0, 0, 0, 0];
 
 #[test]

@@ -6,7 +6,7 @@ use netlink_packet_core::{DefaultNla, Nla, NlaBuffer, Parseable};
 use std::alloc::Global;
 use std::test::Fail;
 
-// How deep a list is nested in itself.
+// The depth to which a list is nested in itself.
 const DEPTH: usize = 1000;
 
 #[test]
@@ -49,7 +49,7 @@ fn macvlan(rt: HostRuntime) -> Result<(), Fail> {
     Ok(())
 }
 
-/// A list of source addresses by the attribute's own reader.
+/// A list of source addresses is read by the attribute's reader.
 #[test]
 fn an_attribute_of_macvlan_is_read_alone(rt: HostRuntime) -> Result<(), Fail> {
     let bytes: &[u8] = &[16, 0, 5, 0, 10, 0, 4, 0, 2, 0, 0, 0, 0, 1, 0, 0];
@@ -62,7 +62,7 @@ fn an_attribute_of_macvlan_is_read_alone(rt: HostRuntime) -> Result<(), Fail> {
     Ok(())
 }
 
-/// The one attribute of the one list of addresses in a list, if it is kept as it is.
+/// Returns the only attribute of the only list of addresses in a list, if it is kept as it is.
 fn kept_inside(list: &[InfoMacVlan]) -> Option<&DefaultNla> {
     match list {
         [InfoMacVlan::MacAddrData(inner)] => match inner.as_slice() {
@@ -83,7 +83,7 @@ fn a_list_inside_a_list_is_kept(rt: HostRuntime) -> Result<(), Fail> {
     Ok(())
 }
 
-/// A list in a list, and so on.
+/// Returns a list in a list, and so on.
 fn deep_list(alloc: Global) -> Result<Vec<u8>, Fail> {
     let mut bytes = Vec::new(alloc);
     for depth in 0..DEPTH {

@@ -1,4 +1,4 @@
--- How many bytes a range of ports has.
+-- The length of a range of ports.
 use Rattle.std.proofs.Common.{◌≡◌, ℕ, ◌++◌, length, refl}
 use Rattle.netlink_packet_core_grammar.specs.Numbers.{be2}
 

@@ -10,6 +10,7 @@ use Rattle.netlink_packet_core.specs.Families.{attribute}
 use Rattle.link_info_tunnels.specs.declared.amt.InfoAmt.{InfoAmt}
 use Rattle.link_info_tunnels.specs.declared.amt.InfoAmt.TheVariants.{Mode, RelayPort, GatewayPort, Link, LocalIp, RemoteIp, DiscoveryIp, MaxTunnels, Other}
 
+-- The attribute of a value.
 abbrev pub amt_entry : InfoAmt → Attribute
 amt_entry (Mode m) = attribute 1 (le4 (amt_mode_number m))
 amt_entry (RelayPort n) = attribute 2 (be2 n)
@@ -21,7 +22,7 @@ amt_entry (DiscoveryIp a) = attribute 7 (ip_octets a)
 amt_entry (MaxTunnels n) = attribute 8 (le4 n)
 amt_entry (Other a) = a
 
--- a number that names a mode is read as that mode, and no kind that has a row as another attribute
+-- The value is the variant of its row: a listed mode is no `Other`, and neither is an attribute whose kind has a row.
 abbrev pub amt_names_row : InfoAmt → Type 0
 amt_names_row (Mode m) = m ≡ amt_mode_of (amt_mode_number m)
 amt_names_row (LocalIp a) = HasAddressLength a

@@ -9,6 +9,7 @@ use Rattle.netlink_packet_core.specs.Families.{attribute}
 use Rattle.link_info_tunnels.specs.declared.bareudp.InfoBareUdp.{InfoBareUdp}
 use Rattle.link_info_tunnels.specs.declared.bareudp.InfoBareUdp.TheVariants.{Port, Ethertype, SrcPortMin, MultiprotoMode, Other}
 
+-- The attribute of a value.
 abbrev pub bareudp_entry : InfoBareUdp → Attribute
 bareudp_entry (Port n) = attribute 1 (be2 n)
 bareudp_entry (Ethertype p) = attribute 2 (be2 (ethernet_protocol_number p))
@@ -16,7 +17,8 @@ bareudp_entry (SrcPortMin n) = attribute 3 (le2 n)
 bareudp_entry MultiprotoMode = attribute 4 []
 bareudp_entry (Other a) = a
 
--- a number that names a protocol is read as that protocol, and no kind that has a row as another attribute
+-- The value is the variant of its row: a listed protocol is no `Other`, and neither is an attribute whose kind has a
+-- row.
 abbrev pub bareudp_names_row : InfoBareUdp → Type 0
 bareudp_names_row (Ethertype p) = p ≡ ethernet_protocol_of (ethernet_protocol_number p)
 bareudp_names_row (Other a) = has_no_row bareudp (proper_kind a.kind)

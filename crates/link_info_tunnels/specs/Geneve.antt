@@ -11,6 +11,7 @@ use Rattle.netlink_packet_core.specs.Families.{attribute}
 use Rattle.link_info_tunnels.specs.declared.geneve.InfoGeneve.{InfoGeneve}
 use Rattle.link_info_tunnels.specs.declared.geneve.InfoGeneve.TheVariants.{Id, Remote, Ttl, Tos, Port, CollectMetadata, Remote6, UdpCsum, UdpZeroCsum6Tx, UdpZeroCsum6Rx, Label, TtlInherit, Df, InnerProtoInherit, Local, Local6, Other}
 
+-- The attribute of a value.
 abbrev pub geneve_entry : InfoGeneve → Attribute
 geneve_entry (Id n) = attribute 1 (le4 n)
 geneve_entry (Remote a) = attribute 2 (ipv4_octets a)
@@ -30,7 +31,8 @@ geneve_entry (Local a) = attribute 17 (ipv4_octets a)
 geneve_entry (Local6 a) = attribute 18 (ipv6_octets a)
 geneve_entry (Other a) = a
 
--- a number that names a setting is read as that setting, and no kind that has a row as another attribute
+-- The value is the variant of its row: a listed setting is no `Other`, and neither is an attribute whose kind has a
+-- row.
 abbrev pub geneve_names_row : InfoGeneve → Type 0
 geneve_names_row (Df d) = d ≡ geneve_df_of (geneve_df_number d)
 geneve_names_row (Other a) = has_no_row geneve (proper_kind a.kind)

@@ -10,6 +10,7 @@ use Rattle.netlink_packet_core.specs.Families.{attribute}
 use Rattle.link_info_tunnels.specs.declared.gre6.InfoGre6.{InfoGre6}
 use Rattle.link_info_tunnels.specs.declared.gre6.InfoGre6.TheVariants.{Link, IFlags, OFlags, IKey, OKey, Local, Remote, Ttl, Tos, EncapLimit, FlowLabel, EncapType, EncapFlags, SourcePort, DestinationPort, CollectMetadata, FwMask, ErSpanIndex, ErSpanVer, ErSpanDir, ErSpanHwId, Other}
 
+-- The attribute of a value.
 abbrev pub gre6_entry : InfoGre6 → Attribute
 gre6_entry (Link n) = attribute 1 (le4 n)
 gre6_entry (IFlags f) = attribute 2 (be2 (gre_io_flags_bits f))
@@ -34,7 +35,8 @@ gre6_entry (ErSpanDir d) = attribute 23 (er_span_dir_number d ∷ [])
 gre6_entry (ErSpanHwId n) = attribute 24 (le2 n)
 gre6_entry (Other a) = a
 
--- a number that names an encapsulation or a direction is read as that one, and no kind that has a row as another attribute
+-- The value is the variant of its row: a listed encapsulation or direction is no `Other`, and neither is an attribute
+-- whose kind has a row.
 abbrev pub gre6_names_row : InfoGre6 → Type 0
 gre6_names_row (EncapType t) = t ≡ gre_encap_type_of (gre_encap_type_number t)
 gre6_names_row (ErSpanDir d) = d ≡ er_span_dir_of (er_span_dir_number d)

@@ -11,6 +11,7 @@ use Rattle.netlink_packet_core.specs.Families.{attribute}
 use Rattle.link_info_tunnels.specs.declared.gtp.InfoGtp.{InfoGtp}
 use Rattle.link_info_tunnels.specs.declared.gtp.InfoGtp.TheVariants.{Fd0, Fd1, PdpHashsize, Role, CreateSockets, RestartCount, Local, Local6, Other}
 
+-- The attribute of a value.
 abbrev pub gtp_entry : InfoGtp → Attribute
 gtp_entry (Fd0 n) = attribute 1 (le4 n)
 gtp_entry (Fd1 n) = attribute 2 (le4 n)
@@ -22,7 +23,7 @@ gtp_entry (Local a) = attribute 7 (ipv4_octets a)
 gtp_entry (Local6 a) = attribute 8 (ipv6_octets a)
 gtp_entry (Other a) = a
 
--- a number that names a role is read as that role, and no kind that has a row as another attribute
+-- The value is the variant of its row: a listed role is no `Other`, and neither is an attribute whose kind has a row.
 abbrev pub gtp_names_row : InfoGtp → Type 0
 gtp_names_row (Role r) = r ≡ gtp_role_of (gtp_role_number r)
 gtp_names_row (Other a) = has_no_row gtp (proper_kind a.kind)

@@ -1,4 +1,4 @@
--- The data of ipip, ip6tnl and sit: the kind and the payload of each value, and what each kind of links tells of its flags.
+-- The data of ipip, ip6tnl and sit: the kind and the payload of each value, and the flags by the kind of the link.
 use Rattle.std.specs.Prelude.{◌≡◌, ◌∷◌, [], ℕ, Bool, List}
 use Rattle.std.specs.Net.Addr.{ipv4_octets, ipv6_octets}
 use Rattle.netlink_packet_core.specs.Addresses.{ip_octets, HasAddressLength}
@@ -21,25 +21,26 @@ use Rattle.link_info_types.specs.IpTunnelTypes.{ip6_tunnel_flags_bits, tunnel_en
 use Rattle.link_info_tunnels.specs.declared.iptunnel.InfoIpTunnel.{InfoIpTunnel}
 use Rattle.link_info_tunnels.specs.declared.iptunnel.InfoIpTunnel.TheVariants.{Link, Local, Remote, Ttl, Tos, EncapLimit, FlowInfo, Ipv4Flags, Ipv6SitFlags, Ipv6Flags, Protocol, PMtuDisc, Ipv6RdPrefix, Ipv6RdRelayPrefix, Ipv6RdPrefixLen, Ipv6RdRelayPrefixLen, EncapType, EncapFlags, EncapSPort, EncapDPort, CollectMetadata, FwMark, Other}
 
--- what the flags hold under a kind of links; no other kind has any
+-- The shape of the flags under a kind of link; other kinds have none.
 abbrev pub tunnel_flags : InfoKind → Shape
 tunnel_flags Kind.IpIp = exact 2
 tunnel_flags Kind.SitTun = exact 2
 tunnel_flags Kind.Ip6Tnl = exact 4
 tunnel_flags _ = never
 
--- the table under a kind of links
+-- The table under a kind of link.
 unfoldable pub ip_tunnel_of : InfoKind → Table
 ip_tunnel_of k = ip_tunnel (tunnel_flags k)
 
--- the rule of a list of them
+-- The rule of a list of these data.
 abbrev pub ip_tunnel_rule : InfoKind → Rule
 ip_tunnel_rule k = list_of bytes_peer any (ip_tunnel (tunnel_flags k))
 
--- the first attribute of a list of them is accepted
+-- The first attribute of a list of these data is accepted.
 abbrev pub ip_tunnel_begins_accepted : InfoKind → List ℕ → Bool
 ip_tunnel_begins_accepted k b = begins_accepted (family_row (ip_tunnel (tunnel_flags k))) b
 
+-- The attribute of a value.
 abbrev pub ip_tunnel_entry : InfoIpTunnel → Attribute
 ip_tunnel_entry (Link n) = attribute 1 (le4 n)
 ip_tunnel_entry (Local a) = attribute 2 (ip_octets a)
@@ -65,8 +66,8 @@ ip_tunnel_entry CollectMetadata = attribute 19 []
 ip_tunnel_entry (FwMark n) = attribute 20 (le4 n)
 ip_tunnel_entry (Other a) = a
 
--- flags are those of the kind, a number that names a protocol or an encapsulation is read as that one, and no kind that has a row as another
--- attribute
+-- The value is the variant of its row: flags are those of the kind of link, a listed protocol or encapsulation is no
+-- `Other`, and neither is an attribute whose kind has a row.
 abbrev pub ip_tunnel_names_row : InfoKind → InfoIpTunnel → Type 0
 ip_tunnel_names_row k (Local a) = HasAddressLength a
 ip_tunnel_names_row k (Remote a) = HasAddressLength a

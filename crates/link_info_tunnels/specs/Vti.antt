@@ -1,4 +1,4 @@
--- The data of vti: the kind and the payload of each value.
+-- The data of vti and vti6: the kind and the payload of each value.
 use Rattle.netlink_packet_core.specs.Attributes.{Attribute, proper_kind}
 use Rattle.netlink_packet_core.specs.Numbers.{be4, le4}
 use Rattle.netlink_packet_core.specs.Addresses.{ip_octets, HasAddressLength}
@@ -8,6 +8,7 @@ use Rattle.netlink_packet_core.specs.Families.{attribute}
 use Rattle.link_info_tunnels.specs.declared.vti.InfoVti.{InfoVti}
 use Rattle.link_info_tunnels.specs.declared.vti.InfoVti.TheVariants.{Link, IKey, OKey, Local, Remote, FwMark, Other}
 
+-- The attribute of a value.
 abbrev pub vti_entry : InfoVti → Attribute
 vti_entry (Link n) = attribute 1 (le4 n)
 vti_entry (IKey n) = attribute 2 (be4 n)
@@ -17,7 +18,7 @@ vti_entry (Remote a) = attribute 5 (ip_octets a)
 vti_entry (FwMark n) = attribute 6 (le4 n)
 vti_entry (Other a) = a
 
--- no kind that has a row is read as another attribute
+-- The value is the variant of its row: an attribute whose kind has a row is no `Other`.
 abbrev pub vti_names_row : InfoVti → Type 0
 vti_names_row (Local a) = HasAddressLength a
 vti_names_row (Remote a) = HasAddressLength a

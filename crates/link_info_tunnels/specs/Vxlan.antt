@@ -11,6 +11,7 @@ use Rattle.netlink_packet_core.specs.Families.{attribute}
 use Rattle.link_info_tunnels.specs.declared.vxlan.InfoVxlan.{InfoVxlan}
 use Rattle.link_info_tunnels.specs.declared.vxlan.InfoVxlan.TheVariants.{Id, Group, Link, Local, Ttl, Tos, Learning, Ageing, Limit, PortRange, Proxy, Rsc, L2Miss, L3Miss, Port, Group6, Local6, UDPCsum, UDPZeroCsumTX, UDPZeroCsumRX, RemCsumTX, RemCsumRX, Gbp, RemCsumNoPartial, CollectMetadata, Label, Gpe, TtlInheritFlag, TtlInherit, Df, Vnifilter, Localbypass, LabelPolicy, ReservedBits, McRoute, Other}
 
+-- The attribute of a value.
 abbrev pub vxlan_entry : InfoVxlan → Attribute
 vxlan_entry (Id n) = attribute 1 (le4 n)
 vxlan_entry (Group a) = attribute 2 (ipv4_octets a)
@@ -49,7 +50,8 @@ vxlan_entry (ReservedBits n) = attribute 33 (be8 n)
 vxlan_entry (McRoute b) = attribute 34 (truth_byte b)
 vxlan_entry (Other a) = a
 
--- a number that names a setting is read as that setting, and no kind that has a row as another attribute
+-- The value is the variant of its row: a listed setting is no `Other`, and neither is an attribute whose kind has a
+-- row.
 abbrev pub vxlan_names_row : InfoVxlan → Type 0
 vxlan_names_row (Df d) = d ≡ vxlan_df_of (vxlan_df_number d)
 vxlan_names_row (Other a) = has_no_row vxlan (proper_kind a.kind)

@@ -7,12 +7,13 @@ use Rattle.netlink_packet_core.specs.Families.{attribute}
 use Rattle.link_info_tunnels.specs.declared.xfrm.InfoXfrm.{InfoXfrm}
 use Rattle.link_info_tunnels.specs.declared.xfrm.InfoXfrm.TheVariants.{Link, IfId, Other}
 
+-- The attribute of a value.
 abbrev pub xfrm_entry : InfoXfrm → Attribute
 xfrm_entry (Link n) = attribute 1 (le4 n)
 xfrm_entry (IfId n) = attribute 2 (le4 n)
 xfrm_entry (Other a) = a
 
--- no kind that has a row is read as another attribute
+-- The value is the variant of its row: an attribute whose kind has a row is no `Other`.
 abbrev pub xfrm_names_row : InfoXfrm → Type 0
 xfrm_names_row (Other a) = has_no_row xfrm (proper_kind a.kind)
 xfrm_names_row _ = Unit {0}

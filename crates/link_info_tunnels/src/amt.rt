@@ -1,4 +1,4 @@
-//! Data of the kind `amt` (if_link.h, IFLA_AMT_*). Numbers are little-endian unless told.
+//! Data of the kind `amt` (if_link.h, IFLA_AMT_*). Numbers are little-endian unless noted.
 
 ghost use Rattle.std.specs.Prelude.{refl, IfNone, IfSome, ◌≡◌, ◌≢◌};
 ghost use Rattle.netlink_packet_core.specs.Addresses.{ip_octets, HasAddressLength};
@@ -34,21 +34,21 @@ const IFLA_AMT_MAX_TUNNELS: u16 = 8;
 /// An attribute of the data of `amt`: automatic multicast tunneling (RFC 7450).
 #[derive(Debug, PartialEq, Eq, Drop)]
 pub enum InfoAmt {
-    /// `IFLA_AMT_MODE`: which end of the tunnel the link is; 4 bytes.
+    /// `IFLA_AMT_MODE`: the end of the tunnel, gateway or relay; 4 bytes.
     Mode(AmtMode),
     /// `IFLA_AMT_RELAY_PORT`: the UDP port of the relay; 2 bytes, big-endian.
     RelayPort(u16),
     /// `IFLA_AMT_GATEWAY_PORT`: the UDP port of the gateway; 2 bytes, big-endian.
     GatewayPort(u16),
-    /// `IFLA_AMT_LINK`: the index of the link below; 4 bytes.
+    /// `IFLA_AMT_LINK`: the index of the underlying link; 4 bytes.
     Link(u32),
-    /// `IFLA_AMT_LOCAL_IP`: the link's own address; 4 or 16 bytes.
+    /// `IFLA_AMT_LOCAL_IP`: the local address; 4 or 16 bytes.
     LocalIp(IpAddr),
     /// `IFLA_AMT_REMOTE_IP`: the relay's address; 4 or 16 bytes.
     RemoteIp(IpAddr),
-    /// `IFLA_AMT_DISCOVERY_IP`: where relays are looked for; 4 or 16 bytes.
+    /// `IFLA_AMT_DISCOVERY_IP`: the address used to discover relays; 4 or 16 bytes.
     DiscoveryIp(IpAddr),
-    /// `IFLA_AMT_MAX_TUNNELS`: how many tunnels a relay serves at most; 4 bytes.
+    /// `IFLA_AMT_MAX_TUNNELS`: the maximum number of tunnels of a relay; 4 bytes.
     MaxTunnels(u32),
     /// Any other kind, kept as it is.
     Other(DefaultNla),
@@ -73,7 +73,9 @@ impl FieldNla for InfoAmt {
 }
 
 impl InfoAmt {
-    // The attribute of a kind that holds 4 bytes, little-endian.
+    // The attribute of a kind that holds 4 bytes, little-endian. Each payload type has a function
+    // of its own, since the prover's time for one match is its paths times the variants of its
+    // type.
     fn of_u32(kind: u16, number: u32) -> Option<Self>
         ensures value { IfSome result (λ v. amt_entry v ≡ attribute kind (le4 number)) }
         ensures names_row { IfSome result (λ v. amt_names_row v) }

@@ -1,4 +1,4 @@
-//! Data of the kind `bareudp` (if_link.h, IFLA_BAREUDP_*). Numbers are little-endian unless told.
+//! Data of the kind `bareudp` (if_link.h, IFLA_BAREUDP_*). Numbers are little-endian unless noted.
 
 ghost use Rattle.std.specs.Prelude.{refl};
 ghost use Rattle.link_info_grammar.specs.Families.{bareudp};
@@ -22,14 +22,14 @@ const IFLA_BAREUDP_MULTIPROTO_MODE: u16 = 4;
 /// An attribute of the data of `bareudp`.
 #[derive(Debug, PartialEq, Eq, Drop)]
 pub enum InfoBareUdp {
-    /// `IFLA_BAREUDP_PORT`: the UDP port that packets are sent to; 2 bytes, big-endian.
+    /// `IFLA_BAREUDP_PORT`: the destination UDP port; 2 bytes, big-endian.
     Port(u16),
-    /// `IFLA_BAREUDP_ETHERTYPE`: the protocol that is carried; 2 bytes, big-endian.
+    /// `IFLA_BAREUDP_ETHERTYPE`: the encapsulated protocol; 2 bytes, big-endian.
     Ethertype(EthernetProtocol),
-    /// `IFLA_BAREUDP_SRCPORT_MIN`: the least UDP port that packets come from; 2 bytes.
+    /// `IFLA_BAREUDP_SRCPORT_MIN`: the lowest source UDP port; 2 bytes.
     SrcPortMin(u16),
-    /// `IFLA_BAREUDP_MULTIPROTO_MODE`: protocols akin to the carried one are carried too. Being
-    /// there is all that counts: any payload is read, and none is written.
+    /// `IFLA_BAREUDP_MULTIPROTO_MODE`: protocols akin to the encapsulated one are carried too. A
+    /// flag set by presence: any payload is accepted, and none is written.
     MultiprotoMode,
     /// Any other kind, kept as it is.
     Other(DefaultNla),

@@ -1,4 +1,5 @@
-//! Data of the kind `geneve` (if_link.h, IFLA_GENEVE_*). Numbers are little-endian unless told; a truth is 1 byte, zero or not.
+//! Data of the kind `geneve` (if_link.h, IFLA_GENEVE_*). Numbers are little-endian unless noted; a
+//! boolean is 1 byte, false if and only if it is 0.
 
 ghost use Rattle.std.specs.Prelude.{refl, IfNone, IfSome, [], ◌∷◌, ◌≡◌, ◌≢◌};
 ghost use Rattle.std.specs.Net.Addr.{ipv4_octets, ipv6_octets};
@@ -51,39 +52,40 @@ const IFLA_GENEVE_LOCAL6: u16 = 18;
 /// An attribute of the data of `geneve`: generic network virtualization (RFC 8926).
 #[derive(Debug, PartialEq, Eq, Drop)]
 pub enum InfoGeneve {
-    /// `IFLA_GENEVE_ID`: the number of the virtual network; 4 bytes.
+    /// `IFLA_GENEVE_ID`: the virtual network identifier (VNI); 4 bytes.
     Id(u32),
-    /// `IFLA_GENEVE_REMOTE`: the other end; 4 bytes.
+    /// `IFLA_GENEVE_REMOTE`: the address of the remote end; 4 bytes.
     Remote(Ipv4Addr),
-    /// `IFLA_GENEVE_REMOTE6`: the other end; 16 bytes.
+    /// `IFLA_GENEVE_REMOTE6`: the address of the remote end; 16 bytes.
     Remote6(Ipv6Addr),
-    /// `IFLA_GENEVE_LOCAL`: the link's own address; 4 bytes.
+    /// `IFLA_GENEVE_LOCAL`: the local address; 4 bytes.
     Local(Ipv4Addr),
-    /// `IFLA_GENEVE_LOCAL6`: the link's own address; 16 bytes.
+    /// `IFLA_GENEVE_LOCAL6`: the local address; 16 bytes.
     Local6(Ipv6Addr),
     /// `IFLA_GENEVE_TTL`: the hop limit of outer packets; 1 byte.
     Ttl(u8),
     /// `IFLA_GENEVE_TOS`: the type of service of outer packets; 1 byte.
     Tos(u8),
-    /// `IFLA_GENEVE_PORT`: the UDP port of the other end; 2 bytes, big-endian.
+    /// `IFLA_GENEVE_PORT`: the destination UDP port; 2 bytes, big-endian.
     Port(u16),
-    /// `IFLA_GENEVE_COLLECT_METADATA`: each packet's own settings count. Being there is all that
-    /// counts: any payload is read, and none is written.
+    /// `IFLA_GENEVE_COLLECT_METADATA`: collect metadata mode, in which the tunnel's parameters are
+    /// taken from each packet. A flag set by presence: any payload is accepted, and none is
+    /// written.
     CollectMetadata,
     /// `IFLA_GENEVE_UDP_CSUM`: outer IPv4 packets have UDP checksums.
     UdpCsum(bool),
     /// `IFLA_GENEVE_UDP_ZERO_CSUM6_TX`: outer IPv6 packets are sent without UDP checksums.
     UdpZeroCsum6Tx(bool),
-    /// `IFLA_GENEVE_UDP_ZERO_CSUM6_RX`: outer IPv6 packets without UDP checksums are taken.
+    /// `IFLA_GENEVE_UDP_ZERO_CSUM6_RX`: outer IPv6 packets without UDP checksums are accepted.
     UdpZeroCsum6Rx(bool),
     /// `IFLA_GENEVE_LABEL`: the flow label of outer IPv6 packets; 4 bytes, big-endian.
     Label(u32),
-    /// `IFLA_GENEVE_TTL_INHERIT`: the hop limit is that of the inner packet.
+    /// `IFLA_GENEVE_TTL_INHERIT`: the hop limit is copied from the inner packet.
     TtlInherit(bool),
     /// `IFLA_GENEVE_DF`: the "don't fragment" bit of outer IPv4 packets; 1 byte.
     Df(GeneveDf),
-    /// `IFLA_GENEVE_INNER_PROTO_INHERIT`: inner packets have no Ethernet header. Any payload is
-    /// read, and none is written.
+    /// `IFLA_GENEVE_INNER_PROTO_INHERIT`: inner packets have no Ethernet header. A flag set by
+    /// presence: any payload is accepted, and none is written.
     InnerProtoInherit,
     /// Any other kind, kept as it is.
     Other(DefaultNla),
@@ -116,7 +118,8 @@ impl FieldNla for InfoGeneve {
 }
 
 impl InfoGeneve {
-    // The attribute of a kind that holds an address of IPv4.
+    // The attribute of a kind that holds an IPv4 address. Each payload type has a function of its
+    // own, since the prover's time for one match is its paths times the variants of its type.
     fn of_ipv4(kind: u16, address: Ipv4Addr) -> Option<Self>
         ensures value { IfSome result (λ v. geneve_entry v ≡ attribute kind (ipv4_octets address)) }
         ensures names_row { IfSome result (λ v. geneve_names_row v) }
@@ -143,7 +146,7 @@ impl InfoGeneve {
         }
     }
 
-    // The attribute of a kind that holds an address of IPv6.
+    // The attribute of a kind that holds an IPv6 address.
     fn of_ipv6(kind: u16, address: Ipv6Addr) -> Option<Self>
         ensures value { IfSome result (λ v. geneve_entry v ≡ attribute kind (ipv6_octets address)) }
         ensures names_row { IfSome result (λ v. geneve_names_row v) }
@@ -156,7 +159,7 @@ impl InfoGeneve {
         }
     }
 
-    // The attribute of a kind that holds a truth.
+    // The attribute of a kind that holds a boolean.
     fn of_truth(kind: u16, truth: bool) -> Option<Self>
         ensures value { IfSome result (λ v. geneve_entry v ≡ attribute kind (truth_byte truth)) }
         ensures names_row { IfSome result (λ v. geneve_names_row v) }

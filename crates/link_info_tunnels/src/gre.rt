@@ -1,5 +1,5 @@
-//! Data of the kinds `gre`, `gretap` and `erspan` (if_tunnel.h, IFLA_GRE_*). Numbers
-//! are little-endian unless told.
+//! Data of the kinds `gre`, `gretap` and `erspan` (if_tunnel.h, IFLA_GRE_*). Numbers are
+//! little-endian unless noted.
 
 ghost use Rattle.std.specs.Prelude.{refl, IfNone, IfSome, [], ◌∷◌, ◌≡◌, ◌≢◌};
 ghost use Rattle.std.specs.Net.Addr.{ipv4_octets};
@@ -24,51 +24,52 @@ use netlink_packet_core::{
 use std::alloc::Global;
 use std::net::Ipv4Addr;
 
-/// An attribute of the data of `gre`, `gretap` and `erspan`: generic routing encapsulation
-/// over IPv4, also of mirrored frames.
+/// An attribute of the data of `gre`, `gretap` and `erspan`: generic routing encapsulation over
+/// IPv4, and ERSPAN, which mirrors frames.
 #[derive(Debug, PartialEq, Eq, Drop)]
 pub enum InfoGre {
-    /// `IFLA_GRE_LINK`: the index of the link below; 4 bytes.
+    /// `IFLA_GRE_LINK`: the index of the underlying link; 4 bytes.
     Link(u32),
-    /// `IFLA_GRE_IFLAGS`: what the headers of packets that come in hold; 2 bytes, big-endian, of
-    /// which every bit is kept.
+    /// `IFLA_GRE_IFLAGS`: the fields in the GRE headers of received packets; 2 bytes, big-endian,
+    /// of which every bit is kept.
     IFlags(GreIOFlags),
-    /// `IFLA_GRE_OFLAGS`: what the headers of packets that go out hold; 2 bytes, big-endian, of
+    /// `IFLA_GRE_OFLAGS`: the fields in the GRE headers of sent packets; 2 bytes, big-endian, of
     /// which every bit is kept.
     OFlags(GreIOFlags),
-    /// `IFLA_GRE_IKEY`: the key of packets that come in; 4 bytes, big-endian.
+    /// `IFLA_GRE_IKEY`: the key of received packets; 4 bytes, big-endian.
     IKey(u32),
-    /// `IFLA_GRE_OKEY`: the key of packets that go out; 4 bytes, big-endian.
+    /// `IFLA_GRE_OKEY`: the key of sent packets; 4 bytes, big-endian.
     OKey(u32),
-    /// `IFLA_GRE_LOCAL`: the address of this end of the tunnel; 4 bytes.
+    /// `IFLA_GRE_LOCAL`: the local address of the tunnel; 4 bytes.
     Local(Ipv4Addr),
-    /// `IFLA_GRE_REMOTE`: the address of the other end of the tunnel; 4 bytes.
+    /// `IFLA_GRE_REMOTE`: the remote address of the tunnel; 4 bytes.
     Remote(Ipv4Addr),
     /// `IFLA_GRE_TTL`: the hop limit of outer packets; 1 byte.
     Ttl(u8),
     /// `IFLA_GRE_TOS`: the type of service of outer packets; 1 byte.
     Tos(u8),
-    /// `IFLA_GRE_PMTUDISC`: the MTU of the path is found out; 1 byte, of which 1 alone is true.
+    /// `IFLA_GRE_PMTUDISC`: path MTU discovery; 1 byte, true if and only if it is 1.
     PathMTUDiscovery(bool),
-    /// `IFLA_GRE_ENCAP_TYPE`: what packets are wrapped in; 2 bytes.
+    /// `IFLA_GRE_ENCAP_TYPE`: the encapsulation; 2 bytes.
     EncapType(GreEncapType),
-    /// `IFLA_GRE_ENCAP_FLAGS`: what the outer UDP header holds; 2 bytes, of which every bit is
-    /// kept.
+    /// `IFLA_GRE_ENCAP_FLAGS`: the checksums in the outer UDP header; 2 bytes, of which every bit
+    /// is kept.
     EncapFlags(GreEncapFlags),
-    /// `IFLA_GRE_ENCAP_SPORT`: the UDP port that packets come from; 2 bytes, big-endian.
+    /// `IFLA_GRE_ENCAP_SPORT`: the source UDP port; 2 bytes, big-endian.
     SourcePort(u16),
-    /// `IFLA_GRE_ENCAP_DPORT`: the UDP port that packets go to; 2 bytes, big-endian.
+    /// `IFLA_GRE_ENCAP_DPORT`: the destination UDP port; 2 bytes, big-endian.
     DestinationPort(u16),
-    /// `IFLA_GRE_COLLECT_METADATA`: each packet's own settings count. Any payload is read, and none
-    /// is written.
+    /// `IFLA_GRE_COLLECT_METADATA`: collect metadata mode, in which the tunnel's parameters are
+    /// taken from each packet. A flag set by presence: any payload is accepted, and none is
+    /// written.
     CollectMetadata,
-    /// `IFLA_GRE_FWMARK`: the firewall's mark; 4 bytes.
+    /// `IFLA_GRE_FWMARK`: the firewall mark; 4 bytes.
     FwMask(u32),
-    /// `IFLA_GRE_ERSPAN_INDEX`: the number of the mirrored port, in version 1 of ERSPAN; 4 bytes.
+    /// `IFLA_GRE_ERSPAN_INDEX`: the index of the mirrored port, in version 1 of ERSPAN; 4 bytes.
     ErSpanIndex(u32),
     /// `IFLA_GRE_ERSPAN_VER`: the version of ERSPAN; 1 byte.
     ErSpanVer(u8),
-    /// `IFLA_GRE_ERSPAN_DIR`: which frames are mirrored, in version 2 of ERSPAN; 1 byte.
+    /// `IFLA_GRE_ERSPAN_DIR`: the direction of mirrored frames, in version 2 of ERSPAN; 1 byte.
     ErSpanDir(ErSpanDir),
     /// `IFLA_GRE_ERSPAN_HWID`: the number of the mirroring engine, in version 2 of ERSPAN; 2
     /// bytes.
@@ -111,7 +112,9 @@ impl FieldNla for InfoGre {
 }
 
 impl InfoGre {
-    // The attribute of a kind that holds 4 bytes, little-endian.
+    // The attribute of a kind that holds 4 bytes, little-endian. Each payload type has a function
+    // of its own, since the prover's time for one match is its paths times the variants of its
+    // type.
     fn of_u32(kind: u16, number: u32) -> Option<Self>
         ensures value { IfSome result (λ v. gre_entry v ≡ attribute kind (le4 number)) }
         ensures names_row { IfSome result (λ v. gre_names_row v) }
@@ -153,7 +156,7 @@ impl InfoGre {
         }
     }
 
-    // The attribute of a kind that holds an address of IPv4.
+    // The attribute of a kind that holds an IPv4 address.
     fn of_ipv4(kind: u16, address: Ipv4Addr) -> Option<Self>
         ensures value { IfSome result (λ v. gre_entry v ≡ attribute kind (ipv4_octets address)) }
         ensures names_row { IfSome result (λ v. gre_names_row v) }

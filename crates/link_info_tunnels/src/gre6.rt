@@ -1,5 +1,5 @@
-//! Data of the kinds `ip6gre`, `ip6gretap` and `ip6erspan` (if_tunnel.h, IFLA_GRE_*). Numbers
-//! are little-endian unless told.
+//! Data of the kinds `ip6gre`, `ip6gretap` and `ip6erspan` (if_tunnel.h, IFLA_GRE_*). Numbers are
+//! little-endian unless noted.
 
 ghost use Rattle.std.specs.Prelude.{refl, IfNone, IfSome, [], ◌∷◌, ◌≡◌, ◌≢◌};
 ghost use Rattle.std.specs.Net.Addr.{ipv6_octets};
@@ -24,53 +24,55 @@ use netlink_packet_core::{
 use std::alloc::Global;
 use std::net::Ipv6Addr;
 
-/// An attribute of the data of `ip6gre`, `ip6gretap` and `ip6erspan`: generic routing
-/// encapsulation over IPv6, also of mirrored frames.
+/// An attribute of the data of `ip6gre`, `ip6gretap` and `ip6erspan`: generic routing encapsulation
+/// over IPv6, and ERSPAN, which mirrors frames.
 #[derive(Debug, PartialEq, Eq, Drop)]
 pub enum InfoGre6 {
-    /// `IFLA_GRE_LINK`: the index of the link below; 4 bytes.
+    /// `IFLA_GRE_LINK`: the index of the underlying link; 4 bytes.
     Link(u32),
-    /// `IFLA_GRE_IFLAGS`: what the headers of packets that come in hold; 2 bytes, big-endian, of
-    /// which every bit is kept.
+    /// `IFLA_GRE_IFLAGS`: the fields in the GRE headers of received packets; 2 bytes, big-endian,
+    /// of which every bit is kept.
     IFlags(GreIOFlags),
-    /// `IFLA_GRE_OFLAGS`: what the headers of packets that go out hold; 2 bytes, big-endian, of
+    /// `IFLA_GRE_OFLAGS`: the fields in the GRE headers of sent packets; 2 bytes, big-endian, of
     /// which every bit is kept.
     OFlags(GreIOFlags),
-    /// `IFLA_GRE_IKEY`: the key of packets that come in; 4 bytes, big-endian.
+    /// `IFLA_GRE_IKEY`: the key of received packets; 4 bytes, big-endian.
     IKey(u32),
-    /// `IFLA_GRE_OKEY`: the key of packets that go out; 4 bytes, big-endian.
+    /// `IFLA_GRE_OKEY`: the key of sent packets; 4 bytes, big-endian.
     OKey(u32),
-    /// `IFLA_GRE_LOCAL`: the address of this end of the tunnel; 16 bytes.
+    /// `IFLA_GRE_LOCAL`: the local address of the tunnel; 16 bytes.
     Local(Ipv6Addr),
-    /// `IFLA_GRE_REMOTE`: the address of the other end of the tunnel; 16 bytes.
+    /// `IFLA_GRE_REMOTE`: the remote address of the tunnel; 16 bytes.
     Remote(Ipv6Addr),
     /// `IFLA_GRE_TTL`: the hop limit of outer packets; 1 byte.
     Ttl(u8),
-    /// `IFLA_GRE_ENCAP_LIMIT`: how many more tunnels may be entered; 1 byte.
+    /// `IFLA_GRE_ENCAP_LIMIT`: the tunnel encapsulation limit, how many more tunnels a packet may
+    /// enter; 1 byte.
     EncapLimit(u8),
     /// `IFLA_GRE_FLOWINFO`: the flow label of outer packets; 4 bytes, big-endian.
     FlowLabel(u32),
-    /// `IFLA_GRE_ENCAP_TYPE`: what packets are wrapped in; 2 bytes.
+    /// `IFLA_GRE_ENCAP_TYPE`: the encapsulation; 2 bytes.
     EncapType(GreEncapType),
-    /// `IFLA_GRE_ENCAP_FLAGS`: what the outer UDP header holds; 2 bytes, of which every bit is
-    /// kept.
+    /// `IFLA_GRE_ENCAP_FLAGS`: the checksums in the outer UDP header; 2 bytes, of which every bit
+    /// is kept.
     EncapFlags(GreEncapFlags),
-    /// `IFLA_GRE_ENCAP_SPORT`: the UDP port that packets come from; 2 bytes, big-endian.
+    /// `IFLA_GRE_ENCAP_SPORT`: the source UDP port; 2 bytes, big-endian.
     SourcePort(u16),
-    /// `IFLA_GRE_ENCAP_DPORT`: the UDP port that packets go to; 2 bytes, big-endian.
+    /// `IFLA_GRE_ENCAP_DPORT`: the destination UDP port; 2 bytes, big-endian.
     DestinationPort(u16),
-    /// `IFLA_GRE_COLLECT_METADATA`: each packet's own settings count. Any payload is read, and none
-    /// is written.
+    /// `IFLA_GRE_COLLECT_METADATA`: collect metadata mode, in which the tunnel's parameters are
+    /// taken from each packet. A flag set by presence: any payload is accepted, and none is
+    /// written.
     CollectMetadata,
-    /// `IFLA_GRE_FWMARK`: the firewall's mark; 4 bytes.
+    /// `IFLA_GRE_FWMARK`: the firewall mark; 4 bytes.
     FwMask(u32),
     /// `IFLA_GRE_TOS`: the traffic class of outer packets; 1 byte.
     Tos(u8),
-    /// `IFLA_GRE_ERSPAN_INDEX`: the number of the mirrored port, in version 1 of ERSPAN; 4 bytes.
+    /// `IFLA_GRE_ERSPAN_INDEX`: the index of the mirrored port, in version 1 of ERSPAN; 4 bytes.
     ErSpanIndex(u32),
     /// `IFLA_GRE_ERSPAN_VER`: the version of ERSPAN; 1 byte.
     ErSpanVer(u8),
-    /// `IFLA_GRE_ERSPAN_DIR`: which frames are mirrored, in version 2 of ERSPAN; 1 byte.
+    /// `IFLA_GRE_ERSPAN_DIR`: the direction of mirrored frames, in version 2 of ERSPAN; 1 byte.
     ErSpanDir(ErSpanDir),
     /// `IFLA_GRE_ERSPAN_HWID`: the number of the mirroring engine, in version 2 of ERSPAN; 2
     /// bytes.
@@ -114,7 +116,9 @@ impl FieldNla for InfoGre6 {
 }
 
 impl InfoGre6 {
-    // The attribute of a kind that holds 4 bytes, little-endian.
+    // The attribute of a kind that holds 4 bytes, little-endian. Each payload type has a function
+    // of its own, since the prover's time for one match is its paths times the variants of its
+    // type.
     fn of_u32(kind: u16, number: u32) -> Option<Self>
         ensures value { IfSome result (λ v. gre6_entry v ≡ attribute kind (le4 number)) }
         ensures names_row { IfSome result (λ v. gre6_names_row v) }
@@ -157,7 +161,7 @@ impl InfoGre6 {
         }
     }
 
-    // The attribute of a kind that holds an address of IPv6.
+    // The attribute of a kind that holds an IPv6 address.
     fn of_ipv6(kind: u16, address: Ipv6Addr) -> Option<Self>
         ensures value { IfSome result (λ v. gre6_entry v ≡ attribute kind (ipv6_octets address)) }
         ensures names_row { IfSome result (λ v. gre6_names_row v) }

@@ -38,13 +38,14 @@ pub enum InfoGtp {
     Fd0(u32),
     /// `IFLA_GTP_FD1`: the descriptor of the socket for version 1; 4 bytes.
     Fd1(u32),
-    /// `IFLA_GTP_PDP_HASHSIZE`: how many places the table of sessions has; 4 bytes.
+    /// `IFLA_GTP_PDP_HASHSIZE`: the size of the hash table of sessions; 4 bytes.
     PdpHashsize(u32),
-    /// `IFLA_GTP_ROLE`: which end of the tunnel the link is; 4 bytes.
+    /// `IFLA_GTP_ROLE`: the end of the tunnel, GGSN or SGSN; 4 bytes.
     Role(GtpRole),
-    /// `IFLA_GTP_CREATE_SOCKETS`: the kernel makes the sockets; 1 byte, zero or not.
+    /// `IFLA_GTP_CREATE_SOCKETS`: the kernel creates the sockets; 1 byte, false if and only if it
+    /// is 0.
     CreateSockets(bool),
-    /// `IFLA_GTP_RESTART_COUNT`: the restart counter of echo answers; 1 byte.
+    /// `IFLA_GTP_RESTART_COUNT`: the restart counter in echo responses; 1 byte.
     RestartCount(u8),
     /// `IFLA_GTP_LOCAL`: the address of the kernel's socket; 4 bytes.
     Local(Ipv4Addr),

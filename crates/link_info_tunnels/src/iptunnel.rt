@@ -1,5 +1,5 @@
 //! Data of the kinds `ipip`, `ip6tnl` and `sit` (if_tunnel.h, IFLA_IPTUN_*). Numbers are
-//! little-endian unless told.
+//! little-endian unless noted.
 
 ghost use Rattle.std.specs.Prelude.{◌≡◌, ◌<◌, true, false, length, Some, IfOk, IfErr, IfSome, IfNone, [], ◌∷◌, ◌≢◌};
 ghost use Rattle.netlink_packet_core.specs.Addresses.{ip_octets, HasAddressLength};
@@ -74,20 +74,21 @@ const IFLA_IPTUN_FWMARK: u16 = 20;
 /// An attribute of the data of `ipip`, `ip6tnl` and `sit`: tunnels over IPv4 and IPv6.
 #[derive(Debug, PartialEq, Eq, Drop)]
 pub enum InfoIpTunnel {
-    /// `IFLA_IPTUN_LINK`: the index of the link below; 4 bytes.
+    /// `IFLA_IPTUN_LINK`: the index of the underlying link; 4 bytes.
     Link(u32),
-    /// `IFLA_IPTUN_LOCAL`: the address of this end of the tunnel; 4 or 16 bytes.
+    /// `IFLA_IPTUN_LOCAL`: the local address of the tunnel; 4 or 16 bytes.
     Local(IpAddr),
-    /// `IFLA_IPTUN_REMOTE`: the address of the other end of the tunnel; 4 or 16 bytes.
+    /// `IFLA_IPTUN_REMOTE`: the remote address of the tunnel; 4 or 16 bytes.
     Remote(IpAddr),
     /// `IFLA_IPTUN_TTL`: the hop limit of outer packets; 1 byte.
     Ttl(u8),
     /// `IFLA_IPTUN_TOS`: the type of service of outer packets; 1 byte.
     Tos(u8),
-    /// `IFLA_IPTUN_ENCAP_LIMIT`: how many more tunnels may be entered; 1 byte.
+    /// `IFLA_IPTUN_ENCAP_LIMIT`: the tunnel encapsulation limit, how many more tunnels a packet may
+    /// enter; 1 byte.
     EncapLimit(u8),
-    /// `IFLA_IPTUN_FLOWINFO`: the traffic class and the flow label of outer packets; 4 bytes, big-
-    /// endian.
+    /// `IFLA_IPTUN_FLOWINFO`: the traffic class and the flow label of outer packets; 4 bytes,
+    /// big-endian.
     FlowInfo(u32),
     /// `IFLA_IPTUN_FLAGS`: the flags of a tunnel of the kind `sit`; 2 bytes, big-endian.
     Ipv6SitFlags(u16),
@@ -96,31 +97,32 @@ pub enum InfoIpTunnel {
     /// `IFLA_IPTUN_FLAGS`: the flags of a tunnel of the kind `ip6tnl`; 4 bytes, of which every bit
     /// is kept.
     Ipv6Flags(Ip6TunnelFlags),
-    /// `IFLA_IPTUN_PROTO`: the protocol that is carried; 1 byte.
+    /// `IFLA_IPTUN_PROTO`: the encapsulated protocol; 1 byte.
     Protocol(IpProtocol),
-    /// `IFLA_IPTUN_PMTUDISC`: the MTU of the path is found out; 1 byte, zero or not.
+    /// `IFLA_IPTUN_PMTUDISC`: path MTU discovery; 1 byte, false if and only if it is 0.
     PMtuDisc(bool),
     /// `IFLA_IPTUN_6RD_PREFIX`: the IPv6 prefix of a 6rd domain (RFC 5969); 16 bytes.
     Ipv6RdPrefix(Ipv6Addr),
     /// `IFLA_IPTUN_6RD_RELAY_PREFIX`: the IPv4 prefix of a 6rd domain; 4 bytes.
     Ipv6RdRelayPrefix(Ipv4Addr),
-    /// `IFLA_IPTUN_6RD_PREFIXLEN`: how many bits the IPv6 prefix has; 2 bytes.
+    /// `IFLA_IPTUN_6RD_PREFIXLEN`: the length of the IPv6 prefix in bits; 2 bytes.
     Ipv6RdPrefixLen(u16),
-    /// `IFLA_IPTUN_6RD_RELAY_PREFIXLEN`: how many bits the IPv4 prefix has; 2 bytes.
+    /// `IFLA_IPTUN_6RD_RELAY_PREFIXLEN`: the length of the IPv4 prefix in bits; 2 bytes.
     Ipv6RdRelayPrefixLen(u16),
-    /// `IFLA_IPTUN_ENCAP_TYPE`: what packets are wrapped in; 2 bytes.
+    /// `IFLA_IPTUN_ENCAP_TYPE`: the encapsulation; 2 bytes.
     EncapType(TunnelEncapType),
-    /// `IFLA_IPTUN_ENCAP_FLAGS`: what the outer UDP header holds; 2 bytes, of which every bit is
-    /// kept.
+    /// `IFLA_IPTUN_ENCAP_FLAGS`: the checksums in the outer UDP header; 2 bytes, of which every bit
+    /// is kept.
     EncapFlags(TunnelEncapFlags),
-    /// `IFLA_IPTUN_ENCAP_SPORT`: the UDP port that packets come from; 2 bytes, big-endian.
+    /// `IFLA_IPTUN_ENCAP_SPORT`: the source UDP port; 2 bytes, big-endian.
     EncapSPort(u16),
-    /// `IFLA_IPTUN_ENCAP_DPORT`: the UDP port that packets go to; 2 bytes, big-endian.
+    /// `IFLA_IPTUN_ENCAP_DPORT`: the destination UDP port; 2 bytes, big-endian.
     EncapDPort(u16),
-    /// `IFLA_IPTUN_COLLECT_METADATA`: each packet's own settings count. Any payload is read, and
-    /// none is written.
+    /// `IFLA_IPTUN_COLLECT_METADATA`: collect metadata mode, in which the tunnel's parameters are
+    /// taken from each packet. A flag set by presence: any payload is accepted, and none is
+    /// written.
     CollectMetadata,
-    /// `IFLA_IPTUN_FWMARK`: the firewall's mark; 4 bytes.
+    /// `IFLA_IPTUN_FWMARK`: the firewall mark; 4 bytes.
     FwMark(u32),
     /// Any other kind, kept as it is.
     Other(DefaultNla),
@@ -168,7 +170,9 @@ impl FieldNla for InfoIpTunnel {
 }
 
 impl InfoIpTunnel {
-    // The attribute of a kind that holds 4 bytes, little-endian.
+    // The attribute of a kind that holds 4 bytes, little-endian. Each payload type has a function
+    // of its own, since the prover's time for one match is its paths times the variants of its
+    // type.
     fn of_u32(kind: u16, number: u32) -> Option<Self>
         ensures value { IfSome result (λ v. ip_tunnel_entry v ≡ attribute kind (le4 number)) }
         ensures names_row { IfSome result
@@ -245,7 +249,7 @@ impl InfoIpTunnel {
         }
     }
 
-    // Reads the payload of `IFLA_IPTUN_FLAGS` under a kind of links.
+    // Reads the payload of `IFLA_IPTUN_FLAGS` under a kind of link.
     fn read_flags(payload: &[u8], link: &InfoKind) -> Result<Self, DecodeError>
         ensures judged { SucceedsExactlyWhere result
             ((shape_rule (tunnel_flags link.now)).accepted payload.now) }
@@ -265,7 +269,7 @@ impl InfoIpTunnel {
         }
     }
 
-    // Reads one attribute under a kind of links; `None` where its kind has no row.
+    // Reads one attribute under a kind of link; `None` if the attribute's kind has no row.
     #[tactic(auto, unfolding(crate::specs::IpTunnel::ip_tunnel_of))]
     fn read_row(buf: &NlaBuffer<&[u8]>, link: &InfoKind) -> Result<Option<Self>, DecodeError>
         requires { IsAttribute (storage buf.now).now }
@@ -331,10 +335,10 @@ impl<'a, 'b> ParseableParametrized<NlaBuffer<&'a [u8]>, &'b InfoKind> for InfoIp
     }
 }
 
-/// Reads the attributes of the data of a tunnel over IP, under the kind of the link.
+/// A reader of the attributes of the data of a tunnel over IP, under the kind of the link.
 ///
-/// The kind counts by its variant. `IFLA_IPTUN_FLAGS` is refused under every kind but `ipip`, `sit`
-/// and `ip6tnl`.
+/// The variant of the kind decides, not its name. `IFLA_IPTUN_FLAGS` is rejected under every kind
+/// except `ipip`, `sit` and `ip6tnl`.
 #[derive(Drop)]
 pub struct InfoIpTunnelReader<'k> {
     /// The kind of the link.
@@ -357,8 +361,12 @@ impl<'k> Reader for InfoIpTunnelReader<'k> {
     }
 }
 
-/// Reads the data of a tunnel over IP, a list of attributes, under the kind of the link. It
-/// succeeds exactly where the list is accepted, memory aside; a list of no bytes is never refused.
+/// Reads the data of a tunnel over IP, a list of attributes, under the kind of the link. An empty
+/// list is accepted.
+///
+/// # Errors
+///
+/// Out of memory if an allocation fails; any other [`DecodeError`] only if the list isn't accepted.
 #[tactic(auto, using(attribute_tables::proofs::Families::family_lists), unfolding(crate::specs::IpTunnel::ip_tunnel_of))]
 pub fn parse_ip_tunnel(
     alloc: Global,

@@ -1,4 +1,4 @@
-// Link info of tunnels and of networks over other ones: the attributes of their data.
+// Link info of tunnels and overlay networks: the attributes of their data.
 #![tactic(auto)]
 
 mod amt;

@@ -26,17 +26,17 @@ const IFLA_VTI_FWMARK: u16 = 6;
 /// An attribute of the data of `vti` and `vti6`.
 #[derive(Debug, PartialEq, Eq, Drop)]
 pub enum InfoVti {
-    /// The index of the link below; 4 bytes.
+    /// `IFLA_VTI_LINK`: the index of the underlying link; 4 bytes.
     Link(u32),
-    /// The key of packets that come in; 4 bytes, big-endian.
+    /// `IFLA_VTI_IKEY`: the key of received packets; 4 bytes, big-endian.
     IKey(u32),
-    /// The key of packets that go out; 4 bytes, big-endian.
+    /// `IFLA_VTI_OKEY`: the key of sent packets; 4 bytes, big-endian.
     OKey(u32),
-    /// 4 or 16 bytes.
+    /// `IFLA_VTI_LOCAL`: the local address of the tunnel; 4 or 16 bytes.
     Local(IpAddr),
-    /// 4 or 16 bytes.
+    /// `IFLA_VTI_REMOTE`: the remote address of the tunnel; 4 or 16 bytes.
     Remote(IpAddr),
-    /// The firewall's mark; 4 bytes.
+    /// `IFLA_VTI_FWMARK`: the firewall mark; 4 bytes.
     FwMark(u32),
     /// Any other kind, kept as it is.
     Other(DefaultNla),

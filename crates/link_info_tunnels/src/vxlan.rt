@@ -1,4 +1,5 @@
-//! Data of the kind `vxlan` (if_link.h, IFLA_VXLAN_*). Numbers are little-endian unless told; a truth is 1 byte, zero or not.
+//! Data of the kind `vxlan` (if_link.h, IFLA_VXLAN_*). Numbers are little-endian unless noted; a
+//! boolean is 1 byte, false if and only if it is 0.
 
 ghost use Rattle.std.specs.Prelude.{refl, IfNone, IfSome, [], ◌∷◌, ◌≡◌, ◌≢◌};
 ghost use Rattle.std.specs.Net.Addr.{ipv4_octets, ipv6_octets};
@@ -85,20 +86,20 @@ const IFLA_VXLAN_RESERVED_BITS: u16 = 33;
 
 const IFLA_VXLAN_MC_ROUTE: u16 = 34;
 
-/// An attribute of the data of `vxlan`: virtual extensible local networks (RFC 7348).
+/// An attribute of the data of `vxlan`: virtual extensible local area networks (RFC 7348).
 #[derive(Debug, PartialEq, Eq, Drop)]
 pub enum InfoVxlan {
-    /// `IFLA_VXLAN_ID`: the number of the virtual network; 4 bytes.
+    /// `IFLA_VXLAN_ID`: the virtual network identifier (VNI); 4 bytes.
     Id(u32),
-    /// `IFLA_VXLAN_GROUP`: the multicast group or the other end; 4 bytes.
+    /// `IFLA_VXLAN_GROUP`: the multicast group, or the address of the remote end; 4 bytes.
     Group(Ipv4Addr),
-    /// `IFLA_VXLAN_GROUP6`: the multicast group or the other end; 16 bytes.
+    /// `IFLA_VXLAN_GROUP6`: the multicast group, or the address of the remote end; 16 bytes.
     Group6(Ipv6Addr),
-    /// `IFLA_VXLAN_LINK`: the index of the link below; 4 bytes.
+    /// `IFLA_VXLAN_LINK`: the index of the underlying link; 4 bytes.
     Link(u32),
-    /// `IFLA_VXLAN_LOCAL`: the link's own address; 4 bytes.
+    /// `IFLA_VXLAN_LOCAL`: the local address; 4 bytes.
     Local(Ipv4Addr),
-    /// `IFLA_VXLAN_LOCAL6`: the link's own address; 16 bytes.
+    /// `IFLA_VXLAN_LOCAL6`: the local address; 16 bytes.
     Local6(Ipv6Addr),
     /// `IFLA_VXLAN_TOS`: the type of service of outer packets; 1 byte.
     Tos(u8),
@@ -106,59 +107,66 @@ pub enum InfoVxlan {
     Ttl(u8),
     /// `IFLA_VXLAN_LABEL`: the flow label of outer IPv6 packets; 4 bytes, big-endian.
     Label(u32),
-    /// `IFLA_VXLAN_LEARNING`: addresses are learned from packets.
+    /// `IFLA_VXLAN_LEARNING`: source addresses are learned from received packets.
     Learning(bool),
-    /// `IFLA_VXLAN_AGEING`: for how long a learned address stays, in seconds; 4 bytes.
+    /// `IFLA_VXLAN_AGEING`: the lifetime of a learned address, in seconds; 4 bytes.
     Ageing(u32),
-    /// `IFLA_VXLAN_LIMIT`: how many addresses are kept at most; 4 bytes.
+    /// `IFLA_VXLAN_LIMIT`: the maximum number of learned addresses; 4 bytes.
     Limit(u32),
-    /// `IFLA_VXLAN_PORT_RANGE`: the first and the last UDP port that packets come from; 2 bytes
-    /// each, big-endian.
+    /// `IFLA_VXLAN_PORT_RANGE`: the first and the last source UDP port; 2 bytes each, big-endian.
     PortRange((u16, u16)),
-    /// `IFLA_VXLAN_PROXY`: neighbour requests are answered here.
+    /// `IFLA_VXLAN_PROXY`: the link replies to neighbour requests on behalf of remote hosts (ARP
+    /// proxy).
     Proxy(bool),
-    /// `IFLA_VXLAN_RSC`: packets to a router go to their target straight.
+    /// `IFLA_VXLAN_RSC`: route short-circuiting.
     Rsc(bool),
-    /// `IFLA_VXLAN_L2MISS`: unknown hardware addresses are told.
+    /// `IFLA_VXLAN_L2MISS`: the kernel notifies user space of hardware addresses that it can't
+    /// resolve.
     L2Miss(bool),
-    /// `IFLA_VXLAN_L3MISS`: unknown addresses are told.
+    /// `IFLA_VXLAN_L3MISS`: the kernel notifies user space of IP addresses that it can't resolve.
     L3Miss(bool),
-    /// `IFLA_VXLAN_COLLECT_METADATA`: each packet's own settings count.
+    /// `IFLA_VXLAN_COLLECT_METADATA`: collect metadata mode, in which the tunnel's parameters are
+    /// taken from each packet.
     CollectMetadata(bool),
-    /// `IFLA_VXLAN_PORT`: the UDP port of the other end; 2 bytes, big-endian.
+    /// `IFLA_VXLAN_PORT`: the destination UDP port; 2 bytes, big-endian.
     Port(u16),
     /// `IFLA_VXLAN_UDP_CSUM`: outer IPv4 packets have UDP checksums.
     UDPCsum(bool),
     /// `IFLA_VXLAN_UDP_ZERO_CSUM6_TX`: outer IPv6 packets are sent without UDP checksums.
     UDPZeroCsumTX(bool),
-    /// `IFLA_VXLAN_UDP_ZERO_CSUM6_RX`: outer IPv6 packets without UDP checksums are taken.
+    /// `IFLA_VXLAN_UDP_ZERO_CSUM6_RX`: outer IPv6 packets without UDP checksums are accepted.
     UDPZeroCsumRX(bool),
-    /// `IFLA_VXLAN_REMCSUM_TX`: inner checksums are left to the receiver.
+    /// `IFLA_VXLAN_REMCSUM_TX`: remote checksum offload of sent packets: their inner checksums are
+    /// left to the receiver.
     RemCsumTX(bool),
-    /// `IFLA_VXLAN_REMCSUM_RX`: inner checksums that were left are filled in.
+    /// `IFLA_VXLAN_REMCSUM_RX`: remote checksum offload of received packets: their inner checksums
+    /// are filled in.
     RemCsumRX(bool),
-    /// `IFLA_VXLAN_GBP`: packets carry a group policy. Any payload is read, and none is written.
+    /// `IFLA_VXLAN_GBP`: the group policy extension. A flag set by presence: any payload is
+    /// accepted, and none is written.
     Gbp,
-    /// `IFLA_VXLAN_GPE`: packets have the generic protocol extension. Any payload is read, and none
-    /// is written.
+    /// `IFLA_VXLAN_GPE`: the generic protocol extension. A flag set by presence: any payload is
+    /// accepted, and none is written.
     Gpe,
-    /// `IFLA_VXLAN_REMCSUM_NOPARTIAL`: inner checksums are never left half done. Any payload is
-    /// read, and none is written.
+    /// `IFLA_VXLAN_REMCSUM_NOPARTIAL`: remote checksum offload fills in whole checksums, never
+    /// partial ones. A flag set by presence: any payload is accepted, and none is written.
     RemCsumNoPartial,
-    /// `IFLA_VXLAN_TTL_INHERIT`: the hop limit is that of the inner packet, as requests say it; no
-    /// bytes.
+    /// `IFLA_VXLAN_TTL_INHERIT`: the hop limit is copied from the inner packet, as requests encode
+    /// it; no bytes.
     TtlInheritFlag,
-    /// `IFLA_VXLAN_TTL_INHERIT`: the same, as a kernel tells it; 1 byte.
+    /// `IFLA_VXLAN_TTL_INHERIT`: whether the hop limit is copied from the inner packet, as kernels
+    /// encode it; 1 byte.
     TtlInherit(u8),
     /// `IFLA_VXLAN_DF`: the "don't fragment" bit of outer IPv4 packets; 1 byte.
     Df(VxlanDf),
-    /// `IFLA_VXLAN_VNIFILTER`: virtual networks are filtered by number.
+    /// `IFLA_VXLAN_VNIFILTER`: packets are filtered by their VNI.
     Vnifilter(bool),
-    /// `IFLA_VXLAN_LOCALBYPASS`: packets to this host don't leave it.
+    /// `IFLA_VXLAN_LOCALBYPASS`: packets to a remote end on this host are delivered locally.
     Localbypass(bool),
-    /// `IFLA_VXLAN_LABEL_POLICY`: where the flow label comes from; 4 bytes.
+    /// `IFLA_VXLAN_LABEL_POLICY`: how the flow label of outer IPv6 packets is chosen; 4 bytes.
     LabelPolicy(u32),
-    /// `IFLA_VXLAN_RESERVED_BITS`: bits of the header that may be set; 8 bytes, big-endian.
+    /// `IFLA_VXLAN_RESERVED_BITS`: the reserved bits of the VXLAN header that may be set; 8 bytes,
+    /// big-endian.
     ReservedBits(u64),
     /// `IFLA_VXLAN_MC_ROUTE`: multicast packets are routed.
     McRoute(bool),
@@ -212,7 +220,9 @@ impl FieldNla for InfoVxlan {
 }
 
 impl InfoVxlan {
-    // The attribute of a kind that holds 4 bytes, little-endian.
+    // The attribute of a kind that holds 4 bytes, little-endian. Each payload type has a function
+    // of its own, since the prover's time for one match is its paths times the variants of its
+    // type.
     fn of_u32(kind: u16, number: u32) -> Option<Self>
         ensures value { IfSome result (λ v. vxlan_entry v ≡ attribute kind (le4 number)) }
         ensures names_row { IfSome result (λ v. vxlan_names_row v) }
@@ -228,7 +238,7 @@ impl InfoVxlan {
         }
     }
 
-    // The attribute of a kind that holds an address of IPv4.
+    // The attribute of a kind that holds an IPv4 address.
     fn of_ipv4(kind: u16, address: Ipv4Addr) -> Option<Self>
         ensures value { IfSome result (λ v. vxlan_entry v ≡ attribute kind (ipv4_octets address)) }
         ensures names_row { IfSome result (λ v. vxlan_names_row v) }
@@ -256,7 +266,7 @@ impl InfoVxlan {
         }
     }
 
-    // The attribute of a kind that holds a truth.
+    // The attribute of a kind that holds a boolean.
     fn of_truth(kind: u16, truth: bool) -> Option<Self>
         ensures value { IfSome result (λ v. vxlan_entry v ≡ attribute kind (truth_byte truth)) }
         ensures names_row { IfSome result (λ v. vxlan_names_row v) }
@@ -284,7 +294,7 @@ impl InfoVxlan {
         }
     }
 
-    // The attribute of a kind that holds an address of IPv6.
+    // The attribute of a kind that holds an IPv6 address.
     fn of_ipv6(kind: u16, address: Ipv6Addr) -> Option<Self>
         ensures value { IfSome result (λ v. vxlan_entry v ≡ attribute kind (ipv6_octets address)) }
         ensures names_row { IfSome result (λ v. vxlan_names_row v) }

@@ -15,9 +15,9 @@ const IFLA_XFRM_IF_ID: u16 = 2;
 /// An attribute of the data of `xfrm`.
 #[derive(Debug, PartialEq, Eq, Drop)]
 pub enum InfoXfrm {
-    /// `IFLA_XFRM_LINK`: the index of the link below; 4 bytes.
+    /// `IFLA_XFRM_LINK`: the index of the underlying link; 4 bytes.
     Link(u32),
-    /// `IFLA_XFRM_IF_ID`: the number that policies name the interface by; 4 bytes.
+    /// `IFLA_XFRM_IF_ID`: the identifier by which policies refer to the interface; 4 bytes.
     IfId(u32),
     /// Any other kind, kept as it is.
     Other(DefaultNla),

@@ -7,11 +7,11 @@ use Rattle.link_info_types.specs.declared.gre.GreEncapFlags.{GreEncapFlags}
 use Rattle.link_info_types.specs.declared.gre.GreEncapType.{GreEncapType}
 use Rattle.link_info_types.specs.declared.gre.ErSpanDir.{ErSpanDir}
 
--- the bits of a set of GRE flags
+-- The bits of a set of GRE header flags.
 abbrev pub gre_io_flags_bits : GreIOFlags → ℕ
 gre_io_flags_bits f = f.0
 
--- the flags that have a name
+-- The GRE header flags that have a name, each with its bits.
 abbrev pub gre_io_flags_table : List (List ℕ × ℕ)
 gre_io_flags_table =
     (codes "Checksum", 0x8000) ∷
@@ -25,11 +25,11 @@ gre_io_flags_table =
     (codes "Version", 0x0007) ∷
     []
 
--- the bits of a set of encapsulation flags
+-- The bits of a set of GRE encapsulation flags.
 abbrev pub gre_encap_flags_bits : GreEncapFlags → ℕ
 gre_encap_flags_bits f = f.0
 
--- the flags that have a name
+-- The GRE encapsulation flags that have a name, each with its bits.
 abbrev pub gre_encap_flags_table : List (List ℕ × ℕ)
 gre_encap_flags_table =
     (codes "Checksum", 0x01) ∷
@@ -37,39 +37,47 @@ gre_encap_flags_table =
     (codes "RemoteChecksum", 0x04) ∷
     []
 
--- the number and the text of an encapsulation
+-- The number and the display of a GRE encapsulation type.
 abbrev pub gre_encap_type_row : GreEncapType → ℕ × List ℕ
 gre_encap_type_row GreEncapType.None = (0, codes "none")
 gre_encap_type_row GreEncapType.Fou = (1, codes "fou")
 gre_encap_type_row GreEncapType.Gue = (2, codes "gue")
 gre_encap_type_row (GreEncapType.Other n) = (n, codes "other(" ++ (decimal n ++ codes ")"))
 
+-- The variants of a GRE encapsulation type, except `Other`, in the order of their numbers.
 abbrev pub listed_gre_encap_types : List GreEncapType
 listed_gre_encap_types = GreEncapType.None ∷ GreEncapType.Fou ∷ GreEncapType.Gue ∷ []
 
+-- The number of a GRE encapsulation type.
 abbrev pub gre_encap_type_number : GreEncapType → ℕ
 gre_encap_type_number v = (gre_encap_type_row v).0
 
+-- The GRE encapsulation type with this number.
 abbrev pub gre_encap_type_of : ℕ → GreEncapType
 gre_encap_type_of n = numbered_by gre_encap_type_number listed_gre_encap_types GreEncapType.Other n
 
+-- The display of a GRE encapsulation type.
 abbrev pub gre_encap_type_text : GreEncapType → List ℕ
 gre_encap_type_text v = (gre_encap_type_row v).1
 
--- the number and the text of a direction
+-- The number and the display of an ERSPAN direction.
 abbrev pub er_span_dir_row : ErSpanDir → ℕ × List ℕ
 er_span_dir_row ErSpanDir.Ingress = (0, codes "ingress")
 er_span_dir_row ErSpanDir.Egress = (1, codes "egress")
 er_span_dir_row (ErSpanDir.Other n) = (n, codes "other(" ++ (decimal n ++ codes ")"))
 
+-- The variants of an ERSPAN direction, except `Other`, in the order of their numbers.
 abbrev pub listed_er_span_dirs : List ErSpanDir
 listed_er_span_dirs = ErSpanDir.Ingress ∷ ErSpanDir.Egress ∷ []
 
+-- The number of an ERSPAN direction.
 abbrev pub er_span_dir_number : ErSpanDir → ℕ
 er_span_dir_number v = (er_span_dir_row v).0
 
+-- The ERSPAN direction with this number.
 abbrev pub er_span_dir_of : ℕ → ErSpanDir
 er_span_dir_of n = numbered_by er_span_dir_number listed_er_span_dirs ErSpanDir.Other n
 
+-- The display of an ERSPAN direction.
 abbrev pub er_span_dir_text : ErSpanDir → List ℕ
 er_span_dir_text v = (er_span_dir_row v).1

@@ -6,7 +6,7 @@ use Rattle.link_info_types.specs.declared.iptunnel.TunnelEncapType.{TunnelEncapT
 use Rattle.link_info_types.specs.declared.iptunnel.TunnelEncapFlags.{TunnelEncapFlags}
 use Rattle.link_info_types.specs.declared.iptunnel.Ip6TunnelFlags.{Ip6TunnelFlags}
 
--- the number and the text of an encapsulation
+-- The number and the display of an IP tunnel encapsulation type.
 abbrev pub tunnel_encap_type_row : TunnelEncapType → ℕ × List ℕ
 tunnel_encap_type_row TunnelEncapType.None = (0, codes "none")
 tunnel_encap_type_row TunnelEncapType.Fou = (1, codes "fou")
@@ -14,25 +14,29 @@ tunnel_encap_type_row TunnelEncapType.Gue = (2, codes "gue")
 tunnel_encap_type_row TunnelEncapType.Mpls = (3, codes "mpls")
 tunnel_encap_type_row (TunnelEncapType.Other n) = (n, decimal n)
 
+-- The variants of an IP tunnel encapsulation type, except `Other`, in the order of their numbers.
 abbrev pub listed_tunnel_encap_types : List TunnelEncapType
 listed_tunnel_encap_types =
     TunnelEncapType.None ∷ TunnelEncapType.Fou ∷ TunnelEncapType.Gue ∷ TunnelEncapType.Mpls ∷ []
 
+-- The number of an IP tunnel encapsulation type.
 abbrev pub tunnel_encap_type_number : TunnelEncapType → ℕ
 tunnel_encap_type_number v = (tunnel_encap_type_row v).0
 
+-- The IP tunnel encapsulation type with this number.
 abbrev pub tunnel_encap_type_of : ℕ → TunnelEncapType
 tunnel_encap_type_of n =
     numbered_by tunnel_encap_type_number listed_tunnel_encap_types TunnelEncapType.Other n
 
+-- The display of an IP tunnel encapsulation type.
 abbrev pub tunnel_encap_type_text : TunnelEncapType → List ℕ
 tunnel_encap_type_text v = (tunnel_encap_type_row v).1
 
--- the bits of a set of encapsulation flags
+-- The bits of a set of IP tunnel encapsulation flags.
 abbrev pub tunnel_encap_flags_bits : TunnelEncapFlags → ℕ
 tunnel_encap_flags_bits f = f.0
 
--- the flags that have a name
+-- The IP tunnel encapsulation flags that have a name, each with its bits.
 abbrev pub tunnel_encap_flags_table : List (List ℕ × ℕ)
 tunnel_encap_flags_table =
     (codes "CSum", 0x01) ∷
@@ -40,11 +44,11 @@ tunnel_encap_flags_table =
     (codes "RemCSum", 0x04) ∷
     []
 
--- the bits of a set of IPv6 tunnel flags
+-- The bits of a set of IPv6 tunnel flags.
 abbrev pub ip6_tunnel_flags_bits : Ip6TunnelFlags → ℕ
 ip6_tunnel_flags_bits f = f.0
 
--- the flags that have a name
+-- The IPv6 tunnel flags that have a name, each with its bits.
 abbrev pub ip6_tunnel_flags_table : List (List ℕ × ℕ)
 ip6_tunnel_flags_table =
     (codes "IgnEncapLimit", 0x01) ∷

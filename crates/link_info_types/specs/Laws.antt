@@ -9,21 +9,21 @@ use Rattle.link_info_types.specs.declared.mac_vlan.TheConstants.MacVlanFlags.{No
 use Rattle.link_info_types.specs.declared.netkit.TheConstants.NetkitPolicy.{Forward}
 use Rattle.link_info_types.specs.declared.rmnet.TheConstants.RmNetFlags.{IngressDeaggregation, IngressCommands, IngressMapCksumV4, EgressMapCksumV4, IngressMapCksumV5, EgressMapCksumV5}
 
--- the constants of flags of IPVLAN, each behind its name
+-- The constants of IPVLAN flags, each with its name and its bits.
 abbrev pub ip_vlan_flags_constants : List (List ℕ × ℕ)
 ip_vlan_flags_constants =
     (codes "Private", ip_vlan_flags_bits Private) ∷
     (codes "Vepa", ip_vlan_flags_bits Vepa) ∷
     []
 
--- the constants of flags of MACVLAN, each behind its name
+-- The constants of MACVLAN flags, each with its name and its bits.
 abbrev pub mac_vlan_flags_constants : List (List ℕ × ℕ)
 mac_vlan_flags_constants =
     (codes "NoPromisc", mac_vlan_flags_bits NoPromisc) ∷
     (codes "NoDst", mac_vlan_flags_bits NoDst) ∷
     []
 
--- the constants of flags of RMNET, each behind its name
+-- The constants of RMNET flags, each with its name and its bits.
 abbrev pub rm_net_flags_constants : List (List ℕ × ℕ)
 rm_net_flags_constants =
     (codes "IngressDeaggregation", rm_net_flags_bits IngressDeaggregation) ∷
@@ -34,8 +34,8 @@ rm_net_flags_constants =
     (codes "EgressMapCksumV5", rm_net_flags_bits EgressMapCksumV5) ∷
     []
 
--- The constant of each flag has the bits that stand beside its name in the table, and the other name of a policy has the number and the text of that one:
--- forward, which is NETKIT_PASS of linux/if_link.h.
+-- The constant of each flag has the bits of its name in the table, and the alias of a netkit policy has that policy's
+-- number and display: forward, which is NETKIT_PASS of linux/if_link.h.
 pub record ConstantsAreNamed : Type 0 where
   pub flags_of_ipvlan : ip_vlan_flags_constants ≡ ip_vlan_flags_table
   pub flags_of_macvlan : mac_vlan_flags_constants ≡ mac_vlan_flags_table

@@ -2,11 +2,11 @@
 use Rattle.std.specs.Prelude.{ℕ, List, [], ◌∷◌, codes}
 use Rattle.link_info_types.specs.declared.rmnet.RmNetFlags.{RmNetFlags}
 
--- the bits of a set of flags
+-- The bits of a set of RMNET flags.
 abbrev pub rm_net_flags_bits : RmNetFlags → ℕ
 rm_net_flags_bits f = f.0
 
--- the flags that have a name
+-- The RMNET flags that have a name, each with its bits.
 abbrev pub rm_net_flags_table : List (List ℕ × ℕ)
 rm_net_flags_table =
     (codes "IngressDeaggregation", 0x01) ∷

@@ -7,7 +7,7 @@ use Rattle.link_info_types.specs.declared.gre.TheConstants.GreEncapFlags as GreE
 use Rattle.link_info_types.specs.declared.iptunnel.TheConstants.TunnelEncapFlags as TunnelEncap
 use Rattle.link_info_types.specs.declared.iptunnel.TheConstants.Ip6TunnelFlags as Ip6Tunnel
 
--- the constants of flags of GRE headers, each behind its name
+-- The constants of GRE header flags, each with its name and its bits.
 abbrev pub gre_io_flags_constants : List (List ℕ × ℕ)
 gre_io_flags_constants =
     (codes "Checksum", gre_io_flags_bits Gre.Checksum) ∷
@@ -21,7 +21,7 @@ gre_io_flags_constants =
     (codes "Version", gre_io_flags_bits Gre.Version) ∷
     []
 
--- the constants of flags of the encapsulation of GRE, each behind its name
+-- The constants of GRE encapsulation flags, each with its name and its bits.
 abbrev pub gre_encap_flags_constants : List (List ℕ × ℕ)
 gre_encap_flags_constants =
     (codes "Checksum", gre_encap_flags_bits GreEncap.Checksum) ∷
@@ -29,7 +29,7 @@ gre_encap_flags_constants =
     (codes "RemoteChecksum", gre_encap_flags_bits GreEncap.RemoteChecksum) ∷
     []
 
--- the constants of flags of the encapsulation of IP tunnels, each behind its name
+-- The constants of IP tunnel encapsulation flags, each with its name and its bits.
 abbrev pub tunnel_encap_flags_constants : List (List ℕ × ℕ)
 tunnel_encap_flags_constants =
     (codes "CSum", tunnel_encap_flags_bits TunnelEncap.CSum) ∷
@@ -37,7 +37,7 @@ tunnel_encap_flags_constants =
     (codes "RemCSum", tunnel_encap_flags_bits TunnelEncap.RemCSum) ∷
     []
 
--- the constants of flags of IPv6 tunnels, each behind its name
+-- The constants of IPv6 tunnel flags, each with its name and its bits.
 abbrev pub ip6_tunnel_flags_constants : List (List ℕ × ℕ)
 ip6_tunnel_flags_constants =
     (codes "IgnEncapLimit", ip6_tunnel_flags_bits Ip6Tunnel.IgnEncapLimit) ∷
@@ -52,7 +52,7 @@ ip6_tunnel_flags_constants =
     (codes "CapPerPacket", ip6_tunnel_flags_bits Ip6Tunnel.CapPerPacket) ∷
     []
 
--- The constant of each flag has the bits that stand beside its name in the table.
+-- The constant of each flag has the bits of its name in the table.
 pub record TunnelConstantsAreNamed : Type 0 where
   pub flags_of_gre_headers : gre_io_flags_constants ≡ gre_io_flags_table
   pub flags_of_gre_encapsulation : gre_encap_flags_constants ≡ gre_encap_flags_table

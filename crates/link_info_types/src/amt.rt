@@ -10,15 +10,15 @@ use netlink_packet_core::DecodeError;
 use std::fmt;
 use std::str::FromStr;
 
-/// Which end of an AMT tunnel the device is, `AMT_MODE_*` of `linux/amt.h`. On the wire 4 bytes in
-/// native order.
+/// Which end of an AMT tunnel the device is, `AMT_MODE_*` of `linux/amt.h`. Encoded in 4 bytes, in
+/// native byte order.
 #[derive(Debug, PartialEq, Eq, Clone, Copy)]
 pub enum AmtMode {
-    /// The gateway, at the receiver of multicast: `AMT_MODE_GATEWAY`, 0.
+    /// The gateway, at the receivers of multicast: `AMT_MODE_GATEWAY`, 0.
     Gateway,
-    /// The relay, at its source: `AMT_MODE_RELAY`, 1.
+    /// The relay, at the source of multicast: `AMT_MODE_RELAY`, 1.
     Relay,
-    /// Every other number.
+    /// Any other number.
     Other(u32),
 }
 

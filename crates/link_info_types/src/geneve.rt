@@ -11,16 +11,16 @@ use std::fmt;
 use std::str::FromStr;
 
 /// The "don't fragment" bit of the outer IPv4 header of a GENEVE tunnel, `GENEVE_DF_*` of
-/// `linux/if_link.h`. On the wire 1 byte.
+/// `linux/if_link.h`. Encoded in 1 byte.
 #[derive(Debug, PartialEq, Eq, Clone, Copy)]
 pub enum GeneveDf {
     /// Not set: `GENEVE_DF_UNSET`, 0.
     Unset,
     /// Set: `GENEVE_DF_SET`, 1.
     Set,
-    /// As in the inner header: `GENEVE_DF_INHERIT`, 2.
+    /// Inherited from the inner header: `GENEVE_DF_INHERIT`, 2.
     Inherit,
-    /// Every other number.
+    /// Any other number.
     Other(u8),
 }
 

@@ -10,27 +10,27 @@ use bitflags::{Flag, Flags};
 use itoa::Buffer;
 use std::fmt;
 
-/// The flags of a GRE header, `GRE_*` of `linux/if_tunnel.h`. On the wire 2 bytes, big-endian; all
+/// The flags of a GRE header, `GRE_*` of `linux/if_tunnel.h`. Encoded in 2 bytes, big-endian; all
 /// bits are kept.
 #[derive(Debug, Clone, Copy, PartialEq, Eq)]
 pub struct GreIOFlags(u16);
 
 impl GreIOFlags {
-    /// There is a checksum: `GRE_CSUM`.
+    /// A checksum is present: `GRE_CSUM`.
     pub const Checksum: Self = Self(0x8000);
-    /// There is routing information: `GRE_ROUTING`.
+    /// Routing information is present: `GRE_ROUTING`.
     pub const Routing: Self = Self(0x4000);
-    /// There is a key: `GRE_KEY`.
+    /// A key is present: `GRE_KEY`.
     pub const Key: Self = Self(0x2000);
-    /// There is a sequence number: `GRE_SEQ`.
+    /// A sequence number is present: `GRE_SEQ`.
     pub const Seq: Self = Self(0x1000);
     /// The source route is strict: `GRE_STRICT`.
     pub const Strict0: Self = Self(0x0800);
     /// The bits of recursion control: `GRE_REC`.
     pub const Rec: Self = Self(0x0700);
-    /// There is an acknowledgment number: `GRE_ACK`.
+    /// An acknowledgment number is present: `GRE_ACK`.
     pub const Ack: Self = Self(0x0080);
-    /// The bits that are reserved: `GRE_FLAGS`.
+    /// The reserved bits: `GRE_FLAGS`.
     pub const Flags: Self = Self(0x0078);
     /// The bits of the version: `GRE_VERSION`.
     pub const Version: Self = Self(0x0007);
@@ -105,8 +105,8 @@ impl Default for GreIOFlags {
     }
 }
 
-/// What the outer UDP header of a GRE tunnel holds, `TUNNEL_ENCAP_FLAG_*` of `linux/if_tunnel.h`.
-/// On the wire 2 bytes in native order; all bits are kept.
+/// The checksums in the outer UDP header of a GRE tunnel, `TUNNEL_ENCAP_FLAG_*` of
+/// `linux/if_tunnel.h`. Encoded in 2 bytes, in native byte order; all bits are kept.
 #[derive(Debug, Clone, Copy, PartialEq, Eq)]
 pub struct GreEncapFlags(u16);
 
@@ -164,18 +164,18 @@ impl Default for GreEncapFlags {
     }
 }
 
-/// What a GRE tunnel is wrapped in, `TUNNEL_ENCAP_*` of `linux/if_tunnel.h`. On the wire 2 bytes in
-/// native order.
+/// The encapsulation of a GRE tunnel, `TUNNEL_ENCAP_*` of `linux/if_tunnel.h`. Encoded in 2 bytes,
+/// in native byte order.
 #[derive(Debug, PartialEq, Eq, Clone, Copy, Default)]
 pub enum GreEncapType {
     /// Nothing: `TUNNEL_ENCAP_NONE`, 0.
     #[default]
     None,
-    /// UDP, directly: `TUNNEL_ENCAP_FOU`, 1.
+    /// Foo over UDP, directly in UDP: `TUNNEL_ENCAP_FOU`, 1.
     Fou,
     /// Generic UDP encapsulation: `TUNNEL_ENCAP_GUE`, 2.
     Gue,
-    /// Every other number.
+    /// Any other number.
     Other(u16),
 }
 
@@ -227,16 +227,16 @@ impl fmt::Display for GreEncapType {
     }
 }
 
-/// Which frames an ERSPAN tunnel of version 2 mirrors, as in `IFLA_GRE_ERSPAN_DIR`. On the wire 1
-/// byte.
+/// The direction of the frames that an ERSPAN tunnel of version 2 mirrors, as in
+/// `IFLA_GRE_ERSPAN_DIR`. Encoded in 1 byte.
 #[derive(Debug, PartialEq, Eq, Clone, Copy, Default)]
 pub enum ErSpanDir {
-    /// Those that come in: 0.
+    /// Ingress, received frames: 0.
     #[default]
     Ingress,
-    /// Those that go out: 1.
+    /// Egress, sent frames: 1.
     Egress,
-    /// Every other number.
+    /// Any other number.
     Other(u8),
 }
 

@@ -6,8 +6,8 @@ ghost use Rattle.link_info_types.specs.GtpTypes.{gtp_role_number, gtp_role_of, g
 use itoa::Buffer;
 use std::fmt;
 
-/// Which end of a GTP tunnel the device is, `GTP_ROLE_*` of `linux/if_link.h`. On the wire 4 bytes
-/// in native order.
+/// Which end of a GTP tunnel the device is, `GTP_ROLE_*` of `linux/if_link.h`. Encoded in 4 bytes,
+/// in native byte order.
 #[derive(Debug, PartialEq, Eq, Clone, Copy, Default)]
 pub enum GtpRole {
     /// The gateway: `GTP_ROLE_GGSN`, 0.
@@ -15,7 +15,7 @@ pub enum GtpRole {
     Ggsn,
     /// The serving node: `GTP_ROLE_SGSN`, 1.
     Sgsn,
-    /// Every other number.
+    /// Any other number.
     Other(u32),
 }
 

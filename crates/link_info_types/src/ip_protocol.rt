@@ -3,8 +3,8 @@
 ghost use Rattle.std.specs.Prelude.{◌≡◌};
 ghost use Rattle.link_info_types.specs.IpProtocols.{ip_protocol_number, ip_protocol_of};
 
-/// The protocol that an IP packet carries, `IPPROTO_*` of `linux/in.h` and `linux/in6.h`. On the
-/// wire 1 byte.
+/// The protocol that an IP packet carries, `IPPROTO_*` of `linux/in.h` and `linux/in6.h`. Encoded
+/// in 1 byte.
 #[derive(Debug, PartialEq, Eq, Clone, Copy)]
 pub enum IpProtocol {
     /// Control messages of IPv4: `IPPROTO_ICMP`, 1.
@@ -27,7 +27,7 @@ pub enum IpProtocol {
     Icmpv6,
     /// The stream control transmission protocol: `IPPROTO_SCTP`, 132.
     Sctp,
-    /// Every other number.
+    /// Any other number.
     Other(u8),
 }
 

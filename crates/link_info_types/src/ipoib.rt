@@ -3,15 +3,15 @@
 ghost use Rattle.std.specs.Prelude.{◌≡◌};
 ghost use Rattle.link_info_types.specs.IpoibTypes.{ipoib_mode_number, ipoib_mode_of};
 
-/// How IP over InfiniBand sends its packets, `IPOIB_MODE_*` of `linux/if_link.h`. On the wire 2
-/// bytes in native order.
+/// How IP over InfiniBand sends its packets, `IPOIB_MODE_*` of `linux/if_link.h`. Encoded in 2
+/// bytes, in native byte order.
 #[derive(Debug, PartialEq, Eq, Clone, Copy)]
 pub enum IpoibMode {
     /// Over unreliable datagrams: `IPOIB_MODE_DATAGRAM`, 0.
     Datagram,
     /// Over reliable connections: `IPOIB_MODE_CONNECTED`, 1.
     Connected,
-    /// Every other number.
+    /// Any other number.
     Other(u16),
 }
 

@@ -9,19 +9,19 @@ use bitflags::{Flag, Flags};
 use itoa::Buffer;
 use std::fmt;
 
-/// What an IP tunnel is wrapped in, `TUNNEL_ENCAP_*` of `linux/if_tunnel.h`. On the wire 2 bytes in
-/// native order.
+/// The encapsulation of an IP tunnel, `TUNNEL_ENCAP_*` of `linux/if_tunnel.h`. Encoded in 2 bytes,
+/// in native byte order.
 #[derive(Debug, PartialEq, Eq, Clone, Copy)]
 pub enum TunnelEncapType {
     /// Nothing: `TUNNEL_ENCAP_NONE`, 0.
     None,
-    /// UDP, directly: `TUNNEL_ENCAP_FOU`, 1.
+    /// Foo over UDP, directly in UDP: `TUNNEL_ENCAP_FOU`, 1.
     Fou,
     /// Generic UDP encapsulation: `TUNNEL_ENCAP_GUE`, 2.
     Gue,
     /// MPLS: `TUNNEL_ENCAP_MPLS`, 3.
     Mpls,
-    /// Every other number.
+    /// Any other number.
     Other(u16),
 }
 
@@ -72,8 +72,8 @@ impl fmt::Display for TunnelEncapType {
     }
 }
 
-/// What the outer UDP header of an IP tunnel holds, `TUNNEL_ENCAP_FLAG_*` of `linux/if_tunnel.h`.
-/// On the wire 2 bytes in native order; all bits are kept.
+/// The checksums in the outer UDP header of an IP tunnel, `TUNNEL_ENCAP_FLAG_*` of
+/// `linux/if_tunnel.h`. Encoded in 2 bytes, in native byte order; all bits are kept.
 #[derive(Debug, Clone, Copy, PartialEq, Eq, Hash)]
 pub struct TunnelEncapFlags(u16);
 
@@ -123,32 +123,32 @@ impl Flags for TunnelEncapFlags {
     }
 }
 
-/// How an IPv6 tunnel makes its outer header and what it may do, `IP6_TNL_F_*` of
-/// `linux/ip6_tunnel.h`, the last three of the kernel's `net/ip6_tunnel.h`. On the wire 4 bytes in
-/// native order; all bits are kept.
+/// How an IPv6 tunnel makes its outer header, and its capabilities, `IP6_TNL_F_*` of
+/// `linux/ip6_tunnel.h`, the last three of the kernel's `net/ip6_tunnel.h`. Encoded in 4 bytes, in
+/// native byte order; all bits are kept.
 #[derive(Debug, Clone, Copy, PartialEq, Eq, Hash)]
 pub struct Ip6TunnelFlags(u32);
 
 impl Ip6TunnelFlags {
     /// No encapsulation limit is added: `IP6_TNL_F_IGN_ENCAP_LIMIT`.
     pub const IgnEncapLimit: Self = Self(0x01);
-    /// The traffic class is that of the inner packet: `IP6_TNL_F_USE_ORIG_TCLASS`.
+    /// The traffic class is copied from the inner packet: `IP6_TNL_F_USE_ORIG_TCLASS`.
     pub const UseOrigTclass: Self = Self(0x02);
-    /// The flow label is that of the inner packet: `IP6_TNL_F_USE_ORIG_FLOWLABEL`.
+    /// The flow label is copied from the inner packet: `IP6_TNL_F_USE_ORIG_FLOWLABEL`.
     pub const UseOrigFlowlabel: Self = Self(0x04);
-    /// The device serves mobile IPv6: `IP6_TNL_F_MIP6_DEV`.
+    /// The device is for mobile IPv6: `IP6_TNL_F_MIP6_DEV`.
     pub const Mip6Dev: Self = Self(0x08);
-    /// The DSCP of the outer packet is copied at the end of the tunnel: `IP6_TNL_F_RCV_DSCP_COPY`.
+    /// The DSCP of the outer packet is copied when a packet is received: `IP6_TNL_F_RCV_DSCP_COPY`.
     pub const RcvDscpCopy: Self = Self(0x10);
     /// The firewall mark is that of the inner packet: `IP6_TNL_F_USE_ORIG_FWMARK`.
     pub const UseOrigFwMark: Self = Self(0x20);
-    /// The other end may be on this host: `IP6_TNL_F_ALLOW_LOCAL_REMOTE`.
+    /// The remote end may be on this host: `IP6_TNL_F_ALLOW_LOCAL_REMOTE`.
     pub const AllowLocalRemote: Self = Self(0x40);
     /// The tunnel can send: `IP6_TNL_F_CAP_XMIT`.
     pub const CapXmit: Self = Self(0x10000);
     /// The tunnel can receive: `IP6_TNL_F_CAP_RCV`.
     pub const CapRcv: Self = Self(0x20000);
-    /// What it can do is decided for each packet: `IP6_TNL_F_CAP_PER_PACKET`.
+    /// The capabilities are checked for each packet: `IP6_TNL_F_CAP_PER_PACKET`.
     pub const CapPerPacket: Self = Self(0x40000);
 
     const FLAGS: [Flag<Ip6TunnelFlags>; 10] = [

@@ -12,8 +12,8 @@ use netlink_packet_core::DecodeError;
 use std::fmt;
 use std::str::FromStr;
 
-/// At which layer an IPVLAN device switches packets, `IPVLAN_MODE_*` of `linux/if_link.h`. On the
-/// wire 2 bytes in native order.
+/// At which layer an IPVLAN device switches packets, `IPVLAN_MODE_*` of `linux/if_link.h`. Encoded
+/// in 2 bytes, in native byte order.
 #[derive(Debug, PartialEq, Eq, Clone, Copy)]
 pub enum IpVlanMode {
     /// At layer 2: `IPVLAN_MODE_L2`, 0.
@@ -22,7 +22,7 @@ pub enum IpVlanMode {
     L3,
     /// At layer 3 with the hooks of netfilter: `IPVLAN_MODE_L3S`, 2.
     L3S,
-    /// Every other number.
+    /// Any other number.
     Other(u16),
 }
 
@@ -89,18 +89,19 @@ impl FromStr for IpVlanMode {
     }
 }
 
-/// The mode of an IPVTAP device, which has the numbers of IPVLAN.
+/// The mode of an IPVTAP device, with the numbers of IPVLAN.
 pub type IpVtapMode = IpVlanMode;
 
-/// How an IPVLAN device treats its neighbours, `IPVLAN_F_*` of `linux/if_link.h`. On the wire 2
-/// bytes in native order; all bits are kept.
+/// How an IPVLAN device treats its neighbours, `IPVLAN_F_*` of `linux/if_link.h`. Encoded in 2
+/// bytes, in native byte order; all bits are kept.
 #[derive(Debug, Clone, Copy, PartialEq, Eq)]
 pub struct IpVlanFlags(u16);
 
 impl IpVlanFlags {
-    /// The devices of one parent don't reach one another: `IPVLAN_F_PRIVATE`.
+    /// The devices of one parent are isolated from one another: `IPVLAN_F_PRIVATE`.
     pub const Private: Self = Self(0x01);
-    /// The devices of one parent reach one another by way of a switch outside: `IPVLAN_F_VEPA`.
+    /// The devices of one parent reach one another only through an external switch (VEPA):
+    /// `IPVLAN_F_VEPA`.
     pub const Vepa: Self = Self(0x02);
 
     const FLAGS: [Flag<IpVlanFlags>; 2] = [
@@ -145,5 +146,5 @@ impl Default for IpVlanFlags {
     }
 }
 
-/// The flags of an IPVTAP device, which are those of IPVLAN.
+/// The flags of an IPVTAP device: those of IPVLAN.
 pub type IpVtapFlags = IpVlanFlags;

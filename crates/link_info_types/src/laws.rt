@@ -1,9 +1,10 @@
-//! Facts of the constants. No function here makes a call.
+//! Laws of the constants. No function here makes a call.
 
 ghost use Rattle.link_info_types.specs.Laws.{ConstantsAreNamed};
 ghost use Rattle.link_info_types.specs.TunnelLaws.{TunnelConstantsAreNamed};
 
-/// The constant of each flag has the bits of its name, and the other name of a policy means that policy.
+/// The constant of each flag has the bits of its name, and the alias of a netkit policy is that
+/// policy.
 pub fn constants_are_named()
     ensures { ConstantsAreNamed }
 {}

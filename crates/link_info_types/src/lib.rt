@@ -1,4 +1,5 @@
-//! Number types and flag sets of link info.
+//! Number types and flag sets of link info. Flag sets implement `Flags` by hand: a macro would add
+//! fifteen impls, each of which has to be proved.
 #![tactic(auto)]
 
 pub mod amt;

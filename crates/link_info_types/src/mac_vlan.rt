@@ -14,20 +14,20 @@ use std::fmt;
 use std::str::FromStr;
 
 /// How the MACVLAN devices of one parent reach one another, `MACVLAN_MODE_*` of `linux/if_link.h`.
-/// On the wire 4 bytes in native order.
+/// Encoded in 4 bytes, in native byte order.
 #[derive(Debug, PartialEq, Eq, Clone, Copy)]
 pub enum MacVlanMode {
     /// Not at all: `MACVLAN_MODE_PRIVATE`, 1.
     Private,
-    /// By way of a switch outside: `MACVLAN_MODE_VEPA`, 2.
+    /// Through an external switch: `MACVLAN_MODE_VEPA`, 2.
     Vepa,
     /// Directly: `MACVLAN_MODE_BRIDGE`, 4.
     Bridge,
-    /// There is one device, which takes the parent over: `MACVLAN_MODE_PASSTHRU`, 8.
+    /// There is only one device, which takes over the parent: `MACVLAN_MODE_PASSTHRU`, 8.
     Passthrough,
     /// By a list of source addresses: `MACVLAN_MODE_SOURCE`, 16.
     Source,
-    /// Every other number.
+    /// Any other number.
     Other(u32),
 }
 
@@ -102,22 +102,22 @@ impl FromStr for MacVlanMode {
     }
 }
 
-/// The mode of a MACVTAP device, which has the numbers of MACVLAN.
+/// The mode of a MACVTAP device, with the numbers of MACVLAN.
 pub type MacVtapMode = MacVlanMode;
 
-/// The flags of a MACVTAP device, which are those of MACVLAN.
+/// The flags of a MACVTAP device: those of MACVLAN.
 pub type MacVtapFlags = MacVlanFlags;
 
-/// How a MACVLAN device treats its parent, `MACVLAN_FLAG_*` of `linux/if_link.h`. On the wire 2
-/// bytes in native order; all bits are kept.
+/// How a MACVLAN device treats its parent, `MACVLAN_FLAG_*` of `linux/if_link.h`. Encoded in 2
+/// bytes, in native byte order; all bits are kept.
 #[derive(Debug, Clone, Copy, PartialEq, Eq)]
 pub struct MacVlanFlags(u16);
 
 impl MacVlanFlags {
-    /// The parent isn't made promiscuous: `MACVLAN_FLAG_NOPROMISC`.
+    /// The parent isn't put into promiscuous mode: `MACVLAN_FLAG_NOPROMISC`.
     pub const NoPromisc: Self = Self(1);
-    /// What a device with the source address takes isn't delivered by its destination:
-    /// `MACVLAN_FLAG_NODST`.
+    /// In source mode, a frame that matches a source address isn't also delivered by its
+    /// destination: `MACVLAN_FLAG_NODST`.
     pub const NoDst: Self = Self(2);
 
     const FLAGS: [Flag<MacVlanFlags>; 2] = [
@@ -154,19 +154,19 @@ impl Flags for MacVlanFlags {
     }
 }
 
-/// What is done to the list of source addresses of a MACVLAN device, `MACVLAN_MACADDR_*` of
-/// `linux/if_link.h`. On the wire 4 bytes in native order.
+/// The operation on the list of source addresses of a MACVLAN device, `MACVLAN_MACADDR_*` of
+/// `linux/if_link.h`. Encoded in 4 bytes, in native byte order.
 #[derive(Debug, PartialEq, Eq, Clone, Copy)]
 pub enum MacVlanMacAddressMode {
     /// One address is added: `MACVLAN_MACADDR_ADD`, 0.
     Add,
-    /// One address is taken away: `MACVLAN_MACADDR_DEL`, 1.
+    /// One address is removed: `MACVLAN_MACADDR_DEL`, 1.
     Del,
-    /// All addresses are taken away: `MACVLAN_MACADDR_FLUSH`, 2.
+    /// All addresses are removed: `MACVLAN_MACADDR_FLUSH`, 2.
     Flush,
     /// The list is replaced: `MACVLAN_MACADDR_SET`, 3.
     Set,
-    /// Every other number.
+    /// Any other number.
     Other(u32),
 }
 
@@ -201,5 +201,5 @@ impl From<MacVlanMacAddressMode> for u32 {
     }
 }
 
-/// What is done to the list of source addresses of a MACVTAP device.
+/// The operation on the list of source addresses of a MACVTAP device.
 pub type MacVtapMacAddressMode = MacVlanMacAddressMode;

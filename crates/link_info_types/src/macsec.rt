@@ -15,8 +15,8 @@ const MACSEC_CIPHER_ID_GCM_AES_XPN_128: u64 = 0x0080C20001000003;
 
 const MACSEC_CIPHER_ID_GCM_AES_XPN_256: u64 = 0x0080C20001000004;
 
-/// The cipher suite of a MACsec device, `MACSEC_CIPHER_ID_*` of `linux/if_macsec.h`. On the wire 8
-/// bytes in native order.
+/// The cipher suite of a MACsec device, `MACSEC_CIPHER_ID_*` of `linux/if_macsec.h`. Encoded in 8
+/// bytes, in native byte order.
 #[derive(Debug, PartialEq, Eq, Clone, Copy)]
 pub enum MacSecCipherId {
     /// The number that GCM-AES-128 had before the standard's: `MACSEC_DEFAULT_CIPHER_ID`.
@@ -29,7 +29,7 @@ pub enum MacSecCipherId {
     GcmAesXpn128,
     /// GCM-AES-XPN-256, packet numbers of 64 bits: `MACSEC_CIPHER_ID_GCM_AES_XPN_256`.
     GcmAesXpn256,
-    /// Every other number.
+    /// Any other number.
     Other(u64),
 }
 
@@ -66,17 +66,17 @@ impl From<MacSecCipherId> for u64 {
     }
 }
 
-/// How strictly received frames are validated, `MACSEC_VALIDATE_*` of `linux/if_link.h`. On the
-/// wire 1 byte.
+/// How strictly received frames are validated, `MACSEC_VALIDATE_*` of `linux/if_link.h`. Encoded in
+/// 1 byte.
 #[derive(Debug, PartialEq, Eq, Clone, Copy)]
 pub enum MacSecValidate {
-    /// They aren't: `MACSEC_VALIDATE_DISABLED`, 0.
+    /// Frames aren't validated: `MACSEC_VALIDATE_DISABLED`, 0.
     Disabled,
-    /// They are, and those that fail are counted: `MACSEC_VALIDATE_CHECK`, 1.
+    /// Frames are validated, and those that fail are counted: `MACSEC_VALIDATE_CHECK`, 1.
     Check,
-    /// They are, and those that fail are dropped: `MACSEC_VALIDATE_STRICT`, 2.
+    /// Frames are validated, and those that fail are dropped: `MACSEC_VALIDATE_STRICT`, 2.
     Strict,
-    /// Every other number.
+    /// Any other number.
     Other(u8),
 }
 
@@ -109,8 +109,8 @@ impl From<MacSecValidate> for u8 {
     }
 }
 
-/// Which part of the hardware does the work, `MACSEC_OFFLOAD_*` of `linux/if_link.h`. On the wire 1
-/// byte.
+/// The part of the hardware that MACsec is offloaded to, `MACSEC_OFFLOAD_*` of `linux/if_link.h`.
+/// Encoded in 1 byte.
 #[derive(Debug, PartialEq, Eq, Clone, Copy)]
 pub enum MacSecOffload {
     /// None: `MACSEC_OFFLOAD_OFF`, 0.
@@ -119,7 +119,7 @@ pub enum MacSecOffload {
     Phy,
     /// The media access controller: `MACSEC_OFFLOAD_MAC`, 2.
     Mac,
-    /// Every other number.
+    /// Any other number.
     Other(u8),
 }
 

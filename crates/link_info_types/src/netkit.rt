@@ -13,15 +13,15 @@ use netlink_packet_core::DecodeError;
 use std::fmt;
 use std::str::FromStr;
 
-/// At which layer a NETKIT pair works, `NETKIT_L2` and `NETKIT_L3` of `linux/if_link.h`. On the
-/// wire 4 bytes in native order.
+/// At which layer a NETKIT pair works, `NETKIT_L2` and `NETKIT_L3` of `linux/if_link.h`. Encoded in
+/// 4 bytes, in native byte order.
 #[derive(Debug, PartialEq, Eq, Clone, Copy)]
 pub enum NetkitMode {
     /// With Ethernet headers: `NETKIT_L2`, 0.
     L2,
     /// Without Ethernet headers: `NETKIT_L3`, 1.
     L3,
-    /// Every other number.
+    /// Any other number.
     Other(u32),
 }
 
@@ -84,8 +84,8 @@ impl FromStr for NetkitMode {
     }
 }
 
-/// What becomes of packets where no program decides, `NETKIT_PASS`, `NETKIT_DROP` and
-/// `NETKIT_REDIRECT` of `linux/if_link.h`. On the wire 4 bytes in native order.
+/// The policy for packets if no program decides, `NETKIT_PASS`, `NETKIT_DROP` and `NETKIT_REDIRECT`
+/// of `linux/if_link.h`. Encoded in 4 bytes, in native byte order.
 #[derive(Debug, PartialEq, Eq, Clone, Copy)]
 pub enum NetkitPolicy {
     /// They pass: `NETKIT_PASS`, 0.
@@ -94,12 +94,12 @@ pub enum NetkitPolicy {
     Drop,
     /// They are redirected: `NETKIT_REDIRECT`, 7.
     Redirect,
-    /// Every other number.
+    /// Any other number.
     Other(u32),
 }
 
 impl NetkitPolicy {
-    /// Another name of `Pass`.
+    /// An alias of `Pass`.
     pub const Forward: NetkitPolicy = Self::Pass;
 }
 
@@ -166,9 +166,9 @@ impl FromStr for NetkitPolicy {
     }
 }
 
-/// Whether the marks of a packet are cleared on its way to the peer, `NETKIT_SCRUB_*` of
-/// `linux/if_link.h`. On the wire 4 bytes in native order. Each number but 0 is `Default`, which is
-/// written as 1.
+/// Whether the metadata of a packet, such as marks, are cleared when it passes to the peer,
+/// `NETKIT_SCRUB_*` of `linux/if_link.h`. Encoded in 4 bytes, in native byte order. Any number
+/// except 0 is read as `Default`, which is written as 1.
 #[derive(Debug, PartialEq, Eq, Clone, Copy)]
 pub enum NetkitScrub {
     /// They are kept: `NETKIT_SCRUB_NONE`, 0.

@@ -5,15 +5,15 @@ ghost use Rattle.link_info_types.specs.RmNetTypes.{rm_net_flags_bits, rm_net_fla
 
 use bitflags::{Flag, Flags};
 
-/// What an RMNET device does with the packets of its modem, `RMNET_FLAGS_*` of `linux/if_link.h`.
-/// On the wire 4 bytes in native order; all bits are kept.
+/// How an RMNET device processes the packets of its modem, `RMNET_FLAGS_*` of `linux/if_link.h`.
+/// Encoded in 4 bytes, in native byte order; all bits are kept.
 #[derive(Debug, Clone, Copy, PartialEq, Eq)]
 pub struct RmNetFlags(u32);
 
 impl RmNetFlags {
-    /// Received packets that were joined are taken apart: `RMNET_FLAGS_INGRESS_DEAGGREGATION`.
+    /// Received aggregates are split into packets: `RMNET_FLAGS_INGRESS_DEAGGREGATION`.
     pub const IngressDeaggregation: Self = Self(0x01);
-    /// Received commands are obeyed: `RMNET_FLAGS_INGRESS_MAP_COMMANDS`.
+    /// Received commands are executed: `RMNET_FLAGS_INGRESS_MAP_COMMANDS`.
     pub const IngressCommands: Self = Self(0x02);
     /// Received packets have a checksum, version 4: `RMNET_FLAGS_INGRESS_MAP_CKSUMV4`.
     pub const IngressMapCksumV4: Self = Self(0x04);

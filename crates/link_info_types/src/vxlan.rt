@@ -7,16 +7,16 @@ use itoa::Buffer;
 use std::fmt;
 
 /// The "don't fragment" bit of the outer IPv4 header of a VXLAN tunnel, `VXLAN_DF_*` of
-/// `linux/if_link.h`. On the wire 1 byte.
+/// `linux/if_link.h`. Encoded in 1 byte.
 #[derive(Debug, PartialEq, Eq, Clone, Copy)]
 pub enum VxlanDf {
     /// Not set: `VXLAN_DF_UNSET`, 0.
     Unset,
     /// Set: `VXLAN_DF_SET`, 1.
     Set,
-    /// As in the inner header: `VXLAN_DF_INHERIT`, 2.
+    /// Inherited from the inner header: `VXLAN_DF_INHERIT`, 2.
     Inherit,
-    /// Every other number.
+    /// Any other number.
     Other(u8),
 }
 

@@ -1,4 +1,4 @@
--- A measure tells whether its rule accepts the bytes.
+-- A measure determines whether its rule accepts the bytes.
 use Rattle.std.proofs.Common.{◌≡◌, ℕ, List, Option, Some, None, sym}
 use Rattle.std.specs.Prelude.{option_map, is_some}
 use Rattle.attribute_tables_grammar.specs.Rules.{Rule}

@@ -1,4 +1,4 @@
--- How far from its front a list is its own text, attribute by attribute.
+-- The canonical prefix of a list, attribute by attribute.
 use Rattle.std.proofs.Common.{◌≡◌, ℕ, ◌+◌, ◌-◌, ◌≤◌, ◌++◌, Bool, true, false, cond, List, [], ◌∷◌, length, take, drop, Option, Some, None, refl, sym, ap, ◌∙◌, append_assoc, arith}
 use Rattle.std.specs.Prelude.{◌&&◌, nat_le, option_map}
 use Rattle.std.proofs.lemmas.Bool.{and_parts, cond_both, false≢true}
@@ -14,7 +14,8 @@ module _ (f : ℕ → Row) where
   abbrev pub rule : Rule
   rule = list_rule any (without_context f)
 
-  -- an accepted list that fits is one behind its first attribute, and written as that one and the text of the rest
+  -- if a list is accepted and fits, so does the rest after its first attribute, and the encoding of the whole is that
+  -- attribute followed by that of the rest
   behind_by : (e : Attribute) (bytes after : List ℕ) (o : Option (List Attribute)) → attributes_of after ≡ o → attributes_of bytes ≡ option_map (λ es. e ∷ es) o
       → rule.accepted bytes ≡ true → rule.fits bytes ≡ true → GoesOn rule bytes (attribute_text (rewrite (row_at f e) e)) after
   unfolding all_accepted all_fit rewritten list_text
@@ -37,7 +38,7 @@ module _ (f : ℕ → Row) where
   behind : (e : Attribute) (bytes after : List ℕ) → first_attribute bytes ≡ Some (e, after) → rule.accepted bytes ≡ true → rule.fits bytes ≡ true → GoesOn rule bytes (attribute_text (rewrite (row_at f e) e)) after
   behind e bytes after h a fit = behind_by e bytes after (attributes_of after) refl (attributes_step bytes e after h) a fit
 
-  -- the front ends where the rest begins, and the attribute there is written as it stands
+  -- the prefix ends at the start of the rest, and the attribute there is already canonical
   pub record IsOwnStep (bytes rest : List ℕ) (n : ℕ) (e : Attribute) (after : List ℕ) : Type 0 where
     pub place : drop n bytes ≡ rest
     pub kind : written_kind (row_at f e) e.kind ≡ e.kind
@@ -51,7 +52,7 @@ module _ (f : ℕ → Row) where
   seam : (front after bytes : List ℕ) → bytes ≡ front ++ after → length front ≡ length bytes - length after
   seam front after bytes e = omega (arith, ap length e, length-append front after)
 
-  -- what is behind the attribute
+  -- the bytes after the attribute
   pub place_behind : (bytes rest : List ℕ) (n : ℕ) (e : Attribute) (after : List ℕ) → IsOwnStep bytes rest n e after → drop (length bytes - length after) bytes ≡ after
   place_behind bytes rest n e after s =
       let front = take n bytes ++ attribute_text e in
@@ -77,7 +78,7 @@ module _ (f : ℕ → Row) where
             };
       }
 
-  -- it goes on as long as all is its own text; so many bytes are left behind it
+  -- the prefix grows as long as all attributes so far are already canonical; `left` bytes are after it
   pub front_step : (bytes rest : List ℕ) (left : ℕ) (e : Attribute) (after : List ℕ) (b : Bool) → first_attribute rest ≡ Some (e, after) → (b ≡ true → IsOwnStep bytes rest (length bytes - left) e after) → IsOwnFront rule bytes (length bytes - left) → IsOwnFront rule bytes (length bytes - cond b (length after) left)
   front_step bytes rest left e after b h s o = cond_both b (length after) left (λ n. IsOwnFront rule bytes (length bytes - n)) (λ is. further bytes rest (length bytes - left) e after h (s is) o) (λ _. o)
 
@@ -85,6 +86,6 @@ module _ (f : ℕ → Row) where
   place_step bytes rest left e after true s h = place_behind bytes rest (length bytes - left) e after (s refl)
   place_step bytes rest left e after false s h = absurd cc
 
--- no more is left than there was
+-- the number of bytes after the prefix doesn't grow
 pub left_step : (whole rest left : ℕ) (b : Bool) → rest ≤ whole → left ≤ whole → cond b rest left ≤ whole
 left_step whole rest left b r l = cond_both b rest left (λ n. n ≤ whole) (λ _. r) (λ _. l)

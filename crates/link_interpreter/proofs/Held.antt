@@ -1,4 +1,4 @@
--- What a list, a payload and link info hold, under the names that contracts use.
+-- The rules of lists, payloads and link info, under the names that contracts use.
 use Rattle.std.proofs.Common.{◌≡◌, ℕ, ◌<◌, true, false, List, [], ◌∷◌, length, Option, None, refl, sym, ap, ◌∙◌, arith}
 use Rattle.attribute_tables_grammar.specs.Laws.{MeasuresTellRules, RowsAreLookedUp, SamenessGoesBySteps}
 use Rattle.attribute_tables_grammar.specs.Lists.{LawfulGrammar, list_rule, non_empty}
@@ -16,12 +16,12 @@ use Rattle.link_tables.specs.declared.table.Table.{Table}
 use Rattle.link_tables.specs.Rows.{form_of}
 use Rattle.link_tables.specs.Tables.{held_rule, info_payload, table_of}
 
--- a list's rule is that of what it holds
+-- a list's rule is that of its payload
 pub list_held : RowsAreLookedUp → (p : Peer) (held : Held) (form : Form) (t : Table) → held ≡ HeldList form t → list_rule (form_of form) (rows_of p (table_of t.0)) ≡ held_rule p held
 unfolding rows_rule
 list_held law p held form t e = sym (law.named p (form_of form) (table_of t.0)) ∙ sym (ap (held_rule p) e)
 
--- what is measured by one name of a rule is so by another
+-- a measure under one name of a rule is one under the others
 pub measured_as : (r s : Rule) (payload : List ℕ) (o : Option Measure) → r ≡ s → o ≡ measure r payload → o ≡ measure s payload
 measured_as r s payload o e h = h ∙ ap (λ r. measure r payload) e
 
@@ -57,7 +57,7 @@ module _ (p : Peer) where
   unfolding info_payload link_info_of info_rule_under info_grammar_under data_rule_under port_data_rule_under
   info_same law a b l m = law.same a b l m
 
-  -- no bytes are link info, so they mean the same as none
+  -- empty bytes are no link info, so they are equivalent to none
   pub info_no_left : SamenessGoesBySteps → (a b : List ℕ) → length a ≡ 0 → false ≡ inside.same a b
   unfolding info_payload link_info_of data_rule_under port_data_rule_under
   info_no_left laws a b l = laws.no_left non_empty (info_names p) a b l tt
@@ -66,7 +66,7 @@ module _ (p : Peer) where
   unfolding info_payload link_info_of data_rule_under port_data_rule_under
   info_no_right laws a b l = laws.no_right non_empty (info_names p) a b l tt
 
-  -- the text of link info is that of its list
+  -- the encoding of link info is that of its list
   pub info_text : InfoIsAListInside p → (b : List ℕ) → 0 < length b → (info_list p).canonical b ≡ inside.canonical b
   unfolding info_payload link_info_of info_rule_under info_grammar_under data_rule_under port_data_rule_under
   info_text law b l = sym (law.of_some_bytes b l).canonical

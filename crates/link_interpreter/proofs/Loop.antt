@@ -1,4 +1,4 @@
--- Bytes that are there, and one attribute after none.
+-- Non-empty bytes, and one attribute after none.
 use Rattle.std.proofs.Common.{◌≡◌, ◌<◌, ℕ, Bool, true, false, eqb, List, [], ◌∷◌, length, Some, sym, ◌∙◌, arith}
 use Rattle.std.proofs.Math.Nat.{zero-add}
 use Rattle.attribute_tables_grammar.specs.Walks.{Measure, plus, none_yet, with_header}

@@ -1,4 +1,4 @@
--- Padding, names, and what is in force, as the code finds them.
+-- Padding, names and the kinds in force, as the code determines them.
 use Rattle.std.proofs.Common.{◌≡◌, ℕ, zero, suc, ◌-◌, ◌<◌, ◌++◌, List, [], ◌∷◌, length, take, drop, Option, Some, refl, sym, ap, ◌∙◌, arith}
 use Rattle.std.proofs.lemmas.List.{take-replicate}
 use Rattle.netlink_packet_core_grammar.specs.Attributes.{nla_align, zeros, Attribute}
@@ -16,7 +16,7 @@ viewed_at bytes rest r o h =
 pub padded : (xs : List ℕ) (p q n : ℕ) → p ≡ n → q ≡ n → n < 4 → take p xs ≡ take q (0 ∷ 0 ∷ 0 ∷ []) → take n xs ≡ zeros n
 padded xs p q n e f l h = ap (λ k. take k xs) (sym e) ∙ h ∙ ap (λ k. take k (0 ∷ 0 ∷ 0 ∷ [])) f ∙ take-replicate n 3 0 (omega arith)
 
--- a name with a NUL behind it is its own text
+-- a name followed by a NUL is already canonical
 pub own_name : (p : List ℕ) → length (without_nul p) < length p → without_nul p ++ 0 ∷ [] ≡ p
 own_name [] l = absurd (omega arith)
 own_name (zero ∷ []) l = refl

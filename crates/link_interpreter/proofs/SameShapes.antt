@@ -1,4 +1,4 @@
--- When payloads of a shape mean the same, as the code compares them.
+-- When payloads of a shape are equivalent, as the code compares them.
 use Rattle.std.proofs.Common.{◌≡◌, ℕ, zero, suc, ◌+◌, ◌-◌, ◌≤◌, ◌++◌, Bool, true, false, List, [], ◌∷◌, length, take, drop, map, min, refl, sym, ap, ◌∙◌, arith}
 use Rattle.std.specs.Prelude.{◌==◌, ◌&&◌, ◌*◌, bytes_eq, not}
 use mir.Val.{bool_byte}
@@ -29,7 +29,7 @@ same_truths [] (b ∷ q) = refl
 same_truths (a ∷ p) [] = refl
 same_truths (a ∷ p) (b ∷ q) = λ i. same_truth a b i && same_truths p q i
 
--- ---- 4 bytes and a truth
+-- ---- 4 bytes and a boolean
 
 after_four : (p : List ℕ) → drop (length (take 4 p)) p ≡ drop 4 p
 after_four [] = refl
@@ -38,7 +38,7 @@ after_four (a ∷ b ∷ []) = refl
 after_four (a ∷ b ∷ c ∷ []) = refl
 after_four (a ∷ b ∷ c ∷ d ∷ p) = refl
 
--- the payload's 4 bytes and the 4 behind them, as the code cuts them
+-- the payload's first 4 bytes and the next 4, as the code cuts them
 cut_truth : (p a x : List ℕ) → a ≡ take 4 p → x ≡ take 4 (take (length p - length a) (drop (length a) p)) → x ≡ take 4 (drop 4 p)
 cut_truth p a x e h =
     h ∙ ap (λ a. take 4 (take (length p - length a) (drop (length a) p))) e
@@ -88,7 +88,7 @@ filled (suc i) j (suc b ∷ y) e = ap (λ t. t && bytes_eq (zeros i) (y ++ zeros
 other_way : (x y : List ℕ) → bytes_eq x y ≡ bytes_eq y x
 other_way x y = same_from_decides _ _ (bytes_eq-Decides x y) (let d = bytes_eq-Decides y x in (λ h. sym (d.0 h), λ h. d.1 (sym h)))
 
--- two payloads filled up to one size are the same where they are as far as both go, and the rest is zero
+-- two payloads filled up to one size are equal if they are up to the shorter length, and the rest of the longer is zero
 same_filled : (c i j : ℕ) (x y : List ℕ) → c ≡ min (length x) (length y) → i + length x ≡ j + length y →
     (bytes_eq (take c x) (take c y) && ((number (drop c x) == 0) && (number (drop c y) == 0))) ≡ bytes_eq (x ++ zeros i) (y ++ zeros j)
 same_filled zero i j [] y h e = sym (filled i j y (omega arith))
@@ -115,21 +115,21 @@ module _ (n c : ℕ) (p q x y : List ℕ) (ex : x ≡ take n p) (ey : y ≡ take
       ∙ same_filled c _ _ x y ec (let a = ap length ex ∙ length-take n p in let b = ap length ey ∙ length-take n q in omega arith)
       ∙ (λ i. bytes_eq (sym (pad p x ex) i) (sym (pad q y ey) i))
 
-  -- the fronts are the same, and the left rest tells
+  -- the common prefixes are equal, and the left rest decides
   pub by_rests : (b : Bool) → bytes_eq (take c x) (take c y) ≡ true → is_rest_zero x ≡ b → (b && is_rest_zero y) ≡ equal
   by_rests b t a = (λ i. sym t i && (sym a i && is_rest_zero y)) ∙ told
 
   pub by_front : bytes_eq (take c x) (take c y) ≡ false → false ≡ equal
   by_front t = ap (λ b. b && (is_rest_zero x && is_rest_zero y)) (sym t) ∙ told
 
--- a byte that is one where a number isn't zero
+-- a byte that is 1 if and only if a number isn't zero
 pub truth_byte : (n : ℕ) (b : Bool) → b ≡ (n == 0) → bool_byte (not b) ≡ truth_of n
 truth_byte n b h = ap (λ b. bool_byte (not b)) h ∙ by n where
   by : (n : ℕ) → bool_byte (not (n == 0)) ≡ truth_of n
   by zero = refl
   by (suc n) = ap (λ b. bool_byte (not b)) (suc_not n)
 
--- a record is its own text where it has its size, and zeros stand behind what counts
+-- a record is already canonical if it has its size and zeros after the bytes that count
 pub own_record : (m n : ℕ) (p : List ℕ) → length p ≡ n → number (drop m p) ≡ 0 → take m p ++ zeros (n - m) ≡ p
 own_record m n p l z =
     let e : drop m p ≡ zeros (n - m) = number_zero (drop m p) z ∙ ap zeros (length-drop m p) ∙ ap (λ k. zeros (k - m)) l in

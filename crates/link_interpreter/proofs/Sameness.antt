@@ -1,4 +1,4 @@
--- What two attributes say under a table, and what lists say that go on differently.
+-- When two attributes under a table are equivalent, and two lists, by their next attributes.
 use Rattle.std.proofs.Common.{◌≡◌, ◌<◌, ℕ, zero, suc, Bool, true, false, eqb, List, [], ◌∷◌, length, Option, Some, None, refl, ap, ◌∙◌, arith}
 use Rattle.std.proofs.lemmas.Bool.{le-ltb, ne_eqb}
 use Rattle.std.specs.Prelude.{◌==◌, ◌&&◌, ◌||◌, nat_lt}
@@ -22,7 +22,7 @@ use Rattle.link_interpreter.specs.Measures.{rows_of}
 use Rattle.link_interpreter.specs.Sameness.{next_of}
 use Rattle.link_interpreter.proofs.Held.{list_held}
 
--- two attributes under one look-up, the first one's row holding what the rule says
+-- two attributes under one look-up, when the first one's row holds the payload of this rule
 module _ (law : AttributesAreCompared) (f : ℕ → Row) (e h : Attribute) where
   pub says_rule : (r : Rule) (s : Bool) → r ≡ (row_at f e).rule → true ≡ same_kinds (row_at f e) e.kind h.kind → s ≡ r.same e.payload h.payload → s ≡ same_attribute (row_at f e) (row_at f h) e h
   says_rule r s is kinds same =
@@ -32,7 +32,7 @@ module _ (law : AttributesAreCompared) (f : ℕ → Row) (e h : Attribute) where
   pub other_kinds : false ≡ same_kinds (row_at f e) e.kind h.kind → false ≡ same_attribute (row_at f e) (row_at f h) e h
   other_kinds kinds = ap (λ b. b && (row_at f e).rule.same e.payload h.payload) kinds ∙ law.by_kind f e h
 
--- kinds 1 to 5 of link info are typed, whatever is in force
+-- kinds 1 to 5 of link info are typed, in every context
 typed_in_force : (o : Option (List ℕ)) (f : List ℕ → Rule) → true ≡ (row_in_force o f).is_typed
 typed_in_force None f = refl
 typed_in_force (Some n) f = refl
@@ -54,7 +54,7 @@ module _ (d q : List ℕ → Rule) (c : Context) where
   pub info_kinds : (k l : ℕ) → (k == l || (nat_lt 0 (proper_kind k) && nat_lt (proper_kind k) 6 && proper_kind k == proper_kind l)) ≡ same_kinds (info_row d q c (proper_kind k)) k l
   info_kinds k l = ap (λ b. k == l || (b && proper_kind k == proper_kind l)) (typed_info (proper_kind k))
 
--- a list that a row holds
+-- a list as the payload of a row
 pub held_same : RowsAreLookedUp → (p : Peer) (held : Held) (form : Form) (t : Table) → held ≡ HeldList form t → (a b : List ℕ) → (list_rule (form_of form) (rows_of p (table_of t.0))).same a b ≡ (held_rule p held).same a b
 held_same law p held form t e a b = ap (λ r. r.same a b) (list_held law p held form t e)
 
@@ -69,7 +69,7 @@ module _ (law : SamenessGoesBySteps) (form : ListForm) (g : Grammar) (a b : List
   left_shorter End k not l = absurd (not refl)
   left_shorter Cut k not l = law.right_stopped form g nothing a b l
 
--- a list of any attributes goes on, and the other doesn't
+-- a list of any attributes has a next one, and the other ends
 module _ (kept : KeptBySteps) (law : SamenessGoesBySteps) (g : Grammar) (c : Context) (a : List ℕ) where
   pub other_ended : (e : Attribute) (x : List ℕ) → kept_of any a ≡ goes_on any e x → (b : List ℕ) → first_attribute b ≡ None → false ≡ same_walk any g c a b
   other_ended e x k [] f = law.right_ended any g c a [] e x k (kept.ended any [] refl)

@@ -1,4 +1,4 @@
--- What is known where an attribute is written: header, payload and padding, one after another.
+-- The facts that are known when an attribute is written: header, payload and padding, one after another.
 use Rattle.std.proofs.Common.{◌≡◌, ℕ, ◌+◌, ◌-◌, ◌≤◌, ◌++◌, true, false, List, [], ◌∷◌, length, take, drop, refl, sym, ap, ◌∙◌, append_assoc, arith}
 use Rattle.std.proofs.lemmas.List.{length-append, take_at}
 use Rattle.std.proofs.Math.Seq.{drop-append_seam}
@@ -12,7 +12,7 @@ use Rattle.link_tables.specs.declared.rows.Form.{Form}
 use Rattle.link_tables.specs.declared.rows.Form.TheVariants.{Any, OfKindOne, FirstAlone}
 use Rattle.link_tables.specs.Rows.{form_of}
 
--- where the row's rule is known by another name, and there is more room
+-- writable under another name of the row's rule, and with more capacity
 pub writable_as : (r f : Rule) (p : List ℕ) (room more : ℕ) → f ≡ r → room ≤ more → IsWritable r p room → IsWritable f p more
 writable_as r f p room more e l w =
     let n : length (f.canonical p) ≡ length (r.canonical p) = ap (λ r. length (r.canonical p)) e in
@@ -23,11 +23,11 @@ writable_as r f p room more e l w =
       within = omega (arith, n, w.within, l);
     }
 
--- an accepted payload isn't refused
+-- an accepted payload isn't rejected
 pub not_refused : (r f : Rule) (p : List ℕ) (room : ℕ) → f ≡ r → IsWritable r p room → f.accepted p ≡ false → ⊥
 not_refused r f p room e w h = cc (ap (λ r. r.accepted p) e)
 
--- a header over the four bytes in front of a payload, and padding behind it, are the attribute's text
+-- a header written over the four bytes before a payload, and padding after it, make the attribute's encoding
 pub three_parts : (kind : ℕ) (text out a b c new : List ℕ) (start size : ℕ) → start ≡ length out → size ≡ length text → a ≡ out ++ 0 ∷ 0 ∷ 0 ∷ 0 ∷ [] → b ≡ a ++ text → c ≡ take start b ++ (attribute_header (4 + size) kind ++ drop (start + 4) b) → new ≡ c ++ zeros (nla_align (4 + size) - (4 + size)) → new ≡ out ++ attribute_text (record { kind = kind; payload = text })
 unfolding attribute_text
 three_parts kind text out a b c new start size at n x y z w =
@@ -46,7 +46,7 @@ three_parts kind text out a b c new start size at n x y z w =
 pub rewritten_as : (row : Row) (f : Rule) (e : Attribute) (kind : ℕ) (out new : List ℕ) → f ≡ row.rule → kind ≡ written_kind row e.kind → new ≡ out ++ attribute_text (record { kind = kind; payload = f.canonical e.payload }) → new ≡ out ++ attribute_text (rewrite row e)
 rewritten_as row f e kind out new r k h = h ∙ (λ i. out ++ attribute_text (record { kind = k i; payload = (r i).canonical e.payload }))
 
--- an accepted list of another form is walked
+-- an accepted list of another kind is walked
 pub walked_if : MeasuresTellRules → (form : Form) (g : Grammar) (bytes : List ℕ) → (form ≡ FirstAlone → ⊥) → (list_rule (form_of form) g).accepted bytes ≡ true → IsWalked (form_of form) bytes
 walked_if law Any g bytes n a = tt
 walked_if law OfKindOne g bytes n a = tt

@@ -1,14 +1,15 @@
--- How far from its front a payload is its own text.
+-- The canonical prefix of a payload: the leading bytes that are already canonical.
 use Rattle.std.specs.Prelude.{◌≡◌, ℕ, ◌≤◌, true, List, ◌++◌, length, take, drop}
 use Rattle.attribute_tables_grammar.specs.Rules.{Rule}
 
--- behind the front comes the text of the rest, which is accepted and fits
+-- The rest is accepted and fits, and the canonical encoding of the whole is `front` followed by that of the rest.
 pub record GoesOn (r : Rule) (bytes front rest : List ℕ) : Type 0 where
   pub accepted : r.accepted rest ≡ true
   pub fits : r.fits rest ≡ true
   pub text : r.canonical bytes ≡ front ++ r.canonical rest
 
--- so many bytes in front of an accepted payload that fits are written as they stand
+-- If the payload is accepted and fits, its first n bytes are a prefix of its canonical encoding, and the rest is
+-- encoded independently.
 pub record IsOwnFront (r : Rule) (bytes : List ℕ) (n : ℕ) : Type 0 where
   pub within : n ≤ length bytes
   pub goes_on : r.accepted bytes ≡ true → r.fits bytes ≡ true → GoesOn r bytes (take n bytes) (drop n bytes)

@@ -1,4 +1,4 @@
--- What a measure in code stands for.
+-- The measures of the grammar for measures in code.
 use Rattle.std.specs.Prelude.{◌≡◌, ℕ, List, length}
 use Rattle.attribute_tables_grammar.specs.Lists.{Grammar, any, list_rule, without_context}
 use Rattle.attribute_tables_grammar.specs.LookUps.{table_row}
@@ -12,26 +12,27 @@ use Rattle.link_tables.specs.Rows.{form_of}
 use Rattle.link_interpreter.specs.declared.link_info.ListMeasure.{ListMeasure}
 use Rattle.link_interpreter.specs.declared.shapes.Measured.{Measured}
 
+-- The grammar's measure for a measure in code.
 abbrev pub view : Measured → Measure
 view m = record { size = m.text_len; attributes = m.attributes; fits = m.fits; empty_ports = m.empty_ports }
 
--- the rows that a look-up of each kind finds
+-- The rows of a table, found by looking up each kind.
 abbrev pub rows_of : Peer → Table → Grammar
 rows_of p t = without_context (table_row p t)
 
--- a list of a form, under a table
+-- The rule of a list of this kind under a table.
 abbrev pub table_list : Peer → Table → Form → Rule
 table_list p t form = list_rule (form_of form) (rows_of p t)
 
--- the rows of link info
+-- The rows of link info.
 abbrev pub info_names : Peer → Grammar
 info_names p = names_grammar (data_rule_under p) (port_data_rule_under p)
 
--- a list of link info
+-- The rule of a list of link info.
 abbrev pub info_list : Peer → Rule
 info_list p = list_rule any (info_names p)
 
--- the numbers are those of the canonical text
+-- The numbers are those of the list's canonical encoding.
 pub record IsListMeasure (r : Rule) (bytes : List ℕ) (m : ListMeasure) : Type 0 where
   pub text_len : m.text_len ≡ length (r.canonical bytes)
   pub attributes : m.attributes ≡ r.attributes bytes

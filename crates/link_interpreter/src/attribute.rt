@@ -1,4 +1,4 @@
-//! One attribute in front of bytes.
+//! The attribute at the start of a byte string.
 
 ghost use Rattle.std.specs.Prelude.{◌≡◌, ◌≤◌, ◌-◌, ◌+◌, ◌++◌, Some, true, length, take, drop, option_map, IfSome};
 ghost use Rattle.netlink_packet_core_grammar.specs.Attributes.{first_attribute, attribute_text, nla_align, zeros};
@@ -17,8 +17,9 @@ pub struct Attribute<'a> {
     pub payload: &'a [u8],
 }
 
-/// The attribute that begins the bytes, and what comes after its padding: length u16 and kind u16,
-/// lowest byte first, then the payload (netlink.h, struct nlattr).
+/// Returns the attribute at the start of the bytes, and the bytes after its padding: length u16 and
+/// kind u16, little-endian, then the payload (netlink.h, struct nlattr). `None` if the bytes begin
+/// with no whole attribute.
 pub fn first_attribute(bytes: &[u8]) -> Option<(Attribute<'_>, &[u8])>
     ensures first { first_attribute bytes.now ≡ option_map (λ r. (attribute_of r.0, r.1.now)) result }
     ensures within { IfSome result (λ r. 4 + length r.0.payload.now ≤ length bytes.now) }
@@ -40,7 +41,8 @@ pub fn first_attribute(bytes: &[u8]) -> Option<(Attribute<'_>, &[u8])>
     Some((Attribute { kind, payload }, &bytes[end.min(bytes.len())..]))
 }
 
-// Whether an attribute of this size at the front of bytes is followed by all its padding, in zeros.
+// Whether the attribute of this size at the start of the bytes is followed by all its padding, as
+// zeros.
 fn is_padded(bytes: &[u8], size: usize) -> bool
     requires { size ≤ length bytes.now }
     ensures { result ≡ true
@@ -53,7 +55,8 @@ fn is_padded(bytes: &[u8], size: usize) -> bool
     &bytes[size..size + padding] == &[0, 0, 0][..padding]
 }
 
-/// Whether the attribute in front of bytes stands there as its own text.
+/// Returns whether the attribute at the start of the bytes is padded with zeros. If its kind and
+/// payload are already canonical, so are its bytes.
 pub fn is_own_attribute(bytes: &[u8], attribute: Attribute<'_>, after: &[u8]) -> bool
     requires { first_attribute bytes.now ≡ Some (attribute_of attribute, after.now) }
     ensures { result ≡ true → bytes.now ≡ attribute_text (attribute_of attribute.entry) ++ after.now }

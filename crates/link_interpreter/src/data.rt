@@ -1,5 +1,5 @@
-//! Checks of data under a name, without memory and without a typed value; for the crates that read
-//! them.
+//! Checks of data under a name, without allocating and without a typed value, for the crates that
+//! read such data.
 
 ghost use Rattle.std.specs.Prelude.{◌≡◌, false};
 ghost use Rattle.netlink_packet_core_numbers.specs.Errors.{is_memory};
@@ -11,7 +11,8 @@ use attribute_tables_grammar::laws::{measures_tell_rules, names_are_looked_up};
 use link_tables::{data_held, port_held};
 use netlink_packet_core_numbers::DecodeError;
 
-/// Whether the bytes of IFLA_INFO_DATA are accepted over these peers as the data under a kind's name.
+/// Returns whether the bytes of IFLA_INFO_DATA are accepted as the data under a kind's name, with
+/// these peers.
 pub fn accepts_data<P: PeerSet>(peers: &P, name: &[u8], payload: &[u8]) -> bool
     ensures { result ≡ (data_rule_under P.peer name.now).accepted payload.now }
 {
@@ -20,8 +21,8 @@ pub fn accepts_data<P: PeerSet>(peers: &P, name: &[u8], payload: &[u8]) -> bool
     measure_held(peers, data_held(name), payload).is_some()
 }
 
-/// Whether the bytes of IFLA_INFO_SLAVE_DATA are accepted over these peers as the data under a port
-/// kind's name.
+/// Returns whether the bytes of IFLA_INFO_SLAVE_DATA are accepted as the data under a port kind's
+/// name, with these peers.
 pub fn accepts_port_data<P: PeerSet>(peers: &P, name: &[u8], payload: &[u8]) -> bool
     ensures { result ≡ (port_data_rule_under P.peer name.now).accepted payload.now }
 {
@@ -30,9 +31,9 @@ pub fn accepts_port_data<P: PeerSet>(peers: &P, name: &[u8], payload: &[u8]) -> 
     measure_held(peers, port_held(name), payload).is_some()
 }
 
-/// What is told where data under a kind's name weren't read over these peers: want of memory where
-/// they are accepted, and a refusal where they aren't. The error may be want of memory in front of a
-/// refusal.
+/// Returns the error for data under a kind's name that weren't read, with these peers: out of
+/// memory if and only if the data are accepted. The reader may have run out of memory before it
+/// reached an invalid attribute: then `error` is replaced.
 pub fn data_error<P: PeerSet>(
     peers: &P,
     name: &[u8],

@@ -1,4 +1,4 @@
-//! What is known of link info: kinds 1 to 5 have no flag bits.
+//! Facts about link info: kinds 1 to 5 have no flag bits.
 
 ghost use Rattle.std.specs.Prelude.{◌≡◌, ◌%◌, ◌==◌, ◌&&◌, ◌||◌, nat_lt, ℕ};
 ghost use Rattle.netlink_packet_core_grammar.specs.Attributes.{proper_kind};
@@ -14,7 +14,7 @@ use link_info_grammar::laws::info_grammar_is_lawful;
 use link_message_grammar::laws::body_laws_hold_for_any_peers;
 use link_tables::{IFLA_INFO_KIND, IFLA_INFO_SLAVE_DATA};
 
-/// The rows of link info are lawful. It does nothing.
+/// The rows of link info are lawful. A lemma, which does nothing.
 pub(crate) fn link_info_is_lawful<P: PeerSet>(peers: &P)
     ensures { LawfulGrammar (info_names P.peer) }
 {
@@ -22,7 +22,7 @@ pub(crate) fn link_info_is_lawful<P: PeerSet>(peers: &P)
     info_grammar_is_lawful();
 }
 
-/// Link info in an attribute is a list of link info with an attribute in it. It does nothing.
+/// Link info in an attribute is a list of link info that isn't empty. A lemma, which does nothing.
 pub(crate) fn info_is_a_list_inside<P: PeerSet>(peers: &P)
     ensures { InfoIsAListInside P.peer }
 {
@@ -30,7 +30,7 @@ pub(crate) fn info_is_a_list_inside<P: PeerSet>(peers: &P)
     body_laws_hold_for_any_peers();
 }
 
-/// The kind that an attribute of link info is written with.
+/// Returns the canonical kind of an attribute of link info.
 pub(crate) fn written_info_kind(kind: u16) -> u16
     ensures { (p : Peer) (c : Context) → result ≡ written_kind (link_info_row_under p c (proper_kind kind)) kind }
 {
@@ -40,7 +40,7 @@ pub(crate) fn written_info_kind(kind: u16) -> u16
     }
 }
 
-/// Whether the kinds of two attributes are the same in link info.
+/// Returns whether the kinds of two attributes are equal in link info.
 pub(crate) fn are_same_info_kinds(left: u16, right: u16) -> bool
     ensures { result
         ≡ (left == right

@@ -1,4 +1,5 @@
-// Attributes of links judged, compared and written on their bytes, by one interpreter of the rows of their tables.
+// Checks, compares and writes the attributes of links on their bytes, by one interpreter of their
+// tables' rows.
 #![tactic(auto)]
 
 mod attribute;

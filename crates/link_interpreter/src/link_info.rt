@@ -1,4 +1,4 @@
-//! Checks of link info, without memory and without a typed value.
+//! Checks of link info, without allocating and without a typed value.
 
 ghost use Rattle.std.specs.Prelude.{◌≡◌, true, false, is_ok, option_map, IfSome, IfOk, IfErr};
 ghost use Rattle.attribute_tables_grammar.specs.Walks.{measure};
@@ -13,18 +13,18 @@ use crate::shapes::Measured;
 use attribute_tables_grammar::laws::measures_tell_rules;
 use netlink_packet_core_numbers::DecodeError;
 
-/// What a list of link info is written as.
+/// The measure of a list of link info.
 #[derive(Clone, Copy, Debug, PartialEq, Eq)]
 pub struct ListMeasure {
-    /// The length of the canonical text in bytes.
+    /// The length of the canonical encoding in bytes.
     pub text_len: u128,
-    /// The attribute headers, at all depths.
+    /// The number of attributes, at all depths.
     pub attributes: u64,
-    /// Whether each length in the text is at most 65535.
+    /// Whether each length in the canonical encoding is at most 65535.
     pub fits: bool,
 }
 
-// Whether the bytes are a list of link info over these peers, and what is found in one walk of them.
+// Returns the measure of a list of link info, with these peers; `None` if the bytes are none.
 fn measure_list<P: PeerSet>(peers: &P, bytes: &[u8]) -> Option<Measured>
     ensures measure { option_map view result ≡ measure (info_rule_under P.peer) bytes.now }
     ensures own { IfSome result
@@ -33,7 +33,7 @@ fn measure_list<P: PeerSet>(peers: &P, bytes: &[u8]) -> Option<Measured>
     measure_info(peers, bytes)
 }
 
-// Whether the bytes are a list of link info over these peers, and what it is written as.
+// Checks a list of link info, with these peers.
 fn check_over<P: PeerSet>(peers: &P, bytes: &[u8]) -> Result<ListMeasure, DecodeError>
     ensures ok { is_ok result ≡ (info_rule_under P.peer).accepted bytes.now }
     ensures measure { IfOk result (λ m. IsListMeasure (info_rule_under P.peer) bytes.now m) }
@@ -50,7 +50,7 @@ fn check_over<P: PeerSet>(peers: &P, bytes: &[u8]) -> Result<ListMeasure, Decode
     })
 }
 
-// Whether two lists of link info over these peers mean the same.
+// Whether two lists of link info are equivalent, with these peers.
 #[tactic(auto, unfolding(link_info_grammar::specs::LinkInfo::info_rule_under, link_info_grammar::specs::LinkInfo::info_grammar_under, link_info_grammar::specs::LinkInfo::data_rule_under, link_info_grammar::specs::LinkInfo::port_data_rule_under))]
 fn same_list_over<P: PeerSet>(peers: &P, left: &[u8], right: &[u8]) -> bool
     ensures { result ≡ (info_rule_under P.peer).same left.now right.now }
@@ -58,8 +58,12 @@ fn same_list_over<P: PeerSet>(peers: &P, left: &[u8], right: &[u8]) -> bool
     same_info(peers, left, right)
 }
 
-/// Whether the bytes of IFLA_LINKINFO are a list of link info, and what it is written as. It takes
-/// no memory. A list that isn't accepted is refused; no bytes are the empty list.
+/// Checks the bytes of IFLA_LINKINFO, and returns the measure of the list. Empty bytes are the
+/// empty list.
+///
+/// # Errors
+///
+/// A [`DecodeError`], never out of memory, if the list isn't accepted. Allocates nothing.
 pub fn check_list(bytes: &[u8]) -> Result<ListMeasure, DecodeError>
     ensures ok { is_ok result ≡ info_rule.accepted bytes.now }
     ensures measure { IfOk result (λ m. IsListMeasure info_rule bytes.now m) }
@@ -68,9 +72,13 @@ pub fn check_list(bytes: &[u8]) -> Result<ListMeasure, DecodeError>
     check_over(&BytesPeer, bytes)
 }
 
-/// Whether the bytes of IFLA_LINKINFO are a list of link info whose peers a rule accepts, and what
-/// it is written as, its peers by that rule. It takes no memory. A list that isn't accepted is
-/// refused; no bytes are the empty list. `check_list` is this under `BytesPeer`.
+/// Checks the bytes of IFLA_LINKINFO, the peers inside by a rule, and returns the measure of the
+/// list. Empty bytes are the empty list. `check_list` is this under `BytesPeer`.
+///
+/// # Errors
+///
+/// A [`DecodeError`], never out of memory, if the list isn't accepted under the rule. Allocates
+/// nothing.
 pub fn check_list_with<R: PeerRule>(bytes: &[u8], rule: &R) -> Result<ListMeasure, DecodeError>
     ensures ok { is_ok result ≡ (info_rule_under R.peer).accepted bytes.now }
     ensures measure { IfOk result (λ m. IsListMeasure (info_rule_under R.peer) bytes.now m) }
@@ -79,26 +87,27 @@ pub fn check_list_with<R: PeerRule>(bytes: &[u8], rule: &R) -> Result<ListMeasur
     check_over(&Ruled(rule), bytes)
 }
 
-/// Whether two lists of link info mean the same: each attribute of the one that of the other, kinds
-/// and names, data and port data by the tables of the kinds in force, whatever bytes spell them. It
-/// takes no memory, and builds no value. It is of use where `check_list` accepts both.
+/// Returns whether two lists of link info are equivalent: their attributes are pairwise, kinds and
+/// names, data and port data by the tables of the kinds in force, however the bytes encode them. It
+/// allocates nothing, and builds no value. The result is meaningful if `check_list` accepts both.
 pub fn same_list(left: &[u8], right: &[u8]) -> bool
     ensures { result ≡ info_rule.same left.now right.now }
 {
     same_list_over(&BytesPeer, left, right)
 }
 
-/// Whether two lists of link info mean the same, their peers by a rule. It takes no memory, and
-/// builds no value. It is of use where `check_list_with` accepts both under that rule. `same_list`
-/// is this under `BytesPeer`.
+/// Returns whether two lists of link info are equivalent, their peers by a rule. It allocates
+/// nothing, and builds no value. The result is meaningful if `check_list_with` accepts both under
+/// that rule. `same_list` is this under `BytesPeer`.
 pub fn same_list_with<R: PeerRule>(left: &[u8], right: &[u8], rule: &R) -> bool
     ensures { result ≡ (info_rule_under R.peer).same left.now right.now }
 {
     same_list_over(&Ruled(rule), left, right)
 }
 
-/// What is told where link info wasn't read, its peers by a rule: want of memory where the list is
-/// accepted, and a refusal where it isn't. The error may be want of memory in front of a refusal.
+/// Returns the error for link info that wasn't read, its peers by a rule: out of memory if and only
+/// if the list is accepted. The reader may have run out of memory before it reached an invalid
+/// attribute: then `error` is replaced.
 pub fn list_error_with<R: PeerRule>(bytes: &[u8], rule: &R, error: DecodeError) -> DecodeError
     requires refused { is_memory error ≡ false
         → (info_rule_under R.peer).accepted bytes.now ≡ false }

@@ -1,4 +1,4 @@
-//! Measures of lists, without a typed value.
+//! Measures of lists, without typed values.
 
 ghost use Rattle.std.specs.Prelude.{◌≡◌, ◌<◌, ◌+◌, ◌*◌, ◌^◌, ◌&&◌, ℕ, true, false, cond, nat_lt, option_map, IfSome};
 ghost use Rattle.attribute_tables_grammar.specs.Lists.{is_kept, first_alone, list_rule};
@@ -20,7 +20,7 @@ use attribute_tables_grammar::laws::{
 };
 use link_tables::{Form, Held, NO_KINDS, Table, info_held, next_force};
 
-/// Whether a list of this form keeps an attribute.
+/// Returns whether a list of this kind keeps an attribute.
 pub fn is_kept(form: Form, attribute: Attribute<'_>) -> bool
     ensures { result ≡ is_kept (form_of form) (attribute_of attribute.entry) }
 {
@@ -30,7 +30,8 @@ pub fn is_kept(form: Form, attribute: Attribute<'_>) -> bool
     }
 }
 
-/// One more attribute, around what was found in its payload.
+/// Adds an attribute to a measure, from the measure of its payload. The flags are joined by `&`,
+/// since `&&` in a struct literal splits the prover's goals.
 pub fn with_attribute(total: Measured, inside: Measured, is_own: bool) -> Measured
     requires len { total.text_len + inside.text_len + 7 < 2 ^ 128 }
     requires headers { total.attributes + inside.attributes + 1 < 2 ^ 64 }
@@ -49,7 +50,7 @@ pub fn with_attribute(total: Measured, inside: Measured, is_own: bool) -> Measur
     }
 }
 
-// One more attribute, which its list drops.
+// Adds an attribute that its list drops to a measure.
 fn with_dropped(total: Measured) -> Measured
     requires { total.attributes + 1 < 2 ^ 64 }
     ensures measure { view result ≡ plus (view total) dropped }
@@ -65,7 +66,7 @@ fn with_dropped(total: Measured) -> Measured
     }
 }
 
-// The measure of a whole list: ports that keep nothing are told.
+// Completes the measure of a list: notes a list of ports that keeps no entry.
 fn close(form: Form, total: Measured) -> Measured
     ensures measure { view result ≡ closed (form_of form) (view total) }
     ensures own { result.is_own ≡ total.is_own }
@@ -83,7 +84,7 @@ fn close(form: Form, total: Measured) -> Measured
     }
 }
 
-/// Whether bytes are accepted as what a row holds, and their measure.
+/// Returns the measure of bytes as the payload of a row; `None` if they aren't accepted.
 #[cycle(measure)]
 #[inline(always)]
 pub fn measure_held<P: PeerSet>(peers: &P, held: Held, bytes: &[u8]) -> Option<Measured>
@@ -95,7 +96,7 @@ pub fn measure_held<P: PeerSet>(peers: &P, held: Held, bytes: &[u8]) -> Option<M
 {
     match held {
         Held::Plain(shape) => measure_shape(shape, bytes),
-        // What is found of a shape stays in registers, since no call is given the place of the answer.
+        // The measure of a shape stays in registers, since no call gets a pointer to the result.
         _ => match measure_inside(peers, held, bytes) {
             Some(found) => Some(found),
             None => None,
@@ -103,7 +104,7 @@ pub fn measure_held<P: PeerSet>(peers: &P, held: Held, bytes: &[u8]) -> Option<M
     }
 }
 
-// The same, of a payload that holds attributes most often.
+// The same, for payloads that mostly hold attributes.
 #[cycle(measure)]
 #[inline(always)]
 fn measure_inside<P: PeerSet>(peers: &P, held: Held, bytes: &[u8]) -> Option<Measured>
@@ -122,14 +123,16 @@ fn measure_inside<P: PeerSet>(peers: &P, held: Held, bytes: &[u8]) -> Option<Mea
     }
 }
 
-// How many bytes are left behind the front that is known to be its own text, which goes on as long as all is.
+// The number of bytes after the canonical prefix, which grows only while all attributes are already
+// canonical.
 fn left_behind(left: usize, is_own: bool, rest: usize) -> usize
     ensures { result ≡ cond is_own rest left }
 {
     if is_own { rest } else { left }
 }
 
-// The measure of a whole list, of which so much in front is known to be its own text; no front is told that is 4 GiB long.
+// The measure of a whole list, with its canonical prefix of `front` bytes. One of 4 GiB or more
+// isn't recorded.
 fn with_front(found: Measured, front: usize) -> Measured
     ensures measure { view result ≡ view found }
     ensures own { result.is_own ≡ found.is_own }
@@ -145,7 +148,8 @@ fn with_front(found: Measured, front: usize) -> Measured
     }
 }
 
-/// Whether bytes are a list of this form under a table, its measure, and how far from its front it is its own text.
+/// Returns the measure of a list of this kind under a table, with its canonical prefix; `None` if
+/// the bytes are none.
 #[cycle(measure)]
 pub fn walk_list<P: PeerSet>(peers: &P, form: Form, table: Table, bytes: &[u8]) -> Option<Measured>
     ensures measure { option_map view result
@@ -195,7 +199,7 @@ pub fn walk_list<P: PeerSet>(peers: &P, form: Form, table: Table, bytes: &[u8]) 
     }
 }
 
-// Whether bytes begin with an attribute of a table, and the measure of that one alone.
+// The measure of only the attribute at the start of the bytes, under a table.
 #[cycle(measure)]
 fn measure_first<P: PeerSet>(peers: &P, table: Table, bytes: &[u8]) -> Option<Measured>
     ensures measure { option_map view result
@@ -220,7 +224,7 @@ fn measure_first<P: PeerSet>(peers: &P, table: Table, bytes: &[u8]) -> Option<Me
     Some(with_attribute(NOTHING_YET, inside, is_whole))
 }
 
-// Whether a payload is accepted as link info, which has an attribute in it, and its measure.
+// The measure of a payload as link info, which isn't empty.
 #[cycle(measure)]
 fn measure_link_info<P: PeerSet>(peers: &P, bytes: &[u8]) -> Option<Measured>
     ensures measure { option_map view result ≡ measure (payload_rule P.peer info_payload) bytes.now }
@@ -237,7 +241,7 @@ fn measure_link_info<P: PeerSet>(peers: &P, bytes: &[u8]) -> Option<Measured>
     }
 }
 
-/// Whether the bytes are a list of link info, and its measure.
+/// Returns the measure of a list of link info; `None` if the bytes are none.
 #[cycle(measure)]
 pub fn measure_info<P: PeerSet>(peers: &P, bytes: &[u8]) -> Option<Measured>
     ensures measure { option_map view result ≡ measure (info_list P.peer) bytes.now }

@@ -1,5 +1,4 @@
-//! Peers: what a payload that describes the other end of a link means, by a rule that may be the
-//! caller's own.
+//! Peers: the payloads that describe the other end of a link, by a rule that a caller may define.
 
 ghost use Rattle.std.specs.Prelude.{◌≡◌, ◌≤◌, ◌+◌, ◌++◌, true, false, length, is_ok, option_map, vec_capacity};
 ghost use Rattle.std.specs.Prelude.{IfSome, IfOk, IfErr, OnOk};
@@ -17,68 +16,77 @@ use link_tables::Shape;
 use netlink_packet_core_numbers::DecodeError;
 use std::alloc::Global;
 
-/// What a peer's payload is written as.
+/// The measure of a peer's payload.
 #[derive(Clone, Copy, Debug, PartialEq, Eq)]
 pub struct PeerMeasure {
     /// The length of the canonical payload in bytes.
     pub text_len: u128,
-    /// The attribute headers inside, at all depths.
+    /// The number of attributes inside, at all depths.
     pub attributes: u64,
 }
 
-/// A rule for the payloads of peers: which are accepted, which mean the same, how each is written,
-/// and how many attributes are in it. It has to be lawful: what a payload is written as is accepted,
-/// and written as itself; two payloads mean the same exactly where they are written alike; a payload
-/// is written at most 77 times as long; and it has four bytes or more for each attribute in it.
+/// A rule for the payloads of peers: which are accepted, which are equivalent, the canonical
+/// payload, and the number of attributes inside. It has to be lawful: canonical payloads are
+/// accepted, and already canonical; two accepted payloads are equivalent if and only if their
+/// canonical payloads are equal; a canonical payload is at most 77 times as long; and there are at
+/// least four bytes for each attribute inside.
 pub trait PeerRule {
-    /// What is accepted, the same, canonical, and counted.
+    /// The four functions of the rule.
     ghost peer: { Peer };
 
-    /// The rule is lawful. It does nothing.
+    /// The rule is lawful. A lemma, which does nothing.
     fn rule_is_lawful(&self)
         ensures { LawfulPeer peer };
 
-    /// Whether a peer's payload is accepted, and what it is written as. It takes no memory.
+    /// Checks a peer's payload, and returns its measure. Allocates nothing.
+    ///
+    /// # Errors
+    ///
+    /// A [`DecodeError`], never out of memory, if the payload isn't accepted.
     fn check(&self, payload: &[u8]) -> Result<PeerMeasure, DecodeError>
         ensures ok { is_ok result ≡ peer.accepted payload.now }
         ensures measure { IfOk result (λ m. IsPeerMeasure peer payload.now m) }
         ensures err { IfErr result (λ e. is_memory e ≡ false) };
 
-    /// Whether two payloads mean the same. It takes no memory. It is of use where `check` accepts
-    /// both.
+    /// Returns whether two payloads are equivalent. Allocates nothing. The result is meaningful if
+    /// `check` accepts both.
     fn same(&self, left: &[u8], right: &[u8]) -> bool
         ensures { result ≡ peer.same left.now right.now };
 
-    /// The payload that a peer is written with. It succeeds exactly where `check` does, memory
-    /// aside.
+    /// Returns the canonical payload of a peer.
+    ///
+    /// # Errors
+    ///
+    /// Out of memory if `check` accepts the payload and an allocation fails; any other
+    /// [`DecodeError`] if and only if `check` doesn't accept it.
     fn canonical(&self, alloc: Global, payload: &[u8]) -> Result<Vec<u8>, DecodeError>
         ensures ok { OnOk result (peer.accepted payload.now ≡ true) }
         ensures text { IfOk result (λ v. v.items ≡ peer.canonical payload.now) }
         ensures err { IfErr result (λ e. peer.accepted payload.now ≡ is_memory e) };
 }
 
-/// Peers as a walk of a list meets them.
+/// The peers inside a list, as a walk of it measures and compares them.
 pub trait PeerSet {
     ghost peer: { Peer };
 
-    /// The rule is lawful. It does nothing.
+    /// The rule is lawful. A lemma, which does nothing.
     fn peers_are_lawful(&self)
         ensures { LawfulPeer peer };
 
-    /// Whether a peer's payload is accepted, and its measure.
+    /// Returns the measure of a peer's payload; `None` if it isn't accepted.
     fn measure_peer(&self, payload: &[u8]) -> Option<Measured>
         ensures measure { option_map view result ≡ measure (peer_rule peer) payload.now }
         ensures own { IfSome result
             (λ m. m.is_own ≡ true → peer.canonical payload.now ≡ payload.now) };
 
-    /// Whether two peers' payloads mean the same.
+    /// Returns whether two peers' payloads are equivalent.
     fn same_peer(&self, left: &[u8], right: &[u8]) -> bool
         ensures { result ≡ peer.same left.now right.now };
 }
 
-/// Peers that can be written without memory.
+/// Peers that can be written without allocating.
 pub trait WritePeer: PeerSet {
-    /// Appends a peer's canonical payload, for which there has to be room.
+    /// Appends a peer's canonical payload; `out` has to have the capacity.
     fn write_peer(&self, payload: &[u8], out: &mut Vec<u8>)
         requires accepted { Self.peer.accepted payload.now ≡ true }
         requires room { HasRoom out.old (Self.peer.canonical payload.now) }
@@ -86,8 +94,8 @@ pub trait WritePeer: PeerSet {
         ensures room { vec_capacity out.old ≤ vec_capacity out.new };
 }
 
-/// Peers that are bytes: every payload is accepted, equal ones mean the same, and each is written
-/// as it is.
+/// Peers that are kept as bytes: every payload is accepted, only equal ones are equivalent, and
+/// each is already canonical.
 #[derive(Clone, Copy, Debug, PartialEq, Eq)]
 pub struct BytesPeer;
 
@@ -136,7 +144,7 @@ impl WritePeer for BytesPeer {
     }
 }
 
-/// Peers by a rule that a caller brings, which doesn't tell where a payload is its own text.
+/// Peers by a caller's rule, which doesn't report whether a payload is already canonical.
 #[derive_where(Clone, Copy)]
 pub struct Ruled<'r, R>(pub &'r R);
 

@@ -1,10 +1,10 @@
-//! Bytes at the end of a vector that has room for them.
+//! Appends to a vector that has the capacity.
 
 ghost use Rattle.std.specs.Prelude.{◌≡◌, ◌≤◌, ◌+◌, ◌-◌, ◌++◌, length, take, drop, vec_capacity};
 ghost use Rattle.netlink_packet_core_grammar.specs.Attributes.{attribute_header, nla_align, zeros};
 ghost use Rattle.link_interpreter.specs.Room.{HasRoom};
 
-/// Appends bytes.
+/// Appends `bytes`.
 pub fn append(bytes: &[u8], out: &mut Vec<u8>)
     requires { HasRoom out.old bytes.now }
     ensures text { out.new.items ≡ out.old.items ++ bytes.now }
@@ -15,7 +15,7 @@ pub fn append(bytes: &[u8], out: &mut Vec<u8>)
     }
 }
 
-/// Appends so many zeros.
+/// Appends `count` zeros.
 pub fn append_zeros(count: usize, out: &mut Vec<u8>)
     requires { length out.old.items + count ≤ vec_capacity out.old }
     ensures text { out.new.items ≡ out.old.items ++ zeros count }
@@ -26,8 +26,8 @@ pub fn append_zeros(count: usize, out: &mut Vec<u8>)
     }
 }
 
-/// Writes the header of an attribute with a payload of this size over the four bytes at a place: length and kind, 2
-/// bytes each, lowest byte first (netlink.h, struct nlattr).
+/// Writes the header of an attribute whose payload has `size` bytes over the four bytes at offset
+/// `at`: length and kind, 2 bytes each, little-endian (netlink.h, struct nlattr).
 pub fn write_header(at: usize, kind: u16, size: usize, out: &mut Vec<u8>)
     requires place { at + 4 ≤ length out.old.items }
     requires size { 4 + size ≤ 65535 }
@@ -40,7 +40,7 @@ pub fn write_header(at: usize, kind: u16, size: usize, out: &mut Vec<u8>)
     out.as_mut_slice()[at..at + 4].copy_from_slice(&[a, b, c, d]);
 }
 
-/// Appends the zeros behind a payload of this size.
+/// Appends the padding after a payload of `size` bytes, as zeros.
 pub fn append_padding(size: usize, out: &mut Vec<u8>)
     requires size { 4 + size ≤ 65535 }
     requires room { length out.old.items + (nla_align (4 + size) - (4 + size)) ≤ vec_capacity out.old }

@@ -1,4 +1,4 @@
-//! Whether two lists mean the same, judged on their bytes, without a typed value.
+//! Whether two lists are equivalent, decided on their bytes, without typed values.
 
 ghost use Rattle.std.specs.Prelude.{◌≡◌, true, is_some, IfSome};
 ghost use Rattle.netlink_packet_core_grammar.specs.Attributes.{proper_kind};
@@ -22,17 +22,17 @@ use attribute_tables_grammar::laws::{
 };
 use link_tables::{Form, Held, InForce, NO_KINDS, Table, info_held, next_force};
 
-/// What a list goes on with.
+/// The next attribute of a list.
 #[derive(Clone, Copy)]
 pub enum Next<'a> {
-    /// An attribute that the list keeps, and the bytes behind it.
+    /// An attribute that the list keeps, and the bytes after it.
     Kept(Attribute<'a>, &'a [u8]),
     End,
     /// The bytes begin with no attribute.
     Cut,
 }
 
-// What a list of this form keeps next.
+// The next attribute that a list of this kind keeps.
 fn next_kept(form: Form, bytes: &[u8]) -> Next<'_>
     ensures kept { kept_of (form_of form) bytes.now ≡ next_of (form_of form) result }
     ensures shorter { IsShorter bytes.now result }
@@ -51,7 +51,8 @@ fn next_kept(form: Form, bytes: &[u8]) -> Next<'_>
     Next::End
 }
 
-// What two attributes hold whose kinds, which may have their flag bits, are the same under a table.
+// The common payload of two attributes under a table, if their kinds, which may have flag bits, are
+// equal.
 fn held_by_both<P: PeerSet>(peers: &P, table: Table, left: u16, right: u16) -> Option<Held>
     ensures kinds { is_some result
         ≡ same_kinds (table_row P.peer (table_of table.0) (proper_kind left)) left right }
@@ -67,7 +68,8 @@ fn held_by_both<P: PeerSet>(peers: &P, table: Table, left: u16, right: u16) -> O
     }
 }
 
-/// Whether two payloads mean the same as what a row holds. It is of use where both are accepted.
+/// Returns whether two payloads of a row are equivalent. The result is meaningful if both are
+/// accepted.
 #[cycle(same)]
 #[inline(always)]
 pub fn same_held<P: PeerSet>(peers: &P, held: Held, left: &[u8], right: &[u8]) -> bool
@@ -83,7 +85,7 @@ pub fn same_held<P: PeerSet>(peers: &P, held: Held, left: &[u8], right: &[u8]) -
     }
 }
 
-// Whether two lists of this form under a table mean the same.
+// Whether two lists of this kind under a table are equivalent.
 #[cycle(same)]
 fn same_list<P: PeerSet>(peers: &P, form: Form, table: Table, left: &[u8], right: &[u8]) -> bool
     ensures { result ≡ (table_list P.peer (table_of table.0) form).same
@@ -120,7 +122,7 @@ fn same_list<P: PeerSet>(peers: &P, form: Form, table: Table, left: &[u8], right
     }
 }
 
-// Whether two lists begin with attributes of a table that say the same.
+// Whether the first attributes of two lists are equivalent under a table.
 #[cycle(same)]
 fn same_first<P: PeerSet>(peers: &P, table: Table, left: &[u8], right: &[u8]) -> bool
     ensures { result ≡ (list_rule first_alone (rows_of P.peer (table_of table.0))).same
@@ -140,7 +142,7 @@ fn same_first<P: PeerSet>(peers: &P, table: Table, left: &[u8], right: &[u8]) ->
     }
 }
 
-// Whether two payloads mean the same as link info, each with an attribute in it.
+// Whether two payloads are equivalent as link info, neither empty.
 #[cycle(same)]
 fn same_link_info<P: PeerSet>(peers: &P, left: &[u8], right: &[u8]) -> bool
     ensures { result ≡ (payload_rule P.peer info_payload).same left.now right.now }
@@ -154,7 +156,7 @@ fn same_link_info<P: PeerSet>(peers: &P, left: &[u8], right: &[u8]) -> bool
     }
 }
 
-// Whether two attributes of link info say the same, where these kinds are in force before both.
+// Whether two attributes of link info are equivalent, with these kinds in force before both.
 #[cycle(same)]
 fn same_in_force<P: PeerSet>(
     peers: &P,
@@ -177,7 +179,8 @@ fn same_in_force<P: PeerSet>(
     }
 }
 
-/// Whether two lists of link info mean the same. It is of use where both are accepted.
+/// Returns whether two lists of link info are equivalent. The result is meaningful if both are
+/// accepted.
 #[cycle(same)]
 pub fn same_info<P: PeerSet>(peers: &P, left: &[u8], right: &[u8]) -> bool
     ensures { result ≡ (info_list P.peer).same left.now right.now }

@@ -1,4 +1,4 @@
-//! Whether payloads that hold no attributes mean the same.
+//! Whether payloads that hold no attributes are equivalent.
 
 ghost use Rattle.std.specs.Prelude.{◌≡◌, ◌==◌, take, map, bytes_eq};
 ghost use Rattle.attribute_tables_grammar.specs.Rules.{shape_rule};
@@ -9,14 +9,14 @@ ghost use Rattle.link_interpreter.specs.Sameness.{mark_of};
 use link_tables::Shape;
 use netlink_packet_core_numbers::without_nul;
 
-/// The bytes in front, at most so many.
+/// Returns the first `count` bytes, or all if there are fewer.
 pub fn first(bytes: &[u8], count: usize) -> &[u8]
     ensures { result.now ≡ take count bytes.now }
 {
     &bytes[..count.min(bytes.len())]
 }
 
-/// Whether all bytes are zero.
+/// Returns whether all bytes are zero.
 pub fn is_zero(bytes: &[u8]) -> bool
     ensures { result ≡ (number bytes.now == 0) }
 {
@@ -28,7 +28,7 @@ pub fn is_zero(bytes: &[u8]) -> bool
     true
 }
 
-// Whether two payloads are equally long, and pairwise both or neither are that byte.
+// Whether two payloads have equal lengths, and at each index both or neither is this byte.
 fn same_marks(byte: u8, left: &[u8], right: &[u8]) -> bool
     ensures { result ≡ bytes_eq (map (mark_of byte) left.now) (map (mark_of byte) right.now) }
 {
@@ -44,7 +44,7 @@ fn same_marks(byte: u8, left: &[u8], right: &[u8]) -> bool
     rest.is_empty() && other.is_empty()
 }
 
-// Whether 4 bytes and the truth of the 4 behind them are the same.
+// Whether the first 4 bytes, and the booleans in the next 4, are equal.
 fn same_id_and_truth(left: &[u8], right: &[u8]) -> bool
     ensures { result ≡ (shape_rule id_and_truth).same left.now right.now }
 {
@@ -54,7 +54,7 @@ fn same_id_and_truth(left: &[u8], right: &[u8]) -> bool
     id == other && is_zero(truth) == is_zero(first(&right[other.len()..], 4))
 }
 
-// Whether two payloads are equal once they are cut or filled up with zeros to a size.
+// Whether two payloads are equal once both are cut or filled up with zeros to a size.
 fn same_resized(size: u16, left: &[u8], right: &[u8]) -> bool
     ensures { result ≡ (shape_rule (resized size)).same left.now right.now }
 {
@@ -64,7 +64,7 @@ fn same_resized(size: u16, left: &[u8], right: &[u8]) -> bool
     &left[..common] == &right[..common] && is_zero(&left[common..]) && is_zero(&right[common..])
 }
 
-/// Whether two payloads of a shape mean the same.
+/// Returns whether two payloads of a shape are equivalent.
 pub fn same_shape(shape: Shape, left: &[u8], right: &[u8]) -> bool
     ensures { result ≡ (shape_rule (shape_of shape)).same left.now right.now }
 {

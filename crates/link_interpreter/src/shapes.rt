@@ -11,25 +11,25 @@ use crate::same_shapes::is_zero;
 use link_tables::Shape;
 use netlink_packet_core_numbers::{is_text, without_nul};
 
-/// What is found of accepted bytes in one walk.
+/// The measure of accepted bytes, found in one walk.
 #[derive(Clone, Copy)]
 pub struct Measured {
-    /// The length of the canonical text in bytes.
+    /// The length of the canonical encoding in bytes.
     pub text_len: u128,
-    /// The attribute headers, at all depths.
+    /// The number of attributes, at all depths.
     pub attributes: u64,
-    /// Whether each length in the text is at most 65535.
+    /// Whether each length in the canonical encoding is at most 65535.
     pub fits: bool,
-    /// Whether ports inside keep nothing.
+    /// Whether a list of ports inside keeps no entry.
     pub empty_ports: bool,
-    /// Whether the bytes are known to be their own canonical text; they may be so besides.
+    /// Whether the bytes are known to be already canonical. If false, they may be so nevertheless.
     pub is_own: bool,
-    /// How many bytes in front of a list are known to be written as they stand, up to the end of an attribute. It is told
-    /// of whole lists alone.
+    /// The length of the canonical prefix of a list, as far as it is known: leading bytes, up to
+    /// the end of an attribute, that are already canonical. It is measured only for whole lists.
     pub front: u32,
 }
 
-/// The measure of no attributes.
+/// The measure of the empty list.
 pub const NOTHING_YET: Measured = Measured {
     text_len: 0,
     attributes: 0,
@@ -58,7 +58,8 @@ fn measure_text(payload: &[u8]) -> Option<Measured>
     })
 }
 
-// Whether an accepted payload is the canonical one of its shape; false where this is not looked into.
+// Whether an accepted payload is the canonical one of its shape; false for shapes that aren't
+// examined.
 fn is_own_spelling(shape: Shape, payload: &[u8]) -> bool
     requires { accepts (shape_of shape) payload.now ≡ true }
     ensures { result ≡ true → (shape_rule (shape_of shape)).canonical payload.now ≡ payload.now }
@@ -75,7 +76,7 @@ fn is_own_spelling(shape: Shape, payload: &[u8]) -> bool
     }
 }
 
-/// Whether a shape accepts a payload, and its measure.
+/// Returns the measure of a payload under a shape; `None` if the shape doesn't accept it.
 #[inline(always)]
 pub fn measure_shape(shape: Shape, payload: &[u8]) -> Option<Measured>
     ensures measure { option_map view result ≡ measure (shape_rule (shape_of shape)) payload.now }

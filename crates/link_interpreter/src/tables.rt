@@ -1,4 +1,4 @@
-//! What the row of an attribute's kind says.
+//! The row of an attribute's kind.
 
 ghost use Rattle.std.specs.Prelude.{◌≡◌, ◌+◌, cond};
 ghost use Rattle.netlink_packet_core_grammar.specs.Attributes.{proper_kind};
@@ -12,18 +12,18 @@ use crate::peers::PeerSet;
 use attribute_tables_grammar::laws::table_rows_are_lawful;
 use link_tables::{Held, Row, Shape, Table, row_of};
 
-/// What the row of an attribute's kind says.
+/// The row of an attribute's kind.
 #[derive(Clone, Copy)]
 pub struct Found {
-    /// What the payload holds; bytes where the table has no row for the kind.
+    /// The payload; raw bytes if the table has no row for the kind.
     pub held: Held,
     /// Whether the table has a row for the kind.
     pub is_typed: bool,
-    /// The kind that the attribute is written with, flag bits and all.
+    /// The kind of the canonical attribute, with its flag bits.
     pub kind: u16,
 }
 
-// The kind that a typed attribute is written with.
+// The canonical kind of a typed attribute.
 fn written_kind(is_nested: bool, kind: u16) -> u16
     ensures { result ≡ proper_kind kind + cond is_nested 0x8000 0 }
 {
@@ -31,7 +31,7 @@ fn written_kind(is_nested: bool, kind: u16) -> u16
     kind % KIND_BOUND + flag
 }
 
-/// What a table says of an attribute's kind, which may have its flag bits.
+/// Returns the row of an attribute's kind, which may have flag bits, in a table.
 pub fn find<P: PeerSet>(peers: &P, table: Table, kind: u16) -> Found
     ensures rule { held_rule P.peer result.held
         ≡ (table_row P.peer (table_of table.0) (proper_kind kind)).rule }

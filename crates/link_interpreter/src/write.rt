@@ -1,4 +1,4 @@
-//! Canonical texts, written straight from accepted bytes.
+//! Writes canonical encodings directly from accepted bytes.
 
 ghost use Rattle.std.specs.Prelude.{◌≡◌, ◌≤◌, ◌+◌, ◌-◌, ◌++◌, true, length, vec_capacity};
 ghost use Rattle.netlink_packet_core_grammar.specs.Attributes.{attribute_text};
@@ -21,7 +21,7 @@ use attribute_tables_grammar::laws::{
 };
 use link_tables::{Form, Held, NO_KINDS, Table, info_held, next_force};
 
-/// Appends the canonical text of accepted bytes that fit, for which there has to be room.
+/// Appends the canonical encoding of an accepted payload that fits; `out` has to have the capacity.
 #[cycle(write)]
 pub fn write_held<P: WritePeer>(peers: &P, held: Held, bytes: &[u8], out: &mut Vec<u8>)
     requires accepted { (held_rule P.peer held).accepted bytes.now
@@ -41,8 +41,8 @@ pub fn write_held<P: WritePeer>(peers: &P, held: Held, bytes: &[u8], out: &mut V
     }
 }
 
-/// Appends an attribute of this kind, with what an accepted payload that fits is written as. Its length is written once
-/// the payload stands behind it.
+/// Appends an attribute of this kind, with the canonical encoding of an accepted payload that fits.
+/// Its length is written after the payload.
 #[cycle(write)]
 pub fn write_attribute<P: WritePeer>(
     peers: &P,
@@ -67,7 +67,7 @@ pub fn write_attribute<P: WritePeer>(
     append_padding(size, out);
 }
 
-// Appends the canonical text of an accepted list of this form under a table.
+// Appends the canonical encoding of an accepted list of this kind under a table.
 #[cycle(write)]
 fn write_list<P: WritePeer>(peers: &P, form: Form, table: Table, bytes: &[u8], out: &mut Vec<u8>)
     requires accepted { (table_list P.peer (table_of table.0) form).accepted bytes.now
@@ -96,7 +96,7 @@ fn write_list<P: WritePeer>(peers: &P, form: Form, table: Table, bytes: &[u8], o
     }
 }
 
-// Appends the canonical text of an accepted list of its first attribute alone, under a table.
+// Appends the canonical encoding of an accepted list of only its first attribute, under a table.
 #[cycle(write)]
 fn write_first<P: WritePeer>(peers: &P, table: Table, bytes: &[u8], out: &mut Vec<u8>)
     requires accepted { (list_rule first_alone (rows_of P.peer (table_of table.0))).accepted bytes.now
@@ -115,7 +115,7 @@ fn write_first<P: WritePeer>(peers: &P, table: Table, bytes: &[u8], out: &mut Ve
     write_attribute(peers, found.held, found.kind, attribute.payload, out);
 }
 
-// Appends the canonical text of accepted link info that fits, for which there has to be room.
+// Appends the canonical encoding of accepted link info that fits; `out` has to have the capacity.
 #[cycle(write)]
 fn write_link_info<P: WritePeer>(peers: &P, bytes: &[u8], out: &mut Vec<u8>)
     requires accepted { (payload_rule P.peer info_payload).accepted bytes.now ≡ true }
@@ -128,8 +128,8 @@ fn write_link_info<P: WritePeer>(peers: &P, bytes: &[u8], out: &mut Vec<u8>)
     write_info(peers, bytes, out);
 }
 
-/// Appends the canonical text of an accepted list of link info that fits, for which there has to be
-/// room.
+/// Appends the canonical encoding of an accepted list of link info that fits; `out` has to have the
+/// capacity.
 #[cycle(write)]
 pub fn write_info<P: WritePeer>(peers: &P, bytes: &[u8], out: &mut Vec<u8>)
     requires accepted { (info_list P.peer).accepted bytes.now ≡ true }

@@ -1,4 +1,4 @@
-//! The canonical payloads of shapes, written from accepted ones.
+//! Writes the canonical payloads of shapes from accepted payloads.
 
 ghost use Rattle.std.specs.Prelude.{◌≡◌, ◌≤◌, ◌+◌, ◌++◌, true, length, take, vec_capacity};
 ghost use Rattle.netlink_packet_core_grammar.specs.Attributes.{zeros};
@@ -12,7 +12,7 @@ use crate::same_shapes::{first, is_zero};
 use link_tables::Shape;
 use netlink_packet_core_numbers::without_nul;
 
-// Appends bytes cut or filled up to a size.
+// Appends bytes, cut or filled up with zeros to a size.
 fn append_resized(size: usize, payload: &[u8], out: &mut Vec<u8>)
     requires { length out.old.items + size ≤ vec_capacity out.old }
     ensures text { out.new.items ≡ out.old.items ++ take size (payload.now ++ zeros size) }
@@ -23,7 +23,7 @@ fn append_resized(size: usize, payload: &[u8], out: &mut Vec<u8>)
     append_zeros(size - front.len(), out);
 }
 
-// Appends 4 bytes of a number that is one where these 4 bytes are not all zero.
+// Appends a number of 4 bytes that is 1 if `number` isn't zero, else 0.
 fn append_truth(number: &[u8], out: &mut Vec<u8>)
     requires number { length number.now ≡ 4 }
     requires room { length out.old.items + 4 ≤ vec_capacity out.old }
@@ -33,7 +33,7 @@ fn append_truth(number: &[u8], out: &mut Vec<u8>)
     append(&[u8::from(!is_zero(number)), 0, 0, 0], out);
 }
 
-/// Appends the canonical payload of an accepted one, for which there has to be room.
+/// Appends the canonical payload of an accepted one; `out` has to have the capacity.
 pub fn write_shape(shape: Shape, payload: &[u8], out: &mut Vec<u8>)
     requires accepted { accepts (shape_of shape) payload.now ≡ true }
     requires room { HasRoom out.old ((shape_rule (shape_of shape)).canonical payload.now) }

@@ -1,4 +1,4 @@
--- The constant rows are the tables, and the constant names those of kinds and port kinds.
+-- The constant rows are those of the grammar's tables, and the constant names are those of its kinds and port kinds.
 use Rattle.std.proofs.Common.{◌≡◌, ℕ, true, List, [], get_or, map, refl, sym}
 use Rattle.std.proofs.Math.ListN.{get_or-map}
 use Rattle.attribute_tables_grammar.specs.Tables.{Table.end, rows_bounded}

@@ -1,4 +1,4 @@
--- The row that is found is the line of the table that the rows build.
+-- The row that is found is the entry of the table that the rows build.
 use Rattle.std.proofs.Common.{◌≡◌, ℕ, zero, suc, ◌+◌, ◌-◌, ◌<◌, ◌≤◌, Bool, true, List, [], ◌∷◌, length, get_or, Option, None, refl, sym, ap, ◌∙◌, arith}
 use Rattle.std.specs.Prelude.{◌&&◌, ◌==◌}
 use Rattle.std.specs.List.{list_all}
@@ -10,12 +10,12 @@ use Rattle.link_tables.specs.declared.rows.Row.TheVariants.{Listed, Unlisted}
 use Rattle.link_tables.specs.Rows.{kind_of, stand_from, are_dense, build, line_of}
 
 module _ (tables : ℕ → Table) (info : Payload) where
-  -- of rows that stand from a kind on, the first one has no say on other kinds
+  -- removing the first of consecutive rows doesn't change the entries of other kinds
   behind_first : (r : Row) (rs : List Row) (n k : ℕ) → (kind_of r ≡ k → ⊥) → line_at (build tables info rs) k ≡ line_at (build tables info (r ∷ rs)) k
   behind_first (Listed m b held) rs n k q = simp (ne_eqb k m (λ e. q (sym e)))
   behind_first (Unlisted m) rs n k q = refl
 
-  -- and kinds below them, or behind the last one, aren't listed
+  -- kinds below the first row or above the last one aren't listed
   outside : (rs : List Row) (n k : ℕ) → stand_from n rs ≡ true → (n ≤ k → n + length rs ≤ k) → None ≡ line_at (build tables info rs) k
   outside [] n k h l = refl
   outside (r ∷ rs) n k h l =
@@ -27,7 +27,7 @@ module _ (tables : ℕ → Table) (info : Payload) where
   first (Listed m b held) rs n k h e f = simp (eq-eqb k m (sym e))
   first (Unlisted m) rs n k h e f = outside rs (suc n) k h (λ l. omega arith)
 
-  -- each row is that of the kind as far behind
+  -- the row at index j is that of the kind n + j
   placed : (rs : List Row) (n j k : ℕ) (d : Row) → stand_from n rs ≡ true → j < length rs → k ≡ n + j → line_of tables info (get_or rs j d) ≡ line_at (build tables info rs) k
   placed [] n j k d h l e = absurd (omega arith)
   placed (r ∷ rs) n zero k d h l e =
@@ -39,7 +39,7 @@ module _ (tables : ℕ → Table) (info : Payload) where
       let f = eqb-true (kind_of r) n a.0 in
       placed rs (suc n) j k d a.1 (omega arith) (omega arith) ∙ behind_first r rs n k (λ x. omega arith)
 
-  -- where the first row's kind is n
+  -- if the first row's kind is n
   from_first : (rs : List Row) (d : Row) (n : ℕ) → n ≡ kind_of (get_or rs 0 d) → are_dense rs ≡ true → stand_from n rs ≡ true
   from_first [] d n e h = refl
   from_first (r ∷ rs) d n e h = ap (λ m. stand_from m (r ∷ rs)) e ∙ ap (λ b. b && stand_from (suc (kind_of r)) rs) (eq-eqb (kind_of r) (kind_of r) refl) ∙ h
@@ -50,7 +50,7 @@ module _ (tables : ℕ → Table) (info : Payload) where
   pub line_placed : (rs : List Row) (d : Row) (n k : ℕ) → n ≡ kind_of (get_or rs 0 d) → are_dense rs ≡ true → n ≤ k → k - n < length rs → line_of tables info (get_or rs (k - n) d) ≡ line_at (build tables info rs) k
   line_placed rs d n k e h m l = placed rs n (k - n) k d (from_first rs d n e h) l (omega arith)
 
--- what holds of each list, and of none, holds of one by number
+-- a property of each list, and of the empty one, is one of the list at any index
 pub all_at : {A : Type 0} (f : A → Bool) (xs : List A) (n : ℕ) (d : A) → list_all f xs ≡ true → f d ≡ true → f (get_or xs n d) ≡ true
 all_at f [] n d h e = e
 all_at f (x ∷ xs) zero d h e = (and_parts (f x) (list_all f xs) h).0

@@ -1,4 +1,4 @@
--- What is found by a name is the payload of the names that the rows build.
+-- The payload found by a name is that of the names that the rows build.
 use Rattle.std.proofs.Common.{◌≡◌, ℕ, Bool, true, false, cond, List, [], ◌∷◌, take, Some, refl}
 use Rattle.std.specs.List.{list_all}
 use Rattle.std.specs.Prelude.{bytes_eq}
@@ -20,7 +20,7 @@ module _ (p : Peer) (tables : ℕ → Table) (info : Payload) where
       let t = bytes_eq n (take r.0 r.1) in
       elim t as (λ b. payload_rule p (payload_of tables info (cond b r.2 (held_by_name rs n))) ≡ rule_or_raw p (cond b (Some (payload_of tables info r.2)) (payload_at (names_of tables info rs) n))) [ true ↦ refl | false ↦ found_name rs n ]
 
--- what holds of each row, and of bytes, holds of what is found by a name
+-- a property of each row's payload, and of raw bytes, is one of the payload found by a name
 pub held_all : (q : Held → Bool) → q (Plain Raw) ≡ true → (rs : List NameRow) (n : List ℕ) → list_all (λ r. q r.2) rs ≡ true → q (held_by_name rs n) ≡ true
 held_all q e [] n h = e
 held_all q e (r ∷ rs) n h =

@@ -1,4 +1,4 @@
--- What attributes of link info hold, by the kinds in force.
+-- The payloads of the attributes of link info, by the kinds in force.
 use Rattle.std.specs.Prelude.{ℕ, zero, suc, List, Option, Some, None, option_map}
 use Rattle.attribute_tables_grammar.specs.Lists.{Context}
 use Rattle.link_tables.specs.Names.{held_by_name}
@@ -9,27 +9,29 @@ use Rattle.link_tables.specs.declared.rows.Held.{Held}
 use Rattle.link_tables.specs.declared.rows.Held.TheVariants.{Plain}
 use Rattle.link_tables.specs.declared.rows.Shape.TheVariants.{Text, Raw}
 
--- the context of the grammar, by the names that the code borrows
+-- The context in the grammar of the kinds in force in code.
 abbrev pub in_force : InForce → Context
 in_force f = record { kind = option_map (λ b. b.now) f.kind; port_kind = option_map (λ b. b.now) f.port_kind }
 
--- what data hold, if a name is in force
+-- The payload of data under the name in force, if there is one.
 abbrev pub held_under : List NameRow → Option (List ℕ) → Option Held
 held_under rows None = None
 held_under rows (Some n) = Some (held_by_name rows n)
 
+-- The payload of IFLA_INFO_DATA under the kind in force, if there is one.
 unfoldable pub data_under : Option (List ℕ) → Option Held
 data_under name = held_under KINDS name
 
+-- The payload of IFLA_INFO_SLAVE_DATA under the port kind in force, if there is one.
 unfoldable pub port_data_under : Option (List ℕ) → Option Held
 port_data_under name = held_under PORT_KINDS name
 
--- statistics are bytes, if a kind is in force
+-- The payload of IFLA_INFO_XSTATS, if a kind is in force: raw bytes.
 abbrev pub statistics_under : Option (List ℕ) → Option Held
 statistics_under None = None
 statistics_under (Some n) = Some (Plain Raw)
 
--- what an attribute of a kind without flag bits holds; nothing if that depends on a kind, and none is in force
+-- The payload of an attribute whose kind has no flag bits; None if it depends on a kind, and none is in force.
 abbrev pub held_in_force : Context → ℕ → Option Held
 held_in_force c (suc zero) = Some (Plain Text)
 held_in_force c (suc (suc zero)) = data_under c.kind

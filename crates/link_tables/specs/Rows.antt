@@ -1,4 +1,4 @@
--- What constant rows stand for.
+-- The tables of the grammar for constant rows in code.
 use Rattle.std.specs.Borrow.{Bor}
 use Rattle.std.specs.Prelude.{ℕ, suc, ◌==◌, ◌&&◌, Bool, true, List, [], ◌∷◌, map, Option, Some, None}
 use Rattle.attribute_tables_grammar.specs.Shapes as shapes
@@ -14,6 +14,7 @@ use Rattle.link_tables.specs.declared.rows.Held.TheVariants.{Plain, Peer, List a
 use Rattle.link_tables.specs.declared.rows.Row.{Row}
 use Rattle.link_tables.specs.declared.rows.Row.TheVariants.{Listed, Unlisted}
 
+-- The grammar's shape for a shape in code.
 abbrev pub shape_of : Shape → shapes.Shape
 shape_of (Exact n) = shapes.exact n
 shape_of (Either m n) = shapes.either m n
@@ -29,6 +30,7 @@ shape_of (FixedRecord m n) = shapes.fixed_record m n
 shape_of IdAndTruth = shapes.id_and_truth
 shape_of (Resized n) = shapes.resized n
 
+-- The grammar's list kind for a list kind in code.
 abbrev pub form_of : Form → lists.ListForm
 form_of Any = lists.any
 form_of NonEmpty = lists.non_empty
@@ -36,38 +38,39 @@ form_of OfKindOne = lists.of_kind_one
 form_of Ports = lists.ports
 form_of FirstAlone = lists.first_alone
 
--- what a row holds, where the tables go by number and link info holds this
+-- The grammar's payload for a payload in code, given the tables by number and the payload of link info.
 abbrev pub payload_of : (ℕ → Table) → Payload → Held → Payload
 payload_of tables info (Plain s) = plain (shape_of s)
 payload_of tables info Peer = peer
 payload_of tables info (HeldList f t) = list (form_of f) (tables t.0)
 payload_of tables info LinkInfo = info
 
--- what a row says, where it lists its kind
+-- The grammar's entry for a row in code, if the row lists its kind.
 abbrev pub line_of : (ℕ → Table) → Payload → Row → Option Line
 line_of tables info (Listed k n h) = Some (record { is_nested = n; payload = payload_of tables info h })
 line_of tables info (Unlisted k) = None
 
--- the table of these rows
+-- The grammar's table for these rows.
 abbrev pub build : (ℕ → Table) → Payload → List Row → Table
 build tables info [] = end
 build tables info (Listed k n h ∷ rs) = row k n (payload_of tables info h) (build tables info rs)
 build tables info (Unlisted k ∷ rs) = build tables info rs
 
+-- The kind of a row.
 abbrev pub kind_of : Row → ℕ
 kind_of (Listed k n h) = k
 kind_of (Unlisted k) = k
 
--- rows of all kinds from this one on
+-- The rows are those of the kinds from n on, without a gap.
 abbrev pub stand_from : ℕ → List Row → Bool
 stand_from n [] = true
 stand_from n (r ∷ rs) = (kind_of r == n) && stand_from (suc n) rs
 
--- rows of all kinds from that of the first one on
+-- The rows are those of the kinds from the first row's on, without a gap.
 abbrev pub are_dense : List Row → Bool
 are_dense [] = true
 are_dense (r ∷ rs) = stand_from (suc (kind_of r)) rs
 
--- the rows of tables that stand one after another
+-- The rows of several tables, from borrowed slices.
 abbrev pub lists_of : List (Bor (List Row)) → List (List Row)
 lists_of bs = map (λ b. b.now) bs

@@ -1,4 +1,4 @@
--- The tables of the grammar, at the index of their names in code.
+-- The tables of the grammar, at the index of their constants in code.
 use Rattle.std.specs.Prelude.{ℕ, ◌==◌, Bool, cond, List, [], ◌∷◌, Option, get_or}
 use Rattle.attribute_tables_grammar.specs.LookUps.{Line, payload_rule}
 use Rattle.attribute_tables_grammar.specs.Peers.{Peer}
@@ -14,7 +14,8 @@ use Rattle.link_tables.specs.declared.table.Table.{Table as Named}
 use Rattle.link_tables.specs.declared.table.TheConstants.{LINK_INFO, LINK_UNSPEC, LINK_BRIDGE, LINK_INET6, LINK_OTHER}
 use Rattle.link_tables.specs.Rows.{line_of, payload_of}
 
--- those that have rows, and those between: no rows of raw attributes, nor of link info, whose rows depend on the kinds in force
+-- All tables of the grammar, in the order of the constants. `end` fills the positions of raw attributes and of link
+-- info, whose rows depend on the kinds in force.
 abbrev pub all_tables : List Table
 all_tables =
     xdp ∷ props ∷ protocol_down_reason ∷ devlink_port ∷ dpll_pin ∷ mctp ∷ inet ∷ inet6 ∷ specific ∷ vf_stats ∷ vf_vlans ∷ vf ∷ vf_infos ∷ vf_ports
@@ -22,30 +23,30 @@ all_tables =
     ∷ amt ∷ bareudp ∷ batadv ∷ geneve ∷ gre ∷ gre6 ∷ gtp ∷ ipoib ∷ ipvlan ∷ ip_tunnel (exact 2) ∷ ip_tunnel (exact 4) ∷ macvlan ∷ macvlan_address
     ∷ macsec ∷ netkit ∷ pair ∷ rmnet ∷ vrf ∷ wwan ∷ xfrm ∷ vti ∷ vxlan ∷ pair ∷ []
 
--- the table with this index; a table of raw attributes has no rows
+-- The table at this index; a table of raw attributes has no rows.
 unfoldable pub table_of : ℕ → Table
 table_of n = get_or all_tables n end
 
--- what IFLA_LINKINFO holds, by a name that doesn't unfold in goals
+-- The payload of IFLA_LINKINFO, by a name that the prover doesn't unfold in goals.
 unfoldable pub info_payload : Payload
 info_payload = info
 
--- the payload of the grammar that a row's payload in code is
+-- The grammar's payload for a payload in code.
 abbrev pub held_payload : Held → Payload
 held_payload held = payload_of table_of info_payload held
 
--- its rule, under a rule of peers
+-- The rule of a payload in code, under a rule of peers.
 abbrev pub held_rule : Peer → Held → Rule
 held_rule p held = payload_rule p (held_payload held)
 
--- the grammar's row that a row in code is
+-- The grammar's entry for a row in code.
 abbrev pub row_line : Row → Option Line
 row_line r = line_of table_of info_payload r
 
--- the table of a link's attributes under an address family
+-- The table of a link's attributes under an address family.
 abbrev pub family_table : ℕ → Named
 family_table n = cond (n == 0) LINK_UNSPEC (cond (n == 7) LINK_BRIDGE (cond (n == 10) LINK_INET6 LINK_OTHER))
 
--- what attributes of this table hold depends on the kinds in force
+-- The table is that of link info, whose payloads depend on the kinds in force.
 abbrev pub is_link_info : Named → Bool
 is_link_info t = t.0 == LINK_INFO.0

@@ -1,5 +1,5 @@
-//! Link info: a list in which a kind's name determines the data, and a port kind's name the port data
-//! (if_link.h, IFLA_INFO_*).
+//! Link info: a list in which the kind's name determines the data, and the port kind's name the
+//! port data (if_link.h, IFLA_INFO_*).
 
 ghost use Rattle.std.specs.Prelude.{◌≡◌, IfSome, IfNone};
 ghost use Rattle.attribute_tables_grammar.specs.Peers.{Peer};
@@ -37,14 +37,14 @@ pub struct InForce<'a> {
     pub port_kind: Option<&'a [u8]>,
 }
 
-/// No kind is in force before the first attribute.
+/// Before the first attribute no kind is in force.
 pub const NO_KINDS: InForce<'static> = InForce {
     kind: None,
     port_kind: None,
 };
 
-/// The kinds in force after an attribute of link info, whose kind has no flag bits. A kind is in force up to the next one,
-/// and a port kind up to its port data.
+/// Returns the kinds in force after an attribute of link info, whose kind has no flag bits. A kind
+/// is in force up to the next one, a port kind up to its port data.
 pub fn next_force<'a>(force: InForce<'a>, kind: u16, payload: &'a [u8]) -> InForce<'a>
     ensures { in_force result ≡ info_next (in_force force.entry) kind payload.now }
 {
@@ -65,7 +65,8 @@ pub fn next_force<'a>(force: InForce<'a>, kind: u16, payload: &'a [u8]) -> InFor
     }
 }
 
-/// What an attribute of link info holds, whose kind has no flag bits; None if that depends on a kind, and none is in force.
+/// Returns the payload of an attribute of link info, whose kind has no flag bits; `None` if it
+/// depends on a kind, and none is in force.
 #[tactic(auto, unfolding(crate::specs::InForce::data_under, crate::specs::InForce::port_data_under))]
 pub fn info_held(force: InForce<'_>, kind: u16) -> Option<Held>
     ensures is { result ≡ held_in_force (in_force force.entry) kind }

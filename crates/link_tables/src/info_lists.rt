@@ -1,7 +1,8 @@
-//! Attributes of links of each kind, a table after another, a row in a line: a kind, its name, the shape of its payload,
-//! and how that is shown. Behind an arrow stand the name and what the payload holds in place of a shape; behind a double
-//! one, of what is written with the nested bit. A kind alone, or with a name alone, is one that the table has no row for.
-//! Each list is handed to the macro that is named.
+//! The attributes of each kind of link, table by table. Each row has a kind, its name, the shape of
+//! its payload, and the format in which it is shown. With `->`, a row has the name and a payload
+//! that is no shape; with `=>` its kind is written with the nested bit too. A kind without a shape,
+//! with or without a name, has no row in the table. Each list is passed to the macro whose name is
+//! given.
 
 /// The row of a kind, for the interpreter.
 #[macro_export]
@@ -206,7 +207,7 @@ macro_rules! ipvlan {
     };
 }
 
-/// IFLA_IPTUN_* (if_tunnel.h), whose flags have a size of their own.
+/// IFLA_IPTUN_* (if_tunnel.h), by the size of the flags.
 #[macro_export]
 macro_rules! ip_tunnel {
     ($write:ident, $flags:expr) => {
@@ -439,7 +440,7 @@ macro_rules! vxlan {
     };
 }
 
-/// VXCAN_INFO_* (can/vxcan.h), which hold what VETH_INFO_* do.
+/// VXCAN_INFO_* (can/vxcan.h), with the same payloads as VETH_INFO_*.
 #[macro_export]
 macro_rules! vxcan {
     ($write:ident) => {

@@ -1,4 +1,4 @@
-//! What the data of kinds, and of port kinds, hold, by their names.
+//! The payloads of data and of port data, by the names of their kinds.
 
 ghost use Rattle.std.specs.Prelude.{◌≡◌};
 ghost use Rattle.attribute_tables_grammar.specs.LookUps.{payload_at, rule_or_raw};
@@ -18,7 +18,7 @@ use crate::table::{
     VLAN, VRF, VTI, VXCAN, VXLAN, WWAN, XFRM,
 };
 
-/// What data hold, by the name of the kind.
+/// The payload of data, by the name of the kind.
 pub const KINDS: [NameRow; 38] = [
     NameRow(6, *b"bridge\0\0\0\0\0\0", List(Any, BRIDGE)),
     NameRow(3, *b"tun\0\0\0\0\0\0\0\0\0", List(Any, TUN)),
@@ -60,7 +60,7 @@ pub const KINDS: [NameRow; 38] = [
     NameRow(5, *b"vxcan\0\0\0\0\0\0\0", List(FirstAlone, VXCAN)),
 ];
 
-/// What port data hold, by the name of the port kind.
+/// The payload of port data, by the name of the port kind.
 pub const PORT_KINDS: [NameRow; 4] = [
     NameRow(4, *b"bond\0\0\0\0\0\0\0\0", List(Any, BOND_PORT)),
     NameRow(6, *b"bridge\0\0\0\0\0\0", List(Any, BRIDGE_PORT)),
@@ -68,7 +68,7 @@ pub const PORT_KINDS: [NameRow; 4] = [
     NameRow(3, *b"vrf\0\0\0\0\0\0\0\0\0", List(Any, VRF)),
 ];
 
-/// What the data under a kind's name hold.
+/// Returns the payload of the data under a kind's name.
 pub fn data_held(name: &[u8]) -> Held
     ensures is { result ≡ held_by_name KINDS name.now }
     ensures rule { (p : Peer) → held_rule p result ≡ rule_or_raw p (payload_at kinds name.now) }
@@ -76,7 +76,7 @@ pub fn data_held(name: &[u8]) -> Held
     held_by_name(&KINDS, name)
 }
 
-/// What the port data under a port kind's name hold.
+/// Returns the payload of the port data under a port kind's name.
 pub fn port_held(name: &[u8]) -> Held
     ensures is { result ≡ held_by_name PORT_KINDS name.now }
     ensures rule { (p : Peer) → held_rule p result ≡ rule_or_raw p (payload_at port_kinds name.now) }

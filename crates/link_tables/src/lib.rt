@@ -1,4 +1,5 @@
-// The tables of links' attributes as constant data: what an attribute holds, by its table, its kind and the kinds in force.
+// The tables of links' attributes as constant data: the payload of an attribute by its table, its
+// kind and the kinds in force.
 #![tactic(auto)]
 
 mod info;

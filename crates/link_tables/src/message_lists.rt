@@ -1,4 +1,4 @@
-//! Attributes of links, a table after another, a row in a line, as in the lists of link info.
+//! The attributes of links, table by table, in the format of the lists of link info.
 
 /// IFLA_XDP_* (if_link.h).
 #[macro_export]
@@ -17,7 +17,7 @@ macro_rules! xdp {
     };
 }
 
-/// IFLA_PROP_LIST: other names (if_link.h).
+/// IFLA_PROP_LIST: alternative names of the link (if_link.h).
 #[macro_export]
 macro_rules! props {
     ($write:ident) => {
@@ -99,7 +99,8 @@ macro_rules! inet6 {
     };
 }
 
-/// IFLA_AF_SPEC where the family is none: what each family tells, by its number (socket.h, AF_*).
+/// IFLA_AF_SPEC if the link's family is AF_UNSPEC: the attributes of each family, by its number
+/// (socket.h, AF_*).
 #[macro_export]
 macro_rules! specific {
     ($write:ident) => {
@@ -184,7 +185,8 @@ macro_rules! vf_ports {
     };
 }
 
-/// IFLA_* (if_link.h), with the rows of IFLA_PROTINFO (12) and IFLA_AF_SPEC (26), which go by the family.
+/// IFLA_* (if_link.h), with the rows of IFLA_PROTINFO (12) and IFLA_AF_SPEC (26), which depend on
+/// the family.
 #[macro_export]
 macro_rules! link {
     ($write:ident, {$($protocol:tt)*}, {$($specific:tt)*}) => {
@@ -293,7 +295,7 @@ macro_rules! link_inet6 {
     };
 }
 
-/// IFLA_* under every other family (if_link.h).
+/// IFLA_* under any other family (if_link.h).
 #[macro_export]
 macro_rules! link_other {
     ($write:ident) => {

@@ -1,4 +1,4 @@
-//! Names of kinds, and what data under them hold.
+//! Names of kinds, and the payloads of data under them.
 
 ghost use Rattle.std.specs.Prelude.{◌≡◌, ◌≤◌, ℕ, true, bytes_eq, take};
 ghost use Rattle.attribute_tables_grammar.specs.LookUps.{payload_rule, payload_at, rule_or_raw};
@@ -9,7 +9,7 @@ ghost use Rattle.link_tables.specs.Rows.{payload_of};
 
 use crate::rows::{Held, Shape};
 
-/// A name of at most 12 bytes, by its length and its bytes, and what data under it hold.
+/// A name of at most 12 bytes, by its length and its bytes, and the payload of data under it.
 #[derive(Clone, Copy)]
 pub struct NameRow(pub u8, pub [u8; 12], pub Held);
 
@@ -21,6 +21,7 @@ fn has_name(row: NameRow, name: &[u8]) -> bool
     name == &text[..len as usize]
 }
 
+// A loop over a slice, since the prover repeats a constant table inside a loop in each goal.
 fn find_name(rows: &[NameRow], name: &[u8]) -> Held
     requires { names_fit rows.now ≡ true }
     ensures { result ≡ held_by_name rows.now name.now }
@@ -34,7 +35,7 @@ fn find_name(rows: &[NameRow], name: &[u8]) -> Held
     Held::Plain(Shape::Raw)
 }
 
-/// What data under a name hold; bytes under a name that isn't listed.
+/// Returns the payload of data under a name; raw bytes if no row has the name.
 pub fn held_by_name(rows: &[NameRow], name: &[u8]) -> Held
     requires { names_fit rows.now ≡ true }
     ensures held { result ≡ held_by_name rows.now name.now }

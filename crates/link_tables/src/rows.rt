@@ -1,4 +1,4 @@
-//! Rows of tables as constant data, and the look-up of a kind.
+//! Rows of tables as constant data, and looking up a kind.
 
 ghost use Rattle.std.specs.Prelude.{◌≡◌, ℕ, true};
 ghost use Rattle.attribute_tables_grammar.specs.LookUps.{line_at};
@@ -7,51 +7,51 @@ ghost use Rattle.link_tables.specs.Rows.{kind_of, are_dense, build, line_of};
 
 use crate::table::Table;
 
-/// Payloads that hold no attributes. Sizes are in bytes.
+/// The shape of a payload that holds no attributes. Sizes are in bytes.
 #[derive(Clone, Copy)]
 pub enum Shape {
-    /// That many bytes.
+    /// Exactly that many bytes.
     Exact(u16),
     /// One of two sizes.
     Either(u16, u16),
-    /// No more bytes than that.
+    /// At most that many bytes.
     AtMost(u16),
-    /// A byte that is zero or not.
+    /// A boolean of one byte: false if and only if it is 0.
     NonzeroByte,
-    /// A byte that is one or not.
+    /// A boolean of one byte: true if and only if it is 1.
     OneByte,
-    /// A number of 4 bytes that is zero or not.
+    /// A boolean of 4 bytes: false if and only if the number is 0.
     TruthOfFour,
-    /// There or not, whatever it holds.
+    /// A flag that is set by being present, whatever its bytes.
     Presence,
     /// UTF-8, with or without a last NUL.
     Text,
     Raw,
     /// No payload is accepted.
     Never,
-    /// At least m bytes, of which the first m count, written as n.
+    /// At least m bytes, of which the first m count; written as n bytes.
     FixedRecord(u16, u16),
-    /// 4 bytes and a number of 4 bytes that is zero or not.
+    /// 4 bytes, and a boolean of 4 bytes.
     IdAndTruth,
-    /// Any number of bytes, cut or filled up to n.
+    /// Any number of bytes, cut or filled up with zeros to n.
     Resized(u16),
 }
 
-/// How bytes hold a list.
+/// The kind of a list: how bytes hold it, and which of its attributes are kept.
 #[derive(Clone, Copy)]
 pub enum Form {
     Any,
-    /// A list with an attribute in it.
+    /// At least one attribute.
     NonEmpty,
-    /// A list of which the attributes of kind 1 are kept.
+    /// Any attributes, of which those of kind 1 are kept.
     OfKindOne,
-    /// The same, with an attribute in it; one that keeps nothing has no text.
+    /// At least one attribute; those of kind 1 are kept, and if there is none, nothing is written.
     Ports,
-    /// One attribute, and any bytes.
+    /// One attribute, followed by any bytes.
     FirstAlone,
 }
 
-/// What a payload holds: bytes, a peer, a list of a table's attributes, or link info.
+/// The payload of a row: bytes, a peer, a list of a table's attributes, or link info.
 #[derive(Clone, Copy)]
 pub enum Held {
     Plain(Shape),
@@ -61,12 +61,12 @@ pub enum Held {
     LinkInfo,
 }
 
-/// What a table says of a kind, which has no flag bits here.
+/// The row of a kind, which has no flag bits here.
 #[derive(Clone, Copy)]
 pub enum Row {
-    /// The kind, whether it is written with the nested bit, and what the payload holds.
+    /// The kind, whether it is written with the nested bit, and the payload.
     Listed(u16, bool, Held),
-    /// A kind between those that the table lists.
+    /// A kind between those that the table lists, which has no row.
     Unlisted(u16),
 }
 
@@ -80,7 +80,8 @@ impl Row {
     }
 }
 
-/// What the rows of a table say of a kind: the index of a row is its kind less the first one's.
+/// Returns the row of a kind. The index of a row is its kind less that of the first row, so this
+/// takes constant time.
 pub fn look_up(rows: &[Row], kind: u16) -> Row
     requires { are_dense rows.now ≡ true }
     ensures { (tables : ℕ → Rows) (info : Payload)

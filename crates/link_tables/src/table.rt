@@ -1,4 +1,4 @@
-//! The tables of attributes, each under a name.
+//! The tables of attributes, each with a constant.
 
 ghost use Rattle.std.specs.Prelude.{◌≡◌, ℕ, true, [], get_or};
 ghost use Rattle.attribute_tables_grammar.specs.LookUps.{line_at};
@@ -10,12 +10,12 @@ ghost use Rattle.link_tables.specs.Tables.{family_table, info_payload, is_link_i
 use crate::rows::{Row, look_up};
 use crate::table_rows::TABLES;
 
-/// A table of attributes. Each has a constant of this module as its name.
+/// A table of attributes. Each is named by a constant of this module.
 #[derive(Clone, Copy)]
 pub struct Table(pub u8);
 
 impl Table {
-    /// Whether what an attribute holds depends on the kinds in force.
+    /// Returns whether the payloads of the table's attributes depend on the kinds in force.
     pub fn is_link_info(self) -> bool
         ensures { result ≡ is_link_info self }
     {
@@ -23,49 +23,49 @@ impl Table {
     }
 }
 
-/// IFLA_XDP_*, which IFLA_XDP holds.
+/// IFLA_XDP_*, the attributes inside IFLA_XDP.
 pub const XDP: Table = Table(0);
 
-/// The other names of a link, which IFLA_PROP_LIST holds.
+/// Alternative names of a link, the attributes inside IFLA_PROP_LIST.
 pub const PROPS: Table = Table(1);
 
-/// IFLA_PROTO_DOWN_REASON_*, which IFLA_PROTO_DOWN_REASON holds.
+/// IFLA_PROTO_DOWN_REASON_*, the attributes inside IFLA_PROTO_DOWN_REASON.
 pub const PROTOCOL_DOWN_REASON: Table = Table(2);
 
-/// DEVLINK_ATTR_*, which IFLA_DEVLINK_PORT holds.
+/// DEVLINK_ATTR_*, the attributes inside IFLA_DEVLINK_PORT.
 pub const DEVLINK_PORT: Table = Table(3);
 
-/// DPLL_A_PIN_*, which IFLA_DPLL_PIN holds.
+/// DPLL_A_PIN_*, the attributes inside IFLA_DPLL_PIN.
 pub const DPLL_PIN: Table = Table(4);
 
-/// IFLA_MCTP_*, which AF_MCTP in IFLA_AF_SPEC holds.
+/// IFLA_MCTP_*, the attributes inside AF_MCTP of IFLA_AF_SPEC.
 pub const MCTP: Table = Table(5);
 
-/// IFLA_INET_*, which AF_INET in IFLA_AF_SPEC holds.
+/// IFLA_INET_*, the attributes inside AF_INET of IFLA_AF_SPEC.
 pub const INET: Table = Table(6);
 
-/// IFLA_INET6_*, which AF_INET6 in IFLA_AF_SPEC holds.
+/// IFLA_INET6_*, the attributes inside AF_INET6 of IFLA_AF_SPEC.
 pub const INET6: Table = Table(7);
 
-/// The address families (AF_*), which IFLA_AF_SPEC holds under AF_UNSPEC.
+/// The address families (AF_*), the attributes inside IFLA_AF_SPEC under AF_UNSPEC.
 pub const SPECIFIC: Table = Table(8);
 
-/// IFLA_VF_STATS_*, which IFLA_VF_STATS holds.
+/// IFLA_VF_STATS_*, the attributes inside IFLA_VF_STATS.
 pub const VF_STATS: Table = Table(9);
 
-/// IFLA_VF_VLAN_INFO, which IFLA_VF_VLAN_LIST holds.
+/// IFLA_VF_VLAN_INFO, the attributes inside IFLA_VF_VLAN_LIST.
 pub const VF_VLANS: Table = Table(10);
 
-/// IFLA_VF_*, which IFLA_VF_INFO holds.
+/// IFLA_VF_*, the attributes inside IFLA_VF_INFO.
 pub const VF: Table = Table(11);
 
-/// IFLA_VF_INFO, which IFLA_VFINFO_LIST holds.
+/// IFLA_VF_INFO, the attributes inside IFLA_VFINFO_LIST.
 pub const VF_INFOS: Table = Table(12);
 
-/// IFLA_VF_PORT, which IFLA_VF_PORTS holds.
+/// IFLA_VF_PORT, the attributes inside IFLA_VF_PORTS.
 pub const VF_PORTS: Table = Table(13);
 
-/// Attributes of which every one is raw, and has no name.
+/// A list of raw attributes, without names.
 pub const RAW: Table = Table(14);
 
 /// IFLA_* under AF_UNSPEC.
@@ -77,11 +77,11 @@ pub const LINK_BRIDGE: Table = Table(16);
 /// IFLA_* under AF_INET6.
 pub const LINK_INET6: Table = Table(17);
 
-/// IFLA_* under every other family.
+/// IFLA_* under any other family.
 pub const LINK_OTHER: Table = Table(18);
 
-/// IFLA_INFO_*, which IFLA_LINKINFO holds. What its attributes hold depends on the kinds in force, so it has no rows
-/// here: see `info_held`.
+/// IFLA_INFO_*, the attributes inside IFLA_LINKINFO. Their payloads depend on the kinds in force,
+/// so there are no rows here: see `info_held`.
 pub const LINK_INFO: Table = Table(19);
 
 /// IFLA_AMT_*.
@@ -120,7 +120,7 @@ pub const IP6_TUNNEL: Table = Table(30);
 /// IFLA_MACVLAN_*.
 pub const MACVLAN: Table = Table(31);
 
-/// IFLA_MACVLAN_MACADDR, which IFLA_MACVLAN_MACADDR_DATA holds.
+/// IFLA_MACVLAN_MACADDR, the attributes inside IFLA_MACVLAN_MACADDR_DATA.
 pub const MACVLAN_ADDRESS: Table = Table(32);
 
 /// IFLA_MACSEC_*.
@@ -153,7 +153,8 @@ pub const VXLAN: Table = Table(41);
 /// VXCAN_INFO_*.
 pub const VXCAN: Table = Table(42);
 
-/// IFLA_VLAN_*, all raw, as is each table from here on: their kinds have names, and no rows.
+/// IFLA_VLAN_*. In this table, and each from here on, all attributes are raw: their kinds have
+/// names, but no rows.
 pub const VLAN: Table = Table(43);
 
 /// IFLA_BR_*.
@@ -174,19 +175,20 @@ pub const HSR: Table = Table(48);
 /// IFLA_DSA_*.
 pub const DSA: Table = Table(49);
 
-/// IFLA_BRPORT_*: the port data of `bridge`, and what IFLA_PROTINFO holds under AF_BRIDGE.
+/// IFLA_BRPORT_*: the port data of `bridge`, and the attributes inside IFLA_PROTINFO under
+/// AF_BRIDGE.
 pub const BRIDGE_PORT: Table = Table(50);
 
 /// IFLA_BOND_SLAVE_*: the port data of `bond`.
 pub const BOND_PORT: Table = Table(51);
 
-/// IFLA_BRIDGE_*, which IFLA_AF_SPEC holds under AF_BRIDGE.
+/// IFLA_BRIDGE_*, the attributes inside IFLA_AF_SPEC under AF_BRIDGE.
 pub const BRIDGE_SPECIFIC: Table = Table(52);
 
-/// IFLA_INET6_*, which IFLA_PROTINFO holds under AF_INET6.
+/// IFLA_INET6_*, the attributes inside IFLA_PROTINFO under AF_INET6.
 pub const INET6_PROTOCOL: Table = Table(53);
 
-/// The bytes of a link's header, before its attributes (rtnetlink.h, `struct ifinfomsg`).
+/// The length of a link's header, which precedes its attributes (rtnetlink.h, `struct ifinfomsg`).
 pub const LINK_HEADER_LEN: usize = 16;
 
 // The families with tables of their own (socket.h).
@@ -196,7 +198,7 @@ const AF_BRIDGE: u8 = 7;
 
 const AF_INET6: u8 = 10;
 
-/// The table of a link's attributes under an address family.
+/// Returns the table of a link's attributes under an address family.
 pub fn family_table(family: u8) -> Table
     ensures is { result ≡ family_table family }
     ensures table { table_of result.0 ≡ link_table (family_of family) }
@@ -212,7 +214,7 @@ pub fn family_table(family: u8) -> Table
     }
 }
 
-// The rows of a table; none of one that isn't among these.
+// The rows of a table; none if the index is out of range.
 fn table_at<'a>(tables: &'a [&'a [Row]], table: Table) -> &'a [Row]
     ensures { result.now ≡ get_or (lists_of tables.now) table.0 [] }
 {
@@ -222,7 +224,7 @@ fn table_at<'a>(tables: &'a [&'a [Row]], table: Table) -> &'a [Row]
     }
 }
 
-/// What a table says of a kind, which has no flag bits.
+/// Returns the row of a kind, which has no flag bits, in a table.
 pub fn row_of(table: Table, kind: u16) -> Row
     ensures line { row_line result ≡ line_at (table_of table.0) kind }
     ensures bounded { rows_bounded (table_of table.0) ≡ true }

@@ -1,4 +1,4 @@
-//! The rows of each table, at its index.
+//! The rows of each table, at the table's index.
 
 use crate::constant_rows;
 use crate::rows::Form::{Any, OfKindOne, Ports};
@@ -15,7 +15,8 @@ use crate::table::{
     VF_STATS, VF_VLANS, XDP,
 };
 
-/// The tables that have rows, and those between.
+/// The rows of all tables up to the last one that has any; tables in between without rows are
+/// empty.
 pub const TABLES: [&[Row]; 43] = [
     &crate::xdp!(constant_rows),
     &crate::props!(constant_rows),

@@ -18,27 +18,27 @@ const ETH_P_LLDP: u16 = 0x88cc;
 
 /// The protocol that an Ethernet frame carries, `ETH_P_*` of `linux/if_ether.h`.
 ///
-/// The number is the host's; a frame and most attributes hold it big-endian.
+/// The number is in host byte order; a frame and most attributes hold it big-endian.
 #[derive(Debug, PartialEq, Eq, Clone, Copy)]
 pub enum EthernetProtocol {
-    /// The Internet protocol, version 4: `ETH_P_IP`, 0x0800.
+    /// Internet protocol, version 4: `ETH_P_IP`, 0x0800.
     Ipv4,
-    /// Address resolution: `ETH_P_ARP`, 0x0806.
+    /// Address resolution protocol: `ETH_P_ARP`, 0x0806.
     Arp,
     /// A VLAN tag: `ETH_P_8021Q`, 0x8100.
     Vlan8021Q,
-    /// The Internet protocol, version 6: `ETH_P_IPV6`, 0x86dd.
+    /// Internet protocol, version 6: `ETH_P_IPV6`, 0x86dd.
     Ipv6,
     /// A service VLAN tag: `ETH_P_8021AD`, 0x88a8.
     Vlan8021Ad,
-    /// Link layer discovery: `ETH_P_LLDP`, 0x88cc.
+    /// Link layer discovery protocol: `ETH_P_LLDP`, 0x88cc.
     Lldp,
-    /// Every other number.
+    /// Any other number.
     Other(u16),
 }
 
 impl EthernetProtocol {
-    /// The protocol's number.
+    /// Returns the protocol's number.
     pub fn value(&self) -> u16
         ensures { result ≡ ethernet_protocol_number self.now }
     {

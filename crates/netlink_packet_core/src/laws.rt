@@ -1,4 +1,4 @@
-//! Facts of the definitions. No function here calls a law.
+//! Laws of the definitions. No function here calls another.
 
 ghost use Rattle.netlink_packet_core.specs.Ethernet.{ProtocolsKeepNumbers, NumbersNameProtocols};
 
@@ -24,7 +24,7 @@ pub fn protocols_keep_their_numbers()
     ensures { ProtocolsKeepNumbers }
 {}
 
-/// A protocol is the one of its number, unless it is `Other` of a listed number.
+/// A protocol is the one of its number, unless it is `Other` with a listed number.
 pub fn protocols_are_named_by_their_numbers()
     ensures { NumbersNameProtocols }
 {}

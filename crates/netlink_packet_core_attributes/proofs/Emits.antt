@@ -47,7 +47,7 @@ room-at entry xs i v l h =
     let k : size_by entry (take i xs) + nla_align (attribute_length (entry (get_or xs i v))) ≤ size_by entry xs = sum_by_more_le (λ y. nla_align (attribute_length (entry y))) xs i v l in
     rw (sym h) at k
 
--- the header of an attribute that was written tells its length
+-- the length in the header of a written attribute is that of the attribute
 pub told_by_header : (e : Attribute) (text : List ℕ) → u16_at 0 (attribute_text e ++ text) ≡ attribute_length e
 unfolding u16_at attribute_text
 told_by_header e text = omega arith

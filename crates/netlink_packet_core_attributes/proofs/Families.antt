@@ -1,4 +1,4 @@
--- A typed row writes an attribute with its kind alone, whatever flag bits it had.
+-- A typed row writes an attribute with only the kind proper, whatever flag bits it had.
 use Rattle.std.proofs.Common.{◌≡◌, ℕ, ◌+◌, Bool, true, false, cond, ap, arith}
 use Rattle.netlink_packet_core_grammar.specs.Attributes.{Attribute, proper_kind}
 use Rattle.attribute_tables_grammar.specs.Lists.{Row, rewrite}

@@ -1,4 +1,4 @@
--- Numbers of two bytes in a header, and the payload in its place.
+-- The header's numbers of two bytes, and the payload after them.
 use Rattle.std.proofs.Common.{◌≡◌, ℕ, ◌+◌, ◌-◌, ◌<◌, ◌/◌, ◌%◌, List, [], ◌∷◌, ◌++◌, length, take, drop, sym, ap, ◌∙◌, append_assoc, length-drop, ◌≤◌, arith}
 use Rattle.std.proofs.lemmas.List.{drop_at, length-take-le}
 use borrow.Rule.Slice.PartMut.{put_mid}
@@ -10,7 +10,7 @@ use Rattle.std.specs.Int.{w16, to_le_bytes}
 pub two_bytes : (n : ℕ) → n < 65536 → to_le_bytes w16 n ≡ n % 256 ∷ n / 256 ∷ []
 two_bytes n h = let e : n / 256 % 256 ≡ n / 256 = omega arith in ap (λ k. n % 256 ∷ k ∷ []) e
 
--- with its payload in place there stands the attribute
+-- once the payload is written between header and padding, the bytes are the attribute's encoding
 with_payload : (e : Attribute) (place rest : List ℕ) → length place ≡ length e.payload → put_mid 4 (length e.payload) (attribute_header (attribute_length e) e.kind ++ (place ++ (zeros (nla_align (attribute_length e) - attribute_length e) ++ rest))) e.payload ≡ attribute_text e ++ rest
 unfolding attribute_text
 with_payload e place rest l =
@@ -19,7 +19,7 @@ with_payload e place rest l =
     let d : drop (length e.payload) (place ++ (padding ++ rest)) ≡ padding ++ rest = drop_at place (padding ++ rest) (length e.payload) l in
     ap (λ z. header ++ (e.payload ++ z)) d ∙ ap (λ z. header ++ z) (sym (append_assoc e.payload padding rest))
 
--- a header is written, and then the payload in its place
+-- a header is written, and then the payload after it
 pub header_and_payload : (e : Attribute) (kind size : ℕ) (old header value : List ℕ) → attribute_length e ≤ 65535 → nla_align (attribute_length e) ≤ length old → kind ≡ e.kind → size ≡ as_usize (length e.payload) → header ≡ with_header kind size old → value ≡ e.payload → put_mid 4 (4 + size - 4) header value ≡ attribute_text e ++ drop (nla_align (attribute_length e)) old
 header_and_payload e kind size old header value fits room k s h v =
     let n = length e.payload in

@@ -34,5 +34,5 @@ short = laws_of.walks_are_short first_is_within
 pub steps : WalksGoBySteps
 steps = walks.walks_go_by_steps first_is_viewed first_is_within
 
--- what the laws go by
+-- what the laws are proved from
 pub ruleset laws = (relation, walked, others, texts, read_back, short, steps)

@@ -70,7 +70,7 @@ module _ (within : FirstIsWithin) where
     unfolding EndsInAFault
     others_end_in_a_fault bytes h = fault_within (length bytes) bytes (omega arith) h
 
--- ---- what was written
+-- ---- written attributes
 
 module _ (within : FirstIsWithin) where
   pub texts_are_walked : WrittenIsFirst → TextsAreWalked
@@ -102,7 +102,7 @@ texts_are_read_back law front e bytes =
     let same : (viewed_attribute text, after_first text) ≡ (e, bytes) = got_is (viewed_attribute text, after_first text) (e, bytes) (sym (law.whole text is) ∙ h) in
     (is, ap (λ (x : Attribute × List ℕ). x.0) same)
 
--- ---- how many items
+-- ---- the number of items
 
 module _ (within : FirstIsWithin) where
   short : (bytes : List ℕ) (items : List (Option Attribute)) → IsWalk bytes items → 4 * length items ≤ length bytes + 3

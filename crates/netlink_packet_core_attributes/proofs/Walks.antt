@@ -1,4 +1,4 @@
--- A walk, a step at a time.
+-- A walk, step by step.
 use Rattle.std.proofs.Common.{◌≡◌, ℕ, zero, suc, ◌<◌, ◌≤◌, List, [], ◌∷◌, length, Option, Some, None, refl, ap, ◌∙◌, arith}
 use Rattle.netlink_packet_core_grammar.specs.Attributes.{Attribute, first_attribute}
 use Rattle.netlink_packet_core_grammar.specs.AttributeViews.{viewed_attribute, after_first}
@@ -6,7 +6,7 @@ use Rattle.netlink_packet_core_grammar.specs.Laws.{FirstIsViewed, FirstIsWithin}
 use Rattle.netlink_packet_core_attributes.specs.Walks.{walk_on, walk_within, attribute_walk}
 use Rattle.netlink_packet_core_attributes.specs.Laws.{WalksGoBySteps}
 
--- ---- nothing is left, or no attribute
+-- ---- nothing remains, or no attribute
 
 pub walk-empty : attribute_walk [] ≡ []
 unfolding attribute_walk walk_within
@@ -20,7 +20,7 @@ pub walk-stop : (bytes : List ℕ) → 0 < length bytes → first_attribute byte
 walk-stop [] l h = absurd (omega arith)
 walk-stop (b ∷ bytes) l h = walk-by b bytes ∙ ap (walk_on (walk_within (length bytes))) h
 
--- ---- an attribute is left; more steps than bytes change nothing
+-- ---- an attribute remains; more steps than bytes change nothing
 
 walk_on-same : (o : Option (Attribute × List ℕ)) (f g : List ℕ → List (Option Attribute)) → ((e : Attribute) (rest : List ℕ) → o ≡ Some (e, rest) → f rest ≡ g rest) → walk_on f o ≡ walk_on g o
 walk_on-same None f g h = refl
@@ -48,7 +48,7 @@ module _ (law : FirstIsWithin) where
       walk-by b bytes ∙ ap (walk_on (walk_within (length bytes))) h
       ∙ ap (λ r. Some e ∷ r) (walk-enough (length bytes) (length rest) rest (omega arith) (omega arith))
 
--- ---- the same, by places
+-- ---- the same, by offsets
 
 at_end : (bytes : List ℕ) → length bytes ≡ 0 → attribute_walk bytes ≡ []
 at_end [] e = walk-empty

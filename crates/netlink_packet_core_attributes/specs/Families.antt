@@ -1,4 +1,4 @@
--- Attributes of one family, by its table.
+-- The attributes of one family, by its table.
 use Rattle.std.specs.Prelude.{◌≡◌, ◌&&◌, ℕ, Bool, List, length, nat_lt}
 use Rattle.netlink_packet_core_grammar.specs.Attributes.{Attribute, proper_kind}
 use Rattle.netlink_packet_core_grammar.specs.AttributeViews.{viewed_attribute, viewed_kind, viewed_payload}
@@ -7,22 +7,24 @@ use Rattle.attribute_tables_grammar.specs.LookUps.{table_row, row_holds_bytes}
 use Rattle.attribute_tables_grammar.specs.Peers.{bytes_peer}
 use Rattle.attribute_tables_grammar.specs.Tables.{Table}
 
--- an attribute of this kind and payload
+-- The attribute of this kind and payload.
 abbrev pub attribute : ℕ → List ℕ → Attribute
 attribute k p = record { kind = k; payload = p }
 
--- the row of a kind without its flag bits, where peers are bytes
+-- The row of a kind without its flag bits; peers are bytes.
 abbrev pub family_row : Table → ℕ → Row
 family_row t k = table_row bytes_peer t k
 
--- the attribute that the bytes begin with is accepted by its row
+-- The row of the attribute at the start of the bytes accepts it.
 abbrev pub accepts : Table → List ℕ → Bool
 accepts t b = (row_at (family_row t) (viewed_attribute b)).rule.accepted (viewed_payload b)
 
--- its row holds bytes or text, the payload has bytes, and the row accepts it
+-- Reading the attribute may run out of memory: its row holds bytes or text, the payload isn't empty, and the row
+-- accepts it.
 abbrev pub may_want_memory : Table → List ℕ → Bool
 may_want_memory t b = (row_holds_bytes t (proper_kind (viewed_kind b)) && nat_lt 0 (length (viewed_payload b))) && accepts t b
 
--- it is written as this one: with its row's kind, and its canonical payload
+-- The attribute e is the canonical form of the one at the start of the bytes: with its row's kind, and its canonical
+-- payload.
 abbrev pub Gives : Table → List ℕ → Attribute → Type 0
 Gives t b e = e ≡ rewrite (row_at (family_row t) (viewed_attribute b)) (viewed_attribute b)

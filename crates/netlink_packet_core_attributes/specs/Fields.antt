@@ -6,6 +6,7 @@ use Rattle.netlink_packet_core_grammar.specs.Truths.{truth_byte}
 use Rattle.netlink_packet_core_numbers.specs.Addresses.{ip_octets}
 use Rattle.netlink_packet_core_attributes.specs.declared.payload.Field.{Field}
 
+-- The bytes of a payload that holds no attributes.
 abbrev pub field_bytes : Field → List ℕ
 field_bytes Field.Empty = []
 field_bytes (Field.U8 n) = n ∷ []

@@ -1,4 +1,4 @@
-//! Values that are written as an attribute of one payload, and read from one.
+//! Values that are written as an attribute without attributes inside, and read from one.
 
 ghost use Rattle.std.specs.Prelude.{◌≡◌, ◌<◌, true, length, IsTrue, IfOk, IfErr, IfSome, IfNone, OnOk};
 ghost use Rattle.netlink_packet_core_grammar.specs.Attributes.{Attribute, proper_kind};
@@ -19,12 +19,12 @@ use super::traits::Parseable;
 use netlink_packet_core_numbers::error::DecodeError;
 use std::alloc::Global;
 
-/// A value that is written as an attribute of one payload.
+/// A value that is written as an attribute whose payload holds no attributes.
 pub trait FieldNla {
-    /// The kind with its flags, and the bytes of the payload.
+    /// The attribute: the kind with its flags, and the bytes of the payload.
     ghost field_entry: { Self → Attribute };
 
-    /// The kind and the payload.
+    /// Returns the kind and the payload.
     fn field(&self) -> (u16, Field<'_>)
         ensures kind { result.0 ≡ (field_entry self.now).kind }
         ensures payload { field_bytes result.1 ≡ (field_entry self.now).payload };
@@ -57,10 +57,15 @@ pub trait Family: FieldNla + Sized {
     /// The table of the family.
     ghost rows: { Table };
 
-    /// The value is the variant that its row names.
+    /// The value is the variant of its row.
     ghost names_row: { Self → Type 0 };
 
-    /// Reads the payload of a kind without its flag bits; `None` where the kind has no row.
+    /// Reads the payload of a kind without its flag bits; `None` if the kind has no row.
+    ///
+    /// # Errors
+    ///
+    /// Out of memory if the row accepts the payload, which isn't empty, and an allocation fails;
+    /// any other [`DecodeError`] if and only if the row doesn't accept it.
     fn read_row(alloc: Global, kind: u16, payload: &[u8]) -> Result<Option<Self>, DecodeError>
         ensures ok { OnOk result (IsTrue ((family_row rows kind).rule.accepted payload.now)) }
         ensures none { IfOk result (λ o. IfNone o (has_no_row rows kind)) }
@@ -76,7 +81,7 @@ pub trait Family: FieldNla + Sized {
             (λ e. is_memory e ≡ true → row_holds_bytes rows kind ≡ true) }
         ensures not_empty { IfErr result (λ e. is_memory e ≡ true → 0 < length payload.now) };
 
-    /// An attribute of a kind that has no row.
+    /// Returns the variant of an attribute whose kind has no row.
     fn other(nla: DefaultNla) -> Self
         ensures entry { Self.field_entry result ≡ nla }
         ensures names_row { has_no_row rows (proper_kind nla.kind) → names_row result };
@@ -86,6 +91,11 @@ pub trait Family: FieldNla + Sized {
 }
 
 /// Reads one attribute of a family.
+///
+/// # Errors
+///
+/// Out of memory if the row accepts the payload, which isn't empty, and an allocation fails; any
+/// other [`DecodeError`] if and only if the row doesn't accept it.
 #[tactic(auto, using(crate::proofs::Families::families))]
 pub fn read_attribute<F: Family>(alloc: Global, buf: &NlaBuffer<&[u8]>) -> Result<F, DecodeError>
     requires { IsAttribute (storage buf.now).now }

@@ -1,47 +1,48 @@
-//! Facts of the definitions. No function here makes a call.
+//! Laws of the definitions. No function here makes a call.
 #![tactic(auto, using(crate::proofs::Together::laws))]
 
 ghost use Rattle.netlink_packet_core_attributes.specs.Laws.{WalkIsTheRelation, ListsAreWalked, OthersEndInAFault};
 ghost use Rattle.netlink_packet_core_attributes.specs.Laws.{TextsAreWalked, TextsAreReadBack, WalksAreShort};
 ghost use Rattle.netlink_packet_core_attributes.specs.Laws.{TypedRowsWriteTheKind, WalksGoBySteps};
 
-/// The walk that the function computes is the one of the relation.
+/// The function that defines the walk computes the relation.
 pub fn walks_are_the_relation()
     ensures { WalkIsTheRelation }
 {}
 
-/// A list is walked without a fault, and gives its attributes.
+/// The walk over a list has no fault, and yields the list's attributes.
 pub fn lists_are_walked()
     ensures { ListsAreWalked }
 {}
 
-/// Bytes that are no list are walked to one fault, which comes last.
+/// The walk over bytes that are no list ends with one fault.
 pub fn others_end_in_a_fault()
     ensures { OthersEndInAFault }
 {}
 
-/// The walk over a written list gives its attributes, and then goes on behind it.
+/// The walk over a written list yields its attributes, and continues with the bytes after it.
 pub fn texts_are_walked()
     ensures { TextsAreWalked }
 {}
 
-/// A written attribute is read with the kind and the payload that it had.
+/// A written attribute is read back with its kind and payload.
 pub fn texts_are_read_back()
     ensures { TextsAreReadBack }
 {}
 
-/// A walk has one item for every 4 bytes at most, the last 4 counted whole.
+/// A walk yields at most one item for every 4 bytes begun.
 pub fn walks_are_short()
     ensures { WalksAreShort }
 {}
 
-/// A walk goes on behind the attribute that a view of the bytes sees, and ends where nothing is
-/// left, or in a fault where no attribute begins.
+/// Each step of a walk depends only on the remaining bytes: without bytes it ends; if they begin
+/// with a whole attribute, it yields a view of it and continues after it; otherwise it yields a
+/// fault and ends.
 pub fn walks_go_by_steps()
     ensures { WalksGoBySteps }
 {}
 
-/// What a typed row writes of an attribute has its kind without flags, whatever flags the attribute has.
+/// A typed row writes an attribute with the kind without flags, whatever flags it has.
 #[tactic(auto, using(crate::proofs::Families::families))]
 pub fn typed_rows_write_the_kind()
     ensures { TypedRowsWriteTheKind }

@@ -21,14 +21,14 @@ use std::marker::Model;
 pub const NLA_F_NESTED: u16 = 0x8000;
 /// The flag of a kind whose payload is a number in network byte order (netlink.h).
 pub const NLA_F_NET_BYTEORDER: u16 = 0x4000;
-/// The 14 bits of a kind that are no flags.
+/// The mask of a kind without its flags: the low 14 bits.
 pub const NLA_TYPE_MASK: u16 = 0x3fff;
-/// Attributes begin at multiples of this many bytes.
+/// The alignment of attributes in bytes.
 pub const NLA_ALIGNTO: usize = 4;
-/// The bytes of an attribute's header: length and kind.
+/// The size of an attribute's header in bytes: length and kind.
 pub const NLA_HEADER_SIZE: usize = 4;
 
-/// The least multiple of 4 not below `n`.
+/// Returns the least multiple of 4 that is at least `n`.
 pub fn nla_align(n: usize) -> usize
     requires { n ≤ 18446744073709551611 }
     ensures { result ≡ nla_align n }
@@ -36,27 +36,27 @@ pub fn nla_align(n: usize) -> usize
     (n + NLA_ALIGNTO - 1) / NLA_ALIGNTO * NLA_ALIGNTO
 }
 
-/// The bytes of an attribute with a payload of so many: header, payload and padding; `usize::MAX`
-/// stands for more.
+/// Returns the encoded length of an attribute with a payload of `value_len` bytes: header, payload
+/// and padding. A greater length saturates at `usize::MAX`.
 pub fn attribute_len(value_len: usize) -> usize
     ensures { result ≡ as_usize (nla_align (4 + value_len)) }
 {
-    // Beyond the greatest multiple of 4 that leaves room for a header.
+    // Beyond this, adding the header and aligning would overflow.
     if value_len > usize::MAX - 7 {
         return usize::MAX;
     }
     NLA_HEADER_SIZE + nla_align(value_len)
 }
 
-/// Whether a payload of so many bytes fits the 2 bytes of the header's length.
+/// Returns whether a payload of `value_len` bytes fits the 2 bytes of the header's length.
 pub fn length_fits(value_len: usize) -> bool
     ensures { result ≡ nat_le (4 + value_len) 65535 }
 {
     value_len <= u16::MAX as usize - NLA_HEADER_SIZE
 }
 
-/// Writes the header and the padding of an attribute around the place of its payload, and leaves
-/// that place and the rest of the buffer alone.
+/// Writes the header and the padding of an attribute whose payload has `value_len` bytes. The bytes
+/// of the payload and the rest of the buffer are left unchanged.
 #[tactic(auto, using(crate::proofs::Headers::headers))]
 pub fn emit_header(buffer: &mut [u8], kind: u16, value_len: usize)
     requires fits { 4 + value_len ≤ 65535 }
@@ -81,11 +81,11 @@ pub trait Nla {
     /// Whether each attribute inside the payload fits its header.
     ghost inside_fits: { Self → Bool };
 
-    /// The bytes of the payload; `usize::MAX` stands for more.
+    /// Returns the length of the payload; it saturates at `usize::MAX`.
     fn value_len(&self) -> usize
         ensures { result ≡ as_usize (length (entry self.now).payload) };
 
-    /// The kind, all 16 bits.
+    /// Returns the kind, all 16 bits.
     fn kind(&self) -> u16
         ensures { result ≡ (entry self.now).kind };
 
@@ -95,18 +95,18 @@ pub trait Nla {
         requires room { length buffer.old ≡ length (entry self.now).payload }
         ensures { buffer.new ≡ (entry self.now).payload };
 
-    /// Whether each attribute inside the payload fits its header; true where there is none.
+    /// Returns whether each attribute inside the payload fits its header; true if there is none.
     fn contents_fit(&self) -> bool
         ensures { result ≡ inside_fits self.now };
 
-    /// Whether the kind has the nested flag.
+    /// Returns whether the kind has the nested flag.
     fn is_nested(&self) -> bool
         ensures { result ≡ has_nested_flag (entry self.now).kind }
     {
         self.kind() & NLA_F_NESTED != 0
     }
 
-    /// Whether the kind has the flag of network byte order.
+    /// Returns whether the kind has the flag of network byte order.
     #[tactic(auto, using(crate::proofs::Flags::byte_order_flag))]
     fn is_network_byteorder(&self) -> bool
         ensures { result ≡ has_byte_order_flag (entry self.now).kind }
@@ -114,22 +114,23 @@ pub trait Nla {
         self.kind() & NLA_F_NET_BYTEORDER != 0
     }
 
-    /// Whether the length fits the 2 bytes of the header, here and in each attribute inside.
+    /// Returns whether the length fits the 2 bytes of the header, here and in each attribute
+    /// inside.
     fn fits(&self) -> bool
         ensures { result ≡ (attribute_fits (entry self.now) && inside_fits self.now) }
     {
         length_fits(self.value_len()) && self.contents_fit()
     }
 
-    /// The bytes of header, payload and padding; `usize::MAX` stands for more.
+    /// Returns the length of header, payload and padding; it saturates at `usize::MAX`.
     fn buffer_len(&self) -> usize
         ensures { result ≡ as_usize (nla_align (attribute_length (entry self.now))) }
     {
         attribute_len(self.value_len())
     }
 
-    /// Writes header, payload and padding into the front of a buffer, and leaves the rest of the
-    /// buffer alone.
+    /// Writes header, payload and padding at the start of a buffer; the rest of the buffer is left
+    /// unchanged.
     fn emit(&self, buffer: &mut [u8])
         requires fits { (attribute_fits (entry self.now) && inside_fits self.now) ≡ true }
         requires room { nla_align (attribute_length (entry self.now)) ≤ length buffer.old }
@@ -171,14 +172,14 @@ impl Eq for DefaultNla {
 }
 
 impl DefaultNla {
-    /// An attribute of this kind, flags included, and this payload.
+    /// Returns an attribute of this kind, flags included, and this payload.
     pub fn new(kind: u16, value: Vec<u8>) -> Self
         ensures { result ≡ record { kind = kind; payload = value.items } }
     {
         DefaultNla { kind, value }
     }
 
-    /// The payload.
+    /// Returns the payload.
     pub fn value(&self) -> &[u8]
         ensures { result.now ≡ self.now.payload }
     {

@@ -21,21 +21,21 @@ pub struct NlaBuffer<T> {
 }
 
 impl<T> NlaBuffer<T> {
-    /// A view of some storage, whatever it holds.
+    /// Returns a view of some storage, without checking it.
     pub fn new(buffer: T) -> Self
         ensures { storage result ≡ buffer }
     {
         NlaBuffer { buffer }
     }
 
-    /// The storage.
+    /// Returns the storage.
     pub fn into_inner(self) -> T
         ensures { result ≡ storage self }
     {
         self.buffer
     }
 
-    /// The storage, to be read.
+    /// Borrows the storage.
     pub fn inner(&self) -> &T
         ensures { result.now ≡ storage self.now }
     {
@@ -44,7 +44,7 @@ impl<T> NlaBuffer<T> {
 
     ghost use Rattle.netlink_packet_core_attributes.specs.contracts.nla_buffer.NlaBuffer.{the_row};
 
-    /// The storage, to be written.
+    /// Borrows the storage, for writing.
     pub fn inner_mut(&mut self) -> &mut T
         ensures* writes_back { sem 𝓛 (Lends (the_row T.row) T.row self.entry result view_of) }
         ensures value { result.now ≡ storage self.old }
@@ -54,8 +54,13 @@ impl<T> NlaBuffer<T> {
 }
 
 impl<T: ByteView> NlaBuffer<T> {
-    /// A view of storage that begins with a whole attribute: at least 4 bytes, with a length of at
-    /// least 4 and at most the bytes there.
+    /// Returns a view of storage that begins with a whole attribute: it has a header of 4 bytes,
+    /// and the length in it is at least 4 and within the storage.
+    ///
+    /// # Errors
+    ///
+    /// [`DecodeError::nla_buffer_too_small`], [`DecodeError::nla_length_mismatch`] or
+    /// [`DecodeError::nla_invalid_length`] if it doesn't. Allocates nothing.
     pub fn new_checked(buffer: T) -> Result<Self, DecodeError>
     where
         T: Drop,
@@ -68,7 +73,14 @@ impl<T: ByteView> NlaBuffer<T> {
         Ok(view)
     }
 
-    /// Whether the storage begins with a whole attribute, as the readers of the payload ask.
+    /// Checks that the storage begins with a whole attribute, as the accessors of the payload
+    /// require.
+    ///
+    /// # Errors
+    ///
+    /// [`DecodeError::nla_buffer_too_small`] if there are fewer than 4 bytes;
+    /// [`DecodeError::nla_length_mismatch`] if the length exceeds the storage;
+    /// [`DecodeError::nla_invalid_length`] if it is under 4. Allocates nothing.
     pub fn check_buffer_length(&self) -> Result<(), DecodeError>
         ensures whole { IsOk result ↔ IsAttribute (T.bytes (storage self.now)) }
         ensures err { IfErr result (λ e. is_memory e ≡ false) }
@@ -88,7 +100,7 @@ impl<T: ByteView> NlaBuffer<T> {
         Ok(())
     }
 
-    /// The length that the header tells, which counts the header.
+    /// Returns the length in the header, which counts the header itself.
     pub fn length(&self) -> u16
         requires { 4 ≤ length (T.bytes (storage self.now)) }
         ensures { result ≡ viewed_length (T.bytes (storage self.now)) }
@@ -96,7 +108,7 @@ impl<T: ByteView> NlaBuffer<T> {
         read_u16(self.buffer.as_bytes(), 0)
     }
 
-    /// The bytes of the payload.
+    /// Returns the length of the payload.
     pub fn value_length(&self) -> usize
         requires { IsAttribute (T.bytes (storage self.now)) }
         ensures { result ≡ viewed_length (T.bytes (storage self.now)) - 4 }
@@ -104,7 +116,7 @@ impl<T: ByteView> NlaBuffer<T> {
         self.length() as usize - NLA_HEADER_SIZE
     }
 
-    /// All 16 bits of the kind.
+    /// Returns all 16 bits of the kind.
     pub fn raw_kind(&self) -> u16
         requires { 4 ≤ length (T.bytes (storage self.now)) }
         ensures { result ≡ viewed_kind (T.bytes (storage self.now)) }
@@ -112,7 +124,7 @@ impl<T: ByteView> NlaBuffer<T> {
         read_u16(self.buffer.as_bytes(), 2)
     }
 
-    /// The 14 bits of the kind that are no flags.
+    /// Returns the kind without its flags: the low 14 bits.
     pub fn kind(&self) -> u16
         requires { 4 ≤ length (T.bytes (storage self.now)) }
         ensures { result ≡ proper_kind (viewed_kind (T.bytes (storage self.now))) }
@@ -120,7 +132,7 @@ impl<T: ByteView> NlaBuffer<T> {
         self.raw_kind() & NLA_TYPE_MASK
     }
 
-    /// Whether the payload is told to be a list of attributes.
+    /// Returns whether the nested flag is set, which marks the payload as a list of attributes.
     pub fn nested_flag(&self) -> bool
         requires { 4 ≤ length (T.bytes (storage self.now)) }
         ensures { result ≡ has_nested_flag (viewed_kind (T.bytes (storage self.now))) }
@@ -128,7 +140,7 @@ impl<T: ByteView> NlaBuffer<T> {
         self.raw_kind() & NLA_F_NESTED != 0
     }
 
-    /// Whether the payload is told to be in network byte order.
+    /// Returns whether the flag of network byte order is set.
     #[tactic(auto, using(crate::proofs::Flags::byte_order_flag))]
     pub fn network_byte_order_flag(&self) -> bool
         requires { 4 ≤ length (T.bytes (storage self.now)) }
@@ -139,7 +151,7 @@ impl<T: ByteView> NlaBuffer<T> {
 }
 
 impl<'a> NlaBuffer<&'a [u8]> {
-    /// The payload, for as long as the storage lives.
+    /// Returns the payload, for as long as the storage lives.
     pub fn value(&self) -> &'a [u8]
         requires { IsAttribute (storage self.now).now }
         ensures { result.now ≡ viewed_payload (storage self.now).now }
@@ -150,7 +162,7 @@ impl<'a> NlaBuffer<&'a [u8]> {
 }
 
 impl<'a> NlaBuffer<&'a mut [u8]> {
-    /// The payload.
+    /// Returns the payload.
     pub fn value(&self) -> &[u8]
         requires { IsAttribute (storage self.now).now }
         ensures { result.now ≡ viewed_payload (storage self.now).now }
@@ -160,7 +172,7 @@ impl<'a> NlaBuffer<&'a mut [u8]> {
 }
 
 impl NlaBuffer<Vec<u8>> {
-    /// The payload.
+    /// Returns the payload.
     pub fn value(&self) -> &[u8]
         requires { IsAttribute (storage self.now).items }
         ensures { result.now ≡ viewed_payload (storage self.now).items }
@@ -170,7 +182,7 @@ impl NlaBuffer<Vec<u8>> {
 }
 
 impl<T: ByteViewMut> NlaBuffer<T> {
-    /// Writes the header's length, which counts the header.
+    /// Writes the header's length, which counts the header itself.
     pub fn set_length(&mut self, value: u16)
         requires { 4 ≤ length (T.ByteView.bytes (storage self.old)) }
         ensures bytes { T.ByteView.bytes (storage self.new)
@@ -190,7 +202,7 @@ impl<T: ByteViewMut> NlaBuffer<T> {
         write_u16(&mut self.buffer, 2, kind & NLA_TYPE_MASK);
     }
 
-    /// Keeps the 14 bits of the kind, sets the nested flag and clears the other one.
+    /// Sets the nested flag and clears the other one; the low 14 bits of the kind are kept.
     pub fn set_nested_flag(&mut self)
         requires { 4 ≤ length (T.ByteView.bytes (storage self.old)) }
         ensures bytes { T.ByteView.bytes (storage self.new)
@@ -202,7 +214,8 @@ impl<T: ByteViewMut> NlaBuffer<T> {
         write_u16(&mut self.buffer, 2, kind);
     }
 
-    /// Keeps the 14 bits of the kind, sets the flag of network byte order and clears the other one.
+    /// Sets the flag of network byte order and clears the other one; the low 14 bits of the kind
+    /// are kept.
     pub fn set_network_byte_order_flag(&mut self)
         requires { 4 ≤ length (T.ByteView.bytes (storage self.old)) }
         ensures bytes { T.ByteView.bytes (storage self.new)
@@ -218,7 +231,7 @@ impl<T: ByteViewMut> NlaBuffer<T> {
 impl<T: ByteLend> NlaBuffer<T> {
     ghost use Rattle.netlink_packet_core_attributes.specs.contracts.nla_buffer.NlaBuffer.{the_row};
 
-    /// The payload, to be written.
+    /// Borrows the payload, for writing.
     pub fn value_mut(&mut self) -> &mut [u8]
         requires { IsAttribute (T.ByteView.bytes (storage self.old)) }
         ensures* writes_back { sem 𝓛 (Lends (the_row T.row) (Array u8 0) self.entry result

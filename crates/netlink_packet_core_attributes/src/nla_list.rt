@@ -12,8 +12,8 @@ use super::view::read_u16;
 use netlink_packet_core_numbers::error::DecodeError;
 use std::marker::Model;
 
-/// The attributes of some bytes in order, then one error where bytes are left that begin with no
-/// whole attribute, then `None` for good.
+/// An iterator over the attributes of a byte string: each as a view, then one error if bytes remain
+/// that begin with no whole attribute, then `None` for ever.
 #[derive(Clone, Copy, Debug, PartialEq, Eq, Drop)]
 pub struct NlasIterator<T> {
     rest: T,
@@ -28,7 +28,7 @@ impl<T> Model for NlasIterator<T> {
 }
 
 impl<T> NlasIterator<T> {
-    /// The walk over a buffer.
+    /// Returns the iterator over a buffer.
     pub fn new(buffer: T) -> Self
         ensures { result ≡ buffer }
     {
@@ -62,7 +62,7 @@ impl<'a> Iterator for NlasIterator<&'a [u8]> {
     }
 }
 
-/// What follows the attribute that some bytes begin with, and its padding.
+/// Returns the bytes after the first attribute and its padding.
 pub fn skip_first(bytes: &[u8]) -> &[u8]
     requires { IsAttribute bytes.now }
     ensures { result.now ≡ after_first bytes.now }
@@ -75,7 +75,7 @@ pub fn skip_first(bytes: &[u8]) -> &[u8]
     }
 }
 
-/// How many bytes attributes are written as; `usize::MAX` stands for more.
+/// Returns the length of the attributes' encoding; it saturates at `usize::MAX`.
 pub fn len_all<N: Nla>(items: &[N]) -> usize
     ensures { result ≡ as_usize (size_by N.entry items.now) }
 {
@@ -86,15 +86,15 @@ pub fn len_all<N: Nla>(items: &[N]) -> usize
     size
 }
 
-/// Whether each attribute fits, and what is inside it; true for no attributes.
+/// Returns whether each attribute fits, and everything inside it; true if there are none.
 pub fn fits_all<N: Nla>(items: &[N]) -> bool
     ensures { result ≡ all_fit_by N.entry N.inside_fits items.now }
 {
     items.iter().all(|item| item.fits())
 }
 
-/// Writes attributes one after another into the front of a buffer, and leaves the rest of the
-/// buffer alone.
+/// Writes attributes one after another at the start of a buffer; the rest of the buffer is left
+/// unchanged.
 pub fn emit_all<N: Nla>(items: &[N], buffer: &mut [u8])
     requires fits { all_fit_by N.entry N.inside_fits items.now ≡ true }
     requires room { size_by N.entry items.now ≤ length buffer.old }
@@ -105,7 +105,7 @@ pub fn emit_all<N: Nla>(items: &[N], buffer: &mut [u8])
     for item in items {
         let rest = &mut buffer[at..];
         item.emit(rest);
-        // The header that was written tells the size, so the value isn't asked for it again.
+        // The header just written has the size, so the value needn't compute it again.
         at += nla_align(read_u16(rest, 0) as usize);
     }
 }

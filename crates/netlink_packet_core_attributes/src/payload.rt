@@ -10,30 +10,30 @@ use netlink_packet_core_numbers::{
 };
 use std::net::{IpAddr, Ipv4Addr, Ipv6Addr};
 
-/// A payload that holds no attributes: a number, a truth, an address, a text or bytes.
+/// A payload that holds no attributes: a number, a boolean, an address, a text or bytes.
 #[derive(Clone, Copy)]
 pub enum Field<'a> {
     /// No bytes.
     Empty,
     /// 1 byte.
     U8(u8),
-    /// 2 bytes, the lowest first.
+    /// 2 bytes, little-endian.
     U16(u16),
-    /// 4 bytes, the lowest first.
+    /// 4 bytes, little-endian.
     U32(u32),
-    /// 8 bytes, the lowest first.
+    /// 8 bytes, little-endian.
     U64(u64),
-    /// 2 bytes, the highest first.
+    /// 2 bytes, big-endian.
     U16Be(u16),
-    /// 4 bytes, the highest first.
+    /// 4 bytes, big-endian.
     U32Be(u32),
-    /// 8 bytes, the highest first.
+    /// 8 bytes, big-endian.
     U64Be(u64),
     /// 1 byte, 0 or 1.
     Bool(bool),
-    /// A range of ports, 2 bytes each, the highest first.
+    /// A range of ports, 2 bytes each, big-endian.
     Range((u16, u16)),
-    /// Two numbers of 4 bytes, the lowest first.
+    /// Two numbers of 4 bytes, little-endian.
     U32Pair(u32, u32),
     /// 4 bytes.
     Ipv4(Ipv4Addr),
@@ -50,7 +50,7 @@ pub enum Field<'a> {
 impl<'a> Field<'a> {
     ghost use Rattle.std.specs.Prelude.{◌≡◌};
 
-    /// How many bytes there are.
+    /// Returns the length in bytes.
     #[tactic(auto, using(netlink_packet_core_grammar::proofs::Sizes::sizes, netlink_packet_core_numbers::proofs::Sizes::range))]
     pub fn len(self) -> usize
         ensures { result ≡ as_usize (length (field_bytes self.entry)) }

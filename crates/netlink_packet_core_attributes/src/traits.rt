@@ -5,19 +5,19 @@ ghost use Rattle.netlink_packet_core_numbers.specs.Errors.{is_memory};
 use netlink_packet_core_numbers::error::DecodeError;
 use std::alloc::Global;
 
-/// A value that is written into the front of a buffer.
+/// A value that can be written at the start of a buffer.
 pub trait Emitable {
-    /// The bytes that the value is written as.
+    /// The bytes of the value's encoding.
     ghost text: { Self → List ℕ };
 
-    /// What a caller of `emit` has to know of the value, beside the room in the buffer.
+    /// The condition on the value, beside the buffer's size, under which `emit` may be called.
     ghost can_emit: { Self → Type 0 };
 
-    /// How many bytes the value is written as; `usize::MAX` stands for more.
+    /// Returns the length of the encoding; it saturates at `usize::MAX`.
     fn buffer_len(&self) -> usize
         ensures { result ≡ as_usize (length (text self.now)) };
 
-    /// Writes the value into the front of a buffer, and leaves the rest of the buffer alone.
+    /// Writes the value at the start of a buffer; the rest of the buffer is left unchanged.
     fn emit(&self, buffer: &mut [u8])
         requires ready { can_emit self.now }
         requires room { length (text self.now) ≤ length buffer.old }
@@ -26,20 +26,25 @@ pub trait Emitable {
 
 /// A value that is read from a `T`.
 pub trait Parseable<T>: Sized {
-    /// What a caller has to know of the buffer.
+    /// The condition on the buffer under which `parse` may be called.
     ghost can_parse: { T → Type 0 };
 
-    /// Whether the buffer is accepted, memory aside.
+    /// Whether the buffer is accepted.
     ghost accepts: { T → Bool };
 
-    /// Whether reading the buffer may take memory. It is false of a buffer that is refused, unless
-    /// the value is a list: there memory may be wanting before the refused attribute is met.
+    /// Whether reading the buffer may run out of memory. It is false for a rejected buffer, except
+    /// if the value is a list: an allocation may fail before the rejected attribute is reached.
     ghost may_want_memory: { T → Bool };
 
-    /// The value is what the buffer is read as.
+    /// The value is the one that the buffer encodes.
     ghost gives: { T → Self → Type 0 };
 
     /// Reads the value.
+    ///
+    /// # Errors
+    ///
+    /// Out of memory ([`DecodeError::is_memory`]) if an allocation fails, and only if
+    /// `may_want_memory` holds; any other error only if the buffer isn't accepted.
     fn parse(alloc: Global, buf: &T) -> Result<Self, DecodeError>
         requires { can_parse buf.now }
         ensures ok { OnOk result (IsTrue (accepts buf.now)) }
@@ -48,22 +53,27 @@ pub trait Parseable<T>: Sized {
         ensures memory { IfErr result (λ e. is_memory e ≡ true → may_want_memory buf.now ≡ true) };
 }
 
-/// A value that is read from a `T` by what a parameter says of it.
+/// A value that is read from a `T` under a parameter.
 pub trait ParseableParametrized<T, P>: Sized {
-    /// What a caller has to know of the buffer and the parameter.
+    /// The condition on the buffer and the parameter under which `parse_with_param` may be called.
     ghost can_parse: { T → P → Type 0 };
 
-    /// Whether the buffer is accepted under the parameter, memory aside.
+    /// Whether the buffer is accepted under the parameter.
     ghost accepts: { T → P → Bool };
 
-    /// Whether reading the buffer may take memory. It is false of a buffer that is refused, unless
-    /// the value is a list: there memory may be wanting before the refused attribute is met.
+    /// Whether reading the buffer may run out of memory. It is false for a rejected buffer, except
+    /// if the value is a list: an allocation may fail before the rejected attribute is reached.
     ghost may_want_memory: { T → P → Bool };
 
-    /// The value is what the buffer is read as under the parameter.
+    /// The value is the one that the buffer encodes under the parameter.
     ghost gives: { T → P → Self → Type 0 };
 
     /// Reads the value.
+    ///
+    /// # Errors
+    ///
+    /// Out of memory ([`DecodeError::is_memory`]) if an allocation fails, and only if
+    /// `may_want_memory` holds; any other error only if the buffer isn't accepted.
     fn parse_with_param(alloc: Global, buf: &T, params: P) -> Result<Self, DecodeError>
         requires { can_parse buf.now params }
         ensures ok { OnOk result (IsTrue (accepts buf.now params)) }

@@ -6,21 +6,22 @@ ghost use Rattle.netlink_packet_core_grammar.specs.Bytes.{put_at, part};
 ghost use Rattle.netlink_packet_core_grammar.specs.Numbers.{u16_at, u32_at, le2, le4};
 ghost use Rattle.netlink_packet_core_attributes.specs.Stores.{with_items_from_is};
 
-/// Storage that is read as bytes: `&[u8]`, `&mut [u8]`, `Vec<u8>`, and `&mut` of one of these.
+/// Storage that can be read as bytes: `&[u8]`, `&mut [u8]`, `Vec<u8>`, and `&mut` of one of these.
 pub trait ByteView {
     ghost bytes: { Self → List ℕ };
 
-    /// The bytes.
+    /// Returns the bytes.
     fn as_bytes(&self) -> &[u8]
         ensures { result.now ≡ bytes self.now };
 }
 
-/// Storage whose bytes are written in place: `&mut [u8]`, `Vec<u8>`, and `&mut` of one of these.
+/// Storage whose bytes can be overwritten: `&mut [u8]`, `Vec<u8>`, and `&mut` of one of these.
 pub trait ByteViewMut: ByteView {
-    /// The second value holds the first one's storage, with other bytes: the same reference, where it is one.
+    /// The second value has the first one's storage, with other bytes: for references, both are the
+    /// same reference.
     ghost same_storage: { Self → Self → Type 0 };
 
-    /// Writes some bytes over as many from place `at` on.
+    /// Overwrites the bytes from offset `at` on with `source`.
     fn write_at(&mut self, at: usize, source: &[u8])
         requires { at + length source.now ≤ length (Self.bytes self.old) }
         ensures bytes { Self.bytes self.new ≡ put_at at source.now (Self.bytes self.old) }
@@ -29,10 +30,10 @@ pub trait ByteViewMut: ByteView {
 
 /// Storage that lends a part of its bytes to be written: `Vec<u8>`, and `&mut` of it.
 pub trait ByteLend: ByteViewMut {
-    /// The storage once some bytes stand over its own from a place on.
+    /// The storage once some bytes are written over its bytes from an offset on.
     ghost with_part: { Self → ℕ → List ℕ → Self };
 
-    /// Lends the bytes from place `start` up to place `end`.
+    /// Borrows the bytes from offset `start` up to offset `end`, for writing.
     fn part_mut(&mut self, start: usize, end: usize) -> &mut [u8]
         requires order { start ≤ end }
         requires bounds { end ≤ length (Self.bytes self.old) }
@@ -120,7 +121,7 @@ impl<T: ByteLend> ByteLend for &mut T {
     }
 }
 
-/// The little-endian number of 2 bytes at place `at`.
+/// Returns the little-endian number of 2 bytes at offset `at`.
 #[tactic(auto, unfolding(netlink_packet_core_grammar::specs::Numbers::u16_at))]
 pub fn read_u16(bytes: &[u8], at: usize) -> u16
     requires { at + 2 ≤ length bytes.now }
@@ -129,7 +130,7 @@ pub fn read_u16(bytes: &[u8], at: usize) -> u16
     u16::from_le_bytes([bytes[at], bytes[at + 1]])
 }
 
-/// The little-endian number of 4 bytes at place `at`.
+/// Returns the little-endian number of 4 bytes at offset `at`.
 #[tactic(auto, unfolding(netlink_packet_core_grammar::specs::Numbers::u32_at))]
 pub fn read_u32(bytes: &[u8], at: usize) -> u32
     requires { at + 4 ≤ length bytes.now }
@@ -138,7 +139,7 @@ pub fn read_u32(bytes: &[u8], at: usize) -> u32
     u32::from_le_bytes([bytes[at], bytes[at + 1], bytes[at + 2], bytes[at + 3]])
 }
 
-/// Writes a number as 2 little-endian bytes over those from place `at` on.
+/// Writes a number as 2 little-endian bytes at offset `at`.
 #[tactic(auto, using(netlink_packet_core_grammar::proofs::Numbers::digits))]
 pub fn write_u16<T: ByteViewMut>(buffer: &mut T, at: usize, value: u16)
     requires { at + 2 ≤ length (T.bytes buffer.old) }
@@ -148,7 +149,7 @@ pub fn write_u16<T: ByteViewMut>(buffer: &mut T, at: usize, value: u16)
     buffer.write_at(at, &u16::to_le_bytes(value));
 }
 
-/// Writes a number as 4 little-endian bytes over those from place `at` on.
+/// Writes a number as 4 little-endian bytes at offset `at`.
 #[tactic(auto, using(netlink_packet_core_grammar::proofs::Numbers::digits))]
 pub fn write_u32<T: ByteViewMut>(buffer: &mut T, at: usize, value: u32)
     requires { at + 4 ≤ length (T.bytes buffer.old) }

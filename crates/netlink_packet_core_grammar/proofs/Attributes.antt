@@ -1,4 +1,4 @@
--- Lists of attributes are cut in one way only, and what is written is cut into what was written.
+-- Bytes are cut into attributes in one way only, and written attributes are cut into the same attributes.
 use Rattle.std.proofs.Common.{◌≡◌, ℕ, zero, suc, ◌+◌, ◌-◌, ◌*◌, ◌/◌, ◌%◌, ◌≤◌, true, List, [], ◌∷◌, ◌++◌, length, take, drop, Option, Some, None, refl, sym, ap, subst, ◌∙◌, append_assoc, arith, length-append, length-drop}
 use Rattle.std.specs.Prelude.{◌&&◌, nat_le, option_map}
 use Rattle.std.proofs.lemmas.Bool.{and_parts, and_from, le-leb, leb-true}
@@ -69,7 +69,7 @@ sized bytes e rest h =
       rest_length = rw se (omega (arith, f.small, lb, lr));
     }
 
--- ---- what is written is cut again
+-- ---- written attributes are cut into the same attributes
 
 pub first_attribute_text : (e : Attribute) (rest : List ℕ) → first_attribute (attribute_text e ++ rest) ≡ Some (e, rest)
 unfolding attribute_text
@@ -96,7 +96,7 @@ unfolding list_text
 IsAttributeList-text [] = refl
 IsAttributeList-text (e ∷ es) = (list_text es, first_attribute_text e (list_text es), IsAttributeList-text es)
 
--- ---- one way only
+-- ---- only one way
 
 abbrev pub got : {A : Type 0} → A → Option A
 got x = Some x
@@ -121,7 +121,7 @@ one_cut bytes (e ∷ es) (f ∷ fs) p q =
 
 -- ---- the function and the relation
 
--- a step that did not fail, and its value
+-- a step that didn't fail, and its value
 pub if_some-got : {A B : Type 0} (o : Option A) (f : A → Option B) (y : B) → if_some o f ≡ Some y → (x : A) × (o ≡ Some x) × (f x ≡ Some y)
 if_some-got None f y e = absurd cc
 if_some-got (Some x) f y e = (x, refl, e)
@@ -190,7 +190,7 @@ IsAttributeList-joined a b (e ∷ es) fs four p q =
     let j = first_attribute_joined a b e p.0 four p.1 in
     (p.0 ++ b, j.0, IsAttributeList-joined p.0 b es fs j.1 p.2 q)
 
--- what is joined behind is cut by itself
+-- the bytes joined after a list are themselves cut into the attributes that follow
 pub IsAttributeList-rest : (a b : List ℕ) (es gs : List Attribute) → length a % 4 ≡ 0 → IsAttributeList a es → IsAttributeList (a ++ b) gs → (fs : List Attribute) × (gs ≡ es ++ fs) × IsAttributeList b fs
 IsAttributeList-rest a b [] gs four p q = (gs, refl, subst (λ x. IsAttributeList (x ++ b) gs) p q)
 IsAttributeList-rest a b (e ∷ es) [] four p q =

@@ -1,4 +1,4 @@
--- The first attribute, by places, as code reads it.
+-- The first attribute, by offsets, as code reads it.
 use Rattle.std.proofs.Common.{◌≡◌, ℕ, ◌+◌, ◌-◌, ◌*◌, ◌<◌, ◌≤◌, false, List, [], ◌∷◌, length, take, drop, Option, Some, None, inl, inr, refl, sym, ap, subst, ◌∙◌, arith}
 use Rattle.std.specs.Prelude.{◌&&◌, nat_le, option_map, slice_index}
 use Rattle.std.proofs.lemmas.Bool.{and_left, and_right, lt-leb, cases_lt}
@@ -55,7 +55,7 @@ first_attribute_at (a ∷ b ∷ c ∷ d ∷ bytes) rest h s t r =
     cut_from size (c + 256 * d) bytes (record { kind = c + 256 * d; payload = take (size - 4) bytes }) rest f
 first_attribute_at bytes rest h s t r = absurd (omega arith)
 
--- bytes that begin with a whole attribute begin with this one
+-- bytes that begin with a whole attribute have this first attribute
 pub first_attribute_is : (bytes : List ℕ) → IsAttribute bytes → first_attribute bytes ≡ Some (viewed_attribute bytes, after_first bytes)
 first_attribute_is bytes a =
     let l = length_sum bytes in
@@ -64,7 +64,7 @@ first_attribute_is bytes a =
     ∙ ap (λ n. Some (record { kind = n; payload = take (length_at bytes - 4) (drop 4 bytes) }, after_first bytes)) (sym k)
     ∙ ap (λ n. Some (record { kind = viewed_kind bytes; payload = take (n - 4) (drop 4 bytes) }, after_first bytes)) (sym l)
 
--- other bytes begin with no attribute
+-- other bytes have no first attribute
 pub first_attribute_none : (bytes : List ℕ) → (IsAttribute bytes → ⊥) → first_attribute bytes ≡ None
 first_attribute_none bytes n =
     let l = length_sum bytes in

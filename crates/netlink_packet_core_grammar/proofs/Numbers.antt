@@ -1,4 +1,4 @@
--- Numbers at places of longer byte strings.
+-- Numbers at offsets of longer byte strings.
 use Rattle.std.proofs.Common.{◌≡◌, ℕ, ℤ, suc, pos, negsuc, cond, nat_lt, ◌+◌, ◌-◌, ◌*◌, ◌/◌, ◌%◌, ◌^◌, ◌<◌, ◌≤◌, List, [], ◌∷◌, ◌++◌, length, drop, get_or, refl, sym, ap, ◌∙◌, arith}
 use Rattle.std.proofs.Math.Nat as nat
 use Rattle.std.proofs.lemmas.Nat.{le_bytes_2, le_bytes_4, le_bytes_8, be_bytes_2, be_bytes_4, be_bytes_8}
@@ -15,7 +15,7 @@ pub u16_at-bytes : (a b : ℕ) (c : List ℕ) → u16_at 0 (a ∷ b ∷ c) ≡ a
 unfolding u16_at
 u16_at-bytes a b c = omega arith
 
--- a number does not hang on what follows it
+-- a number doesn't depend on the bytes that follow it
 pub u16_at-append : (c d : List ℕ) → 2 ≤ length c → u16_at 0 (c ++ d) ≡ u16_at 0 c
 unfolding u16_at
 u16_at-append (a ∷ b ∷ c) d h = refl
@@ -26,13 +26,13 @@ unfolding u32_at
 u32_at-append (a ∷ b ∷ c ∷ d' ∷ e) d h = refl
 u32_at-append c d h = absurd (omega arith)
 
--- the number at place 4 is the first one of what stands from there on
+-- the number at offset 4 is the first one of the bytes from there on
 pub u16_at-drop_4 : (c : List ℕ) → u16_at 4 c ≡ u16_at 0 (drop 4 c)
 unfolding u16_at
 u16_at-drop_4 (a ∷ b ∷ c ∷ d ∷ e) = refl
 u16_at-drop_4 c = refl
 
--- ---- what was written is read
+-- ---- a number that was written is read back
 
 byte_and_rest : (n p : ℕ) → n / p ≡ n / p % 256 + n / (p * 256) * 256
 byte_and_rest n p = omega (arith, nat.div-div-eq-div-mul n p 256)
@@ -110,7 +110,7 @@ be8-bytes n h = ap (λ d. d ∷ byte_at 6 n ∷ byte_at 5 n ∷ byte_at 4 n ∷ 
 
 pub ruleset digits = (le2-bytes, le4-bytes, le8-bytes, be2-bytes, be4-bytes, be8-bytes)
 
--- ---- a number that was read from bytes is encoded as them
+-- ---- a number that was read from bytes is encoded as the same bytes
 
 pub le2_read : (bs : List ℕ) (n : ℕ) → length bs ≡ 2 → ((i : ℕ) → get_or bs i 0 < 256) → n ≡ from_le_bytes w16 bs → le2 n ≡ bs
 le2_read bs n l s e = sym (le2-bytes n (omega (arith, e, s 0, s 1))) ∙ le_bytes_2 bs n l s e

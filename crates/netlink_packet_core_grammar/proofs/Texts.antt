@@ -22,7 +22,7 @@ without_nul-bytes (zero ∷ []) h = tt
 without_nul-bytes (suc b ∷ []) h = h
 without_nul-bytes (b ∷ c ∷ p) h = (h.0, without_nul-bytes (c ∷ p) h.1)
 
--- ---- by places: the last byte is a NUL, is another, or is not there
+-- ---- by the byte at an offset: the last byte is a NUL, is another, or is missing
 
 pub without_nul-at : (p : List ℕ) (n : ℕ) → length p ≡ suc n → get_or p n 0 ≡ 0 → take n p ≡ without_nul p
 without_nul-at (zero ∷ []) zero l h = refl

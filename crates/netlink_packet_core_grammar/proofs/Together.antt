@@ -1,4 +1,4 @@
--- The laws that want more than one lemma.
+-- The laws that need more than one lemma.
 use Rattle.std.proofs.Common.{◌≡◌, ℕ, ◌%◌, List, ◌++◌, length, Option, Some, None, refl, sym, ◌∙◌}
 use Rattle.std.specs.Prelude.{option_map}
 use Rattle.netlink_packet_core_grammar.specs.Attributes.{Attribute, IsAttributeList, attributes_of}
@@ -28,5 +28,5 @@ joined a b es four h = joined_by a b es four (attributes_cut a es h) (attributes
 pub first_is_within : FirstIsWithin
 first_is_within = record { within = λ bytes e rest h. (sized bytes e rest h).within; rest_length = λ bytes e rest h. (sized bytes e rest h).rest_length }
 
--- what the laws go by
+-- what the laws are proved from
 pub ruleset laws = (one_cut, attributes_are_cut, joined, attributes_of_text, length-list_text, first_attribute_is, first_attribute_none, first_is_within, first_attribute_text, u16_at-append, u32_at-append)

@@ -1,68 +1,74 @@
--- Lists of attributes: a length, a kind, that many bytes, and zeros up to a multiple of 4.
+-- Lists of attributes (netlink.h, struct nlattr): each is a length, a kind, the payload, and zeros up to a multiple of
+-- 4.
 use Rattle.std.specs.Prelude.{◌≡◌, ℕ, zero, suc, ◌+◌, ◌-◌, ◌*◌, ◌/◌, ◌%◌, ◌&&◌, nat_le, List, [], ◌∷◌, ◌++◌, length, take, drop, replicate, Option, Some, None, option_map, cond}
 
--- the least multiple of 4 not below n
+-- The least multiple of 4 that is at least n.
 abbrev pub nla_align : ℕ → ℕ
 nla_align n = (n + 3) / 4 * 4
 
+-- An attribute: its kind with both flag bits, and its payload.
 pub record Attribute : Type 0 where
   pub kind : ℕ
   pub payload : List ℕ
 
--- the kind without its two flag bits
+-- The kind without its two flag bits.
 abbrev pub proper_kind : ℕ → ℕ
 proper_kind k = k % 0x4000
 
--- the size that the header tells, and the attribute's bytes with their padding
+-- The length in an attribute's header: that of the header and the payload, without padding.
 abbrev pub attribute_length : Attribute → ℕ
 attribute_length e = 4 + length e.payload
 
+-- n zero bytes.
 abbrev pub zeros : ℕ → List ℕ
 zeros n = replicate n 0
 
--- two numbers of two bytes, the lower byte first
+-- The header of an attribute: the length and the kind, each as 2 bytes, little-endian.
 abbrev pub attribute_header : ℕ → ℕ → List ℕ
 attribute_header size kind = size % 256 ∷ size / 256 ∷ kind % 256 ∷ kind / 256 ∷ []
 
--- an attribute as it is written
+-- The encoding of an attribute: header, payload, and zeros up to a multiple of 4.
 unfoldable pub attribute_text : Attribute → List ℕ
 attribute_text e = attribute_header (attribute_length e) e.kind ++ (e.payload ++ zeros (nla_align (attribute_length e) - attribute_length e))
 
+-- The encoding of a list: those of its attributes, one after another.
 unfoldable pub list_text : List Attribute → List ℕ
 list_text [] = []
 list_text (e ∷ es) = attribute_text e ++ list_text es
 
--- the size of a list's text
+-- The length of a list's encoding.
 abbrev pub list_size : List Attribute → ℕ
 list_size [] = 0
 list_size (e ∷ es) = nla_align (attribute_length e) + list_size es
 
--- the attribute of this size and kind in front of these bytes, with what comes after its padding
+-- The attribute of this size and kind whose payload is at the start of the bytes, and the bytes after its padding.
 abbrev pub cut_attribute : ℕ → ℕ → List ℕ → Option (Attribute × List ℕ)
 cut_attribute size kind bytes =
     cond (nat_le 4 size && nat_le size (4 + length bytes))
     (Some (record { kind = kind; payload = take (size - 4) bytes }, drop (nla_align size - 4) bytes))
     None
 
--- the attribute that begins the bytes, with what comes after its padding
+-- The attribute at the start of the bytes, and the bytes after its padding; None if they begin with no whole attribute.
 unfoldable pub first_attribute : List ℕ → Option (Attribute × List ℕ)
 first_attribute (a ∷ b ∷ c ∷ d ∷ bytes) = cut_attribute (a + 256 * b) (c + 256 * d) bytes
 first_attribute _ = None
 
--- the bytes are a list of these attributes
+-- The bytes are a list of exactly these attributes.
 abbrev pub IsAttributeList : List ℕ → List Attribute → Type 0
 IsAttributeList bytes [] = bytes ≡ []
 IsAttributeList bytes (e ∷ es) = (rest : List ℕ) × (first_attribute bytes ≡ Some (e, rest)) × IsAttributeList rest es
 
+-- The function applied to the value, if there is one.
 abbrev pub if_some : {A B : Type 0} → Option A → (A → Option B) → Option B
 if_some None f = None
 if_some (Some x) f = f x
 
--- the attributes of which the bytes are a list, in at most so many steps
+-- The attributes of which the bytes are a list, found in at most n steps; None if they are no list.
 unfoldable pub attributes_within : ℕ → List ℕ → Option (List Attribute)
 attributes_within n [] = Some []
 attributes_within zero (b ∷ bytes) = None
 attributes_within (suc n) (b ∷ bytes) = if_some (first_attribute (b ∷ bytes)) (λ x. option_map (λ es. x.0 ∷ es) (attributes_within n x.1))
 
+-- The attributes of which the bytes are a list; None if they are no list.
 abbrev pub attributes_of : List ℕ → Option (List Attribute)
 attributes_of bytes = attributes_within (length bytes) bytes

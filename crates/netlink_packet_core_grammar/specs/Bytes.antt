@@ -1,15 +1,15 @@
--- Byte strings.
+-- Byte strings, as lists of numbers below 256.
 use Rattle.std.specs.Prelude.{ℕ, ◌<◌, ◌+◌, ◌-◌, List, ◌++◌, length, take, drop}
 use Rattle.std.specs.List.{AllByRecursion}
 
--- each number is a byte
+-- Each number is a byte.
 abbrev pub AreBytes : List ℕ → Type 0
 AreBytes p = AllByRecursion (λ b. b < 256) p
 
--- b with w written over as many bytes from place i on
+-- The byte string b, with w written over the bytes from offset i on.
 abbrev pub put_at : ℕ → List ℕ → List ℕ → List ℕ
 put_at i w b = take i b ++ (w ++ drop (i + length w) b)
 
--- the bytes of b from place i up to place j
+-- The bytes of b from offset i up to offset j.
 abbrev pub part : ℕ → ℕ → List ℕ → List ℕ
 part i j b = take (j - i) (drop i b)

@@ -1,40 +1,41 @@
--- The laws of the definitions, as the functions of `laws` state them.
+-- The laws of these definitions, as the functions of `laws` state them.
 use Rattle.std.specs.Prelude.{◌≡◌, ℕ, ◌-◌, ◌%◌, ◌≤◌, ◌↔◌, List, ◌++◌, length, Some, None, option_map}
 use Rattle.netlink_packet_core_grammar.specs.Attributes.{Attribute, nla_align, attribute_length, attribute_text, first_attribute, list_text, list_size, IsAttributeList, attributes_of}
 use Rattle.netlink_packet_core_grammar.specs.Numbers.{u16_at, u32_at}
 use Rattle.netlink_packet_core_grammar.specs.AttributeViews.{viewed_attribute, IsAttribute, after_first}
 
--- bytes are cut into attributes in one way only
+-- A byte string is a list of attributes in at most one way.
 abbrev pub OneCut : Type 0
 OneCut = (bytes : List ℕ) (es fs : List Attribute) → IsAttributeList bytes es → IsAttributeList bytes fs → es ≡ fs
 
--- what the function computes is the relation
+-- The function `attributes_of` computes the relation `IsAttributeList`.
 abbrev pub AttributesAreCut : Type 0
 AttributesAreCut = (bytes : List ℕ) (es : List Attribute) → (attributes_of bytes ≡ Some es) ↔ IsAttributeList bytes es
 
--- bytes behind a list whose size is a multiple of 4 are cut by themselves
+-- The bytes after a list whose size is a multiple of 4 are cut into attributes independently of it.
 abbrev pub Joined : Type 0
 Joined = (a b : List ℕ) (es : List Attribute) → length a % 4 ≡ 0 → attributes_of a ≡ Some es → attributes_of (a ++ b) ≡ option_map (λ fs. es ++ fs) (attributes_of b)
 
--- the text of attributes is cut into these attributes, and its length is their size
+-- The encoding of attributes is cut into the same attributes, and its length is their size.
 abbrev pub TextIsCut : Type 0
 TextIsCut = (es : List Attribute) → (attributes_of (list_text es) ≡ Some es) × (length (list_text es) ≡ list_size es)
 
--- the first attribute of some bytes is the one that a view of them sees; bytes that begin with no whole one have none
+-- The first attribute of a byte string is the one that a view of it shows; bytes that don't begin with a whole
+-- attribute have none.
 pub record FirstIsViewed : Type 0 where
   pub whole : (bytes : List ℕ) → IsAttribute bytes → first_attribute bytes ≡ Some (viewed_attribute bytes, after_first bytes)
   pub none : (bytes : List ℕ) → (IsAttribute bytes → ⊥) → first_attribute bytes ≡ None
 
--- the first attribute of some bytes ends within them, and what follows it is as long as what is left behind its padding
+-- The first attribute ends within the bytes; the bytes after it are those that remain after its padding.
 pub record FirstIsWithin : Type 0 where
   pub within : (bytes : List ℕ) (e : Attribute) (rest : List ℕ) → first_attribute bytes ≡ Some (e, rest) → attribute_length e ≤ length bytes
   pub rest_length : (bytes : List ℕ) (e : Attribute) (rest : List ℕ) → first_attribute bytes ≡ Some (e, rest) → length rest ≡ length bytes - nla_align (attribute_length e)
 
--- an attribute that is written in front of some bytes is their first one, and these follow it
+-- If an attribute's encoding is followed by other bytes, the attribute is the first one, and these bytes are the rest.
 abbrev pub WrittenIsFirst : Type 0
 WrittenIsFirst = (e : Attribute) (rest : List ℕ) → first_attribute (attribute_text e ++ rest) ≡ Some (e, rest)
 
--- a number at the front of some bytes does not hang on what follows it
+-- A number at the start of a byte string doesn't depend on the bytes that follow it.
 pub record NumbersStandAlone : Type 0 where
   pub two_bytes : (c d : List ℕ) → 2 ≤ length c → u16_at 0 (c ++ d) ≡ u16_at 0 c
   pub four_bytes : (c d : List ℕ) → 4 ≤ length c → u32_at 0 (c ++ d) ≡ u32_at 0 c

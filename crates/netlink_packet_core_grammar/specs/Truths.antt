@@ -1,18 +1,18 @@
--- Truths as numbers and as bytes.
+-- Booleans as numbers and as bytes.
 use Rattle.std.specs.Prelude.{ℕ, zero, suc, Bool, true, false, List, [], ◌∷◌}
 
--- 1 for a number that isn't 0
+-- The boolean of a number that counts as true unless it is 0: 1 or 0.
 abbrev pub truth_of : ℕ → ℕ
 truth_of zero = 0
 truth_of (suc n) = 1
 
--- 1 for the number 1 alone
+-- The boolean of a number that counts as true only if it is 1: 1 or 0.
 abbrev pub one_of : ℕ → ℕ
 one_of zero = 0
 one_of (suc zero) = 1
 one_of (suc (suc n)) = 0
 
--- a truth as one byte
+-- A boolean as one byte, 1 or 0.
 abbrev pub truth_byte : Bool → List ℕ
 truth_byte true = 1 ∷ []
 truth_byte false = 0 ∷ []

@@ -1,47 +1,48 @@
-//! Facts of the definitions. No function here makes a call.
+//! Laws of the definitions. No function here makes a call.
 #![tactic(auto, using(crate::proofs::Together::laws))]
 
 ghost use Rattle.netlink_packet_core_grammar.specs.Laws.{OneCut, AttributesAreCut, Joined, TextIsCut, FirstIsViewed};
 ghost use Rattle.netlink_packet_core_grammar.specs.Laws.{FirstIsWithin, WrittenIsFirst, NumbersStandAlone};
 
-/// Bytes are cut into attributes in one way only.
+/// A byte string is a list of attributes in at most one way.
 pub fn attributes_are_cut_in_one_way()
     ensures { OneCut }
 {}
 
-/// The attributes that the function computes are those of the relation.
+/// The function that cuts bytes into attributes computes the relation.
 pub fn attributes_are_the_relation()
     ensures { AttributesAreCut }
 {}
 
-/// Bytes behind a list whose size is a multiple of 4 are cut by themselves.
+/// Bytes after a list whose size is a multiple of 4 are cut into attributes independently of it.
 pub fn lists_are_joined()
     ensures { Joined }
 {}
 
-/// What is written is cut into what was written.
+/// The encoding of attributes is cut into the same attributes, and its length is their size.
 pub fn texts_are_cut_again()
     ensures { TextIsCut }
 {}
 
-/// The first attribute of some bytes is the one that a view of them sees, with what follows its
-/// padding. Bytes that begin with no whole attribute have none.
+/// The first attribute of a byte string is the one that a view of it shows, and the rest is what
+/// follows its padding. Bytes that don't begin with a whole attribute have no first attribute.
 pub fn first_attributes_are_viewed()
     ensures { FirstIsViewed }
 {}
 
-/// The first attribute of some bytes ends within them, and what follows it is as long as what is
-/// left behind its padding.
+/// The first attribute ends within the bytes; the bytes after it are those that remain after its
+/// padding.
 pub fn first_attributes_are_within()
     ensures { FirstIsWithin }
 {}
 
-/// An attribute that is written in front of some bytes is their first one, and these follow it.
+/// If an attribute's encoding is followed by other bytes, the attribute is the first one, and these
+/// bytes are the rest.
 pub fn written_attributes_come_first()
     ensures { WrittenIsFirst }
 {}
 
-/// A number at the front of some bytes does not hang on what follows it.
+/// A number at the start of a byte string doesn't depend on the bytes that follow it.
 pub fn numbers_stand_alone()
     ensures { NumbersStandAlone }
 {}

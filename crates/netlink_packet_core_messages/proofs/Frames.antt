@@ -1,4 +1,4 @@
--- The test of a frame.
+-- The decision of whether bytes begin with a frame.
 use Rattle.std.proofs.Common.{◌≡◌, ℕ, true, false, List, arith}
 use Rattle.std.proofs.lemmas.Bool.{and_parts, false_from_ne_true, leb-true}
 use Rattle.std.proofs.lemmas.Bool.Decides.{nat_tests}

@@ -1,4 +1,4 @@
--- The bytes of a header are written as they were read.
+-- A header that was read is written as the same bytes.
 use Rattle.std.proofs.Common.{◌≡◌, ℕ, zero, suc, ◌+◌, ◌<◌, ◌≤◌, List, [], ◌∷◌, ◌++◌, length, get_or, take, drop, refl, ap, ◌∙◌, arith}
 use Rattle.std.proofs.lemmas.List.{drop-take}
 use Rattle.netlink_packet_core_grammar.specs.Numbers.{u16_at, u32_at, le2, le4}
@@ -22,7 +22,7 @@ four_bytes a b c d p q r s (suc (suc zero)) = r
 four_bytes a b c d p q r s (suc (suc (suc zero))) = s
 four_bytes a b c d p q r s (suc (suc (suc (suc i)))) = omega arith
 
--- the numbers at the places of a header
+-- the numbers at the offsets of a header
 written_2_at : (i : ℕ) (c : List ℕ) → AllBytes c → le2 (u16_at i c) ≡ get_or c i 0 ∷ get_or c (i + 1) 0 ∷ []
 unfolding u16_at
 written_2_at i c h = le2_read (get_or c i 0 ∷ get_or c (i + 1) 0 ∷ []) _ refl (two_bytes _ _ (h i) (h (i + 1))) refl
@@ -47,7 +47,7 @@ same_header : (c : List ℕ) (n : ℕ) → record (header_of c) { length = n; me
 unfolding header_of
 same_header c n = refl
 
--- the header of some bytes with another length
+-- the header at the start of a byte string, with another length
 pub header_kept : (h : NetlinkHeader) (c : List ℕ) (n t : ℕ) → h ≡ header_of c → t ≡ u16_at 4 c → 16 ≤ length c → AllBytes c → header_text (record h { length = n; message_type = t }) ≡ le4 n ++ take 12 (drop 4 c)
 header_kept h c n t e1 e2 l b =
     rw (e1, e2) (ap header_text (same_header c n) ∙ with_length (header_of c) n ∙ ap (λ x. le4 n ++ drop 4 x) (header_written c l b) ∙ ap (λ x. le4 n ++ x) (drop-take 4 12 c))

@@ -1,4 +1,4 @@
--- Bytes past a frame's length change nothing that is read from it, and bytes that end inside one are refused.
+-- Bytes past a frame's length change no result, and bytes that end inside a frame are rejected.
 use Rattle.std.proofs.Common.{◌≡◌, ℕ, ◌+◌, ◌-◌, ◌<◌, ◌≤◌, false, List, ◌++◌, length, get_or, take, drop, refl, sym, ap, ◌∙◌, arith, length-append, length-drop, Option, None}
 use Rattle.std.proofs.lemmas.List.{get_or-take, get_or_append_left, drop-append-le, drop-take, take_at, length-take-le}
 use Rattle.netlink_packet_core_grammar.specs.Numbers.{u16_at, u32_at}
@@ -8,7 +8,7 @@ use Rattle.netlink_packet_core_messages.specs.Headers.{header_of}
 use Rattle.netlink_packet_core_messages.specs.Messages.{read_message, is_frame}
 use Rattle.netlink_packet_core_messages.proofs.Frames.{is_frame-true, is_frame-false}
 
--- two a strings have the same header
+-- two byte strings have the same header
 abbrev AgreeOn16 : List ℕ → List ℕ → Type 0
 AgreeOn16 c d = (i : ℕ) → i < 16 → get_or c i 0 ≡ get_or d i 0
 

@@ -1,4 +1,4 @@
--- How many bytes a message is written as.
+-- The length of a message.
 use Rattle.std.proofs.Common.{◌≡◌, length, refl, length-append}
 use Rattle.netlink_packet_core_messages.specs.declared.message.NetlinkMessage.{NetlinkMessage}
 use Rattle.netlink_packet_core_messages.specs.Headers.{header_text}

@@ -2,7 +2,7 @@
 use Rattle.std.proofs.Common.{◌≡◌, ℕ, ◌+◌, ◌-◌, List, [], ◌++◌, length, take, drop, ap, ◌∙◌, arith, append_assoc, append-nil}
 use Rattle.std.proofs.lemmas.List.{drop-drop, drop-take, drop_all}
 
--- what is written into a buffer of its size is the buffer
+-- the bytes written into a buffer of their size are the whole buffer
 pub drop_exactly : (s b : List ℕ) → length b ≡ length s → s ++ drop (length s) b ≡ s
 drop_exactly s b e =
     let z : drop (length s) b ≡ [] = drop_all (length s) b (omega arith) in

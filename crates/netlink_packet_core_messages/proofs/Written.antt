@@ -1,4 +1,4 @@
--- A message that was read is written with the header that was read, and with the body by its type.
+-- A message that was read is written with its header, and with the canonical body of its type.
 use Rattle.std.proofs.Common.{◌≡◌, ℕ, zero, suc, ℤ, ◌+◌, ◌-◌, ◌<◌, ◌≤◌, ◌^◌, Bool, true, false, cond, pos, List, [], ◌∷◌, ◌++◌, length, take, drop, Option, Some, None, refl, sym, ap, ◌∙◌, append_assoc, arith, nat_eq, nat_lt}
 use Rattle.std.specs.Prelude.{option_map}
 use Rattle.std.specs.Int.{w32}
@@ -61,7 +61,7 @@ empty_done_text = refl
 
 -- ---- payloads
 
--- what is written of what was read, where `own` is what an inner message is written as
+-- the canonical body of a payload that was read, if `own` is that of an inner message
 abbrev of_read : {V : Type 0} → TypedBody → TypedBody → Option (NetlinkPayload V) → TypedBody
 of_read other own None = other
 of_read other own (Some p) = payload_entry (λ _. own) p
@@ -94,7 +94,7 @@ read_written reads own t b h =
     let n = not_control t (λ positive. omega arith) in
     rw (n.0, n.1.0, n.1.1.0, n.1.1.1) (inner_of_read (t, own) (reads t b))
 
--- what a control message is read as is no inner message
+-- a control message is not read as an inner message
 
 no_error : {V : Type 0} (o : Option ErrorMessage) (v : V) → option_map Error o ≡ Some (InnerMessage v) → ⊥
 no_error None v h = absurd cc

@@ -1,4 +1,4 @@
--- Whole messages: a header, and a payload behind it.
+-- Whole messages: a header and a payload.
 use Rattle.std.specs.Prelude.{◌≡◌, ℕ, ◌+◌, List, ◌++◌, length, take, drop, Option, None, option_map, cond, nat_le, ◌&&◌, Bool}
 use Rattle.netlink_packet_core_grammar.specs.Numbers.{le4}
 use Rattle.netlink_packet_core_grammar.specs.Frames.{frame_length, frame_type, frame_body}
@@ -7,39 +7,40 @@ use Rattle.netlink_packet_core_messages.specs.Headers.{header_of, header_text}
 use Rattle.netlink_packet_core_messages.specs.Payloads.{payload_value, payload_entry, read_payload}
 use Rattle.netlink_packet_core_messages.specs.TypedBodies.{TypedBody}
 
--- the test of `IsFrame`: some bytes begin with a whole frame
+-- The decision of `IsFrame`: the bytes begin with a whole frame.
 abbrev pub is_frame : List ℕ → Bool
 is_frame c = nat_le 16 (length c) && (nat_le 16 (frame_length c) && nat_le (frame_length c) (length c))
 
--- a message whose inner message is seen as a value
+-- The message with the value of its inner message in its stead.
 abbrev pub message_value : {A B : Type 0} → (A → B) → NetlinkMessage A → NetlinkMessage B
 message_value value m = record { header = m.header; payload = payload_value value m.payload }
 
--- what the frame in front of some bytes is read as, if it is whole and accepted
+-- The message of the frame at the start of the bytes, if the frame is whole and accepted.
 abbrev pub read_message : {V : Type 0} → (ℕ → List ℕ → Option V) → List ℕ → Option (NetlinkMessage V)
 read_message reads c =
     cond (is_frame c) (option_map (λ p. record { header = header_of c; payload = p }) (read_payload reads (frame_type c) (frame_body c))) None
 
--- the bytes of a finalized message
+-- The bytes of a finalized message.
 abbrev pub message_text : {A : Type 0} → (A → TypedBody) → NetlinkMessage A → List ℕ
 message_text entry m = header_text m.header ++ (payload_entry entry m.payload).1
 
--- how many they are
+-- The length of a message: its header and its body.
 abbrev pub message_size : {A : Type 0} → (A → TypedBody) → NetlinkMessage A → ℕ
 message_size entry m = 16 + length (payload_entry entry m.payload).1
 
--- the header tells the message's size and type
+-- The header has the message's length and type.
 pub record IsFinalized {A : Type 0} (entry : A → TypedBody) (m : NetlinkMessage A) : Type 0 where
   pub tells_length : m.header.length ≡ message_size entry m
   pub tells_type : m.header.message_type ≡ (payload_entry entry m.payload).0
 
--- the message whose header tells its size and type, with nothing else changed
+-- The message with its length and type set in the header.
 abbrev pub finalized : {A : Type 0} → (A → TypedBody) → NetlinkMessage A → NetlinkMessage A
 finalized entry m = record {
   header = record m.header { length = message_size entry m; message_type = (payload_entry entry m.payload).0 };
   payload = m.payload;
 }
 
--- the header in front of c with the length of a frame of this body, and the body: the frame's text without its padding
+-- The header at the start of c with the length of a frame of this body, and the body: the frame's encoding without its
+-- padding.
 abbrev pub unpadded_text : List ℕ → List ℕ → List ℕ
 unpadded_text c body = le4 (16 + length body) ++ (take 12 (drop 4 c) ++ body)

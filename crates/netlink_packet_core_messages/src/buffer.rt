@@ -24,21 +24,21 @@ pub struct NetlinkBuffer<T> {
 impl<T> NetlinkBuffer<T> {
     ghost use Rattle.netlink_packet_core_messages.specs.contracts.buffer.NetlinkBuffer.{the_row};
 
-    /// A view of bytes that have not been looked at.
+    /// Returns a view of some storage, without checking it.
     pub fn new(buffer: T) -> Self
         ensures { storage result ≡ buffer }
     {
         NetlinkBuffer { buffer }
     }
 
-    /// The storage.
+    /// Returns the storage.
     pub fn into_inner(self) -> T
         ensures { result ≡ storage self }
     {
         self.buffer
     }
 
-    /// The storage, to be written.
+    /// Borrows the storage, for writing.
     pub fn inner_mut(&mut self) -> &mut T
         ensures* writes_back { sem 𝓛 (Lends (the_row T.row) T.row self.entry result view_of) }
         ensures value { result.now ≡ storage self.old }
@@ -48,8 +48,12 @@ impl<T> NetlinkBuffer<T> {
 }
 
 impl<T: ByteView> NetlinkBuffer<T> {
-    /// A view of bytes that begin with a whole frame: at least 16 bytes, with a length of at
-    /// least 16 that reaches no further than they do.
+    /// Returns a view of bytes that begin with a whole frame: they have a header of 16 bytes, and
+    /// the length in it is at least 16 and within the bytes.
+    ///
+    /// # Errors
+    ///
+    /// [`DecodeError::invalid_buffer`] if they don't. Allocates nothing.
     pub fn new_checked(buffer: T) -> Result<Self, DecodeError>
     where
         T: Drop,
@@ -69,7 +73,7 @@ impl<T: ByteView> NetlinkBuffer<T> {
         Ok(NetlinkBuffer { buffer })
     }
 
-    /// The length of the frame in bytes, which counts the header (`nlmsg_len`).
+    /// Returns the length of the frame in bytes, which counts the header (`nlmsg_len`).
     pub fn length(&self) -> u32
         requires { 4 ≤ length (T.bytes (storage self.now)) }
         ensures { result ≡ frame_length (T.bytes (storage self.now)) }
@@ -77,7 +81,7 @@ impl<T: ByteView> NetlinkBuffer<T> {
         read_u32(self.buffer.as_bytes(), 0)
     }
 
-    /// The type of the message (`nlmsg_type`).
+    /// Returns the type of the message (`nlmsg_type`).
     pub fn message_type(&self) -> u16
         requires { 6 ≤ length (T.bytes (storage self.now)) }
         ensures { result ≡ frame_type (T.bytes (storage self.now)) }
@@ -85,7 +89,7 @@ impl<T: ByteView> NetlinkBuffer<T> {
         read_u16(self.buffer.as_bytes(), 4)
     }
 
-    /// The flags, `NLM_F_` values joined (`nlmsg_flags`).
+    /// Returns the flags, `NLM_F_` values joined (`nlmsg_flags`).
     pub fn flags(&self) -> u16
         requires { 8 ≤ length (T.bytes (storage self.now)) }
         ensures { result ≡ u16_at 6 (T.bytes (storage self.now)) }
@@ -93,7 +97,7 @@ impl<T: ByteView> NetlinkBuffer<T> {
         read_u16(self.buffer.as_bytes(), 6)
     }
 
-    /// The sequence number (`nlmsg_seq`).
+    /// Returns the sequence number (`nlmsg_seq`).
     pub fn sequence_number(&self) -> u32
         requires { 12 ≤ length (T.bytes (storage self.now)) }
         ensures { result ≡ u32_at 8 (T.bytes (storage self.now)) }
@@ -101,7 +105,7 @@ impl<T: ByteView> NetlinkBuffer<T> {
         read_u32(self.buffer.as_bytes(), 8)
     }
 
-    /// The port of the sender (`nlmsg_pid`).
+    /// Returns the port of the sender (`nlmsg_pid`).
     pub fn port_number(&self) -> u32
         requires { 16 ≤ length (T.bytes (storage self.now)) }
         ensures { result ≡ u32_at 12 (T.bytes (storage self.now)) }
@@ -109,7 +113,7 @@ impl<T: ByteView> NetlinkBuffer<T> {
         read_u32(self.buffer.as_bytes(), 12)
     }
 
-    /// The size of the body in bytes.
+    /// Returns the size of the body in bytes.
     pub fn payload_length(&self) -> usize
         requires { IsFrame (T.bytes (storage self.now)) }
         ensures { result ≡ frame_length (T.bytes (storage self.now)) - 16 }
@@ -119,7 +123,8 @@ impl<T: ByteView> NetlinkBuffer<T> {
 }
 
 impl<'a> NetlinkBuffer<&'a [u8]> {
-    /// The body: the bytes behind the header, up to the length of the frame, for as long as the storage lives.
+    /// Returns the body, the bytes after the header up to the length of the frame, for as long as
+    /// the storage lives.
     pub fn payload(&self) -> &'a [u8]
         requires { IsFrame (storage self.now).now }
         ensures { result.now ≡ frame_body (storage self.now).now }
@@ -130,7 +135,7 @@ impl<'a> NetlinkBuffer<&'a [u8]> {
 }
 
 impl<'a> NetlinkBuffer<&'a mut [u8]> {
-    /// The body: the bytes behind the header, up to the length of the frame.
+    /// Returns the body: the bytes after the header, up to the length of the frame.
     pub fn payload(&self) -> &[u8]
         requires { IsFrame (storage self.now).now }
         ensures { result.now ≡ frame_body (storage self.now).now }
@@ -140,7 +145,7 @@ impl<'a> NetlinkBuffer<&'a mut [u8]> {
 }
 
 impl NetlinkBuffer<Vec<u8>> {
-    /// The body: the bytes behind the header, up to the length of the frame.
+    /// Returns the body: the bytes after the header, up to the length of the frame.
     pub fn payload(&self) -> &[u8]
         requires { IsFrame (storage self.now).items }
         ensures { result.now ≡ frame_body (storage self.now).items }
@@ -204,7 +209,7 @@ impl<T: ByteViewMut> NetlinkBuffer<T> {
 impl<T: ByteLend> NetlinkBuffer<T> {
     ghost use Rattle.netlink_packet_core_messages.specs.contracts.buffer.NetlinkBuffer.{the_row};
 
-    /// The body, to be written. Over a `&mut [u8]` write through `inner_mut` instead.
+    /// Borrows the body, for writing. For a `&mut [u8]` write through `inner_mut` instead.
     pub fn payload_mut(&mut self) -> &mut [u8]
         requires { IsFrame (T.ByteView.bytes (storage self.old)) }
         ensures* writes_back { sem 𝓛 (Lends (the_row T.row) (Array u8 0) self.entry result

@@ -41,7 +41,7 @@ impl From<Vec<u8>> for ByteVec {
 }
 
 impl ByteVec {
-    /// No bytes.
+    /// Returns an empty `ByteVec`. Allocates nothing.
     pub fn new(alloc: Global) -> Self
         ensures { result ≡ [] }
     {
@@ -50,7 +50,11 @@ impl ByteVec {
         }
     }
 
-    /// A copy of some bytes. No memory is taken for none.
+    /// Returns a copy of some bytes.
+    ///
+    /// # Errors
+    ///
+    /// [`AllocError`] if the allocation fails; an empty copy is never allocated.
     pub fn from_slice(alloc: Global, bytes: &[u8]) -> Result<Self, AllocError>
         ensures ok { IfOk result (λ b. b ≡ bytes.now) }
         ensures not_empty { IfErr result (λ _. 0 < length bytes.now) }
@@ -63,14 +67,14 @@ impl ByteVec {
         })
     }
 
-    /// The bytes.
+    /// Returns the bytes.
     pub fn as_slice(&self) -> &[u8]
         ensures { result.now ≡ self.now }
     {
         self.bytes.as_slice()
     }
 
-    /// The bytes, as a vector.
+    /// Returns the bytes, as a vector.
     pub fn into_vec(self) -> Vec<u8>
         ensures { result.items ≡ self }
     {
@@ -78,14 +82,14 @@ impl ByteVec {
         bytes
     }
 
-    /// How many bytes there are.
+    /// Returns the number of bytes.
     pub fn len(&self) -> usize
         ensures { result ≡ length self.now }
     {
         self.bytes.len()
     }
 
-    /// Whether there are none.
+    /// Returns whether there are no bytes.
     pub fn is_empty(&self) -> bool
         ensures { IsTrue result ↔ (self.now ≡ []) }
     {

@@ -5,7 +5,7 @@ ghost use Rattle.netlink_packet_core_grammar.specs.Bytes.{put_at};
 use netlink_packet_core_attributes::view::{ByteViewMut, write_u32};
 use netlink_packet_core_numbers::payloads::fill_u32;
 
-/// The code that some bytes begin with.
+/// Returns the code at the start of the bytes.
 #[tactic(auto, unfolding(netlink_packet_core_grammar::specs::Numbers::u32_at))]
 pub(crate) fn read_code(bytes: &[u8]) -> i32
     requires { 4 ≤ length bytes.now }
@@ -23,7 +23,7 @@ pub(crate) fn write_code<T: ByteViewMut>(buffer: &mut T, code: i32)
     write_u32(buffer, 0, code.cast_unsigned());
 }
 
-/// Writes a code and the bytes behind it in front of a buffer.
+/// Writes a code, followed by `rest`, at the start of a buffer.
 #[tactic(auto, using(netlink_packet_core_grammar::proofs::Sizes::sizes))]
 pub(crate) fn emit_code(code: i32, rest: &[u8], buffer: &mut [u8])
     requires { 4 + length rest.now ≤ length buffer.old }

@@ -15,7 +15,8 @@ use netlink_packet_core_attributes::view::{ByteLend, ByteView, ByteViewMut};
 use netlink_packet_core_numbers::error::DecodeError;
 use std::alloc::Global;
 
-/// The body of a DONE message: a code of 4 bytes, little-endian, and what the kernel adds to it.
+/// The body of a DONE message: a code of 4 bytes, little-endian, and the attributes that the kernel
+/// adds to it.
 #[derive(Clone, Copy, Debug, Drop)]
 pub struct DoneBuffer<T> {
     buffer: T,
@@ -24,21 +25,21 @@ pub struct DoneBuffer<T> {
 impl<T> DoneBuffer<T> {
     ghost use Rattle.netlink_packet_core_messages.specs.contracts.done.DoneBuffer.{the_row};
 
-    /// A view of bytes that have not been looked at.
+    /// Returns a view of some storage, without checking it.
     pub fn new(buffer: T) -> Self
         ensures { storage result ≡ buffer }
     {
         DoneBuffer { buffer }
     }
 
-    /// The storage.
+    /// Returns the storage.
     pub fn into_inner(self) -> T
         ensures { result ≡ storage self }
     {
         self.buffer
     }
 
-    /// The storage, to be written.
+    /// Borrows the storage, for writing.
     pub fn inner_mut(&mut self) -> &mut T
         ensures* writes_back { sem 𝓛 (Lends (the_row T.row) T.row self.entry result view_of) }
         ensures value { result.now ≡ storage self.old }
@@ -48,7 +49,11 @@ impl<T> DoneBuffer<T> {
 }
 
 impl<T: ByteView> DoneBuffer<T> {
-    /// A view of bytes that hold a code: there are at least 4.
+    /// Returns a view of bytes that hold a code.
+    ///
+    /// # Errors
+    ///
+    /// [`DecodeError::invalid_buffer`] if there are fewer than 4 bytes. Allocates nothing.
     pub fn new_checked(buffer: T) -> Result<Self, DecodeError>
     where
         T: Drop,
@@ -63,7 +68,7 @@ impl<T: ByteView> DoneBuffer<T> {
         Ok(DoneBuffer { buffer })
     }
 
-    /// The code: 0, or a negative error number.
+    /// Returns the code: 0, or a negative error number.
     pub fn code(&self) -> i32
         requires { 4 ≤ length (T.bytes (storage self.now)) }
         ensures { result ≡ code_of (T.bytes (storage self.now)) }
@@ -73,7 +78,8 @@ impl<T: ByteView> DoneBuffer<T> {
 }
 
 impl<'a> DoneBuffer<&'a [u8]> {
-    /// The bytes behind the code: the attributes of an extended acknowledgement, for as long as the storage lives.
+    /// Returns the bytes after the code, the attributes of an extended acknowledgement, for as long
+    /// as the storage lives.
     pub fn extended_ack(&self) -> &'a [u8]
         requires { 4 ≤ length (storage self.now).now }
         ensures { result.now ≡ drop 4 (storage self.now).now }
@@ -84,7 +90,7 @@ impl<'a> DoneBuffer<&'a [u8]> {
 }
 
 impl<'a> DoneBuffer<&'a mut [u8]> {
-    /// The bytes behind the code: the attributes of an extended acknowledgement.
+    /// Returns the bytes after the code: the attributes of an extended acknowledgement.
     pub fn extended_ack(&self) -> &[u8]
         requires { 4 ≤ length (storage self.now).now }
         ensures { result.now ≡ drop 4 (storage self.now).now }
@@ -94,7 +100,7 @@ impl<'a> DoneBuffer<&'a mut [u8]> {
 }
 
 impl DoneBuffer<Vec<u8>> {
-    /// The bytes behind the code: the attributes of an extended acknowledgement.
+    /// Returns the bytes after the code: the attributes of an extended acknowledgement.
     pub fn extended_ack(&self) -> &[u8]
         requires { 4 ≤ length (storage self.now).items }
         ensures { result.now ≡ drop 4 (storage self.now).items }
@@ -118,7 +124,7 @@ impl<T: ByteViewMut> DoneBuffer<T> {
 impl<T: ByteLend> DoneBuffer<T> {
     ghost use Rattle.netlink_packet_core_messages.specs.contracts.done.DoneBuffer.{the_row};
 
-    /// The bytes behind the code, to be written. Over a `&mut [u8]` write through `inner_mut`
+    /// Borrows the bytes after the code, for writing. For a `&mut [u8]` write through `inner_mut`
     /// instead.
     pub fn extended_ack_mut(&mut self) -> &mut [u8]
         requires { 4 ≤ length (T.ByteView.bytes (storage self.old)) }
@@ -131,12 +137,12 @@ impl<T: ByteLend> DoneBuffer<T> {
     }
 }
 
-/// The end of an answer of several messages.
+/// The end of a multipart reply.
 #[derive(Debug, Drop, PartialEq, Eq)]
 pub struct DoneMessage {
     /// 0, or a negative error number.
     pub code: i32,
-    /// The attributes of an extended acknowledgement, as they came.
+    /// The attributes of an extended acknowledgement, as received.
     pub extended_ack: ByteVec,
 }
 
@@ -174,8 +180,12 @@ impl Emitable for DoneMessage {
 }
 
 impl DoneMessage {
-    /// Reads the body of a DONE message as it stands in a frame: an empty one has the code 0, and
-    /// one of 1 to 3 bytes is refused.
+    /// Reads the body of a DONE message. An empty body has the code 0.
+    ///
+    /// # Errors
+    ///
+    /// [`DecodeError::invalid_buffer`] if the body has 1 to 3 bytes; [`DecodeError::memory`] if it
+    /// is valid, bytes follow the code, and their allocation fails.
     pub fn parse_body(alloc: Global, body: &[u8]) -> Result<Self, DecodeError>
         ensures ok { IfOk result (λ m. read_done body.now ≡ Some m) }
         ensures err { IfErr result (λ e. is_some (read_done body.now) ≡ is_memory e) }
@@ -191,7 +201,7 @@ impl DoneMessage {
         DoneMessage::parse(alloc, &buf)
     }
 
-    /// Its code is one of 32 bits.
+    /// Its code fits 32 bits.
     pub(crate) fn code_fits(&self)
         ensures { FitsSigned w32 self.now.code }
     {

@@ -17,7 +17,7 @@ use netlink_packet_core_numbers::error::DecodeError;
 use std::alloc::Global;
 use std::marker::Model;
 
-/// The code of an error: any number of 32 bits but 0. The kernel's are negative error numbers.
+/// The code of an error: any 32-bit number except 0. The kernel's are negative error numbers.
 #[derive(Clone, Copy, Debug, PartialEq, Eq, Drop)]
 pub struct ErrorCode {
     code: i32,
@@ -36,7 +36,7 @@ impl Model for ErrorCode {
 }
 
 impl ErrorCode {
-    /// The code of this number; 0 is none.
+    /// Returns the code of this number, or `None` for 0.
     pub fn new(code: i32) -> Option<Self>
         ensures { result ≡ nonzero_code code }
     {
@@ -47,7 +47,7 @@ impl ErrorCode {
         }
     }
 
-    /// The number.
+    /// Returns the number.
     pub fn get(&self) -> i32
         ensures value { result ≡ self.now }
         ensures not_zero { self.now ≢ pos 0 }
@@ -58,7 +58,7 @@ impl ErrorCode {
 }
 
 /// The body of an ERROR message (netlink.h, `struct nlmsgerr`): a code of 4 bytes, little-endian,
-/// and the header of the message that it answers, with what the kernel adds.
+/// and the header of the request, with the bytes that the kernel adds.
 #[derive(Clone, Copy, Debug, Drop)]
 pub struct ErrorBuffer<T> {
     buffer: T,
@@ -67,21 +67,21 @@ pub struct ErrorBuffer<T> {
 impl<T> ErrorBuffer<T> {
     ghost use Rattle.netlink_packet_core_messages.specs.contracts.error.ErrorBuffer.{the_row};
 
-    /// A view of bytes that have not been looked at.
+    /// Returns a view of some storage, without checking it.
     pub fn new(buffer: T) -> Self
         ensures { storage result ≡ buffer }
     {
         ErrorBuffer { buffer }
     }
 
-    /// The storage.
+    /// Returns the storage.
     pub fn into_inner(self) -> T
         ensures { result ≡ storage self }
     {
         self.buffer
     }
 
-    /// The storage, to be written.
+    /// Borrows the storage, for writing.
     pub fn inner_mut(&mut self) -> &mut T
         ensures* writes_back { sem 𝓛 (Lends (the_row T.row) T.row self.entry result view_of) }
         ensures value { result.now ≡ storage self.old }
@@ -91,7 +91,11 @@ impl<T> ErrorBuffer<T> {
 }
 
 impl<T: ByteView> ErrorBuffer<T> {
-    /// A view of bytes that hold a code: there are at least 4.
+    /// Returns a view of bytes that hold a code.
+    ///
+    /// # Errors
+    ///
+    /// [`DecodeError::invalid_buffer`] if there are fewer than 4 bytes. Allocates nothing.
     pub fn new_checked(buffer: T) -> Result<Self, DecodeError>
     where
         T: Drop,
@@ -106,7 +110,7 @@ impl<T: ByteView> ErrorBuffer<T> {
         Ok(ErrorBuffer { buffer })
     }
 
-    /// The code, if it is not 0: an ERROR message with the code 0 is an acknowledgement.
+    /// Returns the code, if it isn't 0: an ERROR message with the code 0 is an acknowledgement.
     pub fn code(&self) -> Option<ErrorCode>
         requires { 4 ≤ length (T.bytes (storage self.now)) }
         ensures { result ≡ nonzero_code (code_of (T.bytes (storage self.now))) }
@@ -116,7 +120,8 @@ impl<T: ByteView> ErrorBuffer<T> {
 }
 
 impl<'a> ErrorBuffer<&'a [u8]> {
-    /// The bytes behind the code: the header of the message that is answered, and more, for as long as the storage lives.
+    /// Returns the bytes after the code, which begin with the header of the request, for as long as
+    /// the storage lives.
     pub fn payload(&self) -> &'a [u8]
         requires { 4 ≤ length (storage self.now).now }
         ensures { result.now ≡ drop 4 (storage self.now).now }
@@ -127,7 +132,7 @@ impl<'a> ErrorBuffer<&'a [u8]> {
 }
 
 impl<'a> ErrorBuffer<&'a mut [u8]> {
-    /// The bytes behind the code: the header of the message that is answered, and more.
+    /// Returns the bytes after the code, which begin with the header of the request.
     pub fn payload(&self) -> &[u8]
         requires { 4 ≤ length (storage self.now).now }
         ensures { result.now ≡ drop 4 (storage self.now).now }
@@ -137,7 +142,7 @@ impl<'a> ErrorBuffer<&'a mut [u8]> {
 }
 
 impl ErrorBuffer<Vec<u8>> {
-    /// The bytes behind the code: the header of the message that is answered, and more.
+    /// Returns the bytes after the code, which begin with the header of the request.
     pub fn payload(&self) -> &[u8]
         requires { 4 ≤ length (storage self.now).items }
         ensures { result.now ≡ drop 4 (storage self.now).items }
@@ -161,7 +166,7 @@ impl<T: ByteViewMut> ErrorBuffer<T> {
 impl<T: ByteLend> ErrorBuffer<T> {
     ghost use Rattle.netlink_packet_core_messages.specs.contracts.error.ErrorBuffer.{the_row};
 
-    /// The bytes behind the code, to be written. Over a `&mut [u8]` write through `inner_mut`
+    /// Borrows the bytes after the code, for writing. For a `&mut [u8]` write through `inner_mut`
     /// instead.
     pub fn payload_mut(&mut self) -> &mut [u8]
         requires { 4 ≤ length (T.ByteView.bytes (storage self.old)) }
@@ -174,12 +179,12 @@ impl<T: ByteLend> ErrorBuffer<T> {
     }
 }
 
-/// A failure, or an acknowledgement where there is no code.
+/// A failure, or an acknowledgement if there is no code.
 #[derive(Debug, Drop, PartialEq, Eq)]
 pub struct ErrorMessage {
-    /// A negative error number; none is written as 0.
+    /// A negative error number; `None` is written as 0.
     pub code: Option<ErrorCode>,
-    /// The header of the message that is answered and what comes behind it, as they came.
+    /// The header of the request and the bytes after it, as received.
     pub header: ByteVec,
 }
 
@@ -217,7 +222,7 @@ impl Emitable for ErrorMessage {
 }
 
 impl ErrorMessage {
-    /// The code as a number: 0 where there is none.
+    /// Returns the code as a number: 0 if there is none.
     pub fn raw_code(&self) -> i32
         ensures { result ≡ raw_code self.now.code }
     {
@@ -227,14 +232,19 @@ impl ErrorMessage {
         }
     }
 
-    /// The error number, which is the code without its sign: 0 where there is no code.
+    /// Returns the error number, which is the code's absolute value: 0 if there is no code.
     pub fn errno(&self) -> u32
         ensures { result ≡ nat_abs (raw_code self.now.code) }
     {
         self.raw_code().unsigned_abs()
     }
 
-    /// Reads the body of an ERROR message as it stands in a frame: fewer than 4 bytes are refused.
+    /// Reads the body of an ERROR message.
+    ///
+    /// # Errors
+    ///
+    /// [`DecodeError::invalid_buffer`] if the body has fewer than 4 bytes; [`DecodeError::memory`]
+    /// if it is valid, bytes follow the code, and their allocation fails.
     pub fn parse_body(alloc: Global, body: &[u8]) -> Result<Self, DecodeError>
         ensures ok { IfOk result (λ m. read_error body.now ≡ Some m) }
         ensures err { IfErr result (λ e. is_some (read_error body.now) ≡ is_memory e) }
@@ -244,7 +254,7 @@ impl ErrorMessage {
         ErrorMessage::parse(alloc, &buf)
     }
 
-    /// Its code is one of 32 bits, and not 0.
+    /// Its code fits 32 bits, and isn't 0.
     pub(crate) fn code_fits(&self)
         ensures { IsCode self.now.code }
     {

@@ -2,13 +2,13 @@ ghost use Rattle.std.specs.Prelude.{◌≡◌};
 
 use netlink_packet_core_numbers::error::DecodeError;
 
-/// Why a frame is refused: for its header or as a control message, or by the protocol, as an inner
-/// message.
+/// Why a frame was rejected: for its header or as a control message, or by the protocol, as an
+/// inner message.
 #[derive(Debug, Drop, PartialEq, Eq)]
 pub enum FrameError<E> {
-    /// The bytes begin with no whole frame, or the body of a control message is refused.
+    /// The bytes begin with no whole frame, or the body of a control message is invalid.
     Frame(DecodeError),
-    /// The protocol refuses the body.
+    /// The protocol rejects the body.
     Inner(E),
 }
 

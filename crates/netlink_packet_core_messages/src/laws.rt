@@ -1,5 +1,6 @@
-//! Facts of frames and messages. No function here calls anything but `code_fits`, which reads the code of a parameter: the
-//! prover takes a number behind a reference to be in its type's range only once it is read.
+//! Laws of frames and messages. No function here calls anything but `code_fits`, which reads the
+//! code of a parameter: to the prover a number that is reached through a reference is in its type's
+//! range only once it was read.
 
 ghost use Rattle.std.specs.Prelude.{◌≡◌, ◌↔◌, true, ◌≤◌, ◌<◌, ◌+◌, ◌-◌, ◌++◌, ℕ, List, Some, None, length, take, drop};
 ghost use Rattle.netlink_packet_core_grammar.specs.Attributes.{nla_align, zeros};
@@ -14,50 +15,50 @@ use super::header::NetlinkHeader;
 use super::message::NetlinkMessage;
 use super::payload_traits::{NetlinkDeserializable, NetlinkProtocol, NetlinkSerializable};
 
-/// What is written of a header is read as the header, whatever follows.
+/// A written header is read back, whatever follows it.
 pub fn headers_read_back(header: &NetlinkHeader, rest: &[u8])
     ensures { header_of (header_text header.now ++ rest.now) ≡ header.now }
 {}
 
-/// What is read of a header is written as its bytes.
+/// A header that was read is written as the same bytes.
 pub fn headers_are_written_back(bytes: &[u8])
     requires { 16 ≤ length bytes.now }
     ensures { header_text (header_of bytes.now) ≡ take 16 bytes.now }
 {}
 
-/// The test of a frame is the relation: at least 16 bytes, and a length of at least 16 that reaches
-/// no further than they do.
+/// `is_frame` decides whether bytes begin with a whole frame: there are at least 16, and the length
+/// in the header is at least 16 and within the bytes.
 pub fn frames_are_tested(bytes: &[u8])
     ensures { (is_frame bytes.now ≡ true) ↔ IsFrame bytes.now }
 {}
 
-/// Bytes past the length of a frame change nothing that is read from it.
+/// Bytes past the length of a frame don't change the message that is read from it.
 pub fn bytes_past_a_frame_change_nothing<I: NetlinkDeserializable>(frame: &[u8], rest: &[u8])
     requires { IsFrame frame.now }
     ensures { read_message I.reads (take (frame_length frame.now) frame.now ++ rest.now)
         ≡ read_message I.reads frame.now }
 {}
 
-/// Bytes that end inside a frame begin with no message.
+/// No message is read from bytes that end inside a frame.
 pub fn cut_frames_are_refused<I: NetlinkDeserializable>(frame: &[u8], end: usize)
     requires whole { IsFrame frame.now }
     requires inside { end < frame_length frame.now }
     ensures { read_message I.reads (take end frame.now) ≡ None }
 {}
 
-/// The header of a finalized message tells its size and its type.
+/// The header of a finalized message has its length and its type.
 pub fn finalized_messages_tell<I: NetlinkSerializable>(message: &NetlinkMessage<I>)
     ensures { IsFinalized I.entry (finalized I.entry message.now) }
 {}
 
-/// A whole header whose length is under 16 begins no message, whatever follows it.
+/// No message is read if the length in the header is under 16, whatever follows the header.
 pub fn short_lengths_are_refused<I: NetlinkDeserializable>(header: &[u8], rest: &[u8])
     requires whole { 16 ≤ length header.now }
     requires short { frame_length header.now < 16 }
     ensures { read_message I.reads (header.now ++ rest.now) ≡ None }
 {}
 
-/// The body of a frame is the same whatever follows its length.
+/// The body of a frame is the same whatever follows the frame.
 pub fn bodies_end_with_their_frame(frame: &[u8], rest: &[u8])
     requires { IsFrame frame.now }
     ensures whole { IsFrame (take (frame_length frame.now) frame.now ++ rest.now) }
@@ -65,12 +66,12 @@ pub fn bodies_end_with_their_frame(frame: &[u8], rest: &[u8])
         ≡ frame_body frame.now }
 {}
 
-/// To finalize twice is to finalize once.
+/// Finalizing is idempotent.
 pub fn finalized_twice_is_once<I: NetlinkSerializable>(message: &NetlinkMessage<I>)
     ensures { finalized I.entry (finalized I.entry message.now) ≡ finalized I.entry message.now }
 {}
 
-/// A finalized message is read as it was written, whatever follows it.
+/// A finalized message is read back, whatever follows it.
 pub fn messages_read_back<I: NetlinkProtocol>(message: &NetlinkMessage<I>, rest: &[u8])
     requires finalized { IsFinalized I.entry message.now }
     requires fits { OfInner I.fits message.now.payload }
@@ -80,8 +81,8 @@ pub fn messages_read_back<I: NetlinkProtocol>(message: &NetlinkMessage<I>, rest:
     message.payload.code_fits();
 }
 
-/// The bytes of a finalized message are a whole frame, whatever follows them, and as many as its
-/// header and its body have.
+/// The bytes of a finalized message begin with a whole frame, whatever follows them, and their
+/// number is that of its header and its body.
 pub fn messages_are_frames<I: NetlinkProtocol>(message: &NetlinkMessage<I>, rest: &[u8])
     requires { IsFinalized I.entry message.now }
     ensures whole { IsFrame (message_text I.entry message.now ++ rest.now) }
@@ -90,8 +91,8 @@ pub fn messages_are_frames<I: NetlinkProtocol>(message: &NetlinkMessage<I>, rest
     ensures size { length (message_text I.entry message.now) ≡ message_size I.entry message.now }
 {}
 
-/// A message that was read from the bytes of a finalized one is written as these bytes, once it is
-/// finalized itself.
+/// A message that was read from the bytes of a finalized one is written as the same bytes, once it
+/// is finalized itself.
 pub fn canonical_frames_are_stable<I: NetlinkProtocol>(
     message: &NetlinkMessage<I>,
     other: &NetlinkMessage<I>,
@@ -107,7 +108,7 @@ pub fn canonical_frames_are_stable<I: NetlinkProtocol>(
     message.payload.code_fits();
 }
 
-/// Messages that say the same have the same bytes.
+/// Messages with equal values have equal bytes.
 pub fn equal_messages_have_one_text<I: NetlinkProtocol>(
     message: &NetlinkMessage<I>,
     other: &NetlinkMessage<I>,
@@ -116,7 +117,7 @@ pub fn equal_messages_have_one_text<I: NetlinkProtocol>(
     ensures { message_text I.entry message.now ≡ message_text I.entry other.now }
 {}
 
-/// Finalized messages that have the same bytes say the same.
+/// Finalized messages with equal bytes have equal values.
 pub fn texts_have_one_message<I: NetlinkProtocol>(
     message: &NetlinkMessage<I>,
     other: &NetlinkMessage<I>,
@@ -133,8 +134,8 @@ pub fn texts_have_one_message<I: NetlinkProtocol>(
 }
 
 /// A message that was read from a frame, once it is finalized, is written as the frame's header
-/// with its length set, and the body by its type. Here `own` is what the protocol writes of each
-/// inner message that the frame's body is read as.
+/// with its length set, and the canonical body of its type. Here `own` is the body that the
+/// protocol writes for each inner message that the frame's body is read as.
 pub fn read_frames_keep_their_header<I: NetlinkProtocol>(message: &NetlinkMessage<I>, frame: &[u8])
     requires { read_message I.reads frame.now ≡ Some (message_value I.value message.now) }
     ensures { (own : List ℕ)
@@ -145,7 +146,7 @@ pub fn read_frames_keep_their_header<I: NetlinkProtocol>(message: &NetlinkMessag
         (written_body own (frame_type frame.now) (frame_body frame.now)) }
 {}
 
-/// The text of a frame is its text without padding, and zeros up to a multiple of 4.
+/// The text of a frame is its text without padding, followed by zeros up to a multiple of 4.
 pub fn padding_ends_a_frame(frame: &[u8], body: &[u8])
     ensures { frame_text frame.now body.now
         ≡ unpadded_text frame.now body.now

@@ -25,8 +25,8 @@ pub struct NetlinkMessage<I> {
 }
 
 impl<I> NetlinkMessage<I> {
-    /// A message of these parts. Its header may tell another length and type than its body's:
-    /// `finalize` sets them.
+    /// Returns a message of these parts. The length and the type in its header may differ from
+    /// those of its body: `finalize` sets them.
     pub fn new(header: NetlinkHeader, payload: NetlinkPayload<I>) -> Self
         ensures header { result.header ≡ header }
         ensures payload { result.payload ≡ payload }
@@ -34,7 +34,7 @@ impl<I> NetlinkMessage<I> {
         Self { header, payload }
     }
 
-    /// The header and the body.
+    /// Returns the header and the body.
     pub fn into_parts(self) -> (NetlinkHeader, NetlinkPayload<I>)
         ensures header { result.0 ≡ self.header }
         ensures payload { result.1 ≡ self.payload }
@@ -59,7 +59,12 @@ impl<I> From<I> for NetlinkMessage<I> {
 }
 
 impl<I: NetlinkDeserializable> NetlinkMessage<I> {
-    /// Reads the frame in a view of a whole one.
+    /// Reads the frame in a view that was checked.
+    ///
+    /// # Errors
+    ///
+    /// [`FrameError::Frame`] if the body of a control message is invalid; [`FrameError::Inner`] if
+    /// the protocol rejects the body. Either may be out of memory, and only if the value allocates.
     #[tactic(auto, using(crate::proofs::Frames::frames), unfolding(crate::specs::Headers::header_of))]
     pub fn parse(alloc: Global, buf: &NetlinkBuffer<&[u8]>) -> Result<Self, FrameError<I::Error>>
         requires { IsFrame (storage buf.now).now }
@@ -79,7 +84,13 @@ impl<I: NetlinkDeserializable> NetlinkMessage<I> {
         Ok(NetlinkMessage { header, payload })
     }
 
-    /// Reads the frame that some bytes begin with; those behind it are not looked at.
+    /// Reads the frame at the start of the bytes; those after it are ignored.
+    ///
+    /// # Errors
+    ///
+    /// [`FrameError::Frame`] if the bytes begin with no whole frame, or the body of a control
+    /// message is invalid; [`FrameError::Inner`] if the protocol rejects the body. Either may be
+    /// out of memory, and only for a whole frame whose value allocates.
     #[tactic(auto, using(crate::proofs::Frames::frames))]
     pub fn deserialize(alloc: Global, buffer: &[u8]) -> Result<Self, FrameError<I::Error>>
         ensures ok { IfOk result (λ m. read_message I.reads buffer.now
@@ -99,15 +110,15 @@ impl<I: NetlinkDeserializable> NetlinkMessage<I> {
 }
 
 impl<I: NetlinkSerializable> NetlinkMessage<I> {
-    /// The size of the message in bytes: a header and the body.
+    /// Returns the size of the message in bytes, header and body; it saturates at `usize::MAX`.
     pub fn buffer_len(&self) -> usize
         ensures { result ≡ as_usize (message_size I.entry self.now) }
     {
         self.payload.buffer_len().saturating_add(NETLINK_HEADER_LEN)
     }
 
-    /// Sets the header's length and type to those of the message. Its size fits 32 bits where
-    /// `buffer_len` is at most `u32::MAX`.
+    /// Sets the header's length and type to those of the message. Its size fits 32 bits if and only
+    /// if `buffer_len` is at most `u32::MAX`.
     pub fn finalize(&mut self)
         requires { message_size I.entry self.old < 2 ^ 32 }
         ensures { self.new ≡ finalized I.entry self.old }
@@ -116,7 +127,8 @@ impl<I: NetlinkSerializable> NetlinkMessage<I> {
         self.header.message_type = self.payload.message_type();
     }
 
-    /// Writes a finalized message in front of a buffer, and leaves the rest of it alone.
+    /// Writes a finalized message at the start of a buffer; the rest of the buffer is left
+    /// unchanged.
     #[tactic(auto, using(crate::proofs::Headers::header_sizes))]
     pub fn serialize(&self, buffer: &mut [u8])
         requires finalized { IsFinalized I.entry self.now }

@@ -14,27 +14,27 @@ use netlink_packet_core_attributes::traits::Emitable;
 use netlink_packet_core_numbers::error::DecodeError;
 use std::alloc::Global;
 
-/// The type of a message that says nothing.
+/// The type of a message to be ignored.
 pub const NLMSG_NOOP: u16 = 1;
-/// The type of a message that tells of an error, or acknowledges.
+/// The type of an error message, or of an acknowledgement.
 pub const NLMSG_ERROR: u16 = 2;
-/// The type of the message that ends an answer of several.
+/// The type of the message that ends a multipart reply.
 pub const NLMSG_DONE: u16 = 3;
-/// The type of a message that tells of lost data.
+/// The type of a message that reports lost data.
 pub const NLMSG_OVERRUN: u16 = 4;
-/// Frames begin at multiples of this many bytes.
+/// The alignment of frames in bytes.
 pub const NLMSG_ALIGNTO: u16 = 4;
 
-/// The body of a message: that of a control message, of the types 1 to 4, or a protocol's own.
+/// The body of a message: that of a control message, of the types 1 to 4, or one of the protocol.
 #[derive(Debug, Drop, PartialEq, Eq)]
 pub enum NetlinkPayload<I> {
-    /// The end of an answer of several messages.
+    /// The end of a multipart reply.
     Done(DoneMessage),
     /// A failure, or an acknowledgement.
     Error(ErrorMessage),
-    /// Nothing: the bytes that stood there are dropped.
+    /// Nothing: the bytes of the body are dropped.
     Noop,
-    /// Data were lost: the bytes are kept as they came.
+    /// Data were lost; the bytes are kept as received.
     Overrun(ByteVec),
     /// A message of the protocol.
     InnerMessage(I),
@@ -73,7 +73,7 @@ impl<I: NetlinkDeserializable> NetlinkPayload<I> {
 }
 
 impl<I> NetlinkPayload<I> {
-    /// Its code is one of 32 bits, and an error's code is not 0.
+    /// Its code fits 32 bits, and an error's code isn't 0.
     pub(crate) fn code_fits(&self)
         ensures { HasCode self.now }
     {
@@ -86,8 +86,8 @@ impl<I> NetlinkPayload<I> {
 }
 
 impl<I: NetlinkSerializable> NetlinkPayload<I> {
-    /// The type of the message: 3 for DONE, 2 for ERROR, 1 for NOOP, 4 for OVERRUN, and the inner
-    /// message's own.
+    /// Returns the type of the message: 1 for NOOP, 2 for ERROR, 3 for DONE, 4 for OVERRUN, else
+    /// that of the inner message.
     pub fn message_type(&self) -> u16
         ensures { result ≡ (payload_entry I.entry self.now).0 }
     {
@@ -100,7 +100,7 @@ impl<I: NetlinkSerializable> NetlinkPayload<I> {
         }
     }
 
-    /// The size of the body in bytes.
+    /// Returns the size of the body in bytes.
     pub(crate) fn buffer_len(&self) -> usize
         ensures { result ≡ as_usize (length (payload_entry I.entry self.now).1) }
     {

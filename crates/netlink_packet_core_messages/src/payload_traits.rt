@@ -7,17 +7,17 @@ use std::alloc::Global;
 
 /// A message of a protocol that can be written.
 pub trait NetlinkSerializable {
-    /// Its type, and the bytes of its body.
+    /// The message's type, and the bytes of its body.
     ghost entry: { Self → TypedBody };
 
-    /// What has to hold of it to be written.
+    /// The condition under which the message can be written.
     ghost fits: { Self → Type 0 };
 
-    /// The type of the message.
+    /// Returns the type of the message.
     fn message_type(&self) -> u16
         ensures { result ≡ (entry self.now).0 };
 
-    /// The size of the body in bytes.
+    /// Returns the size of the body in bytes.
     fn buffer_len(&self) -> usize
         ensures { result ≡ as_usize (length (entry self.now).1) };
 
@@ -30,27 +30,32 @@ pub trait NetlinkSerializable {
 
 /// A message of a protocol that can be read.
 pub trait NetlinkDeserializable: Sized {
-    /// Why a body is refused.
+    /// Why a body is rejected.
     type Error;
 
-    /// What a message says: equal messages have one value.
+    /// The type of a message's value: equal messages have equal values.
     ghost Value: { Type 0 };
 
     ghost value: { Self → Value };
 
-    /// The value that a type and the bytes of a body are read as, if they are accepted.
+    /// The value of a message with this type and body, if it is accepted.
     ghost reads: { ℕ → List ℕ → Option Value };
 
-    /// The refusal is want of memory.
+    /// Whether the error is out of memory.
     ghost is_memory: { Self.Error → Bool };
 
-    /// Whether reading the body of a frame of a type may take memory.
+    /// Whether reading the body of a frame of this type may run out of memory.
     ghost may_want_memory: { ℕ → List ℕ → Bool };
 
-    /// What a refusal says of the type and the bytes of a body.
+    /// The guarantee of an error for a message type and a body.
     ghost tells: { Self.Error → ℕ → List ℕ → Type 0 };
 
     /// Reads the body of a frame with this header. The types 1 to 4 are those of control messages.
+    ///
+    /// # Errors
+    ///
+    /// Out of memory (`is_memory`) if an allocation fails, and only if `may_want_memory` holds; any
+    /// other error only if the body isn't accepted, with the guarantee `tells`.
     fn deserialize(
         alloc: Global,
         header: &NetlinkHeader,
@@ -67,7 +72,7 @@ pub trait NetlinkDeserializable: Sized {
             → may_want_memory header.now.message_type payload.now ≡ true) };
 }
 
-/// A protocol: what is written of a message is read as the message.
+/// A protocol: a message that is written is read back.
 pub trait NetlinkProtocol: NetlinkSerializable + NetlinkDeserializable {
     /// The bytes of a message are read as its value, under each header of its type.
     ghost round_trip: { (x : Self) → Self.fits x
@@ -76,6 +81,6 @@ pub trait NetlinkProtocol: NetlinkSerializable + NetlinkDeserializable {
     /// No message has a type from 1 to 4.
     ghost inner: { (x : Self) → IsInner (Self.entry x).0 };
 
-    /// Messages that say the same are written as the same.
+    /// Messages with equal values are written in the same way.
     ghost one_text: { (x y : Self) → Self.value x ≡ Self.value y → Self.entry x ≡ Self.entry y };
 }

@@ -1,11 +1,11 @@
--- Numbers of sixteen bytes: what is read from bytes is written as these bytes.
+-- Numbers of sixteen bytes: a number that is read from bytes is written as the same bytes.
 use Rattle.std.proofs.Common.{◌≡◌, ℕ, zero, suc, ◌+◌, ◌*◌, ◌/◌, ◌%◌, ◌^◌, ◌<◌, List, [], ◌∷◌, length, get_or, slice_index, reverse, refl, ap, ◌∙◌, sym, arith}
 use Rattle.std.proofs.Math.Nat as nat
 use Rattle.std.proofs.lemmas.Nat.{div-mul-add, mod-mul-add}
 use Rattle.std.specs.Int.{w128, byte_at, byte_worth, bytes_low_first, sum_through, from_le_bytes, to_le_bytes, from_be_bytes, to_be_bytes}
 use Rattle.netlink_packet_core_grammar.specs.Bytes.{AreBytes}
 
--- what bytes are worth, the lowest first
+-- the value of bytes, little-endian
 abbrev worth : List ℕ → ℕ
 worth [] = 0
 worth (b ∷ bs) = worth bs * 256 + b
@@ -52,7 +52,7 @@ from_worth bs n l h is =
 pub le_bytes_16 : (bs : List ℕ) (n : ℕ) → length bs ≡ 16 → ((i : ℕ) → get_or bs i 0 < 256) → n ≡ from_le_bytes w128 bs → to_le_bytes w128 n ≡ bs
 le_bytes_16 bs n l small is = from_worth bs n l (are_bytes bs small) is
 
--- ---- the highest first
+-- ---- big-endian
 
 turned : (x0 x1 x2 x3 x4 x5 x6 x7 x8 x9 x10 x11 x12 x13 x14 x15 : ℕ) → x0 + x1 + x2 + x3 + x4 + x5 + x6 + x7 + x8 + x9 + x10 + x11 + x12 + x13 + x14 + x15 ≡ x15 + x14 + x13 + x12 + x11 + x10 + x9 + x8 + x7 + x6 + x5 + x4 + x3 + x2 + x1 + x0
 turned x0 x1 x2 x3 x4 x5 x6 x7 x8 x9 x10 x11 x12 x13 x14 x15 = omega arith
@@ -76,7 +76,7 @@ turned-bytes bs small = (small 15, (small 14, (small 13, (small 12, (small 11, (
 pub be_bytes_16 : (bs : List ℕ) (n : ℕ) → length bs ≡ 16 → ((i : ℕ) → get_or bs i 0 < 256) → n ≡ from_be_bytes w128 bs → to_be_bytes w128 n ≡ bs
 be_bytes_16 bs n l small is = ap reverse (from_worth (turned_gets bs) n refl (turned-bytes bs small) (is ∙ turned-worth bs)) ∙ gets-all bs l
 
--- ---- what is written is read
+-- ---- a number that is written is read back
 
 worth-written : (k n : ℕ) → n < 256 ^ k → worth (bytes_low_first 0 k n) ≡ n
 worth-written zero n h = omega (arith, nat.pow-zero 256)

@@ -1,4 +1,4 @@
--- How many bytes two numbers of two bytes are.
+-- The length of two numbers of two bytes.
 use Rattle.std.proofs.Common.{◌≡◌, ℕ, ◌++◌, length, refl}
 use Rattle.netlink_packet_core_grammar.specs.Numbers.{be2}
 

@@ -1,4 +1,4 @@
--- A number is told by its bytes.
+-- The bytes of a number determine it.
 use Rattle.std.proofs.Common.{ap, sym, ◌∙◌}
 use Rattle.netlink_packet_core_grammar.proofs.Numbers.{from_le2, from_le4, from_le8, from_be2, from_be4, from_be8}
 use Rattle.std.specs.Int.{w16, w32, w64, w128, from_le_bytes, from_be_bytes}

@@ -1,4 +1,4 @@
--- What a refusal says.
+-- Decode errors: their causes, their contexts, and their display.
 use Rattle.std.specs.Prelude.{ℕ, Bool, true, false, List, [], ◌∷◌, ◌++◌, Option, Some, None, Result, Ok, Err, codes, get_or, replicate}
 use Rattle.std.specs.Borrow.{Bor}
 use Rattle.std.specs.Fmt.{decimal}
@@ -6,67 +6,81 @@ use Rattle.netlink_packet_core_numbers.specs.declared.error.Cause.{Cause}
 use Rattle.netlink_packet_core_numbers.specs.declared.error.Cause.TheVariants.{Memory, Buffer, MacAddress, IpAddress, Number, NlaBufferTooSmall, NlaLengthMismatch, NlaInvalidLength, BufferTooSmall, Text}
 use Rattle.netlink_packet_core_numbers.specs.declared.error.DecodeError.{DecodeError}
 
+-- The cause is a failed allocation.
 abbrev is_want : Cause → Bool
 is_want Memory = true
 is_want _ = false
 
--- the refusal is want of memory
+-- The error is out of memory.
 abbrev pub is_memory : DecodeError → Bool
 is_memory e = is_want e.cause
 
--- ---- refusals as they are made, with no context
+-- ---- errors without a context
 
+-- The error of this cause, without contexts.
 abbrev caused_by : Cause → DecodeError
 caused_by c = record { cause = c; contexts = replicate 4 None }
 
+-- The error of a failed allocation.
 abbrev pub out_of_memory : DecodeError
 out_of_memory = caused_by Memory
 
+-- The error of a buffer of the named kind that is shorter than its minimum.
 abbrev pub invalid_buffer : Bor (List ℕ) → ℕ → ℕ → DecodeError
 invalid_buffer name received minimum = caused_by (Buffer name received minimum)
 
+-- The error of a hardware address that hasn't 6 bytes.
 abbrev pub invalid_mac_address : ℕ → DecodeError
 invalid_mac_address received = caused_by (MacAddress received)
 
+-- The error of an Internet protocol address that has neither 4 nor 16 bytes.
 abbrev pub invalid_ip_address : ℕ → DecodeError
 invalid_ip_address received = caused_by (IpAddress received)
 
+-- The error of a number that hasn't the expected size.
 abbrev pub invalid_number : ℕ → ℕ → DecodeError
 invalid_number expected received = caused_by (Number expected received)
 
+-- The error of a buffer that is too small for an attribute.
 abbrev pub nla_buffer_too_small : ℕ → ℕ → DecodeError
 nla_buffer_too_small buffer_len nla_len = caused_by (NlaBufferTooSmall buffer_len nla_len)
 
+-- The error of an attribute whose length exceeds its buffer.
 abbrev pub nla_length_mismatch : ℕ → ℕ → DecodeError
 nla_length_mismatch buffer_len nla_len = caused_by (NlaLengthMismatch buffer_len nla_len)
 
+-- The error of an attribute whose length is less than the size of its header.
 abbrev pub nla_invalid_length : ℕ → ℕ → DecodeError
 nla_invalid_length buffer_len nla_len = caused_by (NlaInvalidLength buffer_len nla_len)
 
+-- The error of a buffer that is too small for a value.
 abbrev pub buffer_too_small : ℕ → ℕ → DecodeError
 buffer_too_small buffer_len value_len = caused_by (BufferTooSmall buffer_len value_len)
 
+-- The error with this message.
 abbrev pub of_text : Bor (List ℕ) → DecodeError
 of_text t = caused_by (Text t)
 
 -- ---- contexts
 
--- the first place that is free takes the text
+-- The contexts with one more, in the first free position; if none is free, they are unchanged.
 abbrev added : Bor (List ℕ) → List (Option (Bor (List ℕ))) → List (Option (Bor (List ℕ)))
 added t [] = []
 added t (None ∷ ts) = Some t ∷ ts
 added t (Some s ∷ ts) = Some s ∷ added t ts
 
--- the refusal with one context more, of which the first four are kept
+-- The error with one more context; only the first four are kept.
 abbrev pub in_context : Bor (List ℕ) → DecodeError → DecodeError
 in_context t e = record { cause = e.cause; contexts = added t e.contexts }
 
+-- The result with one more context, if it is an error.
 abbrev pub in_context_if : {T : Type 0} → Bor (List ℕ) → Result T DecodeError → Result T DecodeError
 in_context_if t (Ok x) = Ok x
 in_context_if t (Err e) = Err (in_context t e)
 
--- ---- as it is displayed
+-- ---- display
 
+-- The text of a cause.
 abbrev pub cause_text : Cause → List ℕ
 cause_text Memory = codes "out of memory"
 cause_text (Buffer name m n) = codes "invalid " ++ (name.now ++ (codes ": " ++ (decimal m ++ (codes " bytes, at least " ++ (decimal n ++ codes " are needed")))))
@@ -79,11 +93,12 @@ cause_text (NlaInvalidLength m n) = codes "attribute of " ++ (decimal n ++ (code
 cause_text (BufferTooSmall m n) = codes "buffer of " ++ (decimal m ++ (codes " bytes is too small for a value of " ++ decimal n))
 cause_text (Text t) = t.now
 
+-- The text that a context adds before the rest.
 abbrev pub prefix_text : Option (Bor (List ℕ)) → List ℕ
 prefix_text None = []
 prefix_text (Some t) = t.now ++ codes " caused by "
 
--- the contexts, newest first, and then the cause
+-- The display of an error: the contexts, newest first, and then the cause.
 abbrev pub display_text : DecodeError → List ℕ
 display_text e =
     prefix_text (get_or e.contexts 3 None) ++ (prefix_text (get_or e.contexts 2 None)

@@ -2,14 +2,15 @@
 use Rattle.std.specs.Prelude.{◌≡◌, ℕ, ◌<◌, ◌^◌, List, length}
 use Rattle.netlink_packet_core_grammar.specs.Numbers.{le2, le4, le8, le16, be2, be4, be8, be16}
 
--- numbers that have the same bytes are equal
+-- Numbers with equal bytes are equal.
 abbrev pub IsTold : (ℕ → List ℕ) → Type 0
 IsTold bytes_of = (m n : ℕ) → bytes_of m ≡ bytes_of n → m ≡ n
 
--- numbers below 2 to the power `bits` that have the same bytes are equal
+-- Numbers below 2 to the power `bits` with equal bytes are equal.
 abbrev pub OneNumber : ℕ → (ℕ → List ℕ) → Type 0
 OneNumber bits bytes_of = (m n : ℕ) → m < 2 ^ bits → n < 2 ^ bits → bytes_of m ≡ bytes_of n → m ≡ n
 
+-- The bytes of a number determine it, for each size and byte order.
 pub record NumbersAreTold : Type 0 where
   pub le2_told : IsTold le2
   pub le4_told : IsTold le4
@@ -20,10 +21,11 @@ pub record NumbersAreTold : Type 0 where
   pub be8_told : IsTold be8
   pub be16_told : OneNumber 128 be16
 
--- a number is written as this many bytes
+-- A number is written as `size` bytes.
 abbrev pub HasSize : ℕ → (ℕ → List ℕ) → Type 0
 HasSize size bytes_of = (n : ℕ) → length (bytes_of n) ≡ size
 
+-- A number is written as 2, 4, 8 or 16 bytes, in either byte order.
 pub record NumbersHaveSizes : Type 0 where
   pub le2_size : HasSize 2 le2
   pub le4_size : HasSize 4 le4

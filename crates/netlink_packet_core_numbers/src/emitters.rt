@@ -1,4 +1,4 @@
-//! Writes numbers into the front of a buffer.
+//! Writes numbers at the start of a buffer.
 
 ghost use Rattle.std.specs.Prelude.{◌≡◌, ◌↔◌, ◌≤◌, ◌++◌, false, length, drop, IfErr, IsOk, OnOk, OnErr};
 ghost use Rattle.std.specs.Int.{w16, w32, w64, w128, cast_unsigned};
@@ -7,8 +7,11 @@ ghost use Rattle.netlink_packet_core_numbers.specs.Errors.{is_memory};
 
 use super::error::DecodeError;
 
-/// Writes a number into the first 2 bytes, in native order, the lowest first.
-/// A shorter buffer is refused and left as it is.
+/// Writes a number into the first 2 bytes, in native byte order (little-endian).
+///
+/// # Errors
+///
+/// [`DecodeError::buffer_too_small`] if the buffer is shorter; it is left unchanged.
 #[tactic(auto, using(netlink_packet_core_grammar::proofs::Numbers::digits))]
 pub fn emit_u16(buffer: &mut [u8], value: u16) -> Result<(), DecodeError>
     ensures size { IsOk result ↔ (2 ≤ length buffer.old) }
@@ -23,8 +26,11 @@ pub fn emit_u16(buffer: &mut [u8], value: u16) -> Result<(), DecodeError>
     Ok(())
 }
 
-/// Writes a number into the first 2 bytes, the highest first.
-/// A shorter buffer is refused and left as it is.
+/// Writes a number into the first 2 bytes, big-endian.
+///
+/// # Errors
+///
+/// [`DecodeError::buffer_too_small`] if the buffer is shorter; it is left unchanged.
 #[tactic(auto, using(netlink_packet_core_grammar::proofs::Numbers::digits))]
 pub fn emit_u16_be(buffer: &mut [u8], value: u16) -> Result<(), DecodeError>
     ensures size { IsOk result ↔ (2 ≤ length buffer.old) }
@@ -39,8 +45,11 @@ pub fn emit_u16_be(buffer: &mut [u8], value: u16) -> Result<(), DecodeError>
     Ok(())
 }
 
-/// Writes a number into the first 2 bytes, the lowest first.
-/// A shorter buffer is refused and left as it is.
+/// Writes a number into the first 2 bytes, little-endian.
+///
+/// # Errors
+///
+/// [`DecodeError::buffer_too_small`] if the buffer is shorter; it is left unchanged.
 pub fn emit_u16_le(buffer: &mut [u8], value: u16) -> Result<(), DecodeError>
     ensures size { IsOk result ↔ (2 ≤ length buffer.old) }
     ensures ok { OnOk result (buffer.new ≡ le2 value ++ drop 2 buffer.old) }
@@ -50,8 +59,11 @@ pub fn emit_u16_le(buffer: &mut [u8], value: u16) -> Result<(), DecodeError>
     emit_u16(buffer, value)
 }
 
-/// Writes a number into the first 4 bytes, in native order, the lowest first.
-/// A shorter buffer is refused and left as it is.
+/// Writes a number into the first 4 bytes, in native byte order (little-endian).
+///
+/// # Errors
+///
+/// [`DecodeError::buffer_too_small`] if the buffer is shorter; it is left unchanged.
 #[tactic(auto, using(netlink_packet_core_grammar::proofs::Numbers::digits))]
 pub fn emit_u32(buffer: &mut [u8], value: u32) -> Result<(), DecodeError>
     ensures size { IsOk result ↔ (4 ≤ length buffer.old) }
@@ -66,8 +78,11 @@ pub fn emit_u32(buffer: &mut [u8], value: u32) -> Result<(), DecodeError>
     Ok(())
 }
 
-/// Writes a number into the first 4 bytes, the highest first.
-/// A shorter buffer is refused and left as it is.
+/// Writes a number into the first 4 bytes, big-endian.
+///
+/// # Errors
+///
+/// [`DecodeError::buffer_too_small`] if the buffer is shorter; it is left unchanged.
 #[tactic(auto, using(netlink_packet_core_grammar::proofs::Numbers::digits))]
 pub fn emit_u32_be(buffer: &mut [u8], value: u32) -> Result<(), DecodeError>
     ensures size { IsOk result ↔ (4 ≤ length buffer.old) }
@@ -82,8 +97,11 @@ pub fn emit_u32_be(buffer: &mut [u8], value: u32) -> Result<(), DecodeError>
     Ok(())
 }
 
-/// Writes a number into the first 4 bytes, the lowest first.
-/// A shorter buffer is refused and left as it is.
+/// Writes a number into the first 4 bytes, little-endian.
+///
+/// # Errors
+///
+/// [`DecodeError::buffer_too_small`] if the buffer is shorter; it is left unchanged.
 pub fn emit_u32_le(buffer: &mut [u8], value: u32) -> Result<(), DecodeError>
     ensures size { IsOk result ↔ (4 ≤ length buffer.old) }
     ensures ok { OnOk result (buffer.new ≡ le4 value ++ drop 4 buffer.old) }
@@ -93,8 +111,11 @@ pub fn emit_u32_le(buffer: &mut [u8], value: u32) -> Result<(), DecodeError>
     emit_u32(buffer, value)
 }
 
-/// Writes a number into the first 8 bytes, in native order, the lowest first.
-/// A shorter buffer is refused and left as it is.
+/// Writes a number into the first 8 bytes, in native byte order (little-endian).
+///
+/// # Errors
+///
+/// [`DecodeError::buffer_too_small`] if the buffer is shorter; it is left unchanged.
 #[tactic(auto, using(netlink_packet_core_grammar::proofs::Numbers::digits))]
 pub fn emit_u64(buffer: &mut [u8], value: u64) -> Result<(), DecodeError>
     ensures size { IsOk result ↔ (8 ≤ length buffer.old) }
@@ -109,8 +130,11 @@ pub fn emit_u64(buffer: &mut [u8], value: u64) -> Result<(), DecodeError>
     Ok(())
 }
 
-/// Writes a number into the first 8 bytes, the highest first.
-/// A shorter buffer is refused and left as it is.
+/// Writes a number into the first 8 bytes, big-endian.
+///
+/// # Errors
+///
+/// [`DecodeError::buffer_too_small`] if the buffer is shorter; it is left unchanged.
 #[tactic(auto, using(netlink_packet_core_grammar::proofs::Numbers::digits))]
 pub fn emit_u64_be(buffer: &mut [u8], value: u64) -> Result<(), DecodeError>
     ensures size { IsOk result ↔ (8 ≤ length buffer.old) }
@@ -125,8 +149,11 @@ pub fn emit_u64_be(buffer: &mut [u8], value: u64) -> Result<(), DecodeError>
     Ok(())
 }
 
-/// Writes a number into the first 8 bytes, the lowest first.
-/// A shorter buffer is refused and left as it is.
+/// Writes a number into the first 8 bytes, little-endian.
+///
+/// # Errors
+///
+/// [`DecodeError::buffer_too_small`] if the buffer is shorter; it is left unchanged.
 pub fn emit_u64_le(buffer: &mut [u8], value: u64) -> Result<(), DecodeError>
     ensures size { IsOk result ↔ (8 ≤ length buffer.old) }
     ensures ok { OnOk result (buffer.new ≡ le8 value ++ drop 8 buffer.old) }
@@ -136,8 +163,11 @@ pub fn emit_u64_le(buffer: &mut [u8], value: u64) -> Result<(), DecodeError>
     emit_u64(buffer, value)
 }
 
-/// Writes a number into the first 16 bytes, in native order, the lowest first.
-/// A shorter buffer is refused and left as it is.
+/// Writes a number into the first 16 bytes, in native byte order (little-endian).
+///
+/// # Errors
+///
+/// [`DecodeError::buffer_too_small`] if the buffer is shorter; it is left unchanged.
 #[tactic(auto, unfolding(netlink_packet_core_grammar::specs::Numbers::le16))]
 pub fn emit_u128(buffer: &mut [u8], value: u128) -> Result<(), DecodeError>
     ensures size { IsOk result ↔ (16 ≤ length buffer.old) }
@@ -152,8 +182,11 @@ pub fn emit_u128(buffer: &mut [u8], value: u128) -> Result<(), DecodeError>
     Ok(())
 }
 
-/// Writes a number into the first 16 bytes, the highest first.
-/// A shorter buffer is refused and left as it is.
+/// Writes a number into the first 16 bytes, big-endian.
+///
+/// # Errors
+///
+/// [`DecodeError::buffer_too_small`] if the buffer is shorter; it is left unchanged.
 #[tactic(auto, unfolding(netlink_packet_core_grammar::specs::Numbers::be16))]
 pub fn emit_u128_be(buffer: &mut [u8], value: u128) -> Result<(), DecodeError>
     ensures size { IsOk result ↔ (16 ≤ length buffer.old) }
@@ -168,8 +201,11 @@ pub fn emit_u128_be(buffer: &mut [u8], value: u128) -> Result<(), DecodeError>
     Ok(())
 }
 
-/// Writes a number into the first 16 bytes, the lowest first.
-/// A shorter buffer is refused and left as it is.
+/// Writes a number into the first 16 bytes, little-endian.
+///
+/// # Errors
+///
+/// [`DecodeError::buffer_too_small`] if the buffer is shorter; it is left unchanged.
 pub fn emit_u128_le(buffer: &mut [u8], value: u128) -> Result<(), DecodeError>
     ensures size { IsOk result ↔ (16 ≤ length buffer.old) }
     ensures ok { OnOk result (buffer.new ≡ le16 value ++ drop 16 buffer.old) }
@@ -179,8 +215,11 @@ pub fn emit_u128_le(buffer: &mut [u8], value: u128) -> Result<(), DecodeError>
     emit_u128(buffer, value)
 }
 
-/// Writes a signed number into the first 2 bytes, in native order, the lowest first.
-/// A shorter buffer is refused and left as it is.
+/// Writes a signed number into the first 2 bytes, in native byte order (little-endian).
+///
+/// # Errors
+///
+/// [`DecodeError::buffer_too_small`] if the buffer is shorter; it is left unchanged.
 pub fn emit_i16(buffer: &mut [u8], value: i16) -> Result<(), DecodeError>
     ensures size { IsOk result ↔ (2 ≤ length buffer.old) }
     ensures ok { OnOk result (buffer.new ≡ le2 (cast_unsigned w16 value) ++ drop 2 buffer.old) }
@@ -190,8 +229,11 @@ pub fn emit_i16(buffer: &mut [u8], value: i16) -> Result<(), DecodeError>
     emit_u16_le(buffer, value.cast_unsigned())
 }
 
-/// Writes a signed number into the first 2 bytes, the highest first.
-/// A shorter buffer is refused and left as it is.
+/// Writes a signed number into the first 2 bytes, big-endian.
+///
+/// # Errors
+///
+/// [`DecodeError::buffer_too_small`] if the buffer is shorter; it is left unchanged.
 pub fn emit_i16_be(buffer: &mut [u8], value: i16) -> Result<(), DecodeError>
     ensures size { IsOk result ↔ (2 ≤ length buffer.old) }
     ensures ok { OnOk result (buffer.new ≡ be2 (cast_unsigned w16 value) ++ drop 2 buffer.old) }
@@ -201,8 +243,11 @@ pub fn emit_i16_be(buffer: &mut [u8], value: i16) -> Result<(), DecodeError>
     emit_u16_be(buffer, value.cast_unsigned())
 }
 
-/// Writes a signed number into the first 2 bytes, the lowest first.
-/// A shorter buffer is refused and left as it is.
+/// Writes a signed number into the first 2 bytes, little-endian.
+///
+/// # Errors
+///
+/// [`DecodeError::buffer_too_small`] if the buffer is shorter; it is left unchanged.
 pub fn emit_i16_le(buffer: &mut [u8], value: i16) -> Result<(), DecodeError>
     ensures size { IsOk result ↔ (2 ≤ length buffer.old) }
     ensures ok { OnOk result (buffer.new ≡ le2 (cast_unsigned w16 value) ++ drop 2 buffer.old) }
@@ -212,8 +257,11 @@ pub fn emit_i16_le(buffer: &mut [u8], value: i16) -> Result<(), DecodeError>
     emit_i16(buffer, value)
 }
 
-/// Writes a signed number into the first 4 bytes, in native order, the lowest first.
-/// A shorter buffer is refused and left as it is.
+/// Writes a signed number into the first 4 bytes, in native byte order (little-endian).
+///
+/// # Errors
+///
+/// [`DecodeError::buffer_too_small`] if the buffer is shorter; it is left unchanged.
 pub fn emit_i32(buffer: &mut [u8], value: i32) -> Result<(), DecodeError>
     ensures size { IsOk result ↔ (4 ≤ length buffer.old) }
     ensures ok { OnOk result (buffer.new ≡ le4 (cast_unsigned w32 value) ++ drop 4 buffer.old) }
@@ -223,8 +271,11 @@ pub fn emit_i32(buffer: &mut [u8], value: i32) -> Result<(), DecodeError>
     emit_u32_le(buffer, value.cast_unsigned())
 }
 
-/// Writes a signed number into the first 4 bytes, the highest first.
-/// A shorter buffer is refused and left as it is.
+/// Writes a signed number into the first 4 bytes, big-endian.
+///
+/// # Errors
+///
+/// [`DecodeError::buffer_too_small`] if the buffer is shorter; it is left unchanged.
 pub fn emit_i32_be(buffer: &mut [u8], value: i32) -> Result<(), DecodeError>
     ensures size { IsOk result ↔ (4 ≤ length buffer.old) }
     ensures ok { OnOk result (buffer.new ≡ be4 (cast_unsigned w32 value) ++ drop 4 buffer.old) }
@@ -234,8 +285,11 @@ pub fn emit_i32_be(buffer: &mut [u8], value: i32) -> Result<(), DecodeError>
     emit_u32_be(buffer, value.cast_unsigned())
 }
 
-/// Writes a signed number into the first 4 bytes, the lowest first.
-/// A shorter buffer is refused and left as it is.
+/// Writes a signed number into the first 4 bytes, little-endian.
+///
+/// # Errors
+///
+/// [`DecodeError::buffer_too_small`] if the buffer is shorter; it is left unchanged.
 pub fn emit_i32_le(buffer: &mut [u8], value: i32) -> Result<(), DecodeError>
     ensures size { IsOk result ↔ (4 ≤ length buffer.old) }
     ensures ok { OnOk result (buffer.new ≡ le4 (cast_unsigned w32 value) ++ drop 4 buffer.old) }
@@ -245,8 +299,11 @@ pub fn emit_i32_le(buffer: &mut [u8], value: i32) -> Result<(), DecodeError>
     emit_i32(buffer, value)
 }
 
-/// Writes a signed number into the first 8 bytes, in native order, the lowest first.
-/// A shorter buffer is refused and left as it is.
+/// Writes a signed number into the first 8 bytes, in native byte order (little-endian).
+///
+/// # Errors
+///
+/// [`DecodeError::buffer_too_small`] if the buffer is shorter; it is left unchanged.
 pub fn emit_i64(buffer: &mut [u8], value: i64) -> Result<(), DecodeError>
     ensures size { IsOk result ↔ (8 ≤ length buffer.old) }
     ensures ok { OnOk result (buffer.new ≡ le8 (cast_unsigned w64 value) ++ drop 8 buffer.old) }
@@ -256,8 +313,11 @@ pub fn emit_i64(buffer: &mut [u8], value: i64) -> Result<(), DecodeError>
     emit_u64_le(buffer, value.cast_unsigned())
 }
 
-/// Writes a signed number into the first 8 bytes, the highest first.
-/// A shorter buffer is refused and left as it is.
+/// Writes a signed number into the first 8 bytes, big-endian.
+///
+/// # Errors
+///
+/// [`DecodeError::buffer_too_small`] if the buffer is shorter; it is left unchanged.
 pub fn emit_i64_be(buffer: &mut [u8], value: i64) -> Result<(), DecodeError>
     ensures size { IsOk result ↔ (8 ≤ length buffer.old) }
     ensures ok { OnOk result (buffer.new ≡ be8 (cast_unsigned w64 value) ++ drop 8 buffer.old) }
@@ -267,8 +327,11 @@ pub fn emit_i64_be(buffer: &mut [u8], value: i64) -> Result<(), DecodeError>
     emit_u64_be(buffer, value.cast_unsigned())
 }
 
-/// Writes a signed number into the first 8 bytes, the lowest first.
-/// A shorter buffer is refused and left as it is.
+/// Writes a signed number into the first 8 bytes, little-endian.
+///
+/// # Errors
+///
+/// [`DecodeError::buffer_too_small`] if the buffer is shorter; it is left unchanged.
 pub fn emit_i64_le(buffer: &mut [u8], value: i64) -> Result<(), DecodeError>
     ensures size { IsOk result ↔ (8 ≤ length buffer.old) }
     ensures ok { OnOk result (buffer.new ≡ le8 (cast_unsigned w64 value) ++ drop 8 buffer.old) }
@@ -278,8 +341,11 @@ pub fn emit_i64_le(buffer: &mut [u8], value: i64) -> Result<(), DecodeError>
     emit_i64(buffer, value)
 }
 
-/// Writes a signed number into the first 16 bytes, in native order, the lowest first.
-/// A shorter buffer is refused and left as it is.
+/// Writes a signed number into the first 16 bytes, in native byte order (little-endian).
+///
+/// # Errors
+///
+/// [`DecodeError::buffer_too_small`] if the buffer is shorter; it is left unchanged.
 pub fn emit_i128(buffer: &mut [u8], value: i128) -> Result<(), DecodeError>
     ensures size { IsOk result ↔ (16 ≤ length buffer.old) }
     ensures ok { OnOk result (buffer.new ≡ le16 (cast_unsigned w128 value) ++ drop 16 buffer.old) }
@@ -289,8 +355,11 @@ pub fn emit_i128(buffer: &mut [u8], value: i128) -> Result<(), DecodeError>
     emit_u128_le(buffer, value.cast_unsigned())
 }
 
-/// Writes a signed number into the first 16 bytes, the highest first.
-/// A shorter buffer is refused and left as it is.
+/// Writes a signed number into the first 16 bytes, big-endian.
+///
+/// # Errors
+///
+/// [`DecodeError::buffer_too_small`] if the buffer is shorter; it is left unchanged.
 pub fn emit_i128_be(buffer: &mut [u8], value: i128) -> Result<(), DecodeError>
     ensures size { IsOk result ↔ (16 ≤ length buffer.old) }
     ensures ok { OnOk result (buffer.new ≡ be16 (cast_unsigned w128 value) ++ drop 16 buffer.old) }
@@ -300,8 +369,11 @@ pub fn emit_i128_be(buffer: &mut [u8], value: i128) -> Result<(), DecodeError>
     emit_u128_be(buffer, value.cast_unsigned())
 }
 
-/// Writes a signed number into the first 16 bytes, the lowest first.
-/// A shorter buffer is refused and left as it is.
+/// Writes a signed number into the first 16 bytes, little-endian.
+///
+/// # Errors
+///
+/// [`DecodeError::buffer_too_small`] if the buffer is shorter; it is left unchanged.
 pub fn emit_i128_le(buffer: &mut [u8], value: i128) -> Result<(), DecodeError>
     ensures size { IsOk result ↔ (16 ≤ length buffer.old) }
     ensures ok { OnOk result (buffer.new ≡ le16 (cast_unsigned w128 value) ++ drop 16 buffer.old) }

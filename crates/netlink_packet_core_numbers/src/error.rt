@@ -11,7 +11,7 @@ ghost use Rattle.netlink_packet_core_numbers.specs.Errors.{of_text};
 use std::alloc::{AllocError, AllocFailed};
 use std::fmt;
 
-/// What was found.
+/// The cause of an error.
 #[derive(Clone, Copy, Debug, PartialEq, Eq, Drop)]
 enum Cause {
     Memory,
@@ -26,7 +26,7 @@ enum Cause {
     Text(&'static str),
 }
 
-/// Why bytes are refused, or that memory is wanting, with the first four contexts added.
+/// Why bytes were rejected, or that an allocation failed, with the first four contexts added.
 #[derive(Clone, Copy, Debug, PartialEq, Eq, Drop)]
 pub struct DecodeError {
     cause: Cause,
@@ -44,7 +44,7 @@ impl DecodeError {
         }
     }
 
-    /// Want of memory.
+    /// Returns the error of a failed allocation.
     pub fn memory() -> Self
         ensures refusal { result ≡ out_of_memory }
         ensures cause { is_memory result ≡ true }
@@ -52,7 +52,7 @@ impl DecodeError {
         DecodeError::of(Cause::Memory)
     }
 
-    /// The buffer of a `name` has `received` bytes, fewer than `minimum`.
+    /// Returns the error of a `name`'s buffer that has `received` bytes, fewer than `minimum`.
     pub fn invalid_buffer(name: &'static str, received: usize, minimum: usize) -> Self
         ensures refusal { result ≡ invalid_buffer name.entry received minimum }
         ensures cause { is_memory result ≡ false }
@@ -60,7 +60,7 @@ impl DecodeError {
         DecodeError::of(Cause::Buffer(name, received, minimum))
     }
 
-    /// A hardware address of `received` bytes.
+    /// Returns the error of a hardware address of `received` bytes, not 6.
     pub fn invalid_mac_address(received: usize) -> Self
         ensures refusal { result ≡ invalid_mac_address received }
         ensures cause { is_memory result ≡ false }
@@ -68,7 +68,7 @@ impl DecodeError {
         DecodeError::of(Cause::MacAddress(received))
     }
 
-    /// An address of the Internet protocol of `received` bytes.
+    /// Returns the error of an Internet protocol address of `received` bytes, neither 4 nor 16.
     pub fn invalid_ip_address(received: usize) -> Self
         ensures refusal { result ≡ invalid_ip_address received }
         ensures cause { is_memory result ≡ false }
@@ -76,7 +76,8 @@ impl DecodeError {
         DecodeError::of(Cause::IpAddress(received))
     }
 
-    /// A number of `expected` bytes in `received` bytes.
+    /// Returns the error of a payload of `received` bytes instead of the `expected` bytes of a
+    /// number.
     pub fn invalid_number(expected: usize, received: usize) -> Self
         ensures refusal { result ≡ invalid_number expected received }
         ensures cause { is_memory result ≡ false }
@@ -84,7 +85,8 @@ impl DecodeError {
         DecodeError::of(Cause::Number(expected, received))
     }
 
-    /// A buffer of `buffer_len` bytes has no room for an attribute's header or for its `nla_len` bytes.
+    /// Returns the error of a buffer of `buffer_len` bytes that is too small for an attribute's
+    /// header, or for its `nla_len` bytes.
     pub fn nla_buffer_too_small(buffer_len: usize, nla_len: usize) -> Self
         ensures refusal { result ≡ nla_buffer_too_small buffer_len nla_len }
         ensures cause { is_memory result ≡ false }
@@ -92,7 +94,8 @@ impl DecodeError {
         DecodeError::of(Cause::NlaBufferTooSmall(buffer_len, nla_len))
     }
 
-    /// An attribute tells a length of `nla_len` bytes in a buffer of `buffer_len` bytes.
+    /// Returns the error of an attribute whose length, `nla_len`, exceeds the buffer's,
+    /// `buffer_len`.
     pub fn nla_length_mismatch(buffer_len: usize, nla_len: usize) -> Self
         ensures refusal { result ≡ nla_length_mismatch buffer_len nla_len }
         ensures cause { is_memory result ≡ false }
@@ -100,7 +103,8 @@ impl DecodeError {
         DecodeError::of(Cause::NlaLengthMismatch(buffer_len, nla_len))
     }
 
-    /// An attribute tells a length of `nla_len` bytes, fewer than its header has.
+    /// Returns the error of an attribute whose length, `nla_len`, is less than the size of its
+    /// header.
     pub fn nla_invalid_length(buffer_len: usize, nla_len: usize) -> Self
         ensures refusal { result ≡ nla_invalid_length buffer_len nla_len }
         ensures cause { is_memory result ≡ false }
@@ -108,7 +112,8 @@ impl DecodeError {
         DecodeError::of(Cause::NlaInvalidLength(buffer_len, nla_len))
     }
 
-    /// A buffer of `buffer_len` bytes has no room for a value of `value_len` bytes.
+    /// Returns the error of a buffer of `buffer_len` bytes that is too small for a value of
+    /// `value_len` bytes.
     pub fn buffer_too_small(buffer_len: usize, value_len: usize) -> Self
         ensures refusal { result ≡ buffer_too_small buffer_len value_len }
         ensures cause { is_memory result ≡ false }
@@ -116,7 +121,7 @@ impl DecodeError {
         DecodeError::of(Cause::BufferTooSmall(buffer_len, value_len))
     }
 
-    /// Whether memory was wanting.
+    /// Returns whether the error is a failed allocation.
     pub fn is_memory(&self) -> bool
         ensures { result ≡ is_memory self.now }
     {
@@ -148,7 +153,7 @@ impl<T: Drop> From<AllocFailed<T>> for DecodeError {
     }
 }
 
-// Some words and then a number.
+// Writes a text followed by a number.
 fn write_count<W: fmt::Write>(f: &mut fmt::Formatter<W>, words: &str, number: usize) -> fmt::Result
     ensures writes { WritesOnOk W.write_str_gives f.old result (words.now ++ decimal number) f.new }
     ensures styled { WritesStyledOnOk W.write_str_gives f.old result (words.now ++ decimal number) f.new }
@@ -157,7 +162,7 @@ fn write_count<W: fmt::Write>(f: &mut fmt::Formatter<W>, words: &str, number: us
     f.write_str(itoa::Buffer::new().format(number))
 }
 
-// What is said of a buffer that is too short for a `name`.
+// Writes the message for a buffer that is too short for a `name`.
 fn write_buffer<W: fmt::Write>(
     f: &mut fmt::Formatter<W>,
     name: &'static str,
@@ -220,7 +225,7 @@ impl fmt::Display for Cause {
     }
 }
 
-/// What a context writes before what was said earlier.
+/// Displays a context before the errors that it was added to.
 #[derive(Drop)]
 struct Prefix(Option<&'static str>);
 
@@ -255,11 +260,11 @@ impl fmt::Display for DecodeError {
     }
 }
 
-/// What the closure of `with_context` may return.
+/// A text that the closure of `with_context` may return.
 pub trait ContextText: Sized {
     ghost text: { Self → Bor (List ℕ) };
 
-    /// The text itself.
+    /// Returns the text itself.
     fn into_text(self) -> &'static str
         ensures { result ≡ text self };
 }
@@ -272,19 +277,20 @@ impl ContextText for &'static str {
     }
 }
 
-/// Says what was being read when an error came.
+/// Adds to an error what was being read when it occurred.
 pub trait ErrorContext: Sized {
-    /// whether there is an error
+    /// Whether there is an error.
     ghost fails: { Self → Bool };
 
-    /// the same with one context more, of which the first four are kept
+    /// the same with one more context; only the first four are kept
     ghost in_context: { Self → Bor (List ℕ) → Self };
 
-    /// The error with the context `text`.
+    /// Returns the error with the context `text`.
     fn context(self, text: &'static str) -> Self
         ensures { result ≡ in_context self text.entry };
 
-    /// The error with the context that `text` gives. It is called only where there is an error.
+    /// Returns the error with the context that `text` returns; the closure is called only if there
+    /// is an error.
     fn with_context<C: ContextText, F: FnOnce() -> C>(self, text: F) -> Self
         requires { fails self ≡ true → F.pre text }
         ensures failed { fails self ≡ true

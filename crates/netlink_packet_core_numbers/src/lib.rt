@@ -1,4 +1,4 @@
-//! Numbers, addresses and texts of netlink messages as bytes, and why bytes are refused.
+//! Numbers, addresses and texts of netlink messages as bytes, and the errors of reading them.
 #![tactic(auto)]
 
 pub mod emitters;

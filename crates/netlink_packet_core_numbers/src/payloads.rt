@@ -1,4 +1,4 @@
-//! Writes whole payloads: buffers that have exactly a value's size.
+//! Writes whole payloads, into buffers that have exactly the value's size.
 
 ghost use Rattle.std.specs.Prelude.{◌≡◌, ◌+◌, ◌∷◌, ◌++◌, [], length};
 ghost use Rattle.netlink_packet_core_grammar.specs.Numbers.{le2, le4, le8, be2, be4, be8};
@@ -15,7 +15,7 @@ pub fn fill_u8(buffer: &mut [u8], value: u8)
     buffer.copy_from_slice(&[value]);
 }
 
-/// Writes a truth as a byte, 1 or 0.
+/// Writes a boolean as a byte, 1 or 0.
 pub fn fill_bool(buffer: &mut [u8], value: bool)
     requires { length buffer.old ≡ 1 }
     ensures { buffer.new ≡ truth_byte value }
@@ -23,7 +23,7 @@ pub fn fill_bool(buffer: &mut [u8], value: bool)
     buffer.copy_from_slice(&[if value { 1 } else { 0 }]);
 }
 
-/// Writes a number of 2 bytes, the lowest first.
+/// Writes a number of 2 bytes, little-endian.
 #[tactic(auto, using(netlink_packet_core_grammar::proofs::Numbers::digits))]
 pub fn fill_u16(buffer: &mut [u8], value: u16)
     requires { length buffer.old ≡ 2 }
@@ -32,7 +32,7 @@ pub fn fill_u16(buffer: &mut [u8], value: u16)
     buffer.copy_from_slice(&u16::to_le_bytes(value));
 }
 
-/// Writes a number of 4 bytes, the lowest first.
+/// Writes a number of 4 bytes, little-endian.
 #[tactic(auto, using(netlink_packet_core_grammar::proofs::Numbers::digits))]
 pub fn fill_u32(buffer: &mut [u8], value: u32)
     requires { length buffer.old ≡ 4 }
@@ -41,7 +41,7 @@ pub fn fill_u32(buffer: &mut [u8], value: u32)
     buffer.copy_from_slice(&u32::to_le_bytes(value));
 }
 
-/// Writes a number of 8 bytes, the lowest first.
+/// Writes a number of 8 bytes, little-endian.
 #[tactic(auto, using(netlink_packet_core_grammar::proofs::Numbers::digits))]
 pub fn fill_u64(buffer: &mut [u8], value: u64)
     requires { length buffer.old ≡ 8 }
@@ -50,7 +50,7 @@ pub fn fill_u64(buffer: &mut [u8], value: u64)
     buffer.copy_from_slice(&u64::to_le_bytes(value));
 }
 
-/// Writes a number of 2 bytes, the highest first.
+/// Writes a number of 2 bytes, big-endian.
 #[tactic(auto, using(netlink_packet_core_grammar::proofs::Numbers::digits))]
 pub fn fill_u16_be(buffer: &mut [u8], value: u16)
     requires { length buffer.old ≡ 2 }
@@ -59,7 +59,7 @@ pub fn fill_u16_be(buffer: &mut [u8], value: u16)
     buffer.copy_from_slice(&u16::to_be_bytes(value));
 }
 
-/// Writes a number of 4 bytes, the highest first.
+/// Writes a number of 4 bytes, big-endian.
 #[tactic(auto, using(netlink_packet_core_grammar::proofs::Numbers::digits))]
 pub fn fill_u32_be(buffer: &mut [u8], value: u32)
     requires { length buffer.old ≡ 4 }
@@ -68,7 +68,7 @@ pub fn fill_u32_be(buffer: &mut [u8], value: u32)
     buffer.copy_from_slice(&u32::to_be_bytes(value));
 }
 
-/// Writes a number of 8 bytes, the highest first.
+/// Writes a number of 8 bytes, big-endian.
 #[tactic(auto, using(netlink_packet_core_grammar::proofs::Numbers::digits))]
 pub fn fill_u64_be(buffer: &mut [u8], value: u64)
     requires { length buffer.old ≡ 8 }
@@ -77,7 +77,7 @@ pub fn fill_u64_be(buffer: &mut [u8], value: u64)
     buffer.copy_from_slice(&u64::to_be_bytes(value));
 }
 
-/// Writes a range of ports: its first and its last one, 2 bytes each, the highest byte first.
+/// Writes a range of ports: the first and the last one, 2 bytes each, big-endian.
 #[tactic(auto, using(netlink_packet_core_grammar::proofs::Sizes::sizes))]
 pub fn fill_range(buffer: &mut [u8], range: (u16, u16))
     requires { length buffer.old ≡ 4 }
@@ -96,7 +96,7 @@ pub fn fill_mac(buffer: &mut [u8], address: &[u8; 6])
     buffer.copy_from_slice(address);
 }
 
-/// How many bytes an address has: 4 (IPv4) or 16 (IPv6).
+/// Returns the length of an address: 4 (IPv4) or 16 (IPv6).
 pub fn ip_len(address: &IpAddr) -> usize
     ensures { result ≡ length (ip_octets address.now) }
 {

@@ -1,5 +1,5 @@
-//! Messages of addresses, over the core alone: the body of `RTM_NEWADDR` and `RTM_DELADDR` as a header and the bytes of
-//! its attributes, which are kept as they are.
+//! Address messages over the core only: the body of `RTM_NEWADDR` and `RTM_DELADDR` as a header and
+//! the bytes of its attributes, which are kept as they are.
 
 ghost use Rattle.std.specs.Prelude.{◌≡◌, ◌≢◌, ◌↔◌, ◌+◌, ◌<◌, ◌^◌, ⊤, length, Some, Err, IfOk, IfErr};
 ghost use Rattle.netlink_packet_core.specs.Messages.{IsFinalized, message_text, message_value, read_message};
@@ -17,7 +17,7 @@ use netlink_packet_core::{
 use std::alloc::Global;
 use thiserror::Error;
 
-/// Why the body of a message is refused.
+/// Why the body of a message was rejected.
 #[derive(Clone, Copy, Debug, PartialEq, Eq, Drop, Error)]
 pub enum AddressFault {
     /// The message is of another type than `RTM_NEWADDR` and `RTM_DELADDR`.
@@ -26,27 +26,27 @@ pub enum AddressFault {
     /// The body has fewer bytes than a header, which has 8.
     #[error("body under 8 bytes")]
     Short,
-    /// No memory was to be had for the attributes.
+    /// The attributes couldn't be allocated.
     #[error("no memory")]
     Memory,
 }
 
-/// How many bytes a header has.
+/// The length of a header in bytes.
 pub const ADDRESS_HEADER_LEN: usize = 8;
 
-/// The header of an address, `struct ifaddrmsg` of `linux/if_addr.h`. On the wire 8 bytes: four
-/// numbers of one byte, and the index, 4 bytes with the lowest first. The default is 8 zeros.
+/// The header of an address message, `struct ifaddrmsg` of `linux/if_addr.h`, 8 bytes: four numbers
+/// of one byte, and the index, 4 bytes, little-endian. The default is 8 zeros.
 #[derive(Clone, Copy, Debug, PartialEq, Eq, Default)]
 pub struct AddressHeader {
     /// The family, an `AF_` number: 2 for IPv4, and 10 for IPv6. `ifa_family`.
     pub family: u8,
-    /// The length of the network's prefix, in bits: `ifa_prefixlen`.
+    /// The length of the network prefix in bits: `ifa_prefixlen`.
     pub prefix_len: u8,
     /// The lowest 8 flags, `IFA_F_` values joined: `ifa_flags`.
     pub flags: u8,
-    /// How far the address reaches, an `RT_SCOPE_` number: `ifa_scope`.
+    /// The scope of the address, an `RT_SCOPE_` number: `ifa_scope`.
     pub scope: u8,
-    /// The number of its link: `ifa_index`.
+    /// The index of its link: `ifa_index`.
     pub index: u32,
 }
 
@@ -66,7 +66,7 @@ impl AddressHeader {
         }
     }
 
-    /// Writes it, into a buffer of its size.
+    /// Writes the header, into a buffer of its size.
     #[tactic(auto, unfolding(crate::specs::Addresses::header_text))]
     fn emit(self, buffer: &mut [u8])
         requires { length buffer.old ≡ 8 }
@@ -78,7 +78,7 @@ impl AddressHeader {
     }
 }
 
-/// The body of a message: a header, and the attributes behind it as their bytes.
+/// The body of a message: a header, followed by the attributes as bytes.
 #[derive(Debug, PartialEq, Eq, Drop)]
 pub struct Address {
     /// The header.
@@ -89,6 +89,11 @@ pub struct Address {
 
 impl Address {
     /// Reads the body of a message.
+    ///
+    /// # Errors
+    ///
+    /// [`AddressFault::Short`] if and only if the body has fewer than 8 bytes; otherwise only
+    /// [`AddressFault::Memory`], if an allocation fails.
     pub fn parse(alloc: Global, body: &[u8]) -> Result<Self, AddressFault>
         ensures ok { IfOk result (λ address. address_text address ≡ body.now) }
         ensures short { (result ≡ Err AddressFault.Short) ↔ (length body.now < 8) }
@@ -127,18 +132,18 @@ impl Emitable for Address {
     }
 }
 
-/// The type of a message that tells of an address, or adds one (linux/rtnetlink.h).
+/// The type of a message that announces an address, or adds one (linux/rtnetlink.h).
 pub const RTM_NEWADDR: u16 = 20;
 
-/// The type of a message that tells that an address is gone, or removes one.
+/// The type of a message that announces the removal of an address, or removes one.
 pub const RTM_DELADDR: u16 = 21;
 
-/// A message of addresses. Control messages are `NetlinkPayload`'s own.
+/// An address message. Control messages are variants of `NetlinkPayload`.
 #[derive(Debug, PartialEq, Eq, Drop)]
 pub enum AddressMessage {
-    /// `RTM_NEWADDR`, 20: an address is there, or is to be added.
+    /// `RTM_NEWADDR`, 20: an address exists, or is to be added.
     NewAddress(Address),
-    /// `RTM_DELADDR`, 21: an address is gone, or is to be removed.
+    /// `RTM_DELADDR`, 21: an address was removed, or is to be removed.
     DelAddress(Address),
 }
 
@@ -203,8 +208,8 @@ impl NetlinkProtocol for AddressMessage {
     ghost one_text = { λ x y e. e };
 }
 
-/// The message that adds an address, or tells of one, of a header and the bytes of its attributes.
-/// Its type and its length are set; its flags, sequence number and port are 0.
+/// Returns the message that adds an address, or announces one, of a header and the bytes of its
+/// attributes. Its type and its length are set; its flags, sequence number and port are 0.
 #[tactic(auto, using(crate::proofs::AddressHeaders::header_sizes))]
 pub fn new_address(header: AddressHeader, attributes: Vec<u8>) -> NetlinkMessage<AddressMessage>
     requires { 24 + length attributes.items < 2 ^ 32 }

@@ -1,4 +1,4 @@
-//! Messages of addresses as Linux writes them, and what is refused.
+//! Address messages as Linux writes them, and messages that are rejected.
 
 use super::address_messages::{AddressFault, AddressHeader, AddressMessage, new_address};
 use netlink_packet_core::{
@@ -7,7 +7,7 @@ use netlink_packet_core::{
 use std::alloc::Global;
 use std::test::Fail;
 
-/// What Linux 6.18 answers of the loopback link where it is asked for addresses: `IFA_ADDRESS`,
+/// The reply of Linux 6.18 to a request for the addresses of the loopback link: `IFA_ADDRESS`,
 /// `IFA_LOCAL`, `IFA_LABEL`, `IFA_FLAGS` and `IFA_CACHEINFO` of 127.0.0.1/8.
 const LOOPBACK: [u8; 76] = [
     76, 0, 0, 0, 20, 0, 2, 0, 7, 0, 0, 0, 0xe1, 0x1f, 0, 0, 2, 8, 0x80, 254, 1, 0, 0, 0, 8, 0, 1,
@@ -15,7 +15,7 @@ const LOOPBACK: [u8; 76] = [
     0, 0, 20, 0, 6, 0, 0xff, 0xff, 0xff, 0xff, 0xff, 0xff, 0xff, 0xff, 10, 0, 0, 0, 10, 0, 0, 0,
 ];
 
-/// Whether a message is of the loopback link's address.
+/// Returns whether a message is about the loopback link's address.
 fn is_loopback(message: &NetlinkMessage<AddressMessage>) -> bool {
     let header = AddressHeader {
         family: 2,
@@ -67,7 +67,7 @@ fn an_address_is_added(rt: HostRuntime) -> Result<(), Fail> {
     Ok(())
 }
 
-/// Why a frame is refused as a message of addresses.
+/// Returns why a frame is rejected as an address message.
 fn refusal_of(alloc: Global, frame: &[u8]) -> Option<AddressFault> {
     match NetlinkMessage::<AddressMessage>::deserialize(alloc, frame) {
         Err(FrameError::Inner(fault)) => Some(fault),

@@ -9,7 +9,7 @@ use netlink_packet_core::{
 };
 use std::test::Fail;
 
-/// The numbers of a header, read one by one at any storage.
+/// Reads the numbers of a header, one by one, from any storage.
 fn header_of<T: ByteView>(view: &NetlinkBuffer<T>) -> NetlinkHeader
     requires { 16 ≤ length (T.bytes (storage view.now)) }
 {
@@ -22,7 +22,7 @@ fn header_of<T: ByteView>(view: &NetlinkBuffer<T>) -> NetlinkHeader
     }
 }
 
-/// A setter at a slice: its caller learns what the slice holds.
+/// Calls a setter over a slice, and returns the slice.
 fn set_flags_of(bytes: &mut [u8])
     requires { 16 ≤ length bytes.old }
     ensures { bytes.new ≡ put_at 6 (le2 5) bytes.old }
@@ -31,7 +31,7 @@ fn set_flags_of(bytes: &mut [u8])
     view.set_flags(5);
 }
 
-/// A body at a slice is written through `inner_mut`.
+/// Writes a body over a slice through `inner_mut`.
 fn set_first_of_body(bytes: &mut [u8])
     requires frame { IsFrame bytes.old }
     requires more { 17 ≤ frame_length bytes.old }
@@ -46,7 +46,7 @@ fn set_first_of_body(bytes: &mut [u8])
 /// The body of an ERROR message: a code of -2, and three bytes.
 const ERROR: [u8; 7] = [0xfe, 0xff, 0xff, 0xff, 1, 2, 3];
 
-/// A frame of 18 bytes, in a buffer of 20.
+/// Returns a frame of 18 bytes, in a buffer of 20.
 #[tactic(auto, unfolding(netlink_packet_core_grammar::specs::Numbers::u32_at))]
 fn frame() -> [u8; 20]
     ensures frame { IsFrame result }

@@ -1,5 +1,5 @@
-// The core as its callers use it: a protocol of their own over it, and tests. The wanted values come from outside this project's
-// code.
+// The core as its callers use it: a protocol defined over it, and tests. The expected values come
+// from outside this project's code.
 #![tactic(auto)]
 
 pub mod address_messages;

@@ -81,7 +81,7 @@ fn read(alloc: Global, bytes: &[u8]) -> Option<NetlinkMessage<KeptMessage>> {
     NetlinkMessage::deserialize(alloc, bytes).ok()
 }
 
-/// The parts of the message in a view of a frame.
+/// Returns the parts of the message in a view of a frame.
 fn parts_of(alloc: Global, frame: &[u8]) -> Option<(NetlinkHeader, NetlinkPayload<KeptMessage>)> {
     let view = NetlinkBuffer::new_checked(frame).ok()?;
     let message = NetlinkMessage::parse(alloc, &view).ok()?;
@@ -97,7 +97,7 @@ fn is_refused(alloc: Global, bytes: &[u8]) -> bool {
     }
 }
 
-/// The frame in front of some bytes, as it is written again.
+/// Returns the canonical encoding of the frame at the start of the bytes.
 fn canonical_frame(alloc: Global, frame: &[u8]) -> Result<Vec<u8>, FrameError<AllocError>>
     ensures { IfOk result (λ out. out.items ≡ unpadded_text frame.now
         (written_body (frame_body frame.now) (frame_type frame.now) (frame_body frame.now))) }
@@ -267,7 +267,7 @@ fn frames_are_refused(rt: HostRuntime) {
     }
 }
 
-/// A frame of 17 bytes, and what follows it.
+/// A frame of 17 bytes, followed by three zeros.
 const FRAME: [u8; 20] = [
     0x11, 0, 0, 0, 0x14, 0, 0, 0, 0, 0, 0, 0, 0, 0, 0, 0, 0x61, 0, 0, 0,
 ];

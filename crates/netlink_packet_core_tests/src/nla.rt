@@ -5,7 +5,7 @@ use netlink_packet_core::{
 use std::alloc::Global;
 use std::test::Fail;
 
-/// The payload of the first attribute of a kind, as a caller finds it.
+/// Returns the payload of the first attribute of a kind.
 fn find(bytes: &[u8], kind: u16) -> Option<&[u8]> {
     for item in NlasIterator::new(bytes) {
         let nla = item.ok()?;
@@ -28,7 +28,7 @@ fn lengths_are_aligned(rt: HostRuntime) {
     assert_eq!(rt; aligned, [true; 5]);
 }
 
-/// The kinds and flags that are read of an attribute, which then has its first flag alone.
+/// Returns the kinds and flags of an attribute, read after only its first flag was set.
 fn with_nested_flag(bytes: &mut [u8; 4]) -> (u16, u16, bool, bool) {
     let mut view = NlaBuffer::new(bytes.as_mut_slice());
     let read = (
@@ -41,7 +41,7 @@ fn with_nested_flag(bytes: &mut [u8; 4]) -> (u16, u16, bool, bool) {
     read
 }
 
-/// An attribute in a vector, whose second flag alone is set.
+/// Returns an attribute in a vector, of which only the second flag is set.
 fn with_order_flag(alloc: Global) -> Result<Vec<u8>, Fail> {
     let mut view = NlaBuffer::new([4u8, 0, 0x46, 0xc0].to_vec(alloc)?);
     view.set_network_byte_order_flag();

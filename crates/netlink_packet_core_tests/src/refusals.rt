@@ -5,17 +5,17 @@ use netlink_packet_core::{
 use std::alloc::{AllocError, Global};
 use std::test::Fail;
 
-/// Why these bytes begin with no whole attribute.
+/// Returns why these bytes begin with no whole attribute.
 fn of_attribute(bytes: &[u8]) -> Option<DecodeError> {
     NlaBuffer::new_checked(bytes).err()
 }
 
-/// Why these bytes begin with no whole frame.
+/// Returns why these bytes begin with no whole frame.
 fn of_frame(bytes: &[u8]) -> Option<DecodeError> {
     NetlinkBuffer::new_checked(bytes).err()
 }
 
-/// What is shown of a refusal.
+/// Returns the display of an error.
 fn shown(alloc: Global, error: &DecodeError) -> Result<String, Fail> {
     Ok(format!(in alloc; "{error}")?)
 }

@@ -4,7 +4,7 @@ ghost use Rattle.netlink_packet_core.specs.Bytes.{put_at};
 use netlink_packet_core::{ByteLend, ByteView, ByteViewMut};
 use std::test::Fail;
 
-/// Writes two bytes at any storage that is written in place, and tells how many bytes it has.
+/// Writes two bytes to any storage that can be overwritten, and returns its length.
 fn write_two<T: ByteViewMut>(storage: &mut T, at: usize, bytes: &[u8; 2]) -> usize
     requires { at + 2 ≤ length (T.ByteView.bytes storage.old) }
     ensures { T.ByteView.bytes storage.new ≡ put_at at bytes.now (T.ByteView.bytes storage.old) }

@@ -1,4 +1,5 @@
--- What was read, followed by the reading of the rest, is the reading of the whole. Where the rest begins readable, the whole does.
+-- What was read, followed by the reading of the rest, is the reading of the whole. If the rest begins readable, so does
+-- the whole.
 use Rattle.std.proofs.Common.{◌≡◌, ◌≤◌, true, length, map}
 use Rattle.std.specs.List.{All}
 use Rattle.attribute_tables_grammar.specs.Lists.{nothing}

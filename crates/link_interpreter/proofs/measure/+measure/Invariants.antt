@@ -1,4 +1,5 @@
--- What was measured, with the measure of the rest, is that of the whole; the whole is its own text where the rest is, as long as the flag stands; and the front that is its own text goes up to the rest as long.
+-- The measure so far, plus that of the rest, is the measure of the whole. If the flag is set, the whole is already
+-- canonical if the rest is, and the canonical prefix goes up to the rest.
 use Rattle.std.proofs.Common.{◌≡◌, true, length, drop, ◌+◌, ◌-◌, ◌*◌, ◌≤◌}
 use Rattle.attribute_tables_grammar.specs.Lists.{nothing, any, list_rule}
 use Rattle.attribute_tables_grammar.specs.OwnTexts.{OwnSoFar}
@@ -10,7 +11,7 @@ use Rattle.link_tables.specs.InForce.{in_force}
 use Rattle.link_tables.specs.Tables.{table_of}
 use Rattle.link_interpreter.proofs.measure.+measure.Given as goal
 
--- what is given to a list is shorter than the list
+-- the bytes passed to a list are shorter than the list
 abbrev pub decreases-measure_held : goal.decreases-measure_held
 decreases-measure_held g l = 4 * length l.bytes.now + 3
 

@@ -1,4 +1,4 @@
--- What is left of the two lists is the same exactly where the whole is.
+-- The rests of the two lists are equivalent if and only if the lists are.
 use Rattle.std.proofs.Common.{◌≡◌, ◌+◌, ◌*◌, ◌≤◌, length}
 use Rattle.attribute_tables_grammar.specs.Lists.{nothing, list_rule, any}
 use Rattle.attribute_tables_grammar.specs.Sameness.{same_walk}
@@ -8,7 +8,7 @@ use Rattle.link_tables.specs.InForce.{in_force}
 use Rattle.link_tables.specs.Tables.{table_of}
 use Rattle.link_interpreter.proofs.same.+same.Given as goal
 
--- what is given to a list is shorter than the list
+-- the bytes passed to a list are shorter than the list
 abbrev pub decreases-same_held : goal.decreases-same_held
 decreases-same_held g l = 3 * length l.left.now + 2
 

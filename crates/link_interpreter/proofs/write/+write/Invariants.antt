@@ -1,4 +1,5 @@
--- What was written, with the text of the rest, is what stood there and the text of the whole; and there is room for it.
+-- The output so far, followed by the encoding of the rest, is the old output followed by the encoding of the whole; and
+-- the output has the capacity for it.
 use Rattle.std.proofs.Common.{length, ◌+◌, ◌*◌, ◌≤◌, vec_capacity}
 use Rattle.attribute_tables_grammar.specs.Lists.{nothing, any}
 use Rattle.attribute_tables_grammar.specs.Writing.{WrittenSoFar}
@@ -8,7 +9,7 @@ use Rattle.link_tables.specs.InForce.{in_force}
 use Rattle.link_tables.specs.Tables.{table_of}
 use Rattle.link_interpreter.proofs.write.+write.Given as goal
 
--- what is given to a list is shorter than the list
+-- the bytes passed to a list are shorter than the list
 abbrev pub decreases-write_held : goal.decreases-write_held
 decreases-write_held g l = 4 * length l.bytes.now + 3
 

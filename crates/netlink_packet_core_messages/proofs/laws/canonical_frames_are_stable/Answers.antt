@@ -1,4 +1,4 @@
--- what is written is read as it was
+-- a written message is read back
 use Rattle.std.proofs.Common.{◌≡◌, ◌++◌, Some, rules}
 use Rattle.netlink_packet_core_messages.specs.Messages.{read_message, message_text, message_value}
 use Rattle.netlink_packet_core_messages.proofs.Whole.{message_reads}

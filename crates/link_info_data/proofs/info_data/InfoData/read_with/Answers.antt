@@ -1,4 +1,4 @@
--- data of another kind than those that hold peers have one rule
+-- the rule of data of a kind without peers is the same under all rules of peers
 use Rattle.std.proofs.Common.{sym, subst}
 use Rattle.attribute_tables.specs.Outcomes.{IsWrittenBy, SucceedsWhere}
 use Rattle.attribute_tables_grammar.specs.Peers.{bytes_peer}

@@ -6,7 +6,7 @@ use Rattle.netlink_packet_core_numbers.specs.Errors.{cause_text}
 use Rattle.netlink_packet_core_numbers.specs.declared.error.Cause.TheVariants.{NlaInvalidLength}
 use Rattle.netlink_packet_core_numbers.proofs.error.CauseDisplay.fmt.Goals as goal
 
--- the words of this cause are too many for a search
+-- the message of this cause has too many parts for a search by the prover
 text_of_invalid_length : (m n : ℕ) → (codes "attribute of " ++ decimal n) ++ (codes " bytes is shorter than its header, in a buffer of " ++ decimal m) ≡ cause_text (NlaInvalidLength m n)
 text_of_invalid_length m n = append_assoc (codes "attribute of ") (decimal n) (codes " bytes is shorter than its header, in a buffer of " ++ decimal m)
 

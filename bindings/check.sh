@@ -59,26 +59,26 @@ cut_vectors() {
     first=$(($(sed "/^$kind /,\$d; /^# /d" crates/vectors/stdin | wc -l) + 1))
     sed -n "s/^$kind //p" crates/vectors/stdin > "$work/$kind.cases"
     [ "$kind" = show ] || last=$((first - 1 + $(wc -l < "$work/$kind.cases")))
-    sed -n "$first,${last}p" crates/vectors/stdout > "$work/$kind.answers"
+    sed -n "$first,${last}p" crates/vectors/stdout > "$work/$kind.results"
 }
 
 # Computes the vectors of a kind, and compares.
-answers() {
+results() {
     local what=$1 kind=$2
     shift 2
-    [ -s "$work/$kind.cases" ] && "$@" "$what" < "$work/$kind.cases" | cmp - "$work/$kind.answers"
+    [ -s "$work/$kind.cases" ] && "$@" "$what" < "$work/$kind.cases" | cmp - "$work/$kind.results"
 }
 
-all_answers() {
+all_results() {
     local name=$1
     shift
-    step "C, $name: norm" answers norm norm "$@"
-    step "C, $name: norm in pieces" answers pieces norm "$@"
-    step "C, $name: same" answers same same "$@"
-    step "C, $name: show" answers show show "$@"
-    step "C, $name: show in pieces" answers show-pieces show "$@"
-    step "C, $name: quirks" answers quirks spelling "$@"
-    step "C, $name: why" answers why refusal "$@"
+    step "C, $name: norm" results norm norm "$@"
+    step "C, $name: norm in pieces" results pieces norm "$@"
+    step "C, $name: same" results same same "$@"
+    step "C, $name: show" results show show "$@"
+    step "C, $name: show in pieces" results show-pieces show "$@"
+    step "C, $name: quirks" results quirks spelling "$@"
+    step "C, $name: why" results why refusal "$@"
 }
 
 shown_symbols() {
@@ -145,27 +145,27 @@ test_c() {
     local wrap=(-pthread -Wl,--wrap=malloc,--wrap=realloc,--wrap=free)
     local samples=(samples/get-veth.bin samples/req-veth.bin) kind
     echo "bindings: $("$cc" --version | head -n 1)"
-    step "C: build" "$cc" "${flags[@]}" -O2 -o "$work/answers" bindings/c/tests/answers.c "$lib/liblinkcap.a"
-    step "C: build, shared" "$cc" "${flags[@]}" -O2 -o "$work/shared" bindings/c/tests/answers.c -L "$lib" -llinkcap "-Wl,-rpath,$lib"
+    step "C: build" "$cc" "${flags[@]}" -O2 -o "$work/results" bindings/c/tests/results.c "$lib/liblinkcap.a"
+    step "C: build, shared" "$cc" "${flags[@]}" -O2 -o "$work/shared" bindings/c/tests/results.c -L "$lib" -llinkcap "-Wl,-rpath,$lib"
     step "C: build of the edges" "$cc" "${flags[@]}" -O2 -o "$work/edges" bindings/c/tests/edges.c "$lib/liblinkcap.a" "${wrap[@]}"
     step "C: linkcap_* alone is shown" shown_symbols
     for kind in norm same show refusal spelling; do cut_vectors $kind; done
-    all_answers "static" "$work/answers"
-    all_answers "shared" "$work/shared"
+    all_results "static" "$work/results"
+    all_results "shared" "$work/shared"
     step "C: edges" "$work/edges" "${samples[@]}"
     local san=(-g -O1 -fsanitize=address,undefined -fno-sanitize-recover=all)
     if echo 'int main(void) { return 0; }' | "$cc" "${san[@]}" -x c -o "$work/none" - 2> /dev/null && "$work/none"; then
-        step "C, sanitizers: build" "$cc" "${flags[@]}" "${san[@]}" -o "$work/sane" bindings/c/tests/answers.c "$lib/liblinkcap.a"
+        step "C, sanitizers: build" "$cc" "${flags[@]}" "${san[@]}" -o "$work/sane" bindings/c/tests/results.c "$lib/liblinkcap.a"
         step "C, sanitizers: build of the edges" "$cc" "${flags[@]}" "${san[@]}" -o "$work/sane_edges" \
             bindings/c/tests/edges.c "$lib/liblinkcap.a" "${wrap[@]}"
-        all_answers "sanitizers" "$work/sane"
+        all_results "sanitizers" "$work/sane"
         step "C, sanitizers: edges" "$work/sane_edges" "${samples[@]}"
     else
         skip "C, sanitizers" "$cc has none here"
     fi
     if has valgrind; then
         local grind=(valgrind -q --error-exitcode=9 --leak-check=full --show-leak-kinds=all --errors-for-leak-kinds=all)
-        all_answers "valgrind" "${grind[@]}" "$work/answers"
+        all_results "valgrind" "${grind[@]}" "$work/results"
         step "C, valgrind: edges" "${grind[@]}" "$work/edges" samples/req-veth.bin
     else
         skip "C, valgrind" "no valgrind"

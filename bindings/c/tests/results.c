@@ -1,7 +1,7 @@
 /*
  * Prints the results of stored cases of a kind, a line each on standard input without the word of the kind, as the program vectors does:
  *
- *     sed -n 's/^norm //p' crates/vectors/stdin | answers norm|pieces|same|show|show-pieces|why|quirks
+ *     sed -n 's/^norm //p' crates/vectors/stdin | results norm|pieces|same|show|show-pieces|why|quirks
  *
  * `pieces` and `show-pieces` give each capture in pieces of 1, 7 and 100 bytes, in turn, and write what `norm` and `show`
  * write. `why` takes cases of the kind `refusal`, and `quirks` of the kind `spelling`.
@@ -20,7 +20,7 @@ struct bytes {
 
 static void fail(const char *what)
 {
-    fprintf(stderr, "answers: %s\n", what);
+    fprintf(stderr, "results: %s\n", what);
     exit(1);
 }
 

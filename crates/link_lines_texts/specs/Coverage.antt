@@ -140,7 +140,7 @@ are_apart ts us = all_titles (λ l n. all_titles (λ k t. not (bytes_eq n.0 t.0)
 abbrev pub raw_apart : ℕ → Bool
 raw_apart m = are_apart (titles_of m) (raw_titles_of m)
 
--- ---- tables: each row has a name, behind which its payload is told, and each name has a row
+-- ---- tables: each row has a name and a format that determines its payload, and each name has a row
 
 -- Whether a kind has a row in a table.
 abbrev pub has_row : Table → ℕ → Bool
@@ -165,7 +165,8 @@ abbrev pub kind_inside : List NameRow → List ℕ → Inside
 kind_inside kinds n = of_held (held_by_name kinds n)
 
 abbrev mutual
-  -- what stands behind a payload's name determines the payload: a value, a peer, or the attributes of its table
+  -- Whether what is shown under a payload's name determines the payload: a value, a peer, or the attributes of its
+  -- table.
   pub holds_shown : Payload → Option Inside → Bool
   holds_shown (plain s) (Some (Value v)) = shape_tells s v
   holds_shown peer (Some Peer) = true

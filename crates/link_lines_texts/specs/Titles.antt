@@ -47,8 +47,9 @@ data_titles =
 unfoldable pub info_titles : List Title
 info_titles = said (λ n. n.now) (λ t. t.now) (λ r. r.now) INFO_TITLES.now
 
--- ---- links: the rows that go by the family, and the others
+-- ---- links: the rows that depend on the address family, and the others
 
+-- The names of the rows that depend on the address family of a link.
 unfoldable pub own_titles : List (List Title)
 own_titles = map (λ b. said (λ n. n.now) (λ t. t.now) (λ r. r.now) b.now) (UNSPEC_OWN ∷ BRIDGE_OWN ∷ INET6_OWN ∷ OTHER_OWN ∷ [])
 

@@ -1,4 +1,4 @@
-// The program linkshow once more, for a stored run with one word too many.
+// The program linkshow once more, for a stored run with one argument too many.
 #![tactic(auto)]
 
 use linkshow_program::outcome;

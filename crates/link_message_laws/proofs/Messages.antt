@@ -22,7 +22,7 @@ use Rattle.link_message_laws.proofs.Records.{number_4_equal, after_4_equal, numb
 use Rattle.link_message_laws.proofs.Lists.{lists_injective}
 use Rattle.link_message_laws.proofs.Attributes.{attribute_injective}
 
--- A header at the start determines the header, if it is written the same.
+-- A header, followed by other bytes.
 with_header : LinkHeader → List ℕ → List ℕ
 with_header h t = address_family_number h.interface_family ∷ 0 ∷ le2 (link_layer_type_number h.link_layer_type) ++ (le4 h.index ++ (le4 (link_flags_bits h.flags) ++ (le4 (link_flags_bits h.change_mask) ++ t)))
 

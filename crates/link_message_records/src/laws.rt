@@ -1,4 +1,4 @@
-//! Facts of the types. No function here makes a call.
+//! Facts about the types, each a function with an empty body.
 
 ghost use Rattle.std.specs.Prelude.{◌≡◌};
 ghost use Rattle.link_message_records.specs.VfSettings.{vf_info_setting_kind};

@@ -1,4 +1,4 @@
-//! Facts of the definitions, stated in the crates below.
+//! Facts about the definitions, stated in the crates of the parts.
 
 pub use link_message_grammar::laws::{
     attributes_are_lawful, attributes_are_looked_up, bodies_are_headers_and_attributes,

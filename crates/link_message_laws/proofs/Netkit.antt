@@ -15,7 +15,7 @@ use Rattle.link_message_laws.specs.Injective.{IsInjective}
 use Rattle.link_message_laws.proofs.Numbers.{le2_injective, le4_injective, truth_injective}
 use Rattle.link_message_laws.proofs.Lists.{numbered}
 
--- a scrub has a name of its own for each number that it is written as
+-- A scrub has a different name for each number as which it is written.
 netkit_scrub_equal : (s t : NetkitScrub) → netkit_scrub_number s ≡ netkit_scrub_number t → s ≡ t
 netkit_scrub_equal NetkitScrub.None NetkitScrub.None e = refl
 netkit_scrub_equal NetkitScrub.Default NetkitScrub.Default e = refl

@@ -48,8 +48,8 @@ pub enum AfSpecInet6 {
     DevConf(Inet6DevConf),
     /// `IFLA_INET6_STATS`: statistics, written as 304 bytes and read from any number of bytes.
     Stats(Inet6Stats),
-    /// `IFLA_INET6_ICMP6STATS`: statistics of ICMPv6, written as 56 bytes and read from any number of
-    /// bytes.
+    /// `IFLA_INET6_ICMP6STATS`: statistics of ICMPv6, written as 56 bytes and read from any number
+    /// of bytes.
     Icmp6Stats(Icmp6Stats),
     /// `IFLA_INET6_TOKEN`: the interface identifier of the addresses that the link generates; 16
     /// bytes.

@@ -5,8 +5,8 @@ ghost use Rattle.link_message_records.specs.VfSettings.{vf_info_setting_kind};
 
 use super::vf_setting::{VfInfoRssQueryEn, VfInfoSpoofCheck, VfInfoTrust};
 
-/// Each setting has the kind of its attribute: `IFLA_VF_SPOOFCHK`, `IFLA_VF_RSS_QUERY_EN` and `IFLA_VF_TRUST` of
-/// `linux/if_link.h`.
+/// Each setting has the kind of its attribute: `IFLA_VF_SPOOFCHK`, `IFLA_VF_RSS_QUERY_EN` and
+/// `IFLA_VF_TRUST` of `linux/if_link.h`.
 pub fn settings_have_kinds(
     spoof_check: &VfInfoSpoofCheck,
     rss_query_en: &VfInfoRssQueryEn,

@@ -187,7 +187,8 @@ fn values_to_bytes<T: Number, const N: usize, const M: usize>(numbers: &Values<T
 /// The statistics of a link, `struct rtnl_link_stats` of `linux/if_link.h`: 24 numbers of 4 bytes.
 pub type Stats = Values<u32, 24>;
 
-/// The statistics of a link, `struct rtnl_link_stats64` of `linux/if_link.h`: 25 numbers of 8 bytes.
+/// The statistics of a link, `struct rtnl_link_stats64` of `linux/if_link.h`: 25 numbers of 8
+/// bytes.
 pub type Stats64 = Values<u64, 25>;
 
 /// Settings of IPv4 on a link, `IPV4_DEVCONF_*` of `linux/ip.h`: 33 signed numbers of 4 bytes.

@@ -209,7 +209,8 @@ fn are_in_order(places: &[usize]) -> bool {
     true
 }
 
-/// `IPV4_DEVCONF_*` of linux/ip.h, `DEVCONF_*` of linux/ipv6.h, `IPSTATS_MIB_*` and `ICMP6_MIB_*` of linux/snmp.h.
+/// `IPV4_DEVCONF_*` of linux/ip.h, `DEVCONF_*` of linux/ipv6.h, `IPSTATS_MIB_*` and `ICMP6_MIB_*`
+/// of linux/snmp.h.
 #[test]
 fn settings_stand_where_the_kernel_has_them(rt: HostRuntime) {
     for places in [

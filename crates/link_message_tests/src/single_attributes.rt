@@ -17,8 +17,8 @@ fn unlisted(alloc: Global) -> Result<DefaultNla, Fail> {
     Ok(DefaultNla::new(99, [7u8].to_vec(alloc)?))
 }
 
-/// `IFLA_VF_INFO` with `IFLA_VF_VLAN_LIST`, and in it `IFLA_VF_VLAN_INFO`: the function 0, the VLAN 100, no priority, and
-/// 802.1Q, big-endian.
+/// `IFLA_VF_INFO` with `IFLA_VF_VLAN_LIST`, and in it `IFLA_VF_VLAN_INFO`: the function 0, the VLAN
+/// 100, no priority, and 802.1Q, big-endian.
 const FUNCTION: [u8; 28] = [
     28, 0, 1, 0, 24, 0, 12, 0, 20, 0, 1, 0, 0, 0, 0, 0, 100, 0, 0, 0, 0, 0, 0, 0, 129, 0, 0, 0,
 ];

@@ -9,7 +9,7 @@ use link_capture_reader::{ReadSource, Source};
 use std::fs::File;
 use std::io::ErrorKind;
 
-/// What opens files by their names.
+/// A device that opens files by their names.
 ///
 /// An implementation counts the calls of `open`: the count stays at `u64::MAX` once it has reached
 /// that.

@@ -30,21 +30,21 @@ abbrev pub all_titles : {B : Type 0} → (ℕ → Named B → Bool) → List (Ti
 all_titles f [] = true
 all_titles f (t ∷ ts) = if_named f t && all_titles f ts
 
--- Whether a byte string consists of upper-case letters, digits and underscores, with a letter first.
+-- Whether no byte of a string is below the digits, so that a space or a newline ends it.
 abbrev pub is_word : List ℕ → Bool
 is_word [] = true
 is_word (c ∷ s) = nat_le 48 c && is_word s
 
--- Whether a byte string is a word that begins with an upper-case letter.
+-- Whether a byte string is a word that begins with a byte from `A` up to the one before `a`.
 abbrev pub is_name : List ℕ → Bool
 is_name [] = false
 is_name (c ∷ s) = nat_le 65 c && (nat_lt c 97 && is_word s)
 
--- Whether a kind's name is this one.
+-- Whether a name is a word that begins so, whatever its kind.
 abbrev pub has_name : {B : Type 0} → ℕ → Named B → Bool
 has_name k n = is_name n.0
 
--- Whether a kind's name is another one than this.
+-- Whether a name differs from this one, whatever its kind.
 abbrev pub is_other : {B : Type 0} → List ℕ → ℕ → Named B → Bool
 is_other s k n = not (bytes_eq s n.0)
 

@@ -1,4 +1,7 @@
 //! The lines of attributes.
+//!
+//! They are made from rows of names, not by the interpreter: what they show is normal text, so they
+//! need neither list kinds nor measures.
 
 ghost use Rattle.std.specs.Prelude.{◌≡◌, ◌<◌, ◌≤◌, ◌+◌, ◌^◌, ◌++◌, ◌∷◌, [], true, length, replicate, option_map, IfOk, OnOk};
 ghost use Rattle.link_lines_values.specs.Indents.{indent};

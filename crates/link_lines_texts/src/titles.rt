@@ -149,7 +149,8 @@ fn own_table(table: u8) -> &'static [Title]
     }
 }
 
-/// Returns the names of the rows that links of every address family have.
+/// Returns the names of the rows that links of every address family have. The constant has a
+/// function of its own, since the prover spells it out in each function that names it.
 #[tactic(auto, unfolding(crate::specs::Titles::link_rows))]
 fn link_rows() -> &'static [Title]
     ensures titles { said (λ b. b.now) (λ t. t.now) (λ r. r.now) result.now ≡ link_rows }
@@ -158,6 +159,7 @@ fn link_rows() -> &'static [Title]
     message_titles::LINK_TITLES
 }
 
+/// Returns the names of the attributes of link info.
 #[tactic(auto, unfolding(crate::specs::Titles::info_titles))]
 fn info_titles() -> &'static [Title]
     ensures titles { said (λ b. b.now) (λ t. t.now) (λ r. r.now) result.now ≡ info_titles }

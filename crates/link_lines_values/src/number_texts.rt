@@ -1,4 +1,5 @@
-//! The names of numbers, a table for each type of number.
+//! The names of numbers, a table for each type of number. They repeat the displays of the typed
+//! crates, so that `linkshow` builds none of these; laws of `link_lines_tests` compare both.
 
 /// A number and its name.
 pub type NumberText = (u32, &'static [u8]);

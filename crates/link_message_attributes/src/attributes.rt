@@ -186,7 +186,7 @@ pub enum LinkAttribute {
     IfAlias(String),
     /// `IFLA_PHYS_PORT_NAME`: the name of the physical port; a text.
     PhysPortName(String),
-    /// `IFLA_LINKMODE`: the state from which the link becomes up; 1 byte.
+    /// `IFLA_LINKMODE`: how the operational state follows the carrier; 1 byte.
     Mode(LinkMode),
     /// `IFLA_CARRIER`: whether there is a carrier; 1 byte.
     Carrier(u8),
@@ -483,6 +483,7 @@ impl LinkAttribute {
             IFLA_VFINFO_LIST => typed!(VfInfoList, parse_vf_infos(alloc, payload)),
             IFLA_STATS64 => Ok(Some(Self::Stats64(read_settings(payload)))),
             IFLA_VF_PORTS => typed!(VfPorts, parse_vf_ports(alloc, payload)),
+            // A `match`, since a `?` in an arm costs the prover more.
             IFLA_PORT_SELF => match parse_family(alloc, payload) {
                 Ok(list) => Ok(Some(Self::PortSelf(LinkVfPort(list)))),
                 Err(error) => Err(error),

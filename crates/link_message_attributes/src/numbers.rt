@@ -25,7 +25,9 @@ use link_message_types::{AddressFamily, LinkEvent, LinkMode, State};
 use netlink_packet_core::{DecodeError, parse_i32, parse_u8, parse_u32};
 
 impl LinkAttribute {
-    // Returns the attribute of a kind that holds 1 byte; `None` for any other kind.
+    // Returns the attribute of a kind that holds 1 byte; `None` for any other kind. Wide matches
+    // are split into functions that each know part of the kinds, since the prover's time for a
+    // match grows with its paths times the variants.
     fn of_u8(kind: u16, number: u8) -> Option<Self>
         ensures value { IfSome result
             (λ v. link_attribute_entry v ≡ attribute kind (number ∷ [])) }

@@ -75,6 +75,7 @@ pub(crate) fn walk_body_over<P: PeerSet>(peers: &P, bytes: &[u8]) -> Option<Meas
         attributes: found.attributes,
         fits: found.fits,
         empty_ports: found.empty_ports,
+        // `&`, since `&&` in a struct literal splits the prover's goals.
         is_own: found.is_own & is_own_header,
         front: front_of(is_own_header, found.front),
     })

@@ -25,6 +25,8 @@ pub fn headers_are_sixteen_bytes()
 {}
 
 /// The constant of each flag has the bits of its name, and the alias of a layer type is that type.
+/// These are laws, since flags that are swapped together with their list would satisfy the contract
+/// of every function.
 pub fn constants_are_named()
     ensures { ConstantsAreNamed }
 {}

@@ -234,7 +234,8 @@ impl From<u16> for LinkLayerType {
     }
 }
 
-/// Returns the first of some types that has a number; `Void` if none has it.
+/// Returns the first of some types that has a number; `Void` if none has it. The types are a
+/// parameter, since the prover spells out a constant inside a loop in each goal.
 fn numbered(types: &[LinkLayerType], number: u16) -> LinkLayerType
     ensures { result
         ≡ numbered_by link_layer_type_number types.now (λ _. LinkLayerType.Void) number }

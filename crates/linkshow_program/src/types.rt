@@ -35,7 +35,8 @@ pub const TYPE_WORDS: &[(u16, &str)] = &[
     (34, "getrule"),
 ];
 
-/// Returns the type with this word, among some.
+/// Returns the type with this word, among some. The rows are a parameter, since the prover spells
+/// out a constant inside a loop in each goal.
 fn named_in(rows: &[(u16, &str)], word: &str) -> Option<u16>
     ensures { result ≡ named_in (words_of (λ w. w.now) rows.now) word.now }
 {

@@ -1,4 +1,4 @@
-//! The arguments of the program.
+//! The arguments of the program, parsed without allocating.
 
 ghost use Rattle.std.specs.Prelude.{◌≡◌, ◌≤◌, [], map, IfSome, IfNone, string_bytes};
 ghost use Rattle.linkshow_program.specs.Words.{word_of, defaults, Awaited.Nothing, Gives, Asks, HasLimit};

@@ -1,3 +1,5 @@
+//! Lists inside attributes of links, read and written.
+
 use super::values::{is_value, mctp, virtual_function};
 use attribute_tables::parse_family;
 use link_message::{AddressFamily, LinkAttribute};

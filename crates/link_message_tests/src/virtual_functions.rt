@@ -1,3 +1,5 @@
+//! Virtual functions and their ports, read and written.
+
 use super::nested::are_written_as;
 use super::values::{is_value, virtual_function};
 use attribute_tables::{parse_entries, parse_ports};

@@ -35,11 +35,11 @@ fn fault_at(kind: FaultKind, offset: u64) -> ShowFault
 /// - `Read` at the number of bytes read, if the source fails;
 /// - `Write` at the number of bytes taken, if the sink fails;
 /// - `Memory` at a frame, or, for a piece or its lines, at the number of bytes accepted before the
-/// piece;
+///   piece;
 /// - `TooLong` at the number of bytes accepted.
 ///
-/// The lines of the frames before the fault are written, except after a failed write, and those of
-/// a piece for which an allocation failed.
+/// The lines of the frames before the fault are written, unless a write failed, or an allocation
+/// for a piece.
 pub fn show<S: Source, K: Sink>(
     alloc: Global,
     source: &mut S,
@@ -61,7 +61,7 @@ pub fn show<S: Source, K: Sink>(
 ///
 /// # Errors
 ///
-/// Those of `show`; `first` has the bytes after any of them.
+/// Those of `show`; `first` has the first bytes that were read, at most four, also after an error.
 pub fn show_keeping_first<S: Source, K: Sink>(
     alloc: Global,
     source: &mut S,

@@ -25,7 +25,7 @@ netkit_scrub_equal NetkitScrub.Default NetkitScrub.None e = absurd (omega (arith
 abbrev equal : InfoNetkit → InfoNetkit → Bool
 equal = (equality.ghosts).eq
 
--- the number of a variant is that of its row
+-- The number of a variant is that of its row.
 abbrev variant : InfoNetkit → ℕ
 variant (Netkit.Peer a) = 1
 variant (Netkit.Primary a) = 2

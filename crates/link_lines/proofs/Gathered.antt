@@ -1,4 +1,4 @@
--- A capture that is there whole.
+-- A whole capture.
 use Rattle.std.proofs.Common.{◌≡◌, ◌≢◌, ℕ, ◌<◌, ◌≤◌, inl, inr, Some, None, List, [], ◌∷◌, ◌++◌, length, take, drop, Result, Ok, Err, OnOk, IfErr, refl, sym, ap, ◌∙◌, arith}
 use Rattle.std.specs.Prelude.{Vec}
 use Rattle.std.proofs.lemmas.Bool.{cases_lt}
@@ -14,7 +14,7 @@ use Rattle.link_lines_texts.specs.Laws.{LinesAreJoined}
 use Rattle.link_lines.specs.Outcomes.{WantsMemoryAt}
 use Rattle.link_lines.proofs.Joined.{texts_nil, lines_nil}
 
--- what `normalize_bytes` answers of bytes, and the texts that it gathers behind nothing
+-- The result of `normalize_bytes`, and the texts that it appends to nothing.
 pub record Gathers (r : Result (Unit {0}) CaptureFault) (limit : ℕ) (c start items : List ℕ) : Type 0 where
   pub nothing : start ≡ []
   pub legal : OnOk r ((first_fault limit c ≡ None) × (items ≡ start ++ texts limit c))
@@ -39,9 +39,9 @@ module _ (ch : Choice) (limit : ℕ) (c old new start items : List ℕ) where
   memory_shown (Ok x) g w = tt
   memory_shown (Err fault) g w = λ m. let k = g.memory m in (k.0, written_of ch old new start items (texts limit (take fault.offset c)) g.nothing w k.1)
 
--- ---- where there is something to be written
+-- ---- when something has to be written
 
--- bytes in front have no more texts
+-- A prefix of the bytes has no more texts.
 front_texts : PrefixTexts link_body → (limit at : ℕ) (c : List ℕ) → length (texts limit (take at c)) ≤ length (texts limit c)
 front_texts stay limit at c =
     let more = stay limit (take at c) (drop at c) in
@@ -51,7 +51,7 @@ front_texts stay limit at c =
 gathered_length : (start items t : List ℕ) → start ≡ [] → items ≡ start ++ t → length items ≡ length t
 gathered_length start items t s e = ap length (e ∙ ap (λ x. x ++ t) s)
 
--- bytes of which texts were gathered have texts
+-- Bytes of which texts were gathered have texts.
 pub some_texts : PrefixTexts link_body → (r : Result (Unit {0}) CaptureFault) (limit : ℕ) (c start items : List ℕ) → Gathers r limit c start items → 0 < length items → 0 < length (texts limit c)
 some_texts stay (Ok x) limit c start items g l = omega (arith, l, gathered_length start items (texts limit c) g.nothing g.legal.1)
 some_texts stay (Err x) limit c start items g l =
@@ -63,28 +63,28 @@ some_texts stay (Err x) limit c start items g l =
           omega (arith, l, none, gathered_length start items (texts limit c) g.nothing (g.fault other).1)
     ]
 
--- they are some
+-- The texts aren't empty.
 pub some_bytes : (limit : ℕ) (c : List ℕ) → 0 < length (texts limit c) → 0 < length c
 some_bytes limit [] l = absurd (omega (arith, ap length (texts_nil limit), l))
 some_bytes limit (b ∷ c) l = omega arith
 
--- their first frame is accepted
+-- The first frame of such bytes is accepted.
 front_accepted : CapturesGoByFrames link_body → (limit : ℕ) (c : List ℕ) (j : Judged) → first_frame limit c ≡ j → 0 < length (texts limit c) → (frame : ℕ × List ℕ) × (first_frame limit c ≡ Ok frame)
 front_accepted go limit c (Ok frame) e l = (frame, e)
 front_accepted go limit c (Err kind) e l = absurd (omega (arith, ap length (go.front_texts limit c kind e), l))
 
--- and its header stands
+-- The header of the first frame is valid.
 front_stands : CapturesGoByFrames link_body → FramesStandAlone link_body → (limit : ℕ) (c : List ℕ) → 0 < length (texts limit c) → HeaderStands limit c
 front_stands go frames limit c l =
     let front = front_accepted go limit c (first_frame limit c) refl l in
     let a = frames.accepted limit c front.0 front.1 in
     inr (omega (arith, a.low, a.is), omega (arith, a.high, a.is))
 
--- and memory may be wanting for its text
+-- An allocation for its text may fail.
 pub texts_wanted : CapturesGoByFrames link_body → (limit : ℕ) (c : List ℕ) → 0 < length (texts limit c) → WantsMemoryAt limit c 0
 texts_wanted go limit c l = front_accepted go limit c (first_frame limit c) refl l
 
--- an accepted frame for whose text there was less room
+-- An accepted frame for whose text there was less capacity.
 pub memory_wanted : {Z : Type 0} → (limit : ℕ) (c : List ℕ) (at : ℕ) (old : Vec ℕ Z) → LacksRoomAt limit c at old → WantsMemoryAt limit c at
 memory_wanted limit c at old lacks = ((lacks.0, lacks.1), lacks.2)
 
@@ -92,7 +92,7 @@ legal_nil : (limit : ℕ) → IsLegal limit []
 unfolding fault_after_under
 legal_nil limit = refl
 
--- no memory for the lines: nothing is shown, and what stands before the first frame is nothing
+-- An allocation fails for the lines: nothing is shown, and no bytes are before the first frame.
 pub nothing_shown : (ch : Choice) → CapturesGoByFrames link_body → FramesStandAlone link_body → LinesAreJoined → (limit : ℕ) (c old new : List ℕ) → 0 < length (texts limit c) → new ≡ old → StopsAt limit c 0 × (new ≡ old ++ lines ch limit [])
 nothing_shown ch go frames joined limit c old new l e = (
   record { inside = some_bytes limit c l; start = refl; header = front_stands go frames limit c l; legal = legal_nil limit },

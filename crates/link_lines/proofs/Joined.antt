@@ -1,4 +1,4 @@
--- Lines of texts that go on.
+-- The lines of texts that are continued.
 use Rattle.std.proofs.Common.{◌≡◌, ℕ, ◌^◌, ◌<◌, List, [], ◌∷◌, ◌++◌, length, Result, Ok, Err, OnOk, OnErr, is_err, true, false, refl, sym, ap, ◌∙◌, arith, length-append}
 use Rattle.std.proofs.lemmas.List.{append-nil}
 use Rattle.link_capture_grammar.specs.Captures.{texts, texts_after_under}
@@ -7,7 +7,7 @@ use Rattle.link_capture_reader.specs.Outcomes.{IsPrefix}
 use Rattle.link_lines_texts.specs.Captures.{Choice, text_lines, lines}
 use Rattle.link_lines_texts.specs.Laws.{LinesAreJoined}
 
--- what holds where nothing failed, and where something did
+-- A property of both outcomes, from that of success and that of failure.
 pub on_ok : {E : Type 0} (r : Result (Unit {0}) E) (P : Type 0) → is_err r ≡ false → OnOk r P → P
 on_ok (Ok x) P e h = h
 on_ok (Err x) P e h = absurd (cc)
@@ -16,7 +16,7 @@ pub on_err : {E : Type 0} (r : Result (Unit {0}) E) (P : Type 0) → is_err r �
 on_err (Ok x) P e h = absurd (cc)
 on_err (Err x) P e h = h
 
--- nothing has no texts
+-- Empty bytes have no texts.
 pub texts_nil : (limit : ℕ) → texts limit [] ≡ []
 unfolding texts_after_under
 texts_nil limit = refl
@@ -25,7 +25,7 @@ nothing_twice : (x : List ℕ) → x ≡ x ++ x → x ≡ []
 nothing_twice [] e = refl
 nothing_twice (a ∷ x) e = absurd (omega (arith, ap length e, length-append (a ∷ x) (a ∷ x)))
 
--- and no lines
+-- Empty bytes have no lines.
 pub no_lines : (ch : Choice) → LinesAreJoined → text_lines ch [] ≡ []
 no_lines ch joined =
     let z = texts_nil 0 in
@@ -39,14 +39,14 @@ pub lines_of_none : (ch : Choice) → LinesAreJoined → (old t : List ℕ) → 
 lines_of_none ch joined old [] e = sym (append-nil old) ∙ ap (λ x. old ++ x) (sym (no_lines ch joined))
 lines_of_none ch joined old (b ∷ t) e = absurd (omega arith)
 
--- texts that go on have the lines of both
+-- Texts that are continued have the lines of both parts.
 pub lines_go_on : (ch : Choice) → LinesAreJoined → (limit : ℕ) (s t out : List ℕ) → limit < 2 ^ 32 → texts limit t ≡ texts limit s ++ out → lines ch limit t ≡ lines ch limit s ++ text_lines ch out
 lines_go_on ch joined limit s t out b e = ap (text_lines ch) e ∙ joined ch limit s out b
 
--- so do those that a reader gained
+-- The lines of texts that a reader gained are appended too.
 pub lines_gained : (ch : Choice) → LinesAreJoined → (limit : ℕ) (s t out : List ℕ) → limit < 2 ^ 32 → Gains limit s t [] out → lines ch limit t ≡ lines ch limit s ++ text_lines ch out
 lines_gained ch joined limit s t out b g = lines_go_on ch joined limit s t out b (g.1 ∙ ap (λ x. texts limit s ++ x) (sym g.2))
 
--- the lines of a front of the texts begin the lines
+-- The lines of a prefix of the texts are a prefix of the lines.
 pub lines_begin : (ch : Choice) → LinesAreJoined → (limit : ℕ) (s t : List ℕ) → limit < 2 ^ 32 → IsPrefix (texts limit s) (texts limit t) → IsPrefix (lines ch limit s) (lines ch limit t)
 lines_begin ch joined limit s t b p = (text_lines ch p.0, lines_go_on ch joined limit s t p.0 b p.1)

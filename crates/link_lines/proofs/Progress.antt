@@ -1,4 +1,4 @@
--- How far the reading has come.
+-- The progress of reading.
 use Rattle.std.proofs.Common.{◌≡◌, ◌≢◌, ◌&&◌, eqb, ltb, ℕ, ◌+◌, ◌-◌, ◌^◌, ◌<◌, ◌≤◌, min, Option, Result, Ok, Err, IfErr, OnOk, is_err, false, List, [], ◌++◌, length, take, drop, sym, ap, subst, ◌∙◌, arith, length-append}
 use Rattle.std.proofs.lemmas.List.{take_at, append-nil, take-append-drop, length-take}
 use Rattle.std.proofs.lemmas.Bool.{ne_eqb}
@@ -19,7 +19,7 @@ use Rattle.link_lines_texts.specs.Laws.{LinesAreJoined}
 use Rattle.link_lines.specs.Outcomes.{ShowsFront, ShownAt}
 use Rattle.link_lines.proofs.Joined.{on_ok, no_lines, lines_nil, lines_go_on, lines_gained, lines_begin}
 
--- s was read and accepted, and its lines are written
+-- The bytes s were read and accepted, and their lines are written.
 pub record Came (ch : Choice) (limit : ℕ) (reader : ReaderState) (written : ℕ) (come_old come_new holds_old holds_new : Option (List ℕ)) (s : List ℕ) : Type 0 where
   pub limit_is : reader.limit ≡ limit
   pub stands : StandsFor reader s
@@ -36,11 +36,11 @@ nothing_came ch joined limit reader come holds e h = record {
   count = ap (λ (t : List ℕ). min (length t) (2 ^ 64 - 1)) (sym (lines_nil ch joined limit));
 }
 
--- what `push_lines` leaves where nothing was
+-- The text that `push_lines` leaves in an empty buffer.
 pub pushed : (ch : Choice) → {E : Type 0} (r : Result (Unit {0}) E) (old new slice out : List ℕ) → is_err r ≡ false → old ≡ [] → slice ≡ out → OnOk r (new ≡ old ++ text_lines ch slice) → new ≡ text_lines ch out
 pushed ch r old new slice out k e t h = on_ok r (new ≡ old ++ text_lines ch slice) k h ∙ ap (λ o. o ++ text_lines ch slice) e ∙ ap (text_lines ch) t
 
--- the reading goes on by a piece
+-- Reading is continued by a piece.
 pub goes_on : (ch : Choice) → LinesAreJoined → (limit : ℕ) (reader then : ReaderState) (s p old out shown : List ℕ) (come_old come_between come_new holds_old holds_between holds_new : Option (List ℕ)) (written total : ℕ) → limit < 2 ^ 32 → Came ch limit reader written come_old come_between holds_old holds_between s → old ≡ [] → then.limit ≡ reader.limit → FeedOk reader then p old out → Consumes come_between come_new p → shown ≡ text_lines ch out → Appends holds_between holds_new shown → total ≡ min (written + length shown) (2 ^ 64 - 1) → Came ch limit then total come_old come_new holds_old holds_new (s ++ p)
 goes_on ch joined limit reader then s p old out shown come_old come_between come_new holds_old holds_between holds_new written total b came e l fed consumed is wrote count =
     let f = fed s came.stands in
@@ -55,17 +55,17 @@ goes_on ch joined limit reader then s p old out shown come_old come_between come
       count = (let known = came.count in omega (arith, size, known, count));
     }
 
--- a source that gave some bytes has not told its end
+-- A source that gave some bytes has not reported its end.
 pub unended : (n room m : ℕ) → n ≢ 0 → counted (is_end (Ok n) room) m ≡ m
 unended n room m h = let e : eqb n 0 ≡ false = ne_eqb n 0 h in ap (λ x. counted (x && ltb 0 room) m) e
 
--- What `feed` adds to nothing goes on to the texts of a front of what was read.
+-- The text that `feed` appends to nothing continues to the texts of a prefix of what was read.
 record Reaches (limit : ℕ) (s p out : List ℕ) : Type 0 where
   front : List ℕ
   is : texts limit front ≡ texts limit s ++ out
   begins : IsPrefix (texts limit front) (texts limit (s ++ p))
 
--- what was gained, behind what was there
+-- The text that was gained, after what was there.
 all_is : (limit : ℕ) (s t out : List ℕ) → Gains limit s t [] out → texts limit t ≡ texts limit s ++ out
 all_is limit s t out g = g.1 ∙ ap (λ x. texts limit s ++ x) (sym g.2)
 
@@ -93,7 +93,7 @@ reaches stay limit s p out TooLong at h = record {
 reaches stay limit s p out Failed at h = absurd h
 reaches stay limit s p out kind at h = reaches_all limit s p out h.2
 
--- the lines of what it adds, behind those that were written, begin the lines of what was read
+-- The lines of what it adds, after those that were written, are a prefix of the lines of what was read.
 lines_reach : (ch : Choice) → LinesAreJoined → (limit : ℕ) (s p out : List ℕ) → limit < 2 ^ 32 → Reaches limit s p out → IsPrefix (lines ch limit s ++ text_lines ch out) (lines ch limit (s ++ p))
 lines_reach ch joined limit s p out b r =
     subst (λ x. IsPrefix x (lines ch limit (s ++ p))) (lines_go_on ch joined limit s r.front out b r.is) (lines_begin ch joined limit r.front (s ++ p) b r.begins)
@@ -106,13 +106,13 @@ fed_lines ch stay joined limit reader then s p old out (Err fault) b l e h good 
     lines_reach ch joined limit s p out b
     (subst (λ n. Reaches n s p out) l (reaches stay reader.limit s p out fault.kind fault.offset (subst (λ o. FeedFault reader.limit s p o out fault.kind fault.offset) e (bad s h))))
 
--- a failed write: a front of the lines that were to be written has been
+-- A failed write: a prefix of the lines that were to be written has been.
 pub failed_write : (ch : Choice) → (E R W : Type 0) (limit : ℕ) (s a out : List ℕ) (written n : ℕ) (fault : CaptureFault) → W → IsPrefix (a ++ out) (lines ch limit s) → n ≤ length out → written ≡ min (length a) (2 ^ 64 - 1) → fault.kind ≡ Write → fault.offset ≡ min (written + n) (2 ^ 64 - 1) → ShownAt ch E R W limit s (a ++ take n out) fault.kind fault.offset
 failed_write ch E R W limit s a out written n fault w p l c k o =
     let size : length (a ++ take n out) ≡ length a + n = length-append a (take n out) ∙ omega (arith, length-take n out) in
     subst (λ x. ShownAt ch E R W limit s (a ++ take n out) x fault.offset) (sym k) (w, omega (arith, size), part_front a out (lines ch limit s) n p)
 
--- what stands before the piece is shown
+-- The bytes before the piece are shown.
 pub before_piece : (ch : Choice) → (limit : ℕ) (s p : List ℕ) (at : ℕ) → at ≡ length s → IsOpen (first_fault limit s) → ShowsFront ch limit (s ++ p) (lines ch limit s) at
 before_piece ch limit s p at e o =
     let t : take at (s ++ p) ≡ s = take_at s p at (sym e) in
@@ -122,12 +122,12 @@ before_piece ch limit s p at e o =
       written = ap (lines ch limit) (sym t);
     }
 
--- no memory for the lines of a piece
+-- An allocation fails for the lines of a piece.
 pub lines_lack : (ch : Choice) → (limit : ℕ) (reader : ReaderState) (s p : List ℕ) (at : ℕ) → reader.limit ≡ limit → StandsFor reader s → at ≡ reader.accepted → ShowsFront ch limit (s ++ p) (lines ch limit s) at
 lines_lack ch limit reader s p at l h e =
     before_piece ch limit s p at (e ∙ h.accepted) (subst (λ n. IsOpen (first_fault n s)) l (open_from _ s reader.kept reader.owed h.rest))
 
--- a legal front has no fault
+-- A legal prefix has no fault.
 legal_front : (ch : Choice) → (limit : ℕ) (c w : List ℕ) (at : ℕ) → StopsAt limit c at → w ≡ lines ch limit (take at c) → ShowsFront ch limit c w at
 legal_front ch limit c w at h e = record {
   inside = (let i = h.inside in omega arith);
@@ -135,7 +135,7 @@ legal_front ch limit c w at h e = record {
   written = e;
 }
 
--- a fault of `feed` is answered, once the lines of what it added are written
+-- A fault of `feed` is returned once the lines of what it added are written.
 fed_fault : (ch : Choice) → LinesAreJoined → (E R W : Type 0) (limit : ℕ) (s p out : List ℕ) (kind : FaultKind) (at : ℕ) → limit < 2 ^ 32 → length p ≤ 65536 → IsOpen (first_fault limit s) → FeedFault limit s p [] out kind at → ShownAt ch E R W limit (s ++ p) (lines ch limit s ++ text_lines ch out) kind at
 fed_fault ch joined E R W limit s p out Cut at b z o h = absurd h
 fed_fault ch joined E R W limit s p out Memory at b z o h = legal_front ch limit (s ++ p) _ at h.1 (sym (lines_gained ch joined limit s (take at (s ++ p)) out b h.2))

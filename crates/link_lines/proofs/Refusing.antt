@@ -1,4 +1,4 @@
--- Where the frame with a fault stands: behind the bytes that were kept.
+-- The offset of the frame with a fault: after the bytes that were kept.
 use Rattle.std.proofs.Common.{◌≡◌, ℕ, ◌+◌, ◌-◌, ◌^◌, ◌<◌, ◌≤◌, inl, inr, Option, None, Some, Err, List, [], ◌++◌, length, take, drop, refl, sym, ap, subst, ◌∙◌, arith, append_assoc, length-append}
 use Rattle.std.proofs.lemmas.Bool.{cases_lt}
 use Rattle.std.proofs.lemmas.List.{append-nil, drop_all, length-drop, take-append-drop, take_all}
@@ -19,9 +19,9 @@ use Rattle.link_lines.specs.Outcomes.{Shown, ShownAt}
 use Rattle.link_lines.specs.Refused.{StandsIn, alone, refusal_told}
 use Rattle.link_lines.specs.declared.refused.ShowFault.{ShowFault}
 
--- ---- what was read before the bytes that are kept
+-- ---- the bytes that were read before those that are kept
 
--- the front of s whose rest this is
+-- The prefix of s before the bytes that are kept.
 abbrev pub before : List ℕ → List ℕ → List ℕ
 before s kept = take (length s - length kept) s
 
@@ -46,7 +46,7 @@ before_rest reader s h = resumes_rest (first_fault reader.limit s) s reader.kept
 before_length : (s kept : List ℕ) → before s kept ++ kept ≡ s → length (before s kept) ≡ length s - length kept
 before_length s kept e = omega (arith, ap length e, length-append (before s kept) kept)
 
--- ---- where a fault may stand
+-- ---- the offsets that a fault may have
 
 abbrev far : Option CaptureFault → ℕ
 far None = 0
@@ -60,7 +60,7 @@ reach_low : (f : Option CaptureFault) (s kept : List ℕ) (owed : ℕ) → Resum
 reach_low None s kept owed r = omega arith
 reach_low (Some f) s kept owed r = omega (arith, ap length r.1, length-drop f.offset s)
 
--- the first fault of what goes on stands behind them, and where it is a refused body, its frame is there
+-- The first fault of what continues them is after them, and if it is a refused body, its frame is there.
 refused_there : CapturesGoByFrames link_body → RefusedFramesAreWhole → (reader : ReaderState) (s p : List ℕ) (at : ℕ) → StandsFor reader s → length s + length p < 2 ^ 64 → first_fault reader.limit (s ++ p) ≡ Some (record { kind = Refused; offset = at }) → StandsIn (length s - length reader.kept) (reader.kept ++ p) at
 refused_there go whole reader s p at h b f =
     let limit = reader.limit in
@@ -78,7 +78,7 @@ refused_there go whole reader s p at h b f =
       frame = subst IsFrame (ap (drop at) (sym all) ∙ ap (λ n. drop n (front ++ (kept ++ p))) place ∙ drop-append-add front (kept ++ p) (at - (length s - length kept))) (whole limit at (s ++ p) f);
     }
 
--- so it is for a fault of `feed`, where these are the bytes that were kept
+-- The same statement for a fault of `feed`, with the bytes that were kept.
 pub stands_in : CapturesGoByFrames link_body → RefusedFramesAreWhole → (reader : ReaderState) (s p front old out : List ℕ) (start : ℕ) (fault : CaptureFault) → StandsFor reader s → front ≡ reader.kept → start ≡ reader.accepted - length front → FeedErr reader p old out fault → fault.kind ≡ Refused → StandsIn start (front ++ p) fault.offset
 stands_in go whole reader s p front old out start fault h k e bad r =
     let f : FeedFault reader.limit s p old out Refused fault.offset = subst (λ kind. FeedFault reader.limit s p old out kind fault.offset) r (bad s h) in
@@ -86,7 +86,7 @@ stands_in go whole reader s p front old out start fault h k e bad r =
     let at : length s - length reader.kept ≡ start = omega (arith, h.accepted, ap length k, e) in
     subst (λ x. StandsIn start (x ++ p) fault.offset) (sym k) (subst (λ n. StandsIn n (reader.kept ++ p) fault.offset) at there)
 
--- what was read before them, and all that was read
+-- The bytes that were read before them, and all that were read.
 pub before_start : (reader : ReaderState) (s front : List ℕ) (start : ℕ) → StandsFor reader s → front ≡ reader.kept → start ≡ reader.accepted - length front → length (before s front) ≡ start
 before_start reader s front start h k e =
     before_length s front (subst (λ x. before s x ++ x ≡ s) (sym k) (before_rest reader s h)) ∙ omega (arith, h.accepted, e)
@@ -95,7 +95,7 @@ pub all_read : (reader : ReaderState) (s p front : List ℕ) → StandsFor reade
 all_read reader s p front h k =
     sym (append_assoc (before s front) front p) ∙ ap (λ x. x ++ p) (subst (λ x. before s x ++ x ≡ s) (sym k) (before_rest reader s h))
 
--- ---- what is answered
+-- ---- the result
 
 pub told_shown : (ch : Choice) (E R W : Type 0) (limit : ℕ) (s w : List ℕ) (e : ShowFault) (fault : CaptureFault) → e.fault ≡ fault → all_found e.refusal ≡ refusal_told s fault.kind fault.offset → ShownAt ch E R W limit s w fault.kind fault.offset → Shown ch E R W limit s w (Err e)
 told_shown ch E R W limit s w e fault f r h = (
@@ -103,14 +103,14 @@ told_shown ch E R W limit s w e fault f r h = (
   r ∙ ap (λ x. refusal_told s x.kind x.offset) (sym f),
 )
 
--- a fault of this kind, of which no body is told
+-- A fault of this kind has no refusal.
 pub alone_shown : (ch : Choice) (E R W : Type 0) (limit : ℕ) (s w : List ℕ) (e : ShowFault) (fault : CaptureFault) → e ≡ alone fault → refusal_told s fault.kind fault.offset ≡ None → ShownAt ch E R W limit s w fault.kind fault.offset → Shown ch E R W limit s w (Err e)
 alone_shown ch E R W limit s w e fault f n h = subst (λ x. Shown ch E R W limit s w (Err x)) (sym f) (h, sym n)
 
 pub write_alone : (s : List ℕ) (kind : FaultKind) (at : ℕ) → kind ≡ Write → refusal_told s kind at ≡ None
 write_alone s kind at e = subst (λ k. refusal_told s k at ≡ None) (sym e) refl
 
--- the end in a cut frame
+-- The end of the source inside a frame.
 pub cut_shown : (ch : Choice) (E R W : Type 0) (limit : ℕ) (reader : ReaderState) (s : List ℕ) (e : ShowFault) (fault : CaptureFault) → e ≡ alone fault → reader.limit ≡ limit → E → (fault.kind ≡ Cut) × (first_fault reader.limit s ≡ Some fault) → Shown ch E R W limit s (lines ch limit s) (Err e)
 cut_shown ch E R W limit reader s e fault a l ended f =
     let there : first_fault limit s ≡ Some (record { kind = Cut; offset = fault.offset }) = subst (λ n. first_fault n s ≡ Some (record { kind = Cut; offset = fault.offset })) l (f.1 ∙ ap (λ k. Some (record { kind = k; offset = fault.offset })) f.0) in

@@ -1,22 +1,23 @@
--- What is shown goes by what a capture means.
+-- The lines of a capture depend only on its meaning.
 use Rattle.std.specs.Prelude.{◌≡◌, ℕ, ◌%◌, List, ◌++◌, length, Vec}
 use Rattle.link_capture_grammar.specs.Captures.{texts, IsLegal}
 use Rattle.link_capture_grammar.specs.Same.{SameCapture}
 use Rattle.link_lines_texts.specs.Captures.{Choice, lines}
 
--- the lines of c, up to its first fault, stand behind what was there
+-- A buffer gained the lines of c, up to its first fault.
 abbrev pub GainsLines : {Y Z : Type 0} → Choice → ℕ → List ℕ → Vec ℕ Y → Vec ℕ Z → Type 0
 GainsLines o limit c old new = new.items ≡ old.items ++ lines o limit c
 
--- the same is shown of two captures
+-- Two captures are shown alike.
 abbrev pub ShownAlike : Choice → ℕ → List ℕ → List ℕ → Type 0
 ShownAlike o limit a b = lines o limit a ≡ lines o limit b
 
--- whatever follows a capture is shown by itself, behind the capture's lines
+-- Whatever follows a capture is shown independently, after the capture's lines.
 abbrev pub IsShownInFront : Choice → ℕ → List ℕ → Type 0
 IsShownInFront o limit a = (b : List ℕ) → lines o limit (a ++ b) ≡ lines o limit a ++ lines o limit b
 
--- A capture is shown as its texts, and as captures that mean the same. What follows one that is legal and whose size is a multiple of 4 is shown by itself.
+-- A capture is shown as its texts are, and as any capture that means the same. What follows a legal capture, whose size
+-- is a multiple of 4, is shown independently.
 pub record GoesByMeaning (o : Choice) (limit : ℕ) (c : List ℕ) : Type 0 where
   pub normal : ShownAlike o limit (texts limit c) c
   pub same : (other : List ℕ) → SameCapture limit c other → ShownAlike o limit other c

@@ -1,4 +1,4 @@
--- What an answer says of the bytes that were read and of the lines that were written.
+-- What a result says about the bytes that were read and the lines that were written.
 use Rattle.std.specs.Prelude.{◌≡◌, ℕ, ◌+◌, ◌-◌, ◌^◌, ◌≤◌, min, List, length, take, drop, Option, Some, Result, Ok, Err}
 use Rattle.std.specs.Io.KnownBytes.{Consumes, Appends}
 use Rattle.link_capture_grammar.specs.declared.fault.FaultKind.{FaultKind}
@@ -10,25 +10,25 @@ use Rattle.link_lines_texts.specs.Captures.{Choice, lines}
 use Rattle.link_lines.specs.Refused.{refusal_told}
 use Rattle.link_lines.specs.declared.refused.ShowFault.{ShowFault}
 
--- Why memory was wanting at this place: what stands there is accepted, and its text had to be written.
+-- The cause of running out of memory at an offset: the message there is accepted, and its text had to be written.
 abbrev pub WantsMemoryAt : ℕ → List ℕ → ℕ → Type 0
 WantsMemoryAt limit c at = (frame : ℕ × List ℕ) × (first_frame limit (drop at c) ≡ Ok frame)
 
--- The first bytes of s, so many of them as `at` says, have no fault or a cut frame, and w are their lines.
+-- The first `at` bytes of s have no fault or a cut frame, and w are their lines.
 pub record ShowsFront (o : Choice) (limit : ℕ) (s w : List ℕ) (at : ℕ) : Type 0 where
   pub inside : at ≤ length s
   pub going : IsOpen (first_fault limit (take at s))
   pub written : w ≡ lines o limit (take at s)
 
--- More bytes were read than can be counted. All but the last piece, of at most 65,536 bytes, were accepted, and their
--- lines are written.
+-- More bytes were read than can be counted. All of them but the last piece, of at most 65,536 bytes, were accepted, and
+-- their lines are written.
 pub record PassesLength (o : Choice) (limit : ℕ) (s w : List ℕ) (at : ℕ) : Type 0 where
   pub long : 2 ^ 64 ≤ length s
   pub last : length s ≤ at + 65536
   pub front : ShowsFront o limit s w at
 
--- s was read, w was written, and a fault of this kind is answered at this place. What the devices told is given by
--- ended, read_failed and write_failed.
+-- The bytes s were read, w was written, and the result is a fault of this kind at this offset. The propositions ended,
+-- read_failed and write_failed are what the devices reported.
 abbrev pub ShownAt : Choice → Type 0 → Type 0 → Type 0 → ℕ → List ℕ → List ℕ → FaultKind → ℕ → Type 0
 ShownAt o ended read_failed write_failed limit s w Cut at = ended × (first_fault limit s ≡ Some (record { kind = Cut; offset = at })) × (w ≡ lines o limit s)
 ShownAt o ended read_failed write_failed limit s w Memory at = ShowsFront o limit s w at
@@ -38,7 +38,7 @@ ShownAt o ended read_failed write_failed limit s w TooLong at = PassesLength o l
 ShownAt o ended read_failed write_failed limit s w Failed at = ⊥
 ShownAt o ended read_failed write_failed limit s w kind at = (first_fault limit s ≡ Some (record { kind = kind; offset = at })) × (w ≡ lines o limit s)
 
--- s was read, w was written, and this is answered: of a refused body with what of it is refused
+-- The bytes s were read, w was written, and this is the result, with the reason of a refused body.
 abbrev pub Shown : Choice → Type 0 → Type 0 → Type 0 → ℕ → List ℕ → List ℕ → Result (Unit {0}) ShowFault → Type 0
 Shown o ended read_failed write_failed limit s w (Ok x) = ended × IsLegal limit s × (w ≡ lines o limit s)
 Shown o ended read_failed write_failed limit s w (Err e) =
@@ -51,7 +51,7 @@ abbrev pub Shows : Choice → Option (List ℕ) → Option (List ℕ) → Option
 Shows o from left held holds ended read_failed write_failed limit result =
     (s w : List ℕ) × Consumes from left s × Appends held holds w × Shown o ended read_failed write_failed limit s w result
 
--- the same of a call that keeps the first bytes of what was read: it kept these
+-- The same relation for a call that keeps the first bytes of what was read, which are these.
 abbrev pub ShowsKeeping : List ℕ → Choice → Option (List ℕ) → Option (List ℕ) → Option (List ℕ) → Option (List ℕ)
     → Type 0 → Type 0 → Type 0 → ℕ → Result (Unit {0}) ShowFault → Type 0
 ShowsKeeping first o from left held holds ended read_failed write_failed limit result =

@@ -1,4 +1,4 @@
--- What is told of a refused body.
+-- The reason of a refused body, and the texts of faults.
 use Rattle.std.specs.Prelude.{ℕ, ◌+◌, ◌-◌, ◌^◌, ◌<◌, ◌≤◌, nat_lt, cond, List, [], ◌++◌, codes, length, drop, Option, None, Some}
 use Rattle.netlink_packet_core_grammar.specs.Frames.{IsFrame}
 use Rattle.link_capture_grammar.specs.declared.fault.CaptureFault.{CaptureFault}
@@ -11,27 +11,28 @@ use Rattle.link_capture_refusals.specs.RefusalWords.{refusal_text}
 use Rattle.link_capture_refusals.specs.declared.refusal.Refusal.{Refusal}
 use Rattle.link_lines.specs.declared.refused.ShowFault.{ShowFault}
 
--- what of the body at this place of s is refused, where that is the fault; nothing where 2^63 bytes or more were read
+-- The reason of the refused body at this offset of s, if that is the fault; none if 2^63 bytes or more were read.
 abbrev pub refusal_told : List ℕ → FaultKind → ℕ → Option Found
 refusal_told s Refused at = cond (nat_lt (length s) (2 ^ 63)) (frame_refusal at (drop at s)) None
 refusal_told s kind at = None
 
--- a whole frame stands at this place of a capture, in bytes that stand at `start` of it
+-- A whole frame is at this offset of a capture, within bytes that begin at the offset `start`.
 pub record StandsIn (start : ℕ) (bytes : List ℕ) (at : ℕ) : Type 0 where
   pub fits : start + length bytes < 2 ^ 64
   pub behind : start ≤ at
   pub frame : IsFrame (drop (at - start) bytes)
 
--- a fault that isn't a refused body
+-- A fault that isn't a refused body.
 abbrev pub alone : CaptureFault → ShowFault
 alone fault = record { fault = fault; refusal = None }
 
--- ---- words
+-- ---- texts
 
+-- The text of a reason, or nothing.
 abbrev pub refusal_words : Option Refusal → List ℕ
 refusal_words None = []
 refusal_words (Some r) = codes ": " ++ refusal_text (found r)
 
--- of a fault and its place, and of what is refused
+-- The text of a fault with its offset, and of the reason.
 abbrev pub fault_words : ShowFault → List ℕ
 fault_words e = fault_text e.fault ++ refusal_words e.refusal

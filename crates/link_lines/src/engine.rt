@@ -1,4 +1,4 @@
-//! From a source to a sink.
+//! The lines of a capture, from a source to a sink.
 
 ghost use Rattle.std.specs.Prelude.{◌≡◌, ◌≤◌};
 ghost use Rattle.link_capture_reader.specs.Devices.{Rises, TellsItsEnd};
@@ -16,21 +16,30 @@ use link_capture_refusals::laws::refused_frames_are_whole;
 use link_lines_texts::laws::lines_are_joined;
 use std::alloc::Global;
 
-/// A fault of this kind at a place.
+/// Returns a fault of this kind at an offset, without a refusal.
 fn fault_at(kind: FaultKind, offset: u64) -> ShowFault
     ensures { result ≡ alone (record { kind = kind; offset = offset }) }
 {
     ShowFault::from(CaptureFault { kind, offset })
 }
 
-/// Reads a capture to its end, in pieces of at most 65,536 bytes, and writes its lines as the frames come.
+/// Reads a capture to its end, in pieces of at most 65,536 bytes, and writes its lines as the
+/// frames come.
 ///
-/// `limit` is the greatest length in bytes that a message, read or in its normal text, may have. It is done where the
-/// source told its end and the capture is legal. Otherwise the answer is the capture's first fault with its place, and
-/// what of a refused body is refused; a failed read at the number of bytes read; a failed write at the number of bytes
-/// taken; want of memory at a frame, or, for a piece or its lines, at the number of bytes accepted before it; or
-/// `TooLong` at the number of bytes accepted. Before any fault but a failed write and want of memory for a piece, the
-/// lines of the frames before it are written.
+/// `limit` is the greatest length in bytes that a message, read or in its normal text, may have. Ok
+/// means that the source reported its end, the capture is legal, and its lines are written.
+///
+/// # Errors
+///
+/// - the capture's first fault, with its offset, and what `why` returns for a refused body;
+/// - `Read` at the number of bytes read, if the source fails;
+/// - `Write` at the number of bytes taken, if the sink fails;
+/// - `Memory` at a frame, or, for a piece or its lines, at the number of bytes accepted before the
+///   piece;
+/// - `TooLong` at the number of bytes accepted.
+///
+/// The lines of the frames before the fault are written, unless a write failed, or an allocation
+/// for a piece.
 pub fn show<S: Source, K: Sink>(
     alloc: Global,
     source: &mut S,
@@ -48,7 +57,11 @@ pub fn show<S: Source, K: Sink>(
     show_keeping_first(alloc, source, sink, limit, options, &mut FirstBytes::new())
 }
 
-/// Shows a capture as `show` does, and keeps the first bytes of what was read.
+/// Shows a capture as `show` does, and keeps the first bytes that were read in `first`.
+///
+/// # Errors
+///
+/// Those of `show`; `first` has the first bytes that were read, at most four, also after an error.
 pub fn show_keeping_first<S: Source, K: Sink>(
     alloc: Global,
     source: &mut S,

@@ -1,4 +1,4 @@
-// The lines of link captures, for people: of bytes that are there whole, or from a source to a sink.
+// The lines of link captures, for people: of a whole capture as bytes, or from a source to a sink.
 #![tactic(auto)]
 
 mod engine;

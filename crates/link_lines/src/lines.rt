@@ -12,7 +12,7 @@ use link_lines_texts::push_frame;
 use netlink_packet_core::{NETLINK_HEADER_LEN, NetlinkBuffer, nla_align};
 use std::alloc::AllocError;
 
-/// The length of the frame in front of some bytes, where they hold a whole one.
+/// Returns the length of the frame at the start of some bytes, if they hold a whole one.
 fn frame_len(bytes: &[u8]) -> Option<usize>
     ensures some { IfSome result (λ n. (is_frame bytes.now ≡ true) × (n ≡ frame_length bytes.now)) }
     ensures none { IfNone result (is_frame bytes.now ≡ false) }
@@ -28,7 +28,7 @@ fn frame_len(bytes: &[u8]) -> Option<usize>
     Some(size)
 }
 
-/// What follows a frame of this length, and its padding.
+/// Returns the bytes after a frame of this length and its padding.
 fn behind(bytes: &[u8], size: usize) -> &[u8]
     requires { size < 2 ^ 32 }
     ensures { result.now ≡ drop (nla_align size) bytes.now }
@@ -41,7 +41,7 @@ fn behind(bytes: &[u8], size: usize) -> &[u8]
     }
 }
 
-/// Appends the lines of a frame, of which these are all bytes without the padding, where its type is shown.
+/// Appends the lines of a frame, given by its bytes without the padding, if its type is shown.
 fn push_shown(frame: &[u8], options: LineOptions<'_>, out: &mut Vec<u8>) -> Result<(), AllocError>
     requires { 16 ≤ length frame.now }
     ensures ok { OnOk result (out.new.items
@@ -53,7 +53,12 @@ fn push_shown(frame: &[u8], options: LineOptions<'_>, out: &mut Vec<u8>) -> Resu
     push_frame(frame, !options.without_numbers, out)
 }
 
-/// Appends the lines of these bytes, which are read as normal text, up to where no whole frame stands.
+/// Appends the lines of some bytes, which are read as normal text, up to the first position at
+/// which no whole frame begins.
+///
+/// # Errors
+///
+/// `AllocError` if `out` can't grow; it may then have a part of the lines.
 pub fn push_lines(
     texts: &[u8],
     options: LineOptions<'_>,

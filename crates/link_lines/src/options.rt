@@ -1,20 +1,21 @@
-//! What of a capture is shown.
+//! The choice of what is shown of a capture.
 
 ghost use Rattle.std.specs.Prelude.{◌≡◌, option_map};
 ghost use Rattle.link_lines_texts.specs.Captures.{is_among, is_chosen};
 ghost use Rattle.link_lines.specs.Options.{types_of};
 
-/// What of a capture is shown. By default that is all.
+/// The choice of what is shown of a capture; by default everything.
 #[derive(Clone, Copy, Debug, Default, PartialEq, Eq, Drop)]
 pub struct LineOptions<'a> {
-    /// Whether sequence and port numbers are left out: those of messages, and of the request's header that an
-    /// NLMSG_ERROR repeats behind its code (netlink.h, `struct nlmsghdr`, `struct nlmsgerr`).
+    /// Whether sequence and port numbers are left out: those of messages, and of the request's
+    /// header that an NLMSG_ERROR repeats after its code (netlink.h, `struct nlmsghdr`, `struct
+    /// nlmsgerr`).
     pub without_numbers: bool,
-    /// The types of the messages that are shown (netlink.h, rtnetlink.h); where there is None, all are.
+    /// The types of the messages that are shown (netlink.h, rtnetlink.h); None shows all.
     pub only: Option<&'a [u16]>,
 }
 
-/// Whether a type is one of these.
+/// Returns whether a type is one of these.
 fn is_among(types: &[u16], message_type: u16) -> bool
     ensures { result ≡ is_among types.now message_type }
 {
@@ -29,7 +30,7 @@ fn is_among(types: &[u16], message_type: u16) -> bool
 }
 
 impl LineOptions<'_> {
-    /// Whether messages of a type are shown.
+    /// Returns whether messages of a type are shown.
     pub fn shows(self, message_type: u16) -> bool
         ensures { result ≡ is_chosen (types_of self.entry) message_type }
     {

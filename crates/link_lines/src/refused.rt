@@ -1,4 +1,4 @@
-//! A fault, and what of a refused body is refused.
+//! A fault, and the reason of a refused body.
 
 ghost use Rattle.std.specs.Prelude.{◌≡◌, ◌+◌, ◌-◌, ◌^◌, ◌<◌, ◌≤◌, ◌++◌, ℕ, List, Some, length, vec_capacity, OnOk};
 ghost use Rattle.std.specs.Fmt.{WritesOnOk, WritesStyledOnOk};
@@ -12,12 +12,13 @@ use link_interpreter::append;
 use std::alloc::AllocError;
 use std::fmt;
 
-/// Why a capture isn't shown to its end.
+/// The reason why a capture isn't shown to its end.
 #[derive(Clone, Debug, PartialEq, Eq, Drop)]
 pub struct ShowFault {
-    /// What is wrong, and where.
+    /// The fault and its offset.
     pub fault: CaptureFault,
-    /// What of a refused body is refused: None of another fault, or where 2^63 bytes or more were read.
+    /// What `why` returns for a refused body: None for any other fault, or if 2^63 bytes or more
+    /// were read.
     pub refusal: Option<Refusal>,
 }
 
@@ -32,7 +33,7 @@ impl From<CaptureFault> for ShowFault {
     }
 }
 
-// Whatever options a format gives, the words are the same.
+// Options of a format change nothing: the text is always the same.
 impl fmt::Display for ShowFault {
     ghost output = { λ e. Some (fault_words e) };
 
@@ -50,7 +51,8 @@ impl fmt::Display for ShowFault {
     }
 }
 
-/// Keeps the bytes of a cut frame, if there are any, and makes room for those of a piece behind them.
+/// Keeps the bytes of a cut frame, if there are any, and reserves capacity for those of the piece
+/// that follows them.
 pub(crate) fn keep(front: &mut Vec<u8>, kept: &[u8], piece: &[u8]) -> Result<(), AllocError>
     ensures kept { OnOk result (front.new.items ≡ kept.now) }
     ensures room { OnOk result (0 < length kept.now
@@ -65,7 +67,8 @@ pub(crate) fn keep(front: &mut Vec<u8>, kept: &[u8], piece: &[u8]) -> Result<(),
     Ok(())
 }
 
-/// What of the frame with a fault is refused, of bytes that stand at `start` and have it.
+/// Returns the reason of a refused body, from bytes that begin at the offset `start` and have the
+/// frame with the fault.
 fn refusal_at(fault: CaptureFault, start: u64, bytes: &[u8]) -> Option<Refusal>
     requires { fault.kind ≡ FaultKind.Refused → StandsIn start bytes.now fault.offset }
     ensures { (before : List ℕ) → length before ≡ start
@@ -82,7 +85,8 @@ fn refusal_at(fault: CaptureFault, start: u64, bytes: &[u8]) -> Option<Refusal>
     }
 }
 
-/// A fault that came with a piece, where the bytes of the frame that was cut before it are kept, and stand at `start`.
+/// Returns a fault that came with a piece, with its refusal. `front` has the bytes of the frame
+/// that was cut before the piece, and these begin at the offset `start`.
 pub(crate) fn told(fault: CaptureFault, start: u64, front: &mut Vec<u8>, piece: &[u8]) -> ShowFault
     requires frame { fault.kind ≡ FaultKind.Refused
         → StandsIn start (front.old.items ++ piece.now) fault.offset }

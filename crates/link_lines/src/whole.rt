@@ -20,7 +20,8 @@ use link_capture_reader::normalize_bytes;
 use link_lines_texts::laws::lines_are_joined;
 use std::alloc::{AllocError, Global};
 
-/// Appends the lines of these texts, or nothing where memory is wanting. For no texts none is wanted.
+/// Appends the lines of these texts, or nothing if an allocation fails. Empty texts need no
+/// allocation.
 fn push_all(
     alloc: Global,
     texts: &[u8],
@@ -39,16 +40,19 @@ fn push_all(
     out.extend_from_slice(shown.as_slice())
 }
 
-/// Writes the lines of a capture at the end of `out`.
+/// Appends the lines of a capture to `out`.
 ///
-/// `bytes` is any byte string, read as netlink messages of which each starts at a multiple of 4. `limit` is the
-/// greatest length in bytes that a message, read or in its normal text, may have; `options` say what is shown. Where
-/// the capture is legal, `out` gains the lines of its normal text. Otherwise the answer is the first fault with its
-/// place, and `out` gains the lines of the messages before it. For want of memory the place is that of some message:
-/// what stands before it is legal, and its lines are written. Want of memory for the lines themselves is told at 0.
+/// `bytes` is any byte string, read as netlink messages of which each starts at a multiple of 4.
+/// `limit` is the greatest length in bytes that a message, read or in its normal text, may have;
+/// `options` choose what is shown. Ok means that the capture is legal, and `out` has gained the
+/// lines of its normal text.
 ///
-/// Memory is wanting only where what stands at the place is accepted: so never of no bytes, nor where the first message
-/// has a fault.
+/// # Errors
+///
+/// The first fault with its offset; `out` has gained the lines of the messages before it. `Memory`
+/// if an allocation fails, at the offset of a message that is accepted: the bytes before it are
+/// legal, and their lines are written. If an allocation for the lines themselves fails, the offset
+/// is 0. So neither empty bytes nor a fault of the first message can run out of memory.
 pub fn show_bytes(
     alloc: Global,
     bytes: &[u8],
@@ -57,20 +61,21 @@ pub fn show_bytes(
     out: &mut Vec<u8>,
 ) -> Result<(), CaptureFault>
     requires { 16 ≤ limit }
-    // It succeeds on legal captures alone, and writes their lines.
+    // It succeeds only on legal captures, and appends their lines.
     ensures legal { OnOk result (IsLegal limit bytes.now
         × GainsLines (choice_of options.entry) limit bytes.now out.old out.new) }
-    // Else it answers the first fault, unless memory ran out, and writes the lines before it.
+    // Otherwise it returns the first fault, unless an allocation fails, and appends the lines
+    // before it.
     ensures fault { IfErr result
         (λ fault. fault.kind ≢ FaultKind.Memory → (first_fault limit bytes.now ≡ Some fault)
         × GainsLines (choice_of options.entry) limit bytes.now out.old out.new) }
-    // A fault stands at a frame's start.
+    // A fault's offset is the start of a frame.
     ensures place { IfErr result (λ fault. IsPlaceOf bytes.now fault.offset) }
-    // Where memory ran out, what stands before the place is legal, and its lines are written.
+    // If an allocation fails, the bytes before the offset are legal, and their lines are appended.
     ensures memory { IfErr result
         (λ fault. fault.kind ≡ FaultKind.Memory → StopsAt limit bytes.now fault.offset
         × GainsLines (choice_of options.entry) limit (take fault.offset bytes.now) out.old out.new) }
-    // Memory is wanting only where what stands at the place is accepted.
+    // An allocation fails only if the message at the offset is accepted.
     ensures cause { IfErr result
         (λ fault. fault.kind ≡ FaultKind.Memory → WantsMemoryAt limit bytes.now fault.offset) }
     // A capture and its texts have the same lines.
@@ -78,7 +83,8 @@ pub fn show_bytes(
     // Captures that mean the same have the same lines.
     ensures same { (other : List ℕ) → SameCapture limit bytes.now other
         → ShownAlike (choice_of options.entry) limit other bytes.now }
-    // What follows a legal capture whose size is a multiple of 4 is shown by itself.
+    // The capture that follows a legal one, whose size is a multiple of 4, is shown independently
+    // of it.
     ensures joined { IsLegal limit bytes.now → length bytes.now % 4 ≡ 0
         → IsShownInFront (choice_of options.entry) limit bytes.now }
 {

@@ -1,4 +1,4 @@
--- What holds of all names in rows holds of one that is found, and no two kinds have one name.
+-- A property of all names in rows holds for one that is found, and no two kinds have one name.
 use Rattle.std.proofs.Common.{◌≡◌, ℕ, ◌<◌, ◌≤◌, Bool, true, false, cond, List, [], ◌∷◌, Option, Some, None, refl, sym, ap, ◌∙◌, arith}
 use Rattle.std.specs.Prelude.{◌==◌, ◌&&◌, not, nat_lt, nat_le, get_or, bytes_eq}
 use Rattle.std.proofs.lemmas.Bool.{and_parts, cond_both, eqb-true, leb-true, ltb-true, not-true, true≢false}
@@ -19,7 +19,7 @@ found_in f k (x ∷ ts) t h e =
     let parts = and_parts (if_named f x) (all_titles f ts) h in
     found_by f k x.0 t x.1 (find k ts) (x.0 == k) refl parts.0 (found_in f k ts t parts.1) e
 
--- ---- two kinds of one name
+-- ---- two kinds with one name
 
 not_other : {B : Type 0} (s : List ℕ) (n : Named B) → s ≡ n.0 → not (bytes_eq s n.0) ≡ true → ⊥
 not_other s n e h = true≢false (sym ((bytes_eq-Decides s n.0).1 e) ∙ not-true (bytes_eq s n.0) h)
@@ -42,7 +42,7 @@ apart_in k l t u (x ∷ ts) h e f g =
     let parts = and_parts (is_new x ts) (names_apart ts) h in
     apart_by k l x.0 x.1 t u ts (x.0 == k) (x.0 == l) refl refl parts.0 e (apart_in k l t u ts parts.1 e) f g
 
--- ---- what holds of each of some lists
+-- ---- properties of each of some lists
 
 pub chosen : {A : Type 0} (f : A → Bool) (b : Bool) (x y : A) → f x ≡ true → f y ≡ true → f (cond b x y) ≡ true
 chosen f b x y h k = cond_both b x y (λ z. f z ≡ true) (λ e. h) (λ e. k)

@@ -1,4 +1,4 @@
--- Each name of a raw attribute is a word of its own, and what stands behind it tells the payload, by computation.
+-- Each name of a raw attribute is a word of its own, and what follows it determines the payload, by computation.
 use Rattle.std.proofs.Common.{◌≡◌, ℕ, Bool, true, List, [], ◌∷◌, Some, refl}
 use Rattle.std.specs.Prelude.{◌&&◌}
 use Rattle.std.specs.List.{list_all}
@@ -9,7 +9,7 @@ use Rattle.link_lines_names.specs.Names.{Named, Titled, all_titles, has_name, na
 use Rattle.link_lines_names.specs.Raw.{Raw, geneve_titles, gre6_titles, gre_titles, link_titles, raw_lists, raw_name, raw_titles_of, table_titles, vf_titles, xfrm_titles}
 use Rattle.link_lines_names.proofs.Named.{chosen, first_holds, found_in, others_hold}
 
--- what stands behind a name tells the payload, on one line
+-- The text after a name determines the payload, and is on one line.
 abbrev pub raw_tells : Raw → Bool
 raw_tells R.Bytes = true
 raw_tells (R.Sized n v) = tells_sized n v && is_shown_on_a_line v
@@ -17,7 +17,7 @@ raw_tells (R.Sized n v) = tells_sized n v && is_shown_on_a_line v
 abbrev has_told : ℕ → Named Raw → Bool
 has_told k n = raw_tells n.1
 
--- ---- what holds in each list
+-- ---- a property in each list
 
 abbrev in_each : (List (Titled Raw) → Bool) → Bool
 in_each f =

@@ -1,4 +1,4 @@
--- What is shown of raw attributes tells them.
+-- The lines of raw attributes determine them.
 use Rattle.std.proofs.Common.{◌≡◌, ℕ, ◌/◌, ◌%◌, ◌<◌, Bool, true, false, cond, List, [], ◌∷◌, ◌++◌, length, drop, get_or, Option, Some, None, refl, sym, ap, ◌∙◌, arith}
 use Rattle.std.specs.Prelude.{◌==◌, codes}
 use Rattle.std.proofs.lemmas.Bool.{and_parts, eqb-true}
@@ -51,7 +51,7 @@ of_two_bytes k l h e = omega arith
 two_bytes : (k : ℕ) → k < 65536 → AreBytes (k / 256 ∷ k % 256 ∷ [])
 two_bytes k h = (omega arith, (omega arith, record {}))
 
--- an attribute without a name is told by its kind and its bytes
+-- An attribute without a name is determined by its kind and its bytes.
 unnamed_told : (k l : ℕ) (p q : List ℕ) → k < 65536 → l < 65536 → AreBytes p → AreBytes q →
     codes "kind " ++ (four_digits k ++ bytes_text p) ≡ codes "kind " ++ (four_digits l ++ bytes_text q) → (k ≡ l) × (p ≡ q)
 unnamed_told k l p q i j a b h =

@@ -1,4 +1,4 @@
--- Rows in code and what they say.
+-- Rows in code, and what they represent.
 use Rattle.std.proofs.Common.{◌≡◌, ℕ, Bool, true, false, cond, List, [], ◌∷◌, Option, refl, ap, ◌∙◌}
 use Rattle.std.specs.Prelude.{◌==◌, option_map}
 use Rattle.link_lines_values.specs.Placed.{find}
@@ -14,6 +14,6 @@ module _ {N A B : Type 0} (f : N → List ℕ) (g : A → B) where
   said_at k [] = refl
   said_at k (t ∷ ts) = picked (t.0 == k) t.1 k ts (said_at k ts)
 
-  -- a look-up in code, as the rows say it
+  -- A look-up in code, in terms of the rows that it represents.
   pub at_kind : (k : ℕ) (r : Option (N × A)) (ts : List (ℕ × Option (N × A))) (us : List (Titled B)) → r ≡ find k ts → titles_in f g ts ≡ us → option_map (named_of f g) r ≡ find k us
   at_kind k r ts us h e = ap (option_map (named_of f g)) h ∙ said_at k ts ∙ ap (find k) e

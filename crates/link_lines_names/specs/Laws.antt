@@ -1,11 +1,12 @@
--- What is shown of raw attributes tells them, as the functions of `laws` state it.
+-- The lines of raw attributes determine them; the function of `laws` has this as its contract.
 use Rattle.std.specs.Prelude.{◌≡◌, ℕ, ◌<◌, true, List, Some}
 use Rattle.netlink_packet_core_grammar.specs.Bytes.{AreBytes}
 use Rattle.link_lines_values.specs.Laws.{IsBehindASpace, IsLine}
 use Rattle.link_lines_names.specs.Names.{Named, is_name}
 use Rattle.link_lines_names.specs.Raw.{Raw, raw_name, raw_payload, raw_text}
 
--- A name is a word, the payload stands behind it, behind a space, and both on one line, which tells the kind and the payload.
+-- A name is a word, the payload follows it after a space, and both are on one line, which determines the kind and the
+-- payload.
 pub record RawAttributesAreTold : Type 0 where
   pub name : (table kind : ℕ) (n : Named Raw) → raw_name table kind ≡ Some n → is_name n.0 ≡ true
   pub space : (raw : Raw) (p : List ℕ) → IsBehindASpace (raw_payload raw p)

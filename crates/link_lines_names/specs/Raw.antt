@@ -1,4 +1,4 @@
--- The names of raw attributes, and what is shown of them.
+-- The names of raw attributes, and the lines in which these are shown.
 use Rattle.std.specs.Prelude.{ℕ, ◌-◌, ◌==◌, ◌||◌, nat_lt, cond, List, [], ◌∷◌, ◌++◌, Option, Some, None, codes, get_or, length, map}
 use Rattle.link_lines_values.specs.declared.fields.FieldOf.{FieldOf}
 use Rattle.link_lines_values.specs.declared.values.ShownBy.{ShownBy}
@@ -12,67 +12,75 @@ use Rattle.link_lines_names.specs.declared.raw_names.TheConstants.{VLAN_NAMES, B
 use Rattle.link_lines_names.specs.Names.{Named, Titled, titles_in}
 use Rattle.link_tables.specs.declared.table.TheConstants.{GENEVE, GRE, GRE6, LINK_BRIDGE, LINK_INET6, LINK_OTHER, LINK_UNSPEC, VF, VLAN, XFRM}
 
--- how a raw payload is shown
+-- How a raw payload is shown.
 abbrev pub Raw : Type 0
 Raw = RawBy Shown
 
--- what a form in code says
+-- The format that a value in code represents.
 abbrev pub raw_of : {N T S : Type 0} → (N → List ℕ) → (T → List (ℕ × N)) → (S → List (FieldOf N)) → RawBy (ShownBy T S) → Raw
 raw_of f g h R.Bytes = R.Bytes
 raw_of f g h (R.Sized n shown) = R.Sized n (seen f g h shown)
 
--- what rows in code say
+-- The rows that a constant in code represents.
 abbrev pub raw_said : {N T S : Type 0} → (N → List ℕ) → (T → List (ℕ × N)) → (S → List (FieldOf N)) → List (ℕ × Option (N × RawBy (ShownBy T S))) → List (Titled Raw)
 raw_said f g h ts = titles_in f (raw_of f g h) ts
 
--- the names in lists of raw attributes: data of vlan, bridge, bond, tun, can, hsr and dsa, port data of bridge and bond, and of bridges and IPv6
+-- The names in tables of raw attributes: data of vlan, bridge, bond, tun, can, hsr and dsa, port data of bridge and
+-- bond, and tables of bridges and IPv6.
 unfoldable pub raw_lists : List (List (Titled Raw))
 raw_lists =
     map (λ b. raw_said (λ n. n.now) (λ t. t.now) (λ r. r.now) b.now)
     (VLAN_NAMES ∷ BRIDGE_NAMES ∷ BOND_NAMES ∷ TUN_NAMES ∷ CAN_NAMES ∷ HSR_NAMES ∷ DSA_NAMES ∷
     BRIDGE_PORT_NAMES ∷ BOND_PORT_NAMES ∷ BRIDGE_SPECIFIC_NAMES ∷ INET6_PROTOCOL_NAMES ∷ [])
 
--- the names of kinds for which a table has no row
+-- The names of virtual functions' kinds for which the table has no row.
 abbrev pub vf_titles : List (Titled Raw)
 vf_titles = raw_said (λ n. n.now) (λ t. t.now) (λ r. r.now) VF_NAMES.now
 
+-- The names of links' kinds for which the tables have no row.
 abbrev pub link_titles : List (Titled Raw)
 link_titles = raw_said (λ n. n.now) (λ t. t.now) (λ r. r.now) LINK_NAMES.now
 
+-- The names of kinds in data of geneve for which the table has no row.
 abbrev pub geneve_titles : List (Titled Raw)
 geneve_titles = raw_said (λ n. n.now) (λ t. t.now) (λ r. r.now) GENEVE_NAMES.now
 
+-- The names of kinds in data of gre over IPv4 for which the table has no row.
 abbrev pub gre_titles : List (Titled Raw)
 gre_titles = raw_said (λ n. n.now) (λ t. t.now) (λ r. r.now) GRE_NAMES.now
 
+-- The names of kinds in data of gre over IPv6 for which the table has no row.
 abbrev pub gre6_titles : List (Titled Raw)
 gre6_titles = raw_said (λ n. n.now) (λ t. t.now) (λ r. r.now) GRE6_NAMES.now
 
+-- The names of kinds in data of xfrm for which the table has no row.
 abbrev pub xfrm_titles : List (Titled Raw)
 xfrm_titles = raw_said (λ n. n.now) (λ t. t.now) (λ r. r.now) XFRM_NAMES.now
 
+-- The names of kinds for which the table with this index has no row.
 unfoldable pub table_titles : ℕ → List (Titled Raw)
 table_titles n =
     cond (n == VF.0) vf_titles (cond (n == LINK_UNSPEC.0 || (n == LINK_BRIDGE.0 || (n == LINK_INET6.0 || n == LINK_OTHER.0))) link_titles
     (cond (n == GENEVE.0) geneve_titles (cond (n == GRE.0) gre_titles (cond (n == GRE6.0) gre6_titles (cond (n == XFRM.0) xfrm_titles [])))))
 
--- the names in the table with this index; the tables of raw attributes come last
+-- The names of raw attributes in the table with this index; the tables with raw attributes only come last.
 unfoldable pub raw_titles_of : ℕ → List (Titled Raw)
 raw_titles_of n = cond (nat_lt n VLAN.0) (table_titles n) (get_or raw_lists (n - VLAN.0) [])
 
--- the name of a kind, of which all 16 bits count
+-- The name of a kind, of which all 16 bits count.
 abbrev pub raw_name : ℕ → ℕ → Option (Named Raw)
 raw_name table kind = find kind (raw_titles_of table)
 
--- a value where the payload has the kernel's size
+-- The text of a payload: its value if it has the kernel's size, else its bytes.
 abbrev pub raw_payload : Raw → List ℕ → List ℕ
 raw_payload R.Bytes p = bytes_text p
 raw_payload (R.Sized n shown) p = cond (length p == n) (value_text shown p) (codes " bytes" ++ bytes_text p)
 
--- under its name, or its kind as a number
+-- The text of a raw attribute, by its name or by its kind as a number.
 abbrev pub named_text : Option (Named Raw) → ℕ → List ℕ → List ℕ
 named_text None kind p = codes "kind " ++ (four_digits kind ++ bytes_text p)
 named_text (Some n) kind p = n.0 ++ raw_payload n.1 p
 
+-- The text of a raw attribute in a table.
 unfoldable pub raw_text : ℕ → ℕ → List ℕ → List ℕ
 raw_text table kind p = named_text (raw_name table kind) kind p

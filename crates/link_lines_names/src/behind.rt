@@ -1,4 +1,4 @@
-//! What stands behind the names of attributes.
+//! How the payloads of attributes with names are shown.
 
 ghost use Rattle.std.specs.Prelude.{◌≡◌};
 ghost use Rattle.link_lines_names.specs.Behind.{inside_of, inside_held, known_inside, of_held};
@@ -7,27 +7,27 @@ ghost use Rattle.link_tables.specs.InForce.{held_in_force, in_force};
 use link_lines_values::{Shown, ShownBy};
 use link_tables::{Form, Held, IFLA_INFO_DATA, IFLA_INFO_SLAVE_DATA, InForce, Table, info_held};
 
-/// What stands behind an attribute's name, with forms of that type.
+/// How the payload of an attribute with a name is shown, with formats of type `S`.
 #[derive(Clone, Copy)]
 pub enum BehindBy<S> {
     /// The value of the payload.
     Value(S),
-    /// Below it, the other end of a pair: its header and its attributes.
+    /// The other end of a pair, on the lines below: its header and its attributes.
     Peer,
-    /// Below it, the attributes of that table.
+    /// The attributes of that table, on the lines below.
     List(Form, Table),
-    /// Below it, the attributes of link info.
+    /// The attributes of link info, on the lines below.
     LinkInfo,
-    /// The same of the table that the kind in force tells.
+    /// The attributes of the table that the kind in force determines, on the lines below.
     Data,
-    /// The same of the table that the port kind in force tells.
+    /// The attributes of the table that the port kind in force determines, on the lines below.
     PortData,
 }
 
-/// What stands behind an attribute's name.
+/// How the payload of an attribute with a name is shown.
 pub type Behind = BehindBy<Shown>;
 
-/// What a payload holds, as it stands behind a name.
+/// Returns how data are shown: as a list or as bytes.
 fn of_held(held: Held) -> Behind
     ensures { inside_of (λ b. b.now) (λ t. t.now) (λ r. r.now) result ≡ of_held held }
 {
@@ -37,7 +37,7 @@ fn of_held(held: Held) -> Behind
     }
 }
 
-/// The same of an attribute of link info: bytes if no kind is in force that it depends on.
+/// Returns how data in link info are shown: as bytes if no kind is in force on which they depend.
 fn info_behind(force: InForce<'_>, kind: u16) -> Behind
     ensures { inside_of (λ b. b.now) (λ t. t.now) (λ r. r.now) result
         ≡ inside_held (held_in_force (in_force force.entry) kind) }
@@ -48,7 +48,8 @@ fn info_behind(force: InForce<'_>, kind: u16) -> Behind
     }
 }
 
-/// What stands behind a name under the kinds in force. In a peer, peers are bytes.
+/// Returns how a payload is shown under the kinds in force. Inside a peer, a peer is shown as
+/// bytes.
 pub fn known_behind(is_in_peer: bool, force: InForce<'_>, behind: Behind) -> Behind
     ensures { inside_of (λ b. b.now) (λ t. t.now) (λ r. r.now) result
         ≡ known_inside is_in_peer (in_force force.entry)

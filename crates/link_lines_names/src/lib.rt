@@ -1,4 +1,5 @@
-// What stands behind the names of attributes, and the names of those that are kept as bytes.
+// How the payloads of attributes with names are shown, and the names of raw attributes, which are
+// kept as bytes.
 #![tactic(auto)]
 
 mod behind;

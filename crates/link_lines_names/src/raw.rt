@@ -1,5 +1,5 @@
-//! Raw attributes, which a normal text keeps as bytes under all 16 bits of their kind: the kernel's names of them, and
-//! their values where the payload has the kernel's size.
+//! Raw attributes, which a normal text keeps as bytes under all 16 bits of their kind: the kernel's
+//! names of their kinds, and their values if the payload has the kernel's size.
 
 ghost use Rattle.std.specs.Prelude.{◌≡◌, ◌++◌, true, [], codes, get_or, option_map, OnOk};
 ghost use Rattle.link_lines_names.specs.Names.{named_of};
@@ -32,12 +32,12 @@ const XFRM: u8 = table::XFRM.0;
 // The index of the first table of raw attributes.
 const VLAN: u8 = table::VLAN.0;
 
-/// How the payload of a raw attribute is shown, with forms of that type.
+/// How the payload of a raw attribute is shown, with formats of type `S`.
 #[derive(Clone, Copy)]
 pub enum RawBy<S> {
     /// As bytes.
     Bytes,
-    /// By its value where it has that many bytes, or else as bytes behind the word `bytes`.
+    /// By its value if the payload has that many bytes, else as bytes after the word `bytes`.
     Sized(u8, S),
 }
 
@@ -47,10 +47,10 @@ pub type Raw = RawBy<Shown>;
 /// The name of a raw attribute, and how its payload is shown.
 pub type RawName = (&'static [u8], Raw);
 
-/// A kind, and its name where raw attributes of that kind have one.
+/// A kind, with its name if raw attributes of that kind have one.
 pub type RawTitle = (u16, Option<RawName>);
 
-/// The name of a kind.
+/// The entry of one kind: its name, and how its payload is shown.
 #[macro_export]
 macro_rules! raw_title {
     ($kind:literal) => {
@@ -64,7 +64,7 @@ macro_rules! raw_title {
     };
 }
 
-/// The names of a list.
+/// The entries of a list of kinds.
 #[macro_export]
 macro_rules! raw_titles {
     ($($kind:literal $(, $name:literal $(, $size:literal, $shown:expr)?)?;)*) => {
@@ -72,7 +72,7 @@ macro_rules! raw_titles {
     };
 }
 
-/// The names in a table of raw attributes, by its index from the first one's on.
+/// Returns the names in a table of raw attributes, by its index from that of the first one on.
 #[tactic(auto, unfolding(crate::specs::Raw::raw_lists))]
 fn list_titles(list: u8) -> &'static [RawTitle]
     ensures titles { raw_said (λ b. b.now) (λ t. t.now) (λ r. r.now) result.now ≡ get_or raw_lists list [] }
@@ -94,7 +94,7 @@ fn list_titles(list: u8) -> &'static [RawTitle]
     }
 }
 
-/// The names of kinds for which a table has no row.
+/// Returns the names of kinds for which a table has no row.
 #[tactic(auto, unfolding(crate::specs::Raw::table_titles))]
 fn table_titles(table: u8) -> &'static [RawTitle]
     ensures titles { raw_said (λ b. b.now) (λ t. t.now) (λ r. r.now) result.now ≡ table_titles table }
@@ -111,7 +111,7 @@ fn table_titles(table: u8) -> &'static [RawTitle]
     }
 }
 
-/// The names of the raw attributes in a table.
+/// Returns the names of the raw attributes in a table.
 #[tactic(auto, unfolding(crate::specs::Raw::raw_titles_of))]
 fn raw_titles_of(table: Table) -> &'static [RawTitle]
     ensures titles { raw_said (λ b. b.now) (λ t. t.now) (λ r. r.now) result.now ≡ raw_titles_of table.0 }
@@ -124,7 +124,8 @@ fn raw_titles_of(table: Table) -> &'static [RawTitle]
     }
 }
 
-/// The name of a raw attribute's kind, of which all 16 bits count.
+/// Returns the name of a raw attribute's kind. All 16 bits count: a kind with a flag bit has no
+/// name.
 fn raw_name(table: Table, kind: u16) -> Option<RawName>
     ensures { option_map (named_of (λ b. b.now) (raw_of (λ b. b.now) (λ t. t.now) (λ r. r.now))) result ≡ raw_name table.0 kind }
 {
@@ -148,7 +149,7 @@ fn push_raw_payload(raw: Raw, payload: &[u8], out: &mut Vec<u8>) -> Result<(), A
     }
 }
 
-/// Appends a raw attribute by its kind.
+/// Appends a raw attribute without a name: its kind as a number, and its bytes.
 fn push_unnamed(kind: u16, payload: &[u8], out: &mut Vec<u8>) -> Result<(), AllocError>
     ensures ok { OnOk result (out.new.items
         ≡ out.old.items ++ (codes "kind " ++ (four_digits kind ++ bytes_text payload.now))) }
@@ -158,8 +159,13 @@ fn push_unnamed(kind: u16, payload: &[u8], out: &mut Vec<u8>) -> Result<(), Allo
     push_bytes(payload, out)
 }
 
-/// Appends a raw attribute of a table: its kind's name, and the value where the payload has the kernel's size, else the
-/// bytes; or the kind as a number, and the bytes.
+/// Appends a raw attribute of a table: the name of its kind, followed by the value if the payload
+/// has the kernel's size, else by the bytes; or, without a name, the kind as a number and the
+/// bytes.
+///
+/// # Errors
+///
+/// `AllocError` if `out` can't grow; it may then have a part of the text.
 #[tactic(auto, unfolding(crate::specs::Raw::raw_text))]
 pub fn push_raw(
     table: Table,

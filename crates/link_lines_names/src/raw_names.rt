@@ -1,5 +1,6 @@
-//! The names of raw attributes, a table after another, a row in a line: a kind, its name, and where the kernel's payload
-//! has one size, that size in bytes and how its value is shown. A kind alone is one that has no name.
+//! The names of raw attributes, one table after the other and one row a line: a kind, its name,
+//! and, if the kernel's payload has one size, that size in bytes and how its value is shown. A row
+//! with a kind only is for a kind without a name.
 
 use crate::raw::RawBy::{Bytes, Sized};
 use crate::raw::RawTitle;

@@ -1,4 +1,4 @@
--- The names that lines give numbers and flags, and the texts of the typed displays.
+-- The names that lines show for numbers and flags, compared with the typed displays.
 use Rattle.std.specs.Prelude.{◌≡◌, ◌==◌, ◌+◌, ◌&&◌, nat_le, ℕ, List, cond, map}
 use Rattle.std.specs.List.{after_first}
 use Rattle.link_lines_values.specs.Names.{Text, texts_of}
@@ -22,11 +22,12 @@ use Rattle.link_message_types.specs.LinkModes.{link_mode_number, link_mode_text,
 use Rattle.link_message_types.specs.LinkStates.{listed_states, state_number, state_text}
 use Rattle.link_message_types.specs.MctpTypes.{listed_mctp_phys_bindings, mctp_phys_binding_number, mctp_phys_binding_text}
 
--- the numbers of values, each with the text that the value is displayed as
+-- The numbers of values, each with the value's display.
 abbrev pub displayed : {V : Type 0} → (V → ℕ) → (V → List ℕ) → List V → List Text
 displayed number text values = map (λ v. (number v, text v)) values
 
--- The numbers that have a name in lines are those of the values that have one, and the name is the value's display. So it is of the flags of links.
+-- The numbers that have a name in lines are those of the values that have one, and the name is the value's display. The
+-- same holds for the flags of links.
 pub record NumbersAreDisplayed : Type 0 where
   pub amt_modes : texts_of (λ name. name.now) AMT_MODE.now ≡ displayed amt_mode_number amt_mode_text listed_amt_modes
   pub geneve_dfs : texts_of (λ name. name.now) GENEVE_DF.now ≡ displayed geneve_df_number geneve_df_text listed_geneve_dfs
@@ -47,10 +48,11 @@ pub record NumbersAreDisplayed : Type 0 where
   pub link_layer_types : texts_of (λ name. name.now) LINK_LAYER_TYPE.now ≡ displayed link_layer_type_number link_layer_type_text listed_link_layer_types
   pub link_flags : texts_of (λ name. name.now) LINK_FLAGS.now ≡ map (λ row. (row.1, row.0)) link_flags_table
 
--- a byte in lower case
+-- A byte in lower case.
 abbrev pub in_lower_case : ℕ → ℕ
 in_lower_case c = cond (nat_le 65 c && nat_le c 90) (c + 32) c
 
--- The words by which linkshow knows types of messages are the names that lines give them, in lower case, without what stands before the first `_`.
+-- The words by which linkshow knows message types are the names that lines show, in lower case, without the part up to
+-- the first `_`.
 abbrev pub TypesHaveWords : Type 0
 TypesHaveWords = words_of (λ word. word.now) TYPE_WORDS.now ≡ map (λ row. (row.0, map in_lower_case (after_first (λ c. c == 95) row.1))) (texts_of (λ name. name.now) MESSAGE_TYPE.now)

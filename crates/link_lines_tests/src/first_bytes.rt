@@ -1,4 +1,5 @@
-//! The first bytes of what was read, which tell a capture from another kind of file. The wanted line comes from an
+//! The first bytes that were read, which distinguish a capture from another kind of file. The
+//! expected line comes from an independent implementation.
 //! independent implementation.
 
 use link_capture_reader::read_all_keeping_first;
@@ -10,7 +11,7 @@ use std::test::Fail;
 /// A message of type NLMSG_NOOP with sequence number 1.
 const NOOP: [u8; 16] = [16, 0, 0, 0, 1, 0, 0, 0, 1, 0, 0, 0, 0, 0, 0, 0];
 
-/// The start of a pcap file, and some of what follows.
+/// The start of a pcap file, and some bytes that follow it.
 const PCAP: [u8; 6] = [0xd4, 0xc3, 0xb2, 0xa1, 2, 0];
 
 #[test]

@@ -1,5 +1,5 @@
-// Lines held against what stands elsewhere: the names of numbers and types against the typed values, by laws, and values against
-// an independent implementation, by tests.
+// Lines compared with other sources: the names of numbers and types with the typed values, by laws,
+// and values with an independent implementation, by tests.
 #![tactic(auto)]
 
 #[cfg(test)]

@@ -1,4 +1,4 @@
-//! Values as text. The wanted texts come from an independent implementation.
+//! Values as text. The expected texts come from an independent implementation.
 
 use link_lines_values::{
     ADDRESS_FAMILY, ETHERNET_PROTOCOL, ICMP6_STATS, LINK_FLAGS, LINK_LAYER_TYPE, MAC_VLAN_MODE,
@@ -9,10 +9,10 @@ use link_lines_values::{
 use std::alloc::{AllocError, Global};
 use std::test::Fail;
 
-/// How a payload is shown, the payload, and its text.
+/// A test case: how a payload is shown, the payload, and its text.
 type Case = (Shown, &'static [u8], &'static str);
 
-/// The text of the first case whose payload is shown otherwise.
+/// Returns the expected text of the first case that is shown differently.
 fn first_wrong(alloc: Global, cases: &[Case]) -> Result<Option<&'static str>, AllocError> {
     for (shown, payload, text) in cases {
         let mut out = Vec::new(alloc);

@@ -1,4 +1,4 @@
--- A list that is its own text is the text of attributes that are theirs.
+-- A canonical list is the text of canonical attributes.
 use Rattle.std.proofs.Common.{◌≡◌, ℕ, suc, ◌-◌, ◌%◌, ◌/◌, ◌<◌, ◌≤◌, Bool, true, false, cond, List, [], ◌∷◌, ◌++◌, length, drop, Option, Some, None, refl, sym, ap, subst, ◌∙◌, arith}
 use Rattle.std.specs.Prelude.{filter, option_map, ⊤}
 use Rattle.std.proofs.lemmas.Bool.{and_parts}
@@ -9,13 +9,13 @@ use Rattle.netlink_packet_core_grammar.proofs.Attributes.{attributes_of_text, fi
 use Rattle.attribute_tables_grammar.specs.Lists.{Context, Grammar, ListForm, Row, all_accepted, any, first_alone, if_read, is_of_kind_one, kept, list_rule, non_empty, not_empty, nothing, of_kind_one, ports, read_as, rewrite, rewritten, row_of, written_kind}
 use Rattle.link_lines_texts.specs.Telling.{IsOwn}
 
--- an attribute that its row accepts and leaves as it is
+-- An attribute that its row accepts and leaves unchanged.
 pub record OwnAttribute (r : Row) (e : Attribute) : Type 0 where
   pub small : e.kind < 65536
   pub kind : written_kind r e.kind ≡ e.kind
   pub payload : IsOwn r.rule e.payload
 
--- attributes in order, each under its row
+-- Attributes in order, each under its row.
 abbrev pub AllOwn : Grammar → Context → List Attribute → Type 0
 AllOwn g c [] = ⊤
 AllOwn g c (e ∷ es) = OwnAttribute (row_of g c e) e × AllOwn g (g.next c e) es
@@ -77,7 +77,7 @@ all_own g c (e ∷ es) h a b =
       all_own g (g.next c e) es (ap (drop 1) h) parts.1 bytes.rest,
     )
 
--- ---- what is read of such a list is what it is written as
+-- ---- the attributes read from such a list are those that are written
 
 rewritten_length : (g : Grammar) (c : Context) (es : List Attribute) → length (rewritten g c es) ≡ length es
 unfolding rewritten
@@ -92,7 +92,7 @@ filtered_length : (f : Attribute → Bool) (es : List Attribute) → length (fil
 filtered_length f [] = omega arith
 filtered_length f (e ∷ es) = filtered_by f e es (f e) (filtered_length f es)
 
--- a filter that keeps the length keeps everything
+-- A filter that keeps the length keeps everything.
 kept_by : (f : Attribute → Bool) (e : Attribute) (es : List Attribute) (t : Bool) → length (filter f es) ≤ length es → (length (filter f es) ≡ length es → filter f es ≡ es) →
     length (cond t (e ∷ filter f es) (filter f es)) ≡ suc (length es) → cond t (e ∷ filter f es) (filter f es) ≡ e ∷ es
 kept_by f e es true h same l = ap (λ z. e ∷ z) (same (omega arith))
@@ -133,7 +133,7 @@ read_back non_empty g es gs w h = filled gs es (ap (λ o. if_some o not_empty) (
 read_back ports g es gs w h = filled gs es (ap (λ o. if_some o not_empty) (sym (attributes_of_text gs)) ∙ h)
 read_back first_alone g es gs w h = alone g es gs w h
 
--- such a form keeps all of them
+-- Such a list kind keeps all of them.
 nothing_dropped : (form : ListForm) (g : Grammar) (es : List Attribute) → rewritten g nothing (kept form es) ≡ es → kept form es ≡ es
 nothing_dropped any g es h = refl
 nothing_dropped non_empty g es h = refl

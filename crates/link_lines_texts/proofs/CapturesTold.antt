@@ -1,4 +1,4 @@
--- Where lines tell frames, they tell captures.
+-- If lines determine frames, they determine captures.
 use Rattle.std.proofs.Common.{◌≡◌, ℕ, zero, suc, ◌+◌, ◌-◌, ◌^◌, ◌<◌, ◌≤◌, Bool, true, false, cond, List, [], ◌∷◌, ◌++◌, length, take, drop, Result, Ok, Err, ◌⊎◌, inl, inr, None, refl, sym, ap, subst, ◌∙◌, append_assoc, arith}
 use Rattle.std.specs.Prelude.{codes, ⊤}
 use Rattle.std.proofs.lemmas.Bool.{cond_both}
@@ -65,7 +65,7 @@ body_bytes t b text h e =
 
 -- ---- a frame's bytes without their padding
 
--- the bytes of the frame that has c's header and this body
+-- The bytes of the frame that has c's header and this body.
 abbrev own_frame : List ℕ → List ℕ → List ℕ
 own_frame c body = le4 (16 + length body) ++ (take 12 (drop 4 c) ++ body)
 
@@ -73,7 +73,7 @@ four_long : (n : ℕ) → length (le4 n) ≡ 4
 unfolding le4
 four_long n = refl
 
--- they stand in front of its text
+-- They are at the start of its text.
 in_text : (c body : List ℕ) → 16 ≤ length c → take (16 + length body) (frame_text c body) ≡ own_frame c body
 unfolding frame_text
 in_text c body h =
@@ -109,7 +109,7 @@ unfolding u16_at le4
 own_type (a ∷ b ∷ c ∷ d ∷ e ∷ f ∷ more) body h = refl
 own_type c body h = absurd (omega (arith, h))
 
--- a frame's text is told by its header's last twelve bytes and its body
+-- A frame's text is determined by its header's last twelve bytes and its body.
 text_told : (c d body more : List ℕ) → 16 ≤ length c → 16 ≤ length d →
     drop 4 (own_frame c body) ≡ drop 4 (own_frame d more) → frame_text c body ≡ frame_text d more
 unfolding frame_text
@@ -122,7 +122,7 @@ text_told c d body more h k e =
     ap (λ z. le4 (16 + length z) ++ (x ++ (z ++ zeros (nla_align (16 + length z) - (16 + length z))))) rest
     ∙ ap (λ z. le4 (16 + length more) ++ (z ++ (more ++ zeros (nla_align (16 + length more) - (16 + length more))))) header
 
--- ---- lines of a frame are some
+-- ---- a frame has at least one line
 
 header_some : (a b c more s : List ℕ) → ((a ++ (b ++ (c ++ 10 ∷ []))) ++ more) ++ s ≡ [] → ⊥
 header_some [] [] [] more s e = absurd cc
@@ -139,12 +139,12 @@ pub no_text_lines : (o : Choice) → text_lines o [] ≡ []
 unfolding text_lines lines_after
 no_text_lines o = refl
 
--- ---- all is shown of every type, with numbers or without them
+-- ---- everything is shown of every type, with numbers or without them
 
 abbrev pub all_of : Bool → Choice
 all_of n = record { numbers = n; only = None }
 
--- numbers that aren't shown are cleared
+-- Numbers that aren't shown are cleared.
 abbrev Known : Bool → List ℕ → Type 0
 Known true x = ⊤
 Known false x = (c : List ℕ) × (x ≡ numbers_cleared c)
@@ -161,9 +161,9 @@ known_by : (n : Bool) (x : List ℕ) → Known n x → is_frame x ≡ true → N
 known_by true x k i = (record { own = tt; request = λ two l. tt }, tt)
 known_by false x k i = cleared_front k.0 x (is_frame k.0) refl k.1 i
 
--- ---- what a capture has in front
+-- ---- the first frame of a capture
 
--- a frame in front of a capture's texts, and what is behind it
+-- A frame at the start of a capture's texts, and what follows it.
 record Front (n : Bool) (limit : ℕ) (s : List ℕ) : Type 0 where
   pub body : List ℕ
   pub after : List ℕ
@@ -180,7 +180,7 @@ unfolding texts_after_under
 stopped_texts limit [] kind e = refl
 stopped_texts limit (b ∷ s) kind e = ap (λ j. next_texts j (λ skip. texts_after limit skip s)) e
 
--- the front of a text is known where the text is
+-- The numbers of a text's first frame are known if those of the text are.
 text_known : (n : Bool) (s body rest x : List ℕ) → 16 ≤ length s → InFront s body rest → x ≡ frame_text s body ++ rest → Known n x → NumbersAreKnown n (own_frame s body) × Known n rest
 text_known n s body rest x h front e k =
     let size : frame_length x ≡ 16 + length body = ap (λ z. frame_length z) e ∙ front.told in
@@ -239,7 +239,7 @@ module _ (n : Bool) where
   shown t = text_lines (all_of n) t
 
   module _ (limit : ℕ) (l : limit < 2 ^ 32) where
-    -- what follows a frame's lines are a capture's lines
+    -- What follows a frame's lines are a capture's lines.
     starts : (s : List ℕ) → (texts limit s ≡ []) ⊎ Front n limit s → StartsFrame (shown (texts limit s))
     starts s (inl none) = subst StartsFrame (sym (ap shown none ∙ no_text_lines (all_of n))) tt
     starts s (inr a) = subst StartsFrame (sym a.lines) (told.starts n (own_frame s a.body) (shown (texts limit a.after)))
@@ -247,12 +247,12 @@ module _ (n : Bool) where
     rest_starts : (s : List ℕ) → AreBytes s → StartsFrame (shown (texts limit s))
     rest_starts s p = starts s (first_of limit s l p)
 
-    -- no lines are a frame's
+    -- The lines of a frame aren't empty.
     one_ended : (s t : List ℕ) → texts limit s ≡ [] → Front n limit t → shown (texts limit s) ≡ shown (texts limit t) → ⊥
     one_ended s t none b e =
         frame_has_lines n (own_frame t b.body) (shown (texts limit b.after)) (sym b.lines ∙ sym e ∙ ap shown none ∙ no_text_lines (all_of n))
 
-    -- frames in front of both are told, and so are the rests
+    -- The first frames of both are determined, and so are the rests.
     both_front : (s t : List ℕ) (a : Front n limit s) (b : Front n limit t) → Known n (texts limit s) → Known n (texts limit t) → shown (texts limit s) ≡ shown (texts limit t) →
         (Known n (texts limit a.after) → Known n (texts limit b.after) → shown (texts limit a.after) ≡ shown (texts limit b.after) → texts limit a.after ≡ texts limit b.after) → texts limit s ≡ texts limit t
     both_front s t a b h k e rest =
@@ -265,7 +265,7 @@ module _ (n : Bool) where
         a.text ∙ ap (λ z. z ++ texts limit a.after) (text_told s t a.body b.body a.header b.header same.0)
         ∙ ap (λ z. frame_text t b.body ++ z) (rest p.1 q.1 same.1) ∙ sym b.text
 
-    -- captures, the first of fewer bytes than m, are told by their lines
+    -- Captures, the first of fewer bytes than m, are determined by their lines.
     abbrev Told : ℕ → Type 0
     Told m = (s t : List ℕ) → length s < m → AreBytes s → AreBytes t → Known n (texts limit s) → Known n (texts limit t) → shown (texts limit s) ≡ shown (texts limit t) → texts limit s ≡ texts limit t
 
@@ -285,7 +285,7 @@ module _ (n : Bool) where
 pub captures_told : LinesTellTexts
 captures_told limit s t l p q = (told_within true limit l (suc (length s)) s t (omega arith) p q tt tt, λ e. ap (λ z. text_lines everything z) e)
 
--- lines without numbers tell what they tell with the numbers cleared
+-- Lines without numbers determine the texts with the numbers cleared.
 pub cleared_told : ClearedCapturesHaveClearedTexts → LinesWithoutNumbersTellClearedTexts
 cleared_told cleared limit s t l p q =
     let x : List ℕ = numbers_cleared s in

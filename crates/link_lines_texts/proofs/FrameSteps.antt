@@ -1,4 +1,4 @@
--- The lines of texts go by their frames.
+-- The lines of texts are determined frame by frame.
 use Rattle.std.proofs.Common.{◌≡◌, ℕ, zero, suc, ◌+◌, ◌-◌, ◌^◌, ◌<◌, ◌≤◌, Bool, true, false, cond, List, [], ◌∷◌, ◌++◌, length, take, drop, Ok, Err, refl, sym, ap, ◌∙◌, append_assoc, arith}
 use Rattle.std.specs.Prelude.{◌&&◌, nat_le}
 use Rattle.std.proofs.lemmas.Bool.{and_from, le-leb}
@@ -43,7 +43,8 @@ stopped o (b ∷ c) h =
 pub by_frames : LinesGoByFrames
 by_frames = record { frame = whole; none = stopped }
 
--- what holds of bytes that begin with a whole frame, where it holds of what stands behind it, and of other bytes, holds of all
+-- Induction over frames: a property holds for all bytes if it holds for bytes without a whole frame, and for a frame
+-- whenever it holds for what follows.
 module _ (P : List ℕ → Type 0) (none : (c : List ℕ) → is_frame c ≡ false → P c) (more : (c : List ℕ) → is_frame c ≡ true → P (drop (nla_align (frame_length c)) c) → P c) where
   fronts_within : (fuel : ℕ) (c : List ℕ) (b : Bool) → is_frame c ≡ b → length c ≤ fuel → P c
   fronts_within fuel c false e l = none c e
@@ -55,13 +56,13 @@ module _ (P : List ℕ → Type 0) (none : (c : List ℕ) → is_frame c ≡ fal
   pub by_fronts : (c : List ℕ) → P c
   by_fronts c = fronts_within (length c) c (is_frame c) refl (omega arith)
 
--- ---- the text of a frame in front of other bytes
+-- ---- the text of a frame before other bytes
 
 length_kept : (n : ℕ) (more : List ℕ) → n < 2 ^ 32 → frame_length (le4 n ++ more) ≡ n
 unfolding u32_at le4
 length_kept n more h = from_le4 n
 
--- a frame's text in front of other bytes begins with a whole frame
+-- A frame's text, followed by other bytes, begins with a whole frame.
 pub record InFront (c body r : List ℕ) : Type 0 where
   pub is : is_frame (frame_text c body ++ r) ≡ true
   pub told : frame_length (frame_text c body ++ r) ≡ 16 + length body
@@ -93,7 +94,7 @@ in_front o c body r h b =
     let front = stands_in_front c body r h b in
     whole o (t ++ r) front.is ∙ rw (front.told, front.own, front.rest) refl
 
--- ---- texts in front of other bytes
+-- ---- texts before other bytes
 
 module _ (o : Choice) (limit : ℕ) (l : limit < 2 ^ 32) where
   frame_first : (c : List ℕ) (frame : ℕ × List ℕ) → first_frame limit c ≡ Ok frame → (own : List ℕ) × ((r : List ℕ) → text_lines o (frame.1 ++ r) ≡ own ++ text_lines o r)

@@ -1,4 +1,4 @@
--- Lines tell frames, where they tell lists of attributes.
+-- Lines determine frames, provided that they determine lists of attributes.
 use Rattle.std.proofs.Common.{◌≡◌, ℕ, ◌≤◌, Bool, true, false, cond, List, [], ◌∷◌, ◌++◌, length, take, drop, get_or, Ok, Err, refl, sym, ap, subst, ◌∙◌, append_assoc, arith, inl, inr}
 use Rattle.std.specs.Prelude.{◌==◌, nat_le, codes}
 use Rattle.std.proofs.lemmas.Bool.{eqb-true, leb-true, ltb-false, le-leb, ne_eqb}
@@ -29,7 +29,7 @@ no_space : (s r : List ℕ) → StartsFrame s → s ≡ 32 ∷ r → ⊥
 no_space [] r h e = absurd cc
 no_space (c ∷ s) r h e = let first : c ≡ 32 = cc in omega arith
 
--- a line of bytes tells them, and no bytes where there is none
+-- A line of bytes determines them, and no line means no bytes.
 bytes_line_told : (name p q s t : List ℕ) → AreBytes p → AreBytes q → StartsFrame s → StartsFrame t → bytes_line name p ++ s ≡ bytes_line name q ++ t → (p ≡ q) × (s ≡ t)
 unfolding bytes_line
 bytes_line_told name [] [] s t a b i j e = (refl, e)
@@ -43,12 +43,12 @@ bytes_line_told name (x ∷ p) (y ∷ q) s t a b i j e =
     let r = cut_line m n s t (values_stand.line Bytes (x ∷ p) refl) (values_stand.line Bytes (y ∷ q) refl) shown in
     (bytes_told.bytes (x ∷ p) (y ∷ q) a b r.0, r.1)
 
--- what stands behind a code of this type is told
+-- What follows a code of this type is determined.
 abbrev BehindIsTold : Bool → ℕ → Type 0
 BehindIsTold n m = (p q s t : List ℕ) → AreBytes p → AreBytes q → (m ≡ 2 → 16 ≤ length p → AreKnown n p) → (m ≡ 2 → 16 ≤ length q → AreKnown n q) → StartsFrame s → StartsFrame t →
     behind_code n m p ++ s ≡ behind_code n m q ++ t → (p ≡ q) × (s ≡ t)
 
--- a request's line is no line of bytes, nor what follows a frame's lines
+-- A request's line is no line of bytes, nor the start of what follows a frame's lines.
 request_apart : (n : Bool) (p q r s t : List ℕ) → StartsFrame t → (request_line n p ++ r) ++ s ≡ bytes_line (codes "rest") q ++ t → ⊥
 unfolding request_line bytes_line
 request_apart n p [] r s t h e = no_space t _ h (sym e)
@@ -85,7 +85,7 @@ pub code_lines_are : (n : Bool) (m : ℕ) (b : List ℕ) → 4 ≤ length b → 
 unfolding code_lines
 code_lines_are n m b h = rw (le-leb 4 (length b) h)
 
--- the request's numbers in a body are known
+-- The request's numbers in a body are known.
 abbrev RequestIsKnown : Bool → ℕ → List ℕ → Type 0
 RequestIsKnown n m p = m ≡ 2 → 20 ≤ length p → AreKnown n (drop 4 p)
 
@@ -108,7 +108,7 @@ ruled_is : (x y z : Bool) (p b : List ℕ) → cond x (cond y (Err empty_ports) 
 ruled_is true false true p b e = (refl, cc)
 ruled_is x y z p b e = absurd cc
 
--- a link's body that is its own text has a header that is, and attributes that are
+-- A canonical body of a link has a canonical header and canonical attributes.
 own_body : (b : List ℕ) → AreBytes b → ruled_text link_body b ≡ Ok b → IsOwnLink link_peer b
 own_body b a e =
     let r = ruled_is (link_body.accepted b) (link_body.empty_ports b) (link_body.fits b) (link_body.canonical b) b e in
@@ -169,7 +169,7 @@ unfolding body_lines
 dones_told numbers p q s t a b h k f g i j e =
     code_told numbers 3 (behind_done numbers) p q s t a b (done_size p h) (done_size q k) f g i j e
 
--- a body of a type other than 1, 2 and 3
+-- A body of a type other than 1, 2 and 3.
 text_is : (n : ℕ) (p : List ℕ) → (n ≡ 1 → ⊥) → (n ≡ 2 → ⊥) → (n ≡ 3 → ⊥) → body_text n p ≡ cond (is_link_type n) (ruled_text link_body p) (Ok p)
 unfolding body_text_under
 text_is n p a b c = rw (ne_eqb n 1 a, ne_eqb n 2 b, ne_eqb n 3 c)
@@ -205,7 +205,7 @@ bodies_told numbers n =
 
 -- ---- frames
 
--- lines of a frame begin with the name of a type
+-- The lines of a frame begin with the name of a type.
 starts : (numbers : Bool) (f s : List ℕ) → StartsFrame (frame_lines numbers f ++ s)
 unfolding frame_lines header_line
 starts numbers f s =
@@ -214,7 +214,7 @@ starts numbers f s =
     let parts = append_assoc (header_line numbers f) body s ∙ append_assoc type (flags_part numbers f) (body ++ s) in
     subst StartsFrame (sym parts) (type_starts (u16_at 4 f) (flags_part numbers f ++ (body ++ s)))
 
--- all of a frame but its length is told, and where its lines end
+-- All of a frame but its length is determined, and where its lines end.
 frames_told : (numbers : Bool) (f g s t : List ℕ) → IsOwnFrame f → IsOwnFrame g → NumbersAreKnown numbers f → NumbersAreKnown numbers g → StartsFrame s → StartsFrame t →
     frame_lines numbers f ++ s ≡ frame_lines numbers g ++ t → (drop 4 f ≡ drop 4 g) × (s ≡ t)
 unfolding frame_lines

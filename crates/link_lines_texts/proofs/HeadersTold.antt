@@ -1,4 +1,4 @@
--- The lines of headers tell them.
+-- The lines of headers determine them.
 use Rattle.std.proofs.Common.{◌≡◌, ℕ, ◌+◌, ◌^◌, ◌<◌, ◌≤◌, Bool, true, false, cond, List, [], ◌∷◌, ◌++◌, length, take, drop, get_or, refl, sym, ap, subst, ◌∙◌, arith}
 use Rattle.std.specs.Prelude.{◌==◌, ◌&&◌, nat_lt, ⊤, bytes_eq, codes, decimal, slice_index}
 use Rattle.std.specs.Int.{w16, w32, from_le_bytes}
@@ -22,7 +22,7 @@ use Rattle.netlink_packet_core_grammar.proofs.Bytes.{AreBytes-drop, AreBytes-tak
 
 -- ---- numbers with their labels
 
--- a number behind its label is told, and what follows it on its line and behind that
+-- A number after its label is determined, and so are the rest of its line and what comes after it.
 pub part_told : (label : List ℕ) (text : ℕ → List ℕ) → Tells (2 ^ 64) text → (m n : ℕ) (x y s t : List ℕ) → m < 2 ^ 64 → n < 2 ^ 64 → Ends (x ++ s) → Ends (y ++ t) →
     (labelled label (text m) ++ x) ++ s ≡ (labelled label (text n) ++ y) ++ t → (m ≡ n) × (x ++ s ≡ y ++ t)
 part_told label text told m n x y s t p q i j e =
@@ -31,12 +31,12 @@ part_told label text told m n x y s t p q i j e =
 
 -- ---- the names of types
 
--- the number that has a name
+-- The number that has a name.
 abbrev named : List Text → List ℕ → ℕ
 named [] name = 0
 named (r ∷ rs) name = cond (bytes_eq r.1 name) r.0 (named rs name)
 
--- no name, or a word that doesn't begin as `type` does and tells its number among all
+-- A name is empty, or is a word that doesn't begin as `type` does and determines its number among all.
 abbrev is_name : List Text → ℕ → List ℕ → Bool
 is_name all n [] = true
 is_name all n (c ∷ name) = nat_lt c 97 && (is_word (c ∷ name) && (named all (c ∷ name) == n))
@@ -94,7 +94,7 @@ pub type_starts : (n : ℕ) (s : List ℕ) → StartsFrame (type_text n ++ s)
 unfolding type_text
 type_starts n s = let all = message_types in starts_by all n (text_in all n) s (text_is_name all all n type_names)
 
--- ---- numbers at places of bytes
+-- ---- numbers at offsets of bytes
 
 pub u16_small : (i : ℕ) (p : List ℕ) → AreBytes p → u16_at i p < 2 ^ 64
 unfolding u16_at
@@ -104,7 +104,7 @@ pub u32_small : (i : ℕ) (p : List ℕ) → AreBytes p → u32_at i p < 2 ^ 64
 unfolding u32_at
 u32_small i p a = omega (arith, bytes_at p a i, bytes_at p a (i + 1), bytes_at p a (i + 2), bytes_at p a (i + 3))
 
--- bytes from a place on are told by a number there and by the bytes behind it
+-- Bytes from an offset on are determined by the number at it and by the bytes after that.
 further : (n i : ℕ) (p q : List ℕ) → AreBytes p → AreBytes q → i + n ≤ length p → i + n ≤ length q → number (take n (drop i p)) ≡ number (take n (drop i q)) → drop (i + n) p ≡ drop (i + n) q → drop i p ≡ drop i q
 further n i p q a b l m e r =
     both_parts n (drop i p) (drop i q)
@@ -160,7 +160,7 @@ number_ends : (n : Bool) (f s : List ℕ) → Ends (number_part n f ++ s)
 number_ends false f s = omega arith
 number_ends true f s = omega arith
 
--- both numbers are told, or known
+-- Both numbers are determined, or known.
 numbers_told : (n : Bool) (f g s t : List ℕ) → AreBytes f → AreBytes g → AreKnown n f → AreKnown n g → number_part n f ++ s ≡ number_part n g ++ t → (u32_at 8 f ≡ u32_at 8 g) × (u32_at 12 f ≡ u32_at 12 g) × (s ≡ t)
 numbers_told false f g s t a b h k e = (h.sequence ∙ sym k.sequence, h.port ∙ sym k.port, ap (drop 1) e)
 numbers_told true f g s t a b h k e =
@@ -170,7 +170,7 @@ numbers_told true f g s t a b h k e =
     let p = decimal_told _ _ (10 ∷ s) (10 ∷ t) (u32_small 12 f a) (u32_small 12 g b) (omega arith) (omega arith) (ap (drop 6) q.1) in
     (q.0, p.0, ap (drop 1) p.1)
 
--- two headers with the same line, and what stands behind it
+-- Two headers with the same line, and what follows it.
 pub record SameHeader (f g s t : List ℕ) : Type 0 where
   pub type : u16_at 4 f ≡ u16_at 4 g
   pub bytes : drop 16 f ≡ drop 16 g → drop 4 f ≡ drop 4 g
@@ -193,7 +193,7 @@ header_told n f g s t a b l m i j e =
       rest = r.2;
     }
 
--- the line of the header of a request, which an ERROR message repeats, tells it
+-- The line of the header of a request, which an NLMSG_ERROR repeats, determines it.
 pub request_told : (n : Bool) (p q s t : List ℕ) → AreBytes p → AreBytes q → 16 ≤ length p → 16 ≤ length q → AreKnown n p → AreKnown n q →
     request_line n p ++ s ≡ request_line n q ++ t → (drop 16 p ≡ drop 16 q → p ≡ q) × (s ≡ t)
 unfolding request_line

@@ -1,4 +1,4 @@
--- Two lists of the same kinds as one, and a name in them.
+-- Two lists of the same kinds merged into one, and a name in them.
 use Rattle.std.proofs.Common.{◌≡◌, ℕ, zero, suc, ◌-◌, ◌<◌, ◌≤◌, Bool, true, false, cond, List, [], ◌∷◌, get_or, Option, refl, sym, ap, ◌∙◌, arith}
 use Rattle.std.specs.Prelude.{◌==◌, ◌&&◌, nat_lt}
 use Rattle.std.proofs.lemmas.Bool.{and_parts, eqb-true, le-ltb, lt-ltb}
@@ -32,7 +32,7 @@ are_alike (suc (suc zero)) h = refl
 are_alike (suc (suc (suc zero))) h = refl
 are_alike (suc (suc (suc (suc n)))) h = absurd (omega (arith, h))
 
--- a name in a link's titles
+-- A name in the entries of a link.
 link_is : (n : ℕ) → n < 4 → get_or link_titles n [] ≡ joined (get_or own_titles n []) link_rows
 unfolding link_titles own_titles
 link_is zero h = refl
@@ -44,14 +44,14 @@ link_is (suc (suc (suc (suc n)))) h = absurd (omega (arith, h))
 pub link_found : (k n : ℕ) → n < 4 → find k (get_or link_titles n []) ≡ first_name (find k (get_or own_titles n [])) (find k link_rows)
 link_found k n h = ap (find k) (link_is n h) ∙ find_joined k (get_or own_titles n []) link_rows (are_alike n h)
 
--- the titles of a link's table
+-- The entries of a link's table.
 pub of_family : (n : ℕ) → LINK_UNSPEC.0 ≤ n → n < LINK_INFO.0 → titles_of n ≡ get_or link_titles (n - LINK_UNSPEC.0) []
 unfolding titles_of
 of_family n h l =
     ap (λ b. cond b (get_or nested_titles n []) (cond (nat_lt n AMT.0) (get_or link_titles (n - LINK_UNSPEC.0) []) (get_or data_titles (n - AMT.0) []))) (le-ltb n LINK_UNSPEC.0 h)
     ∙ ap (λ b. cond b (get_or link_titles (n - LINK_UNSPEC.0) []) (get_or data_titles (n - AMT.0) [])) (lt-ltb n AMT.0 (omega (arith, l)))
 
--- those of link info
+-- The entries of link info.
 pub of_info : (n : ℕ) → n ≡ LINK_INFO.0 → info_titles ≡ titles_of n
 unfolding titles_of link_titles own_titles
 of_info n h = ap titles_of (sym h)

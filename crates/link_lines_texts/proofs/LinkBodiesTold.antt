@@ -1,4 +1,4 @@
--- Lines of a link's body tell it, in a message and in a peer.
+-- The lines of a link's body determine it, in a message and in a peer.
 use Rattle.std.proofs.Common.{◌≡◌, ℕ, ◌+◌, ◌*◌, ◌≤◌, Bool, true, List, [], ◌∷◌, ◌++◌, length, take, drop, get_or, sym, ap, subst, refl, ◌∙◌, arith}
 use Rattle.std.specs.Prelude.{nat_le, slice_index}
 use Rattle.std.proofs.lemmas.Bool.{and_parts, cond_both, leb-true}
@@ -15,7 +15,7 @@ use Rattle.link_lines_texts.proofs.LineCuts.{behind}
 use Rattle.link_lines_texts.proofs.LinkHeadersTold.{link_header_told}
 use Rattle.netlink_packet_core_grammar.proofs.Bytes.{AreBytes-drop}
 
--- a body of a link that is its own text, under a rule of peers
+-- A canonical body of a link under a rule of peers.
 pub record IsOwnLink (peer : Peer) (b : List ℕ) : Type 0 where
   pub size : 16 ≤ length b
   pub second : slice_index b 1 ≡ 0
@@ -30,7 +30,7 @@ second_is : (b p : List ℕ) → 16 ≤ length b → header_text b ++ p ≡ b �
 second_is (x ∷ y ∷ u ∷ v ∷ b) p l e = sym (ap (λ l. get_or l 1 0) e)
 second_is b p l e = absurd (omega arith)
 
--- such a body has a header that is its own text, and attributes that are
+-- A canonical body has a canonical header and canonical attributes.
 pub own_link : (peer : Peer) (b : List ℕ) → AreBytes b → (body_rule peer).accepted b ≡ true → (body_rule peer).canonical b ≡ b → IsOwnLink peer b
 own_link peer b a accepts canonical =
     let parts = bodies_are_headers_and_attributes peer b in
@@ -42,7 +42,7 @@ own_link peer b a accepts canonical =
     let kept = sym (drop_at (header_text b) list 16 (header_size b size)) ∙ ap (drop 16) text in
     record { size = size; second = second_is b _ size text; attributes = record { bytes = AreBytes-drop 16 b a; accepted = accepted.1; canonical = kept } }
 
--- the lists of all families are told
+-- The lists of all families are determined.
 abbrev pub FamiliesTold : Peer → Bool → Type 0
 FamiliesTold peer in_peer = (level n : ℕ) (p q s t : List ℕ) → IsOwn (list_rule_of peer (family_of n)) p → IsOwn (list_rule_of peer (family_of n)) q → IsShallow level s → IsShallow level t →
     list_lines level (of_family in_peer n) p ++ s ≡ list_lines level (of_family in_peer n) q ++ t → (p ≡ q) × (s ≡ t)
@@ -50,7 +50,7 @@ FamiliesTold peer in_peer = (level n : ℕ) (p q s t : List ℕ) → IsOwn (list
 abbrev list_part : ℕ → Bool → List ℕ → List ℕ
 list_part level in_peer b = list_lines level (of_link in_peer b) (drop 16 b)
 
--- the lines of a body with a header
+-- The lines of a body with a header.
 abbrev pub link_part : ℕ → Bool → List ℕ → List ℕ
 link_part level in_peer b = link_header_line level b ++ list_part level in_peer b
 

@@ -1,4 +1,4 @@
--- The line of a link's header tells it.
+-- The line of a link's header determines it.
 use Rattle.std.proofs.Common.{◌≡◌, ℕ, ◌≤◌, List, [], ◌∷◌, ◌++◌, length, drop, refl, sym, ap, ◌∙◌, arith}
 use Rattle.std.specs.Prelude.{codes, decimal, slice_index}
 use Rattle.std.proofs.lemmas.List.{append_cancel_left}
@@ -22,7 +22,7 @@ layer_part b = labelled (codes " type ") (named_number layer_types (u16_at 2 b))
 abbrev change_part : List ℕ → List ℕ
 change_part b = labelled (codes " change ") (named_flags link_flag_names (u32_at 12 b)) ++ 10 ∷ []
 
--- two bodies of links with the same line of their headers, and what stands behind it
+-- Two bodies of links with the same line of their headers, and what follows it.
 pub record SameLink (p q s t : List ℕ) : Type 0 where
   pub family : slice_index p 0 ≡ slice_index q 0
   pub bytes : slice_index p 1 ≡ slice_index q 1 → drop 16 p ≡ drop 16 q → p ≡ q

@@ -1,4 +1,4 @@
--- Lines tell the lists of link messages, and peers in them.
+-- Lines determine the lists of link messages, and the peers in them.
 use Rattle.std.proofs.Common.{◌≡◌, ℕ, ◌≤◌, Bool, true, false, cond, List, ◌++◌, length, Some, refl, sym, ap, ◌∙◌}
 use Rattle.std.specs.Prelude.{◌==◌, ◌&&◌, not}
 use Rattle.std.proofs.lemmas.Bool.{and_parts, le-leb}
@@ -21,11 +21,11 @@ use Rattle.link_lines_texts.proofs.LinkBodiesTold.{FamiliesTold, IsOwnLink, link
 use Rattle.link_lines_texts.proofs.ListsTold.{InsideTold, NestedTold, below}
 use Rattle.link_lines_texts.proofs.TablesTold.{payload_told, settled}
 
--- what a peer is shown as tells it
+-- What is shown of a peer determines it.
 abbrev PeersTold : Peer → Bool → Type 0
 PeersTold peer in_peer = InsideTold in_peer (peer_rule peer) (settled in_peer PeerInside)
 
--- the attributes of a family, under its table of names
+-- The attributes of an address family, under its table of names.
 family_told : (peer : Peer) (in_peer : Bool) → PeersTold peer in_peer → (f : Family) (m : Table) → holds_shown (Payload.list any (link_table f)) (Some (Nested m)) ≡ true → NestedTold (list_rule_of peer f) (record { table = m; is_in_peer = in_peer })
 unfolding list_rule_of
 family_told peer in_peer peers f m h level p q s t o u sx sy same = payload_told peer in_peer peers (Payload.list any (link_table f)) (Nested m) h level p q s t o u sx sy refl same
@@ -41,14 +41,14 @@ families_told peer in_peer peers level n p q s t = by_family peer in_peer peers 
 
 -- ---- peers
 
--- in a peer, peers are bytes
+-- A peer inside a peer is shown as bytes.
 own_bytes : (p : List ℕ) → IsOwn (peer_rule bytes_peer) p → IsOwn (shape_rule raw) p
 own_bytes p o = record { bytes = o.bytes; accepted = refl; canonical = refl }
 
 bytes_told : PeersTold bytes_peer true
 bytes_told level p q x y o u sx sy same under = (shapes_told raw Bytes p q refl (own_bytes p o) (own_bytes q u) same, under)
 
--- else they are links
+-- Other peers are shown as links.
 own_peer : (p : List ℕ) → IsOwn (peer_rule link_peer) p → IsOwnLink bytes_peer p
 unfolding link_peer
 own_peer p o =

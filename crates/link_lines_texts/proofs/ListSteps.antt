@@ -1,4 +1,4 @@
--- The lines of a list go by its attributes, however many steps are allowed.
+-- The lines of a list are determined attribute by attribute, however many steps are allowed.
 use Rattle.std.proofs.Common.{◌≡◌, ℕ, zero, suc, ◌+◌, ◌≤◌, Bool, true, false, cond, List, [], ◌∷◌, ◌++◌, length, drop, Option, Some, None, refl, sym, ap, subst, ◌∙◌, append_assoc, arith}
 use Rattle.std.specs.Prelude.{⊤, nat_le}
 use Rattle.std.proofs.lemmas.List.{length-drop}
@@ -14,11 +14,11 @@ use Rattle.link_lines_texts.specs.Laws.{ListsGoBySteps}
 aligned : (n : ℕ) → n ≤ nla_align n
 aligned n = omega arith
 
--- so many steps are as good as so many
+-- Any two numbers of steps that suffice yield the same lines.
 abbrev Agree : ℕ → ℕ → Type 0
 Agree m n = (level : ℕ) (place : Place) (c : Context) (bytes : List ℕ) → length bytes ≤ m → length bytes ≤ n → lines_within m level place c bytes ≡ lines_within n level place c bytes
 
--- a list inside is no longer than what holds it
+-- A nested list is no longer than the attribute that holds it.
 abbrev pub Within : ℕ → Option (Place × List ℕ) → Type 0
 Within n None = ⊤
 Within n (Some x) = length x.1 ≤ n
@@ -46,7 +46,7 @@ rest_shorter bytes e rest h =
     let b = sized bytes e rest h in
     omega (arith, a, b.within, b.rest_length)
 
--- a list in the first attribute is shorter than the bytes
+-- A list in the first attribute is shorter than the bytes.
 pub list_shorter : (place : Place) (c : Context) (bytes : List ℕ) (e : Attribute) (x : Place × List ℕ) → 4 + length e.payload ≤ length bytes → list_inside place c e ≡ Some x → 4 + length x.1 ≤ length bytes
 list_shorter place c bytes e x h i = let b : Within (length e.payload) (Some x) = subst (Within (length e.payload)) i (list_within place c e) in omega (arith, b)
 
@@ -102,7 +102,7 @@ steps = record {
   none = none;
 }
 
--- as a loop goes on: what was written before an attribute and of it, and then the rest, is the whole
+-- The loop's step: what was written before an attribute, its lines, and those of the rest make up the whole.
 pub going : (level : ℕ) (place : Place) (c : Context) (rest : List ℕ) (e : Attribute) (after before now whole : List ℕ) → first_attribute rest ≡ Some (e, after) → before ++ rest_lines level place c rest ≡ whole → now ≡ (before ++ own_lines level place c e) ++ nested_lines (level + 1) (list_inside place c e) → now ++ rest_lines level place (next_in place.table c e) after ≡ whole
 going level place c rest e after before now whole h w n =
     let own = own_lines level place c e in

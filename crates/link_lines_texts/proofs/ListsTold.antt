@@ -1,4 +1,4 @@
--- Lines of lists tell the lists, where the rows that have names tell what they hold.
+-- Lines determine lists, provided that those of named rows determine what the rows hold.
 use Rattle.std.proofs.Common.{◌≡◌, ℕ, ◌+◌, ◌<◌, Bool, true, cond, List, [], ◌∷◌, ◌++◌, length, Option, Some, None, refl, sym, ap, subst, ◌∙◌, append_assoc, arith}
 use Rattle.std.specs.Prelude.{get_or, nat_le}
 use Rattle.std.proofs.lemmas.Bool.{cond_both}
@@ -30,20 +30,21 @@ use Rattle.link_lines_texts.proofs.CanonicalLists.{AllOwn, OwnAttribute, own_lis
 use Rattle.link_lines_texts.proofs.ListSteps.{steps}
 use Rattle.link_lines_texts.proofs.LineCuts.{IsWord, not_unnamed, space_ends, Starts, cut_line, cut_word, line_shallow, lines_joined, shallower, starts_joined, word_line}
 
--- what stands below an attribute's line
+-- The lines below an attribute's line.
 abbrev pub below : ℕ → Bool → Inside → List ℕ → List ℕ
 below level in_peer i p = header_inside level i p ++ nested_lines level (inside_list in_peer i p)
 
--- what stands in an attribute's line, and below it, tells its payload
+-- An attribute's line and those below it determine its payload.
 abbrev pub InsideTold : Bool → Rule → Inside → Type 0
 InsideTold in_peer r i = (level : ℕ) (p q s t : List ℕ) → IsOwn r p → IsOwn r q → IsShallow level s → IsShallow level t → inside_text i p ≡ inside_text i q →
     below level in_peer i p ++ s ≡ below level in_peer i q ++ t → (p ≡ q) × (s ≡ t)
 
--- the same of a list
+-- The same statement for a list.
 abbrev pub NestedTold : Rule → Place → Type 0
 NestedTold r m = (level : ℕ) (p q s t : List ℕ) → IsOwn r p → IsOwn r q → IsShallow level s → IsShallow level t → list_lines level m p ++ s ≡ list_lines level m q ++ t → (p ≡ q) × (s ≡ t)
 
--- the names of a table are words, an upper case letter first, what stands behind them is on their line, no two are equal, and none is that of a raw attribute of another kind
+-- The names of a table are words that begin with an upper-case letter, what follows them is on their line, no two are
+-- equal, and none is that of a raw attribute of another kind.
 pub record NamesTold (m : ℕ) : Type 0 where
   pub word : (k : ℕ) (t : Name) → k < 65536 → title_of m k ≡ Some t → IsWord t.0
   pub upper : (k : ℕ) (t : Name) → k < 65536 → title_of m k ≡ Some t → Starts t.0 × (get_or t.0 0 0 < 97)
@@ -51,7 +52,7 @@ pub record NamesTold (m : ℕ) : Type 0 where
   pub apart : (k l : ℕ) (t u : Name) → k < 65536 → l < 65536 → title_of m k ≡ Some t → title_of m l ≡ Some u → t.0 ≡ u.0 → k ≡ l
   pub raw : (k l : ℕ) (t : Name) (n : Named Raw) → title_of m k ≡ Some t → raw_name m l ≡ Some n → t.0 ≡ n.0 → k ≡ l
 
--- where a row has a name, what stands behind it tells what the row holds
+-- If a row has a name, what follows the name determines what the row holds.
 pub record RowsTold (g : Grammar) (m : Place) : Type 0 where
   pub titled : (c : Context) (k : ℕ) (t : Name) → k < 65536 → title_of m.table.0 k ≡ Some t → ((g.row c k).is_typed ≡ true) × InsideTold m.is_in_peer (g.row c k).rule (known_inside m.is_in_peer c t.1)
   pub next : (c : Context) (e : Attribute) → g.next c e ≡ next_in m.table c e
@@ -83,7 +84,7 @@ name_line : (o : Option Held) → is_inside_on_a_line (inside_held o) ≡ true
 name_line None = refl
 name_line (Some h) = held_line h
 
--- what names in force tell stands on a line
+-- What the names in force determine is on one line.
 known_line : (in_peer : Bool) (c : Context) (i : Inside) → is_inside_on_a_line i ≡ true → is_inside_on_a_line (known_inside in_peer c i) ≡ true
 known_line in_peer c Peer h = cond_both in_peer (Value Bytes) Peer (λ i. is_inside_on_a_line i ≡ true) (λ e. refl) (λ e. refl)
 known_line in_peer c Data h = name_line (data_under c.kind)
@@ -118,7 +119,7 @@ titled_starts m names c k (Some t) e l h = starts_joined t.0 (inside_text (known
 small_kind : (k : ℕ) → proper_kind k < 65536
 small_kind k = omega arith
 
--- a line, and what stands behind it
+-- A line, and what follows it.
 lines_are : (level : ℕ) (m : Place) (c : Context) (e : Attribute) (more : List ℕ) →
     own_lines level m c e ++ more ≡ indent level ++ (titled_text m c (title_of m.table.0 (proper_kind e.kind)) e ++ 10 ∷ (titled_header (level + 1) m c (title_of m.table.0 (proper_kind e.kind)) e ++ more))
 unfolding own_lines
@@ -135,7 +136,7 @@ lines_over level m names c e more =
     let starts = starts_joined own rest (titled_starts m names c (proper_kind e.kind) title e (small_kind e.kind) refl) in
     subst (IsShallow (level + 1)) (sym (lines_are level m c e more)) (line_shallow level (own ++ rest) starts)
 
--- what follows a line is shallow for what stands below it
+-- What follows a line is shallow for the lines below it.
 rest_over : (level : ℕ) (m : Place) (names : NamesTold m.table.0) (c : Context) (es : List Attribute) (s : List ℕ) → IsShallow level s → IsShallow (level + 1) (lines_of level m c es ++ s)
 rest_over level m names c [] s h = shallower level s h
 rest_over level m names c (e ∷ es) s h =
@@ -151,7 +152,7 @@ same_attribute e f k p i = record { kind = k i; payload = p i }
 proper_twice : (n : ℕ) → proper_kind (proper_kind n) ≡ proper_kind n
 proper_twice n = omega arith
 
--- no attribute with a row is told as one without
+-- No attribute with a row is shown as one without.
 not_raw : (m k l : ℕ) (names : NamesTold m) (t : Name) (s p : List ℕ) (o : Option (Named Raw)) → title_of m (proper_kind k) ≡ Some t → title_of m (proper_kind l) ≡ None → raw_name m l ≡ o → Ends s → t.0 ++ s ≡ named_text o l p → ⊥
 not_raw m k l names t s p None h none i ends e =
     let upper = names.upper (proper_kind k) t (small_kind k) h in
@@ -165,7 +166,7 @@ not_raw m k l names t s p (Some n) h none i ends e =
 written_typed : (r : Row) (k : ℕ) → r.is_typed ≡ true → written_kind r k ≡ proper_kind k + cond r.is_nested 0x8000 0
 written_typed r k h = ap (λ t. cond t (proper_kind k + cond r.is_nested 0x8000 0) k) h
 
--- what stands below a line that has a name
+-- The lines below a line that has a name.
 abbrev titled_below : ℕ → Place → Context → Option Name → Attribute → List ℕ
 titled_below level m c o e = titled_header level m c o e ++ nested_lines level (titled_list m c o e)
 
@@ -209,7 +210,7 @@ module _ (g : Grammar) (m : Place) (names : NamesTold m.table.0) (rows : RowsTol
       (inside_ends (known_inside m.is_in_peer c t.1) e.payload) same)
   either_told level c e f x y (Some t) (Some u) h i o v sx sy same under = titled_told level c e f x y t u h i o v sx sy same under
 
-  -- two attributes and what follows them
+  -- Two attributes and what follows them.
   attribute_told : (level : ℕ) (c : Context) (e f : Attribute) (x y : List ℕ) → OwnAttribute (row_of g c e) e → OwnAttribute (row_of g c f) f → IsShallow (level + 1) x → IsShallow (level + 1) y →
       own_lines level m c e ++ (nested_lines (level + 1) (list_inside m c e) ++ x) ≡ own_lines level m c f ++ (nested_lines (level + 1) (list_inside m c f) ++ y) → (e ≡ f) × (x ≡ y)
   unfolding list_inside
@@ -255,7 +256,7 @@ module _ (g : Grammar) (m : Place) (names : NamesTold m.table.0) (rows : RowsTol
 by_start : (level : ℕ) (m : Place) (p : List ℕ) (es : List Attribute) → p ≡ list_text es → list_lines level m p ≡ lines_of level m nothing es
 by_start level m p es h = steps.start level m p ∙ ap (rest_lines level m nothing) h ∙ by_attributes level m nothing es
 
--- lines tell a list whose rows they tell
+-- Lines determine a list if they determine its rows.
 pub lists_told : (form : ListForm) (g : Grammar) (m : Place) → NamesTold m.table.0 → RowsTold g m → NestedTold (list_rule form g) m
 lists_told form g m names rows level p q s t o u h k same =
     let a = own_list form g p o in

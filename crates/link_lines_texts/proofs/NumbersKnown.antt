@@ -33,7 +33,7 @@ of_zeros p e = record {
   port = sym (u32_after 12 p) ∙ ap (u32_at 0) (sym (drop-drop 4 8 p)) ∙ u32_after 4 (drop 8 p) ∙ second_same (zeros 8) (drop 8 p) e ∙ no_number.1;
 }
 
--- ---- the frame in front of cleared bytes
+-- ---- the first frame of cleared bytes
 
 own_zeros : (c d : List ℕ) (n : ℕ) → 16 ≤ n → 8 ≤ length c → take 16 d ≡ take 8 c ++ zeros 8 → take 8 (drop 8 (take n d)) ≡ zeros 8
 own_zeros c d n l h e =

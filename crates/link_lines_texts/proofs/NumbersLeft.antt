@@ -1,4 +1,4 @@
--- Lines without numbers don't tell them.
+-- Lines without numbers don't depend on the numbers.
 use Rattle.std.proofs.Common.{◌≡◌, ℕ, ◌+◌, ◌-◌, ◌≤◌, Bool, true, false, cond, List, [], ◌∷◌, ◌++◌, length, take, drop, refl, sym, ap, subst, ◌∙◌, arith}
 use Rattle.std.specs.Prelude.{◌&&◌, nat_eq, nat_le, codes, decimal}
 use Rattle.std.proofs.lemmas.Bool.{and_from, and_parts, eqb-true, le-leb}
@@ -82,7 +82,7 @@ body_same c true e l =
 
 -- ---- frames
 
--- the body of the bytes of a frame without its padding
+-- The body of the bytes of a frame without its padding.
 pub own_body : (n : ℕ) (c : List ℕ) → 16 ≤ n → frame_length c ≡ n → drop 16 (take n c) ≡ frame_body c
 own_body n c h e =
     let sum : 16 + (n - 16) ≡ n = omega (arith, h) in
@@ -113,7 +113,7 @@ frame_same c d l m s =
 
 -- ---- texts
 
--- the front of what is cleared
+-- The first frame of what is cleared.
 pub cleared_shape : (c : List ℕ) → is_frame c ≡ true → Shape c (numbers_cleared c)
 cleared_shape c h =
     let bounds = length_of c h in
@@ -145,6 +145,6 @@ left_behind c h rest =
     ∙ ap (λ z. frame_lines false (take n c) ++ z) rest
     ∙ sym (Lines.whole without_numbers c h)
 
--- bytes whose numbers are cleared have the same lines without numbers
+-- Bytes whose numbers are cleared have the same lines without numbers.
 pub numbers_are_left : (c : List ℕ) → text_lines without_numbers (numbers_cleared c) ≡ text_lines without_numbers c
 numbers_are_left = Lines.by_fronts AreLeft (λ c h. ap (text_lines without_numbers) (stopped c h)) left_behind

@@ -1,4 +1,4 @@
--- Titles in code and what they say.
+-- Entries in code, and what they represent.
 use Rattle.std.proofs.Common.{◌≡◌, ℕ, List, Bor, Option}
 use Rattle.std.specs.Prelude.{option_map}
 use Rattle.link_lines_values.specs.declared.fields.FieldOf.{FieldOf}
@@ -9,18 +9,18 @@ use Rattle.link_lines_names.specs.Behind.{inside_of}
 use Rattle.link_lines_names.proofs.Rows as rows
 use Rattle.link_lines_texts.specs.Titles.{Name, Title, said, viewed}
 
--- what stands behind a name, as code has it
+-- What follows a name, as code has it.
 abbrev pub Behind : Type 0
 Behind = BehindBy (ShownBy (Bor (List (ℕ × Bor (List ℕ)))) (Bor (List (FieldOf (Bor (List ℕ))))))
 
--- a title as code has it
+-- An entry as code has it.
 abbrev pub Row : Type 0
 Row = ℕ × Option (Bor (List ℕ) × Behind)
 
--- and what it says
+-- The entry that it represents.
 abbrev pub name : Bor (List ℕ) × Behind → Name
 name n = viewed (λ x. x.now) (λ t. t.now) (λ r. r.now) n
 
--- a look-up in code, as the titles say it
+-- A look-up in code, in terms of the entries that it represents.
 pub at_kind : (k : ℕ) (r : Option (Bor (List ℕ) × Behind)) (ts : List Row) (us : List Title) → r ≡ find k ts → said (λ x. x.now) (λ t. t.now) (λ r. r.now) ts ≡ us → option_map name r ≡ find k us
 at_kind = rows.at_kind (λ x. x.now) (inside_of (λ x. x.now) (λ t. t.now) (λ r. r.now))

@@ -1,4 +1,4 @@
--- Payloads of a shape are told by the text of a form.
+-- The text of a format determines the payloads of a shape.
 use Rattle.std.proofs.Common.{◌≡◌, ℕ, zero, suc, ◌-◌, ◌≤◌, Bool, true, false, cond, List, [], ◌∷◌, ◌++◌, length, take, drop, Some, None, refl, sym, ap, subst, ◌∙◌, arith}
 use Rattle.std.specs.Prelude.{◌==◌, ◌&&◌, ◌||◌, nat_le, get_or, map}
 use Rattle.std.proofs.lemmas.Bool.{and_parts, eqb-true, leb-true}
@@ -28,7 +28,7 @@ Own s p = IsOwn (shape_rule s) p
 
 -- ---- sizes
 
--- all own payloads of the shape have one size, of which this holds
+-- All canonical payloads of the shape have one size, which has a property.
 record HasSize (s : Shape) (f : ℕ → Bool) : Type 0 where
   n : ℕ
   known : f n ≡ true
@@ -67,7 +67,7 @@ length_holds s f p h o = ap f (h.size p o) ∙ h.known
 length_is : (s : Shape) (n : ℕ) (p : List ℕ) → HasSize s (λ m. m == n) → Own s p → length p ≡ n
 length_is s n p h o = eqb-true (length p) n (length_holds s (λ m. m == n) p h o)
 
--- ---- truths
+-- ---- booleans
 
 truth_small : (n : ℕ) → truth_of n ≤ 1
 truth_small zero = omega arith
@@ -114,7 +114,7 @@ zeros_are : (n : ℕ) → is_zero (zeros n) ≡ true
 zeros_are zero = refl
 zeros_are (suc n) = zeros_are n
 
--- a payload of just the fields' size
+-- A payload that has just the size of its fields.
 whole_record : (s : Shape) (held : List Field) (p : List ℕ) → Own s p → length p ≡ total_size held → lacks_truths held ≡ true → HoldsFields held p
 whole_record s held p o l h = record {
   bytes = o.bytes;
@@ -123,7 +123,7 @@ whole_record s held p o l h = record {
   known = no_truths held (take (total_size held) p) h;
 }
 
--- one in which zeros follow them
+-- A payload in which zeros follow the fields.
 filled_record : (m n : ℕ) (held : List Field) (p : List ℕ) → Own (fixed_record m n) p → total_size held ≡ m → lacks_truths held ≡ true → HoldsFields held p
 filled_record m n held p o l h =
     let long = leb-true m (length p) o.accepted in
@@ -146,7 +146,7 @@ known_setting : (v : FieldShown) (p : List ℕ) → number p ≤ 1 → IsKnown v
 known_setting F.Truth p h = h
 known_setting v p h = record {}
 
--- a number and a truth of 4 bytes each
+-- A number and a boolean of 4 bytes each.
 setting_known : (fs : List Field) (p : List ℕ) → is_setting fs ≡ true → number (drop 4 p) ≤ 1 → length p ≡ 8 → (total_size fs ≡ 8) × AllKnown fs p
 setting_known (f ∷ g ∷ []) p h n l =
     let first = and_parts (f.1 == 4) (is_no_truth f.2 && (g.1 == 4)) h in
@@ -190,7 +190,7 @@ holds (fixed_record m n) held p h o =
 holds id_and_truth held p h o = setting_record held p o h
 holds s held p h o = absurd cc
 
--- all payloads of a record have one size
+-- All payloads of a record have one size.
 record_lengths : (s : Shape) (fs : List Field) → has_fields s fs ≡ true → HasSize s (λ n. true)
 record_lengths (exact n) fs h = sized (exact n) (λ n. true) refl
 record_lengths (resized n) fs h = sized (resized n) (λ n. true) refl
@@ -232,7 +232,7 @@ optional_size : (s : Shape) (p : List ℕ) → is_optional s ≡ true → Own s 
 optional_size (at_most n) p h o = let a = leb-true (length p) n o.accepted in let b = eqb-true n 1 h in omega (arith, a, b)
 optional_size s p h o = absurd cc
 
--- ---- a form that tells the shape
+-- ---- a format that determines the shape
 
 record_told : (s : Shape) (sparse : Bool) (fields : List Field) (p q : List ℕ) → (fields_tell fields && has_fields s fields) ≡ true → Own s p → Own s q → record_text sparse fields p ≡ record_text sparse fields q → p ≡ q
 record_told s sparse fields p q h o u e =

@@ -1,4 +1,4 @@
--- Where a capture has lines.
+-- When a capture has lines.
 use Rattle.std.proofs.Common.{◌≡◌, true, ℕ, ◌+◌, ◌^◌, ◌<◌, List, [], ◌∷◌, ◌++◌, length, take, drop, Ok, Err, refl, sym, ap, ◌∙◌, arith}
 use Rattle.netlink_packet_core_grammar.specs.Attributes.{nla_align}
 use Rattle.netlink_packet_core_grammar.specs.Frames.{frame_text}
@@ -17,7 +17,7 @@ some_since : (s : List ℕ) → (s ≡ [] → ⊥) → 0 < length s
 some_since [] h = absurd (h refl)
 some_since (x ∷ s) h = omega arith
 
--- those of a frame that is accepted
+-- A frame that is accepted has some.
 accepted_lines : (limit : ℕ) (c : List ℕ) (frame : ℕ × List ℕ) → limit < 2 ^ 32 → first_frame limit c ≡ Ok frame → 0 < length (lines everything limit c)
 accepted_lines limit c frame l e =
     let i = texted link_body limit c frame e in
@@ -29,7 +29,7 @@ accepted_lines limit c frame l e =
     ap (λ z. text_lines everything z) text ∙ in_front everything c i.body more (accepted link_body limit c frame e).header small in
     some_since (lines everything limit c) (λ none. frame_has_lines true own (text_lines everything more) (sym all ∙ none))
 
--- one that isn't has none
+-- A frame that isn't accepted has none.
 judged_lines : (limit : ℕ) (c : List ℕ) (j : Judged) → first_frame limit c ≡ j → 0 < length (lines everything limit c) → (frame : ℕ × List ℕ) × (first_frame limit c ≡ Ok frame)
 judged_lines limit c (Ok frame) e h = (frame, e)
 judged_lines limit c (Err kind) e h =

@@ -1,4 +1,4 @@
--- Lines tell the lists of all tables in which each row has a name.
+-- Lines determine the lists of all tables in which each row has a name.
 use Rattle.std.proofs.Common.{◌≡◌, ℕ, zero, suc, ◌≤◌, Bool, true, false, cond, List, [], ◌∷◌, Option, Some, None, refl, sym, ap, subst, ◌∙◌, arith}
 use Rattle.std.specs.Prelude.{◌==◌, ◌&&◌, ◌||◌, not, nat_le, take, bytes_eq, ⊤}
 use Rattle.std.proofs.lemmas.Bool.{and_parts, eqb-true, leb-true, not-true, true≢false}
@@ -45,18 +45,18 @@ never_told in_peer i level p q x y o u sx sy same under = absurd (let no : false
 nested_told : (in_peer : Bool) (r : Rule) (n : Named) → NestedTold r (record { table = n; is_in_peer = in_peer }) → InsideTold in_peer r (Nested n)
 nested_told in_peer r n told level p q x y o u sx sy same under = told level p q x y o u sx sy under
 
--- what stands behind a name that hangs on no name in force
+-- What follows a name that doesn't depend on the kinds in force.
 abbrev pub settled : Bool → Inside → Inside
 settled in_peer PeerInside = cond in_peer (Value V.Bytes) PeerInside
 settled in_peer i = i
 
 -- ---- rows
 
--- a name in a table is that of a row
+-- A name in a table is that of a row.
 row_is_there : (m k : ℕ) (table : Table) (t : Name) → all_titles (is_in table) (titles_of m) ≡ true → title_of m k ≡ Some t → has_row table k ≡ true
 row_is_there m k table t a e = found (is_in table) m k t a e
 
--- what a row tells of a name that stands alone, whatever is in force
+-- What a row determines under a name that doesn't depend on the kinds in force.
 known_alone : (in_peer : Bool) (s : Payload) (c : Context) (i : Inside) → holds_shown s (Some i) ≡ true → known_inside in_peer c i ≡ settled in_peer i
 known_alone in_peer s c (Value v) h = refl
 known_alone in_peer s c (Nested n) h = refl
@@ -67,7 +67,7 @@ known_alone in_peer (Payload.list form t) c i h = absurd cc
 known_alone in_peer (Payload.link_info form d ports) c i h = absurd cc
 
 module _ (peer : Peer) (in_peer : Bool) where
-  -- a row that is looked up, told under a name
+  -- A row that is looked up is determined under its name.
   abbrev RowTold : Table → ℕ → Name → Type 0
   RowTold table k t = ((row_in peer table k).is_typed ≡ true) × ((c : Context) → InsideTold in_peer (row_in peer table k).rule (known_inside in_peer c t.1))
 
@@ -88,7 +88,7 @@ module _ (peer : Peer) (in_peer : Bool) where
 
   -- ---- names of kinds
 
-  -- the data under a name
+  -- The data under a name.
   abbrev NameTold : Names → List NameRow → List ℕ → Type 0
   NameTold ns kinds n = InsideTold in_peer (named peer ns n) (kind_inside kinds n)
 
@@ -101,7 +101,7 @@ module _ (peer : Peer) (in_peer : Bool) where
   other_by n m s ns true more l = absurd cc
   other_by n m s ns false more l = more l
 
-  -- a name without a payload holds bytes
+  -- A name without a payload holds bytes.
   other_name : (ns : Names) (n : List ℕ) → lacks_name n ns ≡ true → named peer ns n ≡ shape_rule raw
   other_name Names.others n l = refl
   other_name (Names.name m s ns) n l = other_by n m s ns (bytes_eq n m) (other_name ns n) l
@@ -111,14 +111,14 @@ unlisted_by : (n : List ℕ) (r : NameRow) (kinds : List NameRow) (ns : Names) (
 unlisted_by n r kinds ns true h k l more = absurd (true≢false (sym l ∙ ap (λ z. lacks_name z ns) ((bytes_eq-Decides n (take r.0 r.1)).0 h) ∙ not-true (lacks_name (take r.0 r.1) ns) k))
 unlisted_by n r kinds ns false h k l more = more
 
--- and so does its row
+-- The row of such a name is determined too.
 unlisted : (kinds : List NameRow) (ns : Names) (n : List ℕ) → kinds_listed kinds ns ≡ true → lacks_name n ns ≡ true → held_by_name kinds n ≡ Plain Raw
 unlisted [] ns n h l = refl
 unlisted (r ∷ kinds) ns n h l =
     let parts = and_parts (not (lacks_name (take r.0 r.1) ns)) (kinds_listed kinds ns) h in
     unlisted_by n r kinds ns (bytes_eq n (take r.0 r.1)) refl parts.0 l (unlisted kinds ns n parts.1 l)
 
--- a name that the list of kinds lacks
+-- A name that the list of kinds lacks.
 unlisted_inside : (kinds : List NameRow) (ns : Names) (n : List ℕ) → kinds_listed kinds ns ≡ true → lacks_name n ns ≡ true → kind_inside kinds n ≡ Value V.Bytes
 unlisted_inside kinds ns n h l = ap of_held (unlisted kinds ns n h l)
 
@@ -129,7 +129,7 @@ any_name_by peer in_peer kinds ns n true l h told =
 
 -- ---- link info
 
--- a name that is known, as it is told where something is in force
+-- A known name, as it is shown under the kinds in force.
 abbrev pub KnownTold : Bool → Rule → Context → Option Inside → Type 0
 KnownTold in_peer r c None = ⊤
 KnownTold in_peer r c (Some i) = InsideTold in_peer r (known_inside in_peer c i)
@@ -148,7 +148,7 @@ force_raw in_peer None = never_told in_peer (Value V.Bytes)
 force_raw in_peer (Some n) = bytes_told in_peer
 
 module _ (peer : Peer) (in_peer : Bool) where
-  -- the data of all names are told
+  -- The data of all names are determined.
   abbrev AllNamesTold : Names → List NameRow → Type 0
   AllNamesTold ns kinds = (n : List ℕ) → NameTold peer in_peer ns kinds n
 
@@ -215,7 +215,7 @@ module _ (peer : Peer) (in_peer : Bool) (peers : InsideTold in_peer (peer_rule p
       let told = lists_told form (names_grammar (named peer data') (named peer ports)) (place LINK_INFO) (names_told LINK_INFO.0) (info_rows peer in_peer data' ports data_all ports_all) in
       subst (λ k. InsideTold in_peer (rule peer (Payload.link_info form data' ports)) (Nested k)) (sym (info_is n parts.0)) (nested_told in_peer (rule peer (Payload.link_info form data' ports)) LINK_INFO told)
 
-  -- data under a name are no peer
+  -- Data under a name are no peer.
   held_alone : (h : Held) → settled in_peer (of_held h) ≡ of_held h
   held_alone (HeldList form table) = refl
   held_alone h = refl

@@ -1,4 +1,4 @@
--- Names tell the rows that have them.
+-- Names determine the rows that have them.
 use Rattle.std.proofs.Common.{◌≡◌, ℕ, ◌-◌, ◌<◌, ◌≤◌, Bool, true, false, cond, List, [], ◌∷◌, length, Some, None, refl, sym, ap, subst, ◌∙◌, arith}
 use Rattle.std.specs.Prelude.{◌==◌, ◌||◌, not, nat_lt, get_or, bytes_eq}
 use Rattle.std.proofs.lemmas.Bool.{and_parts, eqb-true, le-ltb, ltb-false, true≢false}
@@ -21,7 +21,7 @@ in_table : (f : List Title → Bool) (m : ℕ) → f [] ≡ true → in_each f �
 unfolding titles_of
 in_table f m e h = search (chosen f, all_at f, first_holds, others_hold) depth 12
 
--- what holds of all names of a table holds of it
+-- A property of all names of a table holds for each of them.
 pub found : (f : ℕ → Name → Bool) (m k : ℕ) (t : Name) → all_titles f (titles_of m) ≡ true → title_of m k ≡ Some t → f k t ≡ true
 unfolding title_of
 found f m k t h e = found_in f k (titles_of m) t h e
@@ -43,7 +43,7 @@ picked_or : (m n : ℕ) (b c : Bool) (x y : List (Titled Raw)) → (m == n) ≡ 
 picked_or m n true c x y e h k = subst (λ z. are_apart (titles_of z) x ≡ true) (sym (eqb-true m n e)) h
 picked_or m n false c x y e h k = k
 
--- of the nine tables that have such names
+-- The nine tables that have such names.
 in_tables : (m : ℕ) → are_apart (titles_of m) (table_titles m) ≡ true
 unfolding raw_titles_of table_titles
 in_tables m =
@@ -62,7 +62,7 @@ in_tables m =
     (picked m GENEVE.0 (m == GENEVE.0) geneve_titles _ refl f.0 (picked m GRE.0 (m == GRE.0) gre_titles _ refl g.0
     (picked m GRE6.0 (m == GRE6.0) gre6_titles _ refl h.0 (picked m XFRM.0 (m == XFRM.0) xfrm_titles [] refl i.0 refl))))))))
 
--- behind the tables stand lists, which have no rows
+-- The tables are followed by lists, which have no rows.
 no_rows : length data_titles ≡ 23
 unfolding data_titles
 no_rows = refl

@@ -1,4 +1,4 @@
--- What the laws go by.
+-- The lemmas that the laws use.
 use Rattle.link_lines_texts.proofs.CapturesTold.{captures_told, cleared_told, meanings_told}
 use Rattle.link_lines_texts.proofs.FrameSteps.{by_frames, joined}
 use Rattle.link_lines_texts.proofs.FramesTold.{told as frames_told}

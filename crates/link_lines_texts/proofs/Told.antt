@@ -1,4 +1,4 @@
--- Each row has a name that tells it, by computation.
+-- Each row has a name and a format that determines it, by computation.
 use Rattle.std.proofs.Common.{◌≡◌, true, [], ◌∷◌, Some, refl}
 use Rattle.std.specs.List.{list_all}
 use Rattle.attribute_tables_grammar.specs.Lists.{any}

@@ -5,46 +5,48 @@ use Rattle.netlink_packet_core_grammar.specs.Frames.{frame_length, frame_type}
 use Rattle.link_capture_grammar.specs.Captures.{texts}
 use Rattle.link_lines_texts.specs.Frames.{frame_lines}
 
--- some bytes begin with a whole frame
+-- Whether some bytes begin with a whole frame.
 abbrev pub is_frame : List ℕ → Bool
 is_frame c = nat_le 16 (length c) && (nat_le 16 (frame_length c) && nat_le (frame_length c) (length c))
 
--- what is shown: whether sequence and port numbers are, and of which types messages are, where not all are
+-- A choice of what is shown: whether sequence and port numbers are, and the types of the shown messages if not all are.
 pub record Choice : Type 0 where
   pub numbers : Bool
   pub only : Option (List ℕ)
 
--- all
+-- The choice that shows everything.
 abbrev pub everything : Choice
 everything = record { numbers = true; only = None }
 
+-- The choice that shows every message, without sequence and port numbers.
 abbrev pub without_numbers : Choice
 without_numbers = record { numbers = false; only = None }
 
+-- Whether a message type is among some types.
 abbrev pub is_among : List ℕ → ℕ → Bool
 is_among [] t = false
 is_among (x ∷ types) t = x == t || is_among types t
 
--- messages of a type are shown
+-- Whether messages of a type are shown.
 abbrev pub is_chosen : Option (List ℕ) → ℕ → Bool
 is_chosen None t = true
 is_chosen (Some types) t = is_among types t
 
--- what is shown of the bytes of a frame without its padding
+-- The lines that are shown for a frame, given by its bytes without the padding.
 abbrev pub shown_lines : Choice → List ℕ → List ℕ
 shown_lines o f = cond (is_chosen o.only (frame_type f)) (frame_lines o.numbers f) []
 
--- The lines of what c has after its first bytes, so many of them as skip says, up to where no whole frame stands.
+-- The lines of c after its first `skip` bytes, up to the first position at which no whole frame begins.
 unfoldable pub lines_after : Choice → ℕ → List ℕ → List ℕ
 lines_after o skip [] = []
 lines_after o (suc skip) (b ∷ c) = lines_after o skip c
 lines_after o zero (b ∷ c) =
     cond (is_frame (b ∷ c)) (shown_lines o (take (frame_length (b ∷ c)) (b ∷ c)) ++ lines_after o (nla_align (frame_length (b ∷ c)) - 1) c) []
 
--- the lines of bytes that are read as normal text
+-- The lines of bytes that are read as normal text.
 unfoldable pub text_lines : Choice → List ℕ → List ℕ
 text_lines o t = lines_after o 0 t
 
--- the lines of a capture's normal text, or of the texts before its first fault
+-- The lines of a capture's normal text, or of the texts before its first fault.
 abbrev pub lines : Choice → ℕ → List ℕ → List ℕ
 lines o limit c = text_lines o (texts limit c)

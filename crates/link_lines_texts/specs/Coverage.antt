@@ -1,4 +1,5 @@
--- Whether rows of names cover tables: each row has a name, behind which stands a text that tells its payload, and each name has a row.
+-- Whether rows of names cover tables: each row has a name and a format that determines its payload, and each name has a
+-- row.
 use Rattle.std.specs.Prelude.{ℕ, ◌==◌, ◌&&◌, ◌||◌, not, nat_le, Bool, true, false, cond, List, [], ◌∷◌, take, Option, Some, None, bytes_eq}
 use Rattle.std.specs.List.{list_all}
 use Rattle.link_tables.specs.declared.names.NameRow.{NameRow}
@@ -19,7 +20,7 @@ use Rattle.link_lines_texts.specs.Titles.{Name, Title, data_titles, link_titles,
 
 -- ---- shapes
 
--- how many bytes a payload of a shape has that is its own text, where all have the same
+-- The size of a canonical payload of a shape, if all of them have the same.
 abbrev pub own_size : Shape → Option ℕ
 own_size (exact n) = Some n
 own_size (either m n) = None
@@ -35,54 +36,59 @@ own_size (fixed_record m n) = cond (nat_le m n) (Some n) None
 own_size id_and_truth = Some 8
 own_size (resized n) = Some n
 
+-- Whether a size is known and has a property.
 abbrev pub is_sized : Option ℕ → (ℕ → Bool) → Bool
 is_sized None f = false
 is_sized (Some n) f = f n
 
--- the sizes of numbers
+-- The sizes that numbers have.
 abbrev pub is_size : ℕ → Bool
 is_size n = (n == 1) || ((n == 2) || ((n == 4) || (n == 8)))
 
--- the shape's own payloads are 0 or 1
+-- Whether the canonical payloads of a shape are the numbers 0 and 1.
 abbrev pub is_truth : Shape → Bool
 is_truth nonzero_byte = true
 is_truth one_byte = true
 is_truth truth_of_four = true
 is_truth s = false
 
+-- Whether a shape is that of an attribute that only has to be present.
 abbrev pub is_presence : Shape → Bool
 is_presence presence = true
 is_presence s = false
 
+-- Whether a shape is that of a text.
 abbrev pub is_string : Shape → Bool
 is_string text = true
 is_string s = false
 
--- at most one byte
+-- Whether payloads of a shape have at most one byte.
 abbrev pub is_optional : Shape → Bool
 is_optional (at_most n) = n == 1
 is_optional s = false
 
--- 4 bytes, or 16, or either
+-- Whether payloads of a shape are addresses: 4 bytes, or 16, or either.
 abbrev pub is_address : Shape → Bool
 is_address (exact n) = (n == 4) || (n == 16)
 is_address (either m n) = (m == 4) && (n == 16)
 is_address s = false
 
+-- Whether a field isn't shown as a boolean.
 abbrev pub is_no_truth : FieldShown → Bool
 is_no_truth F.Truth = false
 is_no_truth v = true
 
+-- Whether no field of a record is shown as a boolean.
 abbrev pub lacks_truths : List Field → Bool
 lacks_truths [] = true
 lacks_truths (f ∷ fs) = is_no_truth f.2 && lacks_truths fs
 
--- a number of 4 bytes and a truth of 4 bytes
+-- Whether the fields are a number of 4 bytes and a boolean of 4 bytes.
 abbrev pub is_setting : List Field → Bool
 is_setting (f ∷ g ∷ []) = (f.1 == 4) && (is_no_truth f.2 && (g.1 == 4))
 is_setting fs = false
 
--- the shape's own payloads hold the fields, and zeros behind them
+-- Whether a canonical payload of the shape holds the fields, followed by zeros only.
 abbrev pub has_fields : Shape → List Field → Bool
 has_fields (exact n) fs = (total_size fs == n) && lacks_truths fs
 has_fields (resized n) fs = (total_size fs == n) && lacks_truths fs
@@ -90,7 +96,7 @@ has_fields (fixed_record m n) fs = nat_le m n && (((total_size fs == n) || (tota
 has_fields id_and_truth fs = is_setting fs
 has_fields s fs = false
 
--- the text of a form tells the shape's own payloads
+-- Whether a format determines the canonical payloads of a shape: equal texts mean equal payloads.
 abbrev pub shape_tells : Shape → Shown → Bool
 shape_tells s (V.Number numbers) = is_sized (own_size s) is_size
 shape_tells s (V.BigEndian numbers) = is_sized (own_size s) is_size
@@ -111,53 +117,56 @@ shape_tells s V.FlagsAndMask = is_sized (own_size s) (λ n. n == 8)
 shape_tells s (V.Record fields) = fields_tell fields && has_fields s fields
 shape_tells s (V.SparseRecord fields) = fields_tell fields && has_fields s fields
 
+-- How the payload under a name is shown, if there is a name.
 abbrev pub behind : Option Name → Option Inside
 behind None = None
 behind (Some n) = Some n.1
 
 -- ---- names
 
--- in each table
+-- Whether a property holds in each table of names.
 abbrev pub in_each : (List Title → Bool) → Bool
 in_each f = list_all f nested_titles && (list_all f link_titles && list_all f data_titles)
 
--- what is shown behind it stands on one line
+-- Whether what is shown on the line of a name is a single line.
 abbrev pub has_line : ℕ → Name → Bool
 has_line k n = is_inside_on_a_line n.1
 
--- no raw attribute has the name of another kind's row
+-- Whether no raw attribute has the name of another kind's row.
 abbrev pub are_apart : List Title → List (Titled Raw) → Bool
 are_apart ts us = all_titles (λ l n. all_titles (λ k t. not (bytes_eq n.0 t.0) || (k == l)) ts) us
 
--- of a table
+-- Whether the names of raw attributes in a table differ from the names of its rows.
 abbrev pub raw_apart : ℕ → Bool
 raw_apart m = are_apart (titles_of m) (raw_titles_of m)
 
--- ---- tables: each row has a name, behind which its payload is told, and each name has a row
+-- ---- tables: each row has a name and a format that determines its payload, and each name has a row
 
+-- Whether a kind has a row in a table.
 abbrev pub has_row : Table → ℕ → Bool
 has_row end k = false
 has_row (row l n s t) k = (k == l) || has_row t k
 
--- a name is that of a row
+-- Whether the kind of a name has a row.
 abbrev pub is_in : Table → ℕ → Name → Bool
 is_in t k n = has_row t k
 
--- the kinds of link info are five
+-- Whether a kind is one of the five of link info.
 abbrev pub is_info_kind : ℕ → Name → Bool
 is_info_kind k n = nat_le 1 k && nat_le k 5
 
--- each name in a table of kinds has a payload
+-- Whether each name in a table of kinds has a payload.
 abbrev pub kinds_listed : List NameRow → Names → Bool
 kinds_listed [] ns = true
 kinds_listed (r ∷ rs) ns = not (lacks_name (take r.0 r.1) ns) && kinds_listed rs ns
 
--- what the data under a name hold, as it is shown
+-- How the data under a kind's name are shown.
 abbrev pub kind_inside : List NameRow → List ℕ → Inside
 kind_inside kinds n = of_held (held_by_name kinds n)
 
 abbrev mutual
-  -- what stands behind a payload's name determines the payload: a value, a peer, or the attributes of its table
+  -- Whether what is shown under a payload's name determines the payload: a value, a peer, or the attributes of its
+  -- table.
   pub holds_shown : Payload → Option Inside → Bool
   holds_shown (plain s) (Some (Value v)) = shape_tells s v
   holds_shown peer (Some Peer) = true
@@ -166,10 +175,12 @@ abbrev mutual
       is_link_info n && ((names_shown data' KINDS && kinds_listed KINDS data') && (names_shown ports PORT_KINDS && kinds_listed PORT_KINDS ports))
   holds_shown s inside = false
 
+  -- Whether each row of a table is determined by what is shown of it.
   pub rows_shown : ℕ → Table → Bool
   rows_shown m end = true
   rows_shown m (row k nested s t) = holds_shown s (behind (title_of m k)) && rows_shown m t
 
+  -- Whether the data of each kind's name are determined by what is shown of them.
   pub names_shown : Names → List NameRow → Bool
   names_shown others kinds = true
   names_shown (name m s ns) kinds = holds_shown s (Some (kind_inside kinds m)) && names_shown ns kinds

@@ -7,28 +7,32 @@ use Rattle.link_lines_values.specs.Flags.{named_flags}
 use Rattle.link_lines_values.specs.Indents.{indent}
 use Rattle.link_lines_values.specs.Names.{Text, named_number, texts_of}
 
+-- The names of address families.
 unfoldable pub address_families : List Text
 address_families = texts_of (λ n. n.now) ADDRESS_FAMILY.now
 
+-- The names of layer types.
 unfoldable pub layer_types : List Text
 layer_types = texts_of (λ n. n.now) LINK_LAYER_TYPE.now
 
+-- The names of a link's flags.
 unfoldable pub link_flag_names : List Text
 link_flag_names = texts_of (λ n. n.now) LINK_FLAGS.now
 
+-- A label followed by a text.
 abbrev pub labelled : List ℕ → List ℕ → List ℕ
 labelled label text = label ++ text
 
--- family, type and index
+-- A link's address family, layer type and index.
 unfoldable pub link_numbers : List ℕ → List ℕ
 link_numbers b =
     labelled (codes "ifinfomsg family ") (named_number address_families (slice_index b 0)) ++ (labelled (codes " type ") (named_number layer_types (u16_at 2 b))
     ++ labelled (codes " index ") (decimal (u32_at 4 b)))
 
--- flags and the mask of their change
+-- A link's flags and change mask, and the end of the line.
 unfoldable pub link_flags : List ℕ → List ℕ
 link_flags b = labelled (codes " flags ") (named_flags link_flag_names (u32_at 8 b)) ++ (labelled (codes " change ") (named_flags link_flag_names (u32_at 12 b)) ++ 10 ∷ [])
 
--- the line of a header, at a level
+-- The line of a link's header at a level.
 abbrev pub link_header_line : ℕ → List ℕ → List ℕ
 link_header_line level b = indent level ++ (link_numbers b ++ link_flags b)

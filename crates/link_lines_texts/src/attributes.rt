@@ -1,4 +1,7 @@
 //! The lines of attributes.
+//!
+//! They are made from rows of names, not by the interpreter: what they show is normal text, so they
+//! need neither list kinds nor measures.
 
 ghost use Rattle.std.specs.Prelude.{◌≡◌, ◌<◌, ◌≤◌, ◌+◌, ◌^◌, ◌++◌, ◌∷◌, [], true, length, replicate, option_map, IfOk, OnOk};
 ghost use Rattle.link_lines_values.specs.Indents.{indent};
@@ -18,14 +21,14 @@ use link_tables::table::LINK_INFO;
 use link_tables::{InForce, LINK_HEADER_LEN, NO_KINDS, Table, family_table, next_force};
 use std::alloc::AllocError;
 
-/// Where attributes stand: the table of their kinds, and whether they are a peer's.
+/// The table of a list of attributes, and whether the list belongs to a peer.
 #[derive(Clone, Copy)]
 pub(crate) struct Place {
     pub(crate) table: Table,
     pub(crate) is_in_peer: bool,
 }
 
-/// The kinds in force after an attribute of a table.
+/// Returns the kinds in force after an attribute of a table. Only link info changes them.
 fn force_after<'a>(table: Table, force: InForce<'a>, attribute: Attribute<'a>) -> InForce<'a>
     ensures { in_force result ≡ next_in table (in_force force.entry)
         (attribute_of attribute.entry.kind attribute.entry.payload) }
@@ -37,7 +40,7 @@ fn force_after<'a>(table: Table, force: InForce<'a>, attribute: Attribute<'a>) -
     }
 }
 
-/// Appends what stands behind an attribute's name on its line.
+/// Appends what follows an attribute's name on the same line.
 fn push_behind(behind: Behind, payload: &[u8], out: &mut Vec<u8>) -> Result<(), AllocError>
     ensures ok { OnOk result (out.new.items ≡ out.old.items
         ++ inside_text (inside_of (λ b. b.now) (λ t. t.now) (λ r. r.now) behind.entry) payload.now) }
@@ -49,8 +52,9 @@ fn push_behind(behind: Behind, payload: &[u8], out: &mut Vec<u8>) -> Result<(), 
     }
 }
 
-/// Appends the line of a peer's header, below the peer's name. The answer is the list of the peer's attributes. A peer
-/// without a header, which no normal text has, is bytes.
+/// Appends the line of a peer's header, below the line with the peer's name, and returns the list
+/// of the peer's attributes. A peer without a header, which no normal text has, is shown as bytes
+/// on the line of its name: then nothing is appended, and there is no list.
 fn open_peer<'a>(
     level: usize,
     payload: &'a [u8],
@@ -70,7 +74,7 @@ fn open_peer<'a>(
     Ok(Some((place, &payload[LINK_HEADER_LEN..])))
 }
 
-/// The table of the list behind a name, where one stands there.
+/// Returns the table of the list that is shown below a name, if there is such a list.
 fn table_behind(behind: Behind) -> Option<Table>
     ensures { result ≡ inside_table (inside_of (λ b. b.now) (λ t. t.now) (λ r. r.now) behind.entry) }
 {
@@ -81,7 +85,8 @@ fn table_behind(behind: Behind) -> Option<Table>
     }
 }
 
-/// Appends what stands below an attribute's line and above its list. The answer is that list, where it holds one.
+/// Appends the line that comes between an attribute's line and those of its list, which only a peer
+/// has, and returns that list if the attribute holds one.
 fn open_list<'a>(
     level: usize,
     is_in_peer: bool,
@@ -104,8 +109,8 @@ fn open_list<'a>(
     Ok(Some((place, payload)))
 }
 
-/// Appends an attribute that has a name: its line, and the line of a peer's header below it. The answer is the list in
-/// it, where it holds one.
+/// Appends an attribute that has a name: its line, and the line of a peer's header below it.
+/// Returns the list that it holds, if any.
 fn push_named<'a>(
     level: usize,
     is_in_peer: bool,
@@ -127,7 +132,8 @@ fn push_named<'a>(
     open_list(level + 1, is_in_peer, behind, payload, out)
 }
 
-/// Appends the lines of an attribute itself. The answer is the list in it, where it holds one.
+/// Appends the line of an attribute, and that of a peer's header below it, but not those of its
+/// list. Returns that list, if the attribute holds one.
 #[tactic(auto, unfolding(crate::specs::Lists::own_lines, crate::specs::Lists::list_inside))]
 fn push_attribute<'a>(
     level: usize,
@@ -161,7 +167,7 @@ fn push_attribute<'a>(
     )
 }
 
-/// Appends the lines of attributes that stand at a place, which begin at this level.
+/// Appends the lines of a list of attributes of a table, indented for this level.
 pub(crate) fn push_list(
     level: usize,
     place: Place,

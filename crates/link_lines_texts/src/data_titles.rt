@@ -1,4 +1,4 @@
-//! The titles of the data of links and of ports.
+//! The names of attributes in the data of links and of ports.
 
 use crate::list_titles;
 use crate::titles::Title;

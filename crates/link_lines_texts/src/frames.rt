@@ -19,10 +19,10 @@ use link_tables::{LINK_HEADER_LEN, family_table};
 use netlink_packet_core::{NETLINK_HEADER_LEN, NLMSG_DONE, NLMSG_ERROR, NetlinkBuffer, nla_align};
 use std::alloc::AllocError;
 
-/// The bytes of the code in front of the body of a DONE or an ERROR message.
+/// The size in bytes of the code at the start of the body of an NLMSG_DONE or NLMSG_ERROR.
 const CODE_LEN: usize = 4;
 
-/// The flags that messages of a type have.
+/// Returns the names of the flags that messages of a type have.
 #[tactic(auto, unfolding(crate::specs::Frames::flag_names))]
 fn flag_names(message_type: u16) -> FlagNames
     ensures { texts_of (λ b. b.now) result.now ≡ flag_names message_type }
@@ -37,7 +37,7 @@ fn flag_names(message_type: u16) -> FlagNames
     }
 }
 
-/// Appends the name of a type of message, or its number.
+/// Appends the name of a message type, or `type` and its number if it has no name.
 #[tactic(auto, unfolding(crate::specs::Frames::type_text, crate::specs::Frames::message_types))]
 fn push_type(message_type: u16, out: &mut Vec<u8>) -> Result<(), AllocError>
     ensures ok { OnOk result (out.new.items ≡ out.old.items ++ type_text message_type) }
@@ -51,7 +51,7 @@ fn push_type(message_type: u16, out: &mut Vec<u8>) -> Result<(), AllocError>
     push_decimal(message_type as u64, out)
 }
 
-/// Appends the sequence and the port number of a message, where they are wanted.
+/// Appends the sequence and port number of a message if `numbers` is true.
 fn push_numbers(numbers: bool, frame: &[u8], out: &mut Vec<u8>) -> Result<(), AllocError>
     requires { 16 ≤ length frame.now }
     ensures ok { OnOk result (out.new.items ≡ out.old.items ++ numbers_text numbers frame.now) }
@@ -64,7 +64,7 @@ fn push_numbers(numbers: bool, frame: &[u8], out: &mut Vec<u8>) -> Result<(), Al
     push_labelled_decimal(b" port ", header.port_number(), out)
 }
 
-/// Appends the line of the header of a message (netlink.h, `struct nlmsghdr`).
+/// Appends the line of a message's header (netlink.h, `struct nlmsghdr`).
 #[tactic(auto, unfolding(crate::specs::Frames::header_line))]
 fn push_header(numbers: bool, frame: &[u8], out: &mut Vec<u8>) -> Result<(), AllocError>
     requires { 16 ≤ length frame.now }
@@ -83,7 +83,7 @@ fn push_header(numbers: bool, frame: &[u8], out: &mut Vec<u8>) -> Result<(), All
     out.extend_from_slice(b"\n")
 }
 
-/// Appends the line of the header of the request that an ERROR message is about.
+/// Appends the line of the header of the request that an NLMSG_ERROR is about.
 #[tactic(auto, unfolding(crate::specs::Frames::request_line))]
 fn push_request(numbers: bool, header: &[u8], out: &mut Vec<u8>) -> Result<(), AllocError>
     requires { 16 ≤ length header.now }
@@ -98,7 +98,7 @@ fn push_request(numbers: bool, header: &[u8], out: &mut Vec<u8>) -> Result<(), A
     push_header(numbers, header, out)
 }
 
-/// Appends a line of a name and bytes, where there are any.
+/// Appends a line of a name and bytes; no line if there are no bytes.
 #[tactic(auto, unfolding(crate::specs::Frames::bytes_line))]
 fn push_bytes_line(name: &[u8], bytes: &[u8], out: &mut Vec<u8>) -> Result<(), AllocError>
     ensures ok { OnOk result (out.new.items ≡ out.old.items ++ bytes_line name.now bytes.now) }
@@ -128,7 +128,7 @@ fn push_link(body: &[u8], out: &mut Vec<u8>) -> Result<(), AllocError>
     push_list(1, place, &body[LINK_HEADER_LEN..], out)
 }
 
-/// Appends the lines of what stands behind the code of an ERROR or a DONE message.
+/// Appends the lines for what follows the code of an NLMSG_ERROR or NLMSG_DONE.
 #[tactic(auto, unfolding(crate::specs::Frames::behind_code))]
 fn push_behind_code(
     numbers: bool,
@@ -146,7 +146,7 @@ fn push_behind_code(
     push_bytes_line(b"rest", rest, out)
 }
 
-/// Appends the lines of the body of an ERROR or a DONE message: a code, and what stands behind it.
+/// Appends the lines of the body of an NLMSG_ERROR or NLMSG_DONE: its code, and what follows it.
 #[tactic(auto, unfolding(crate::specs::Frames::code_lines))]
 fn push_code(
     numbers: bool,
@@ -166,7 +166,7 @@ fn push_code(
     push_behind_code(numbers, message_type, rest, out)
 }
 
-/// Appends the lines of the body of a message of a type.
+/// Appends the lines of a message's body, by the message's type.
 #[tactic(auto, unfolding(crate::specs::Frames::body_lines))]
 fn push_body(
     numbers: bool,
@@ -183,8 +183,13 @@ fn push_body(
     }
 }
 
-/// Appends the lines of a frame, of which these are all bytes without the padding. Its sequence and port number, and
-/// those of the request's header that an NLMSG_ERROR repeats, stand in them only where `numbers` says so.
+/// Appends the lines of a frame, given by its bytes without the padding. Its sequence and port
+/// number, and those of the request's header that an NLMSG_ERROR repeats, are shown only if
+/// `numbers` is true.
+///
+/// # Errors
+///
+/// `AllocError` if `out` can't grow; it may then have a part of the lines.
 #[tactic(auto, unfolding(crate::specs::Frames::frame_lines))]
 pub fn push_frame(frame: &[u8], numbers: bool, out: &mut Vec<u8>) -> Result<(), AllocError>
     requires { 16 ≤ length frame.now }

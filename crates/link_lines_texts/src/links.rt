@@ -13,7 +13,7 @@ use link_lines_values::{
 use netlink_packet_core_attributes::view::{read_u16, read_u32};
 use std::alloc::AllocError;
 
-/// Appends a label, and a number with its text.
+/// Appends a label, and a number with its name.
 fn push_labelled(
     label: &[u8],
     texts: &[NumberText],
@@ -54,7 +54,7 @@ pub(crate) fn push_labelled_flags(
     push_flags(names, flags as u64, out)
 }
 
-/// Appends the family, the type and the index of a link (rtnetlink.h, `struct ifinfomsg`).
+/// Appends the address family, layer type and index of a link (rtnetlink.h, `struct ifinfomsg`).
 #[tactic(auto, unfolding(crate::specs::Links::link_numbers))]
 fn push_link_numbers(body: &[u8], out: &mut Vec<u8>) -> Result<(), AllocError>
     requires { 16 ≤ length body.now }
@@ -65,7 +65,7 @@ fn push_link_numbers(body: &[u8], out: &mut Vec<u8>) -> Result<(), AllocError>
     push_labelled_decimal(b" index ", read_u32(body, 4), out)
 }
 
-/// Appends a label and flags of a link.
+/// Appends a label and a link's flags.
 #[tactic(auto, unfolding(crate::specs::Links::link_flag_names))]
 fn push_labelled_link_flags(label: &[u8], flags: u32, out: &mut Vec<u8>) -> Result<(), AllocError>
     ensures ok { OnOk result (out.new.items
@@ -74,7 +74,7 @@ fn push_labelled_link_flags(label: &[u8], flags: u32, out: &mut Vec<u8>) -> Resu
     push_labelled_flags(label, LINK_FLAGS, flags, out)
 }
 
-/// Appends the flags of a link, and the mask of their change.
+/// Appends the flags and the change mask of a link, and ends the line.
 #[tactic(auto, unfolding(crate::specs::Links::link_flags))]
 fn push_link_flags(body: &[u8], out: &mut Vec<u8>) -> Result<(), AllocError>
     requires { 16 ≤ length body.now }
@@ -85,7 +85,7 @@ fn push_link_flags(body: &[u8], out: &mut Vec<u8>) -> Result<(), AllocError>
     out.extend_from_slice(b"\n")
 }
 
-/// Appends the line of the header of a link, at a level (rtnetlink.h, `struct ifinfomsg`).
+/// Appends the line of a link's header at a level (rtnetlink.h, `struct ifinfomsg`).
 pub(crate) fn push_link_header(
     level: usize,
     body: &[u8],

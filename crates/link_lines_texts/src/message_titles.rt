@@ -1,4 +1,4 @@
-//! The titles of link messages and of link info.
+//! The names of attributes of link messages, of their nested lists, and of link info.
 
 use crate::titles::Title;
 use crate::{list_titles, own_titles};
@@ -22,7 +22,7 @@ use link_tables::{
     mctp, props, protocol_down_reason, specific, vf, vf_infos, vf_ports, vf_stats, vf_vlans, xdp,
 };
 
-// What attributes of links hold.
+// The lists that are nested in a link's attributes.
 pub const XDP_TITLES: &[Title] = &xdp!(list_titles);
 
 pub const PROPS_TITLES: &[Title] = &props!(list_titles);
@@ -51,7 +51,7 @@ pub const VF_INFOS_TITLES: &[Title] = &vf_infos!(list_titles);
 
 pub const VF_PORTS_TITLES: &[Title] = &vf_ports!(list_titles);
 
-/// Links of any family, without the rows that go by the family.
+/// Links of any address family, without the rows that depend on the family.
 pub const LINK_TITLES: &[Title] = &link!(
     list_titles,
     {
@@ -62,7 +62,8 @@ pub const LINK_TITLES: &[Title] = &link!(
     }
 );
 
-// Those rows: of links of no family, of bridges, of IPv6, and of every other family.
+// The rows that depend on the family: of links of no family, of bridges, of IPv6, and of every
+// other family.
 pub const UNSPEC_OWN: &[Title] = &link_unspec!(own_titles);
 
 pub const BRIDGE_OWN: &[Title] = &link_bridge!(own_titles);

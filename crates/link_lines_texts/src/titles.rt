@@ -1,4 +1,4 @@
-//! What attributes are called, and what stands behind their names, by table and kind.
+//! The names of attributes, and how what they hold is shown, by table and kind.
 
 ghost use Rattle.std.specs.Prelude.{◌≡◌, ◌<◌, ◌≤◌, ◌⊎◌, true, [], get_or, option_map};
 ghost use Rattle.link_lines_values.specs.Placed.{are_dense, find};
@@ -12,13 +12,13 @@ use link_lines_values::look_up;
 use link_tables::Table;
 use link_tables::table::{AMT, LINK_INFO, LINK_UNSPEC};
 
-/// A name, and what stands behind it.
+/// The name of an attribute, and how its payload is shown.
 pub type Name = (&'static [u8], Behind);
 
-/// A kind, and its name where the table has a row for it.
+/// A kind, with the attribute's name if the table has a row for it.
 pub type Title = (u16, Option<Name>);
 
-/// The title of a kind.
+/// The entry of one kind: its name, and how its payload is shown.
 #[macro_export]
 macro_rules! title {
     ($kind:literal) => {
@@ -32,7 +32,7 @@ macro_rules! title {
     };
 }
 
-/// The titles of a list.
+/// The entries of a list, from the lines of its macro in `link_tables`.
 #[macro_export]
 macro_rules! list_titles {
     ($(
@@ -45,7 +45,9 @@ macro_rules! list_titles {
     };
 }
 
-/// The titles of a list that go by the family of a link, which are those of IFLA_PROTINFO and IFLA_AF_SPEC.
+/// The entries of the rows that depend on the address family of a link: those of IFLA_PROTINFO and
+/// IFLA_AF_SPEC, the kinds 12 and 26. The other kinds get an entry without a name, so that the rows
+/// stay dense.
 #[macro_export]
 macro_rules! own_titles {
     ($(
@@ -58,7 +60,7 @@ macro_rules! own_titles {
     };
 }
 
-/// The title of a kind, where it goes by the family.
+/// The entry of one kind, with its name only if the row depends on the address family.
 #[macro_export]
 macro_rules! own_title {
     (12 $($said:tt)*) => {
@@ -72,7 +74,7 @@ macro_rules! own_title {
     };
 }
 
-/// The titles of one of the tables of what attributes of links hold.
+/// Returns the names of a nested table, by its number in `link_tables`.
 #[tactic(auto, unfolding(crate::specs::Titles::nested_titles))]
 fn nested_table(table: u8) -> &'static [Title]
     ensures titles { said (λ b. b.now) (λ t. t.now) (λ r. r.now) result.now ≡ get_or nested_titles table [] }
@@ -97,7 +99,7 @@ fn nested_table(table: u8) -> &'static [Title]
     }
 }
 
-/// The titles of one of the tables of data.
+/// Returns the names of a table of data, by its number from that of `AMT` on.
 #[tactic(auto, unfolding(crate::specs::Titles::data_titles))]
 fn data_table(table: u8) -> &'static [Title]
     ensures titles { said (λ b. b.now) (λ t. t.now) (λ r. r.now) result.now ≡ get_or data_titles table [] }
@@ -131,7 +133,8 @@ fn data_table(table: u8) -> &'static [Title]
     }
 }
 
-/// The titles that go by the family, of one of the tables of links.
+/// Returns the names of the rows that depend on the address family, by the number of a link's
+/// table.
 #[tactic(auto, unfolding(crate::specs::Titles::own_titles))]
 fn own_table(table: u8) -> &'static [Title]
     ensures titles { said (λ b. b.now) (λ t. t.now) (λ r. r.now) result.now ≡ get_or own_titles table [] }
@@ -146,7 +149,8 @@ fn own_table(table: u8) -> &'static [Title]
     }
 }
 
-/// The titles of links of every family.
+/// Returns the names of the rows that links of every address family have. The constant has a
+/// function of its own, since the prover spells it out in each function that names it.
 #[tactic(auto, unfolding(crate::specs::Titles::link_rows))]
 fn link_rows() -> &'static [Title]
     ensures titles { said (λ b. b.now) (λ t. t.now) (λ r. r.now) result.now ≡ link_rows }
@@ -155,6 +159,7 @@ fn link_rows() -> &'static [Title]
     message_titles::LINK_TITLES
 }
 
+/// Returns the names of the attributes of link info.
 #[tactic(auto, unfolding(crate::specs::Titles::info_titles))]
 fn info_titles() -> &'static [Title]
     ensures titles { said (λ b. b.now) (λ t. t.now) (λ r. r.now) result.now ≡ info_titles }
@@ -163,7 +168,8 @@ fn info_titles() -> &'static [Title]
     message_titles::INFO_TITLES
 }
 
-/// The name of a kind of a link.
+/// Returns the name of a kind of a link's attribute: that of the family's row, else that of the row
+/// for all families.
 fn link_title(family: u8, kind: u16) -> Option<Name>
     requires { family < 4 }
     ensures { option_map (viewed (λ b. b.now) (λ t. t.now) (λ r. r.now)) result ≡ find kind (get_or link_titles family []) }
@@ -174,7 +180,7 @@ fn link_title(family: u8, kind: u16) -> Option<Name>
     }
 }
 
-/// The titles of a table that isn't of links.
+/// Returns the names of a table other than those of links.
 #[tactic(auto, unfolding(crate::specs::Titles::titles_of))]
 fn titles_of(table: Table) -> &'static [Title]
     requires { table.0 < LINK_UNSPEC.0 ⊎ LINK_INFO.0 ≤ table.0 }
@@ -190,7 +196,8 @@ fn titles_of(table: Table) -> &'static [Title]
     }
 }
 
-/// The name of a kind, which has no flag bits, in a table, and what stands behind it.
+/// Returns the name of a kind without flag bits in a table, and how its payload is shown; None if
+/// the table has no row for it.
 pub fn title_of(table: Table, kind: u16) -> Option<Name>
     ensures { option_map (viewed (λ b. b.now) (λ t. t.now) (λ r. r.now)) result ≡ title_of table.0 kind }
 {

@@ -1,4 +1,4 @@
--- Bytes are told by their text.
+-- The text of bytes determines them.
 use Rattle.std.proofs.Common.{◌≡◌, ℕ, ◌/◌, ◌%◌, ◌<◌, Bool, true, false, List, [], ◌∷◌, ◌++◌, drop, refl, sym, ap, ◌∙◌, arith, append_assoc, cond}
 use Rattle.std.specs.Prelude.{◌==◌, ◌&&◌, ◌||◌, get_or, flat_map, nat_le, nat_lt}
 use Rattle.std.specs.Fmt.{digit_glyph}
@@ -67,7 +67,7 @@ is_plain b = nat_le 32 b && nat_lt b 127
 abbrev escaped_by : Bool → Bool → ℕ → List ℕ
 escaped_by q p b = cond q (92 ∷ b ∷ []) (cond p (b ∷ []) (92 ∷ 120 ∷ hex_byte b))
 
--- what is written of a byte tells the byte, and what stands behind it
+-- The text of a byte determines the byte, and what follows it.
 step_by : (x y : ℕ) (a b c d : Bool) → is_quote x ≡ a → is_plain x ≡ b → is_quote y ≡ c → is_plain y ≡ d → x < 256 → y < 256 → (s t : List ℕ) → escaped_by a b x ++ s ≡ escaped_by c d y ++ t → (x ≡ y) × (s ≡ t)
 step_by x y true b true d h k l m i j s t e = (ap (λ l. get_or l 1 0) e, ap (drop 2) e)
 step_by x y true b false true h k l m i j s t e = let z : 92 ≡ y = ap (λ l. get_or l 0 0) e in absurd (grind (arith, nat_tests))
@@ -79,7 +79,7 @@ step_by x y false false true d h k l m i j s t e = let z : 120 ≡ y = ap (λ l.
 step_by x y false false false true h k l m i j s t e = let z : 92 ≡ y = ap (λ l. get_or l 0 0) e in absurd (grind (arith, nat_tests))
 step_by x y false false false false h k l m i j s t e = (byte_told x y i j (ap (λ l. get_or l 2 0) e) (ap (λ l. get_or l 3 0) e), ap (drop 4) e)
 
--- no byte is written with a quote in front
+-- No byte's text begins with a quote.
 no_quote : (n y : ℕ) → n ≡ 34 → n ≡ y → is_quote y ≡ false → ⊥
 no_quote n y is same l = grind (arith, nat_tests)
 

@@ -1,4 +1,4 @@
--- One level more.
+-- The indentation of one level more.
 use Rattle.std.proofs.Common.{◌≤◌, take, ◌≡◌, ℕ, zero, suc, ◌+◌, ◌*◌, [], ◌∷◌, ◌++◌, refl, ap, ◌∙◌, arith}
 use Rattle.std.specs.Prelude.{replicate}
 use Rattle.link_lines_values.specs.declared.indents.TheConstants.{SPACES}

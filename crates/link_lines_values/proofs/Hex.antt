@@ -18,7 +18,7 @@ module _ (n : ℕ) (after : List ℕ) where
   next_digit zero h e = absurd (omega arith)
   next_digit (suc k) h e = digit_before k false (ne_eqb _ 0 e) ∙ ap (λ (j : ℕ). digits_onto j 16 false (n / 16) (digit_glyph false (n % 16) ∷ after)) {x = k} {y = suc k - 1} (omega arith)
 
--- a digit written before the others
+-- A digit written before the others.
 pub drop-set-cons : (out : List ℕ) (i x g : ℕ) → 0 < i → i ≤ length out → x ≡ g → drop (i - 1) (set out (i - 1) x) ≡ g ∷ drop i out
 drop-set-cons out zero x g h k e = absurd (omega arith)
 drop-set-cons out (suc j) x g h k e =

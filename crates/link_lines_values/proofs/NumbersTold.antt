@@ -1,4 +1,4 @@
--- Numbers are told by their text.
+-- The text of a number determines it.
 use Rattle.std.proofs.Common.{◌≡◌, ℕ, zero, suc, ◌+◌, ◌-◌, ◌*◌, ◌/◌, ◌%◌, ◌^◌, ◌<◌, ◌≤◌, Bool, true, false, List, [], ◌∷◌, ◌++◌, length, drop, refl, sym, ap, subst, ◌∙◌, append_assoc, arith}
 use Rattle.std.proofs.lemmas.List.{append_cancel_left, reverse-append, reverse-reverse, length-reverse}
 use Rattle.std.proofs.lemmas.Bool.{cond_both}
@@ -17,7 +17,7 @@ use Rattle.link_lines_values.specs.Laws.{DigitsAreTold, Ends, NumbersAreTold}
 use Rattle.link_lines_values.specs.Names.{Text, bracketed, named_number, text_in}
 use Rattle.netlink_packet_core_grammar.proofs.Bytes.{AreBytes-append}
 
--- ---- digits end where a smaller byte stands
+-- ---- digits end before a smaller byte
 
 abbrev pub Digits : List ℕ → Type 0
 Digits ds = AllByRecursion (λ c. 48 ≤ c) ds
@@ -40,14 +40,14 @@ high_onto (suc k) base n acc h =
     let more : Digits (digit_glyph false (n % base) ∷ acc) = (high_glyph (n % base), h) in
     cond_both (n / base == 0) _ _ Digits (λ e. more) (λ e. high_onto k base (n / base) _ more)
 
--- digits are at least 48, in whichever base
+-- Digits are at least 48, in whichever base.
 pub high : (base n : ℕ) → Digits (digits base false n)
 unfolding digits
 high base n = high_onto 64 base n [] (record {})
 
--- ---- the number in front of a text
+-- ---- the number at the start of a text
 
--- the text of a number below this tells it, and what stands behind it
+-- The text of a number below this bound determines it, and what follows it.
 abbrev pub Tells : ℕ → (ℕ → List ℕ) → Type 0
 Tells bound text = (m n : ℕ) (s t : List ℕ) → m < bound → n < bound → Ends s → Ends t → text m ++ s ≡ text n ++ t → (m ≡ n) × (s ≡ t)
 
@@ -66,11 +66,11 @@ hex_told m n s t p q k l e =
     let r = cut (digits 16 false m) (digits 16 false n) s t (high 16 m) (high 16 n) k l (ap (drop 2) e) in
     (sym a.1 ∙ ap (digits_value 16) r.0 ∙ b.1, r.1)
 
--- what stands behind a first part
+-- What follows a first part.
 pub behind : (a x s b y t : List ℕ) → (a ++ x) ++ s ≡ (b ++ y) ++ t → a ++ (x ++ s) ≡ b ++ (y ++ t)
 behind a x s b y t e = sym (append_assoc a x s) ∙ e ∙ append_assoc b y t
 
--- a number that tells its name is told with it
+-- A number that determines its name is determined together with it.
 with_name : (bound : ℕ) (text name : ℕ → List ℕ) → Tells bound text → ((n : ℕ) (s : List ℕ) → Ends s → Ends (name n ++ s)) → Tells bound (λ n. text n ++ name n)
 with_name bound text name told ends m n s t p q k l e =
     let r = told m n (name m ++ s) (name n ++ t) p q (ends m s k) (ends n t l) (behind (text m) (name m) s (text n) (name n) t e) in
@@ -113,7 +113,7 @@ pub turned : (p : List ℕ) → AreBytes p → AreBytes (reverse p)
 turned [] a = record {}
 turned (x ∷ p) a = subst AreBytes (sym (reverse-append (x ∷ []) p)) (AreBytes-append (reverse p) (x ∷ []) (turned p a.1) (a.0, record {}))
 
--- a number that at most 8 bytes stand for, and that tells them
+-- A number of at most 8 bytes that determines them.
 pub record Reads (value : List ℕ → ℕ) : Type 0 where
   pub small : (p : List ℕ) → AreBytes p → length p ≤ 8 → value p < 2 ^ 64
   pub told : (p q : List ℕ) → AreBytes p → AreBytes q → length p ≡ length q → value p ≡ value q → p ≡ q
@@ -138,24 +138,24 @@ pub same_size : (p q : List ℕ) → length p ≡ length q → is_number p ≡ t
 same_size p q l h = ap (λ n. (n == 1) || ((n == 2) || ((n == 4) || (n == 8)))) (sym l) ∙ h
 
 module _ (value : List ℕ → ℕ) (reads : Reads value) (text : ℕ → List ℕ) (told : Tells (2 ^ 64) text) where
-  -- bytes are told by their number, and so is what stands behind it
+  -- Bytes are determined by their number, and so is what follows it.
   pub number_and_rest : (p q s t : List ℕ) → AreBytes p → AreBytes q → length p ≤ 8 → length p ≡ length q → Ends s → Ends t → text (value p) ++ s ≡ text (value q) ++ t → (p ≡ q) × (s ≡ t)
   number_and_rest p q s t a b h l i j e =
       let r = told (value p) (value q) s t (reads.small p a h) (reads.small q b (omega arith)) i j e in
       (reads.told p q a b l r.0, r.1)
 
-  -- a number behind a space
+  -- A number after a space.
   pub number_alone : (p q : List ℕ) → AreBytes p → AreBytes q → length p ≤ 8 → length p ≡ length q → 32 ∷ text (value p) ≡ 32 ∷ text (value q) → p ≡ q
   number_alone p q a b h l e = (number_and_rest p q [] [] a b h l (record {}) (record {}) (ap (λ z. drop 1 z ++ []) e)).0
 
-  -- one that is shown where the bytes have a size of one
+  -- A number that is shown if the bytes have the size of one.
   pub sized_number : (p q : List ℕ) → AreBytes p → AreBytes q → length p ≡ length q → is_number p ≡ true →
       cond (is_number p) (32 ∷ text (value p)) (bytes_text p) ≡ cond (is_number q) (32 ∷ text (value q)) (bytes_text q) → p ≡ q
   sized_number p q a b l h e = let k = same_size p q l h in number_alone p q a b (sized (length p) h) l (rw (h, k) at e)
 
 -- ---- numbers with a sign
 
--- no digits begin with a minus
+-- No digits begin with a minus.
 no_minus : (ds s t : List ℕ) → Digits ds → 0 < length ds → ds ++ s ≡ 45 ∷ t → ⊥
 no_minus [] s t h l e = omega arith
 no_minus (x ∷ ds) s t h l e = let first : x ≡ 45 = cc in omega (arith, h.0)

@@ -1,4 +1,4 @@
--- A value's text stands on one line, behind a space.
+-- A value's text is on one line, and is empty or begins with a space.
 use Rattle.std.proofs.Common.{◌≡◌, ℕ, zero, suc, ◌+◌, ◌/◌, ◌%◌, ◌≤◌, Bool, true, false, List, [], ◌∷◌, ◌++◌, length, take, drop, refl, arith}
 use Rattle.std.specs.Prelude.{◌==◌, ◌&&◌, ◌||◌, bit_and, codes, cond, flat_map, nat_le, nat_lt, slice_index}
 use Rattle.std.specs.Char.{digit_char}
@@ -33,7 +33,7 @@ either_line false s t h k = k
 pub more_line : (c : ℕ) (s : List ℕ) → nat_le 32 c ≡ true → IsLine s → IsLine (c ∷ s)
 more_line c s l h = (leb-true 32 c l, h)
 
--- texts of parts
+-- Texts made of parts.
 ruleset joins = (either_line, more_line, lines_joined)
 
 line_dropped : (n : ℕ) (s : List ℕ) → IsLine s → IsLine (drop n s)
@@ -45,7 +45,7 @@ lines_mapped : (f : ℕ → List ℕ) → ((n : ℕ) → IsLine (f n)) → (p : 
 lines_mapped f each [] = record {}
 lines_mapped f each (n ∷ p) = lines_joined (f n) (flat_map f p) (each n) (lines_mapped f each p)
 
--- the test of a text that is written out
+-- The test of a text that is written out.
 pub tested : (s : List ℕ) → is_line s ≡ true → IsLine s
 tested [] h = record {}
 tested (c ∷ s) h =
@@ -170,7 +170,7 @@ bracketed_line (c ∷ name) h = let inner = lines_joined (c ∷ name) (codes ")"
 named_line : (texts : List Text) (n : ℕ) → are_lines texts ≡ true → IsLine (named_number texts n)
 named_line texts n h = lines_joined (decimal n) (bracketed (text_in texts n)) (decimal_line n) (bracketed_line (text_in texts n) (text_line texts n h))
 
--- each of some names stands on a line
+-- Each of some names is on one line.
 abbrev AllLines : List (List ℕ) → Type 0
 AllLines names = AllByRecursion IsLine names
 
@@ -240,7 +240,7 @@ line S.Presence p h = record {}
 line S.OptionalByte p h = optional_line p
 line shown p h = search lines depth 12
 
--- ---- a space in front
+-- ---- a space at the start
 
 pub either_space : (test : Bool) (s t : List ℕ) → IsBehindASpace s → IsBehindASpace t → IsBehindASpace (cond test s t)
 either_space true s t h k = h

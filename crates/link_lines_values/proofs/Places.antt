@@ -1,4 +1,4 @@
--- The row in a kind's place is that of the kind.
+-- The row at a kind's index is that of the kind.
 use Rattle.std.proofs.Common.{◌≡◌, ℕ, zero, suc, ◌+◌, ◌-◌, ◌<◌, ◌≤◌, true, cond, List, [], ◌∷◌, length, get_or, None, Option, refl, sym, ap, ◌∙◌, arith}
 use Rattle.std.specs.Prelude.{◌&&◌, ◌==◌}
 use Rattle.std.proofs.lemmas.Bool.{and_parts, eqb-true, eq-eqb, ne_eqb}
@@ -33,7 +33,7 @@ module _ {A : Type 0} where
       let e = eqb-true t.0 n a.0 in
       past ts (suc n) k a.1 (omega (arith, l)) ∙ other t ts k (λ x. omega (arith, e, l, x))
 
-  -- the same, where n is the first one's kind
+  -- The same statement, with n the first row's kind.
   from_first : (ts : List (ℕ × Option A)) (d : ℕ × Option A) (n : ℕ) → n ≡ (get_or ts 0 d).0 → are_dense ts ≡ true → stand_from n ts ≡ true
   from_first [] d n e h = refl
   from_first (t ∷ ts) d n e h = ap (λ m. stand_from m (t ∷ ts)) e ∙ ap (λ b. b && stand_from (suc t.0) ts) (eq-eqb t.0 t.0 refl) ∙ h

@@ -1,4 +1,4 @@
--- The numbers that bytes stand for, as std reads them.
+-- Bytes as numbers, as std reads them.
 use Rattle.std.proofs.Common.{Bool, true, eq-eqb, lt-ltb, ◌+◌, ◌<◌, ◌/◌, ◌%◌, ◌++◌, codes, get_or, ◌≡◌, ◌∙◌, ap, Some, None, cond, length, ℕ, List, [], ◌∷◌, arith, w16, w32, w64}
 use Rattle.std.specs.Fmt.{decimal, digits}
 use Rattle.std.specs.Int.{from_le_bytes, from_be_bytes}
@@ -42,7 +42,7 @@ digit_by : (b c : Bool) (n m : ℕ) (more : List ℕ) → b ≡ true → c ≡ t
 digit_by true true n m more h k e = ap (λ z. (48 + z) ∷ []) e
 digit_by b c n m more h k e = absurd cc
 
--- a number under 10 has one digit
+-- A number under 10 has one digit.
 pub one_digit : (n : ℕ) → n < 10 → decimal n ≡ (48 + n) ∷ []
 unfolding digits
 one_digit n h = digit_by _ _ n (n % 10) _ (eq-eqb (n / 10) 0 (omega (arith, h))) (lt-ltb (n % 10) 10 (omega arith)) (omega (arith, h))

@@ -1,4 +1,4 @@
--- Records are told by their text.
+-- The text of a record determines it.
 use Rattle.std.proofs.Common.{◌≡◌, ℕ, zero, suc, ◌+◌, ◌*◌, ◌/◌, ◌%◌, ◌≤◌, Bool, true, false, List, [], ◌∷◌, ◌++◌, length, take, drop, refl, sym, ap, ◌∙◌, arith, append_assoc}
 use Rattle.std.proofs.lemmas.List.{append_cancel_left}
 use Rattle.std.specs.Prelude.{◌==◌, ◌&&◌, cond, flat_map, bytes_eq, max, nat_le, not}
@@ -59,7 +59,7 @@ address_told p q s t a b l h k e =
 
 -- ---- a field
 
--- a number of a size that one has
+-- A number of a size that numbers have.
 number_field : (value : List ℕ → ℕ) → Reads value → (p q s t : List ℕ) → AreBytes p → AreBytes q → length p ≡ length q → is_number p ≡ true → Ends s → Ends t →
     cond (is_number p) (decimal (value p)) (hex_text p) ++ s ≡ cond (is_number q) (decimal (value q)) (hex_text q) ++ t → (p ≡ q) × (s ≡ t)
 number_field value reads p q s t a b l h m n e =
@@ -78,7 +78,7 @@ field_told S.BigEndian p q s t a b l h i j m n e = number_field big_endian highe
 field_told S.Address p q s t a b l h i j m n e = address_told p q s t a b l m n e
 field_told S.Truth p q s t a b l h i j m n e = truth_told p q s t a b l i j e
 
--- ---- fields, one behind the other
+-- ---- fields, one after the other
 
 ends_after : (t : Bool) (f : Field) (p r : List ℕ) → Ends r → Ends (cond t [] (field_text f p) ++ r)
 ends_after true f p r h = h
@@ -92,7 +92,7 @@ no_items : (p q : List ℕ) → length p ≡ 0 → length q ≡ 0 → p ≡ q
 no_items [] [] h k = refl
 no_items p q h k = absurd (omega arith)
 
--- two texts of one field tell its value, and what follows them
+-- Two texts of one field determine its value, and what follows them.
 shown_field : (f : Field) (p q s t : List ℕ) → AreBytes p → AreBytes q → length p ≡ length q → has_size f.2 (length p) ≡ true → IsKnown f.2 p → IsKnown f.2 q → Ends s → Ends t →
     field_text f p ++ s ≡ field_text f q ++ t → (p ≡ q) × (s ≡ t)
 shown_field f p q s t a b l h i j m n e =
@@ -102,7 +102,7 @@ shown_field f p q s t a b l h i j m n e =
     let behind : x ++ s ≡ y ++ t = append_cancel_left name _ _ (sym (append_assoc name x s) ∙ ap (drop 1) e ∙ append_assoc name y t) in
     field_told f.2 p q s t a b l h i j m n (ap (drop 1) behind)
 
--- ---- names in front of a sign of equality
+-- ---- names before a sign of equality
 
 cut_name : (a b s t : List ℕ) → no_equals a ≡ true → no_equals b ≡ true → a ++ 61 ∷ s ≡ b ++ 61 ∷ t → a ≡ b
 cut_name [] [] s t h k e = refl
@@ -112,7 +112,7 @@ cut_name (x ∷ a) (y ∷ b) s t h k e =
     let rest : a ≡ b = cut_name a b s t (and_parts (not (x == 61)) (no_equals a) h).1 (and_parts (not (y == 61)) (no_equals b) k).1 (ap (drop 1) e) in
     cc
 
--- no field that is shown has a name that stands nowhere
+-- No field that is shown has a name that isn't in the record.
 absent_by : (n : List ℕ) (f : Field) (rest r : List ℕ) (p : List ℕ) (t : Bool) → no_equals n ≡ true → no_equals f.0 ≡ true → not (bytes_eq f.0 n) ≡ true → (rest ≡ 32 ∷ (n ++ 61 ∷ r) → ⊥) →
     cond t [] (field_text f p) ++ rest ≡ 32 ∷ (n ++ 61 ∷ r) → ⊥
 absent_by n f rest r p true h k m other e = other e
@@ -128,9 +128,9 @@ absent sparse n (f ∷ fs) p r h k m e =
     let lacking = and_parts _ (lacks n fs) k in
     absent_by n f (fields_text sparse fs (drop f.1 p)) r (take f.1 p) (sparse && is_zero (take f.1 p)) h named.0 lacking.0 (absent sparse n fs (drop f.1 p) r h lacking.1 (and_parts _ _ named.1).1) e
 
--- ---- records, of which the fields that are zero may be left out
+-- ---- records in which the fields that are zero may be left out
 
--- two texts of a field that may be left out, each with what follows it
+-- Two texts of a field that may be left out, each with what follows it.
 sparse_field : (f : Field) (p q s t : List ℕ) (c d : Bool) → (c ≡ true → is_zero p ≡ true) → (d ≡ true → is_zero q ≡ true) → AreBytes p → AreBytes q → length p ≡ length q → has_size f.2 (length p) ≡ true → IsKnown f.2 p → IsKnown f.2 q → Ends s → Ends t →
     ((r : List ℕ) → s ≡ 32 ∷ (f.0 ++ 61 ∷ r) → ⊥) → ((r : List ℕ) → t ≡ 32 ∷ (f.0 ++ 61 ∷ r) → ⊥) →
     cond c [] (field_text f p) ++ s ≡ cond d [] (field_text f q) ++ t → (p ≡ q) × (s ≡ t)

@@ -1,4 +1,4 @@
--- Payloads of one size are told by their value.
+-- The value of a payload determines it among payloads of one size.
 use Rattle.std.proofs.Common.{◌≡◌, ℕ, ◌+◌, ◌%◌, ◌^◌, ◌<◌, ◌≤◌, Bool, true, false, cond, List, [], ◌∷◌, ◌++◌, length, get_or, refl, sym, ap, ◌∙◌, arith}
 use Rattle.std.specs.Prelude.{◌==◌, codes, decimal, nat_lt}
 use Rattle.std.proofs.lemmas.Bool.{eqb-true, ltb-true}
@@ -38,7 +38,7 @@ other_byte m n h k e = omega arith
 other_third : (m n : ℕ) → m ≤ 102 → n ≡ 121 → m ≡ n → ⊥
 other_third m n h k e = omega arith
 
--- a low byte behind the space
+-- A byte below the digits after the space.
 low_second : (t s : List ℕ) → get_or t 1 0 < 98 → t ≡ codes " bytes" ++ s → ⊥
 low_second t s h e = other_byte (get_or t 1 0) 98 h refl (ap (λ l. get_or l 1 0) e)
 
@@ -46,7 +46,7 @@ first_kept : (a b : List ℕ) → 0 < length a → get_or (a ++ b) 0 0 ≡ get_o
 first_kept [] b h = absurd (omega arith)
 first_kept (c ∷ a) b h = refl
 
--- digits in front of whatever
+-- Digits before any bytes.
 digits_low : (n : ℕ) (s : List ℕ) → n < 2 ^ 64 → get_or (decimal n ++ s) 0 0 < 98
 digits_low n s h =
     let d = (decimal_is_IsNumeral n h).0 in

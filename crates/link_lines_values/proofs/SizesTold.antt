@@ -9,7 +9,7 @@ use Rattle.netlink_packet_core_grammar.specs.Bytes.{AreBytes}
 use Rattle.link_lines_values.specs.Laws.{AddressSizesAreTold}
 use Rattle.link_lines_values.proofs.ValuesTold.{bytes_at, segments_at, segments_size}
 
--- no IPv4 address has the text of an IPv6 address
+-- No IPv4 address has the text of an IPv6 address.
 texts_apart : (p q : List ℕ) → AreBytes p → AreBytes q → length p ≡ 4 → length q ≡ 16 → ipv4_text p ≡ ipv6_text (segments_of q) → ⊥
 texts_apart p q a b l k e =
     let hex : IsColonHex (ipv6_text (segments_of q)) (segments_of q) = IsColonHex-ipv6_text (segments_of q) (segments_size 8 q k) (segments_at q b) in

@@ -1,4 +1,4 @@
--- What the laws go by.
+-- The lemmas that the laws use.
 use Rattle.link_lines_values.proofs.BytesTold.{bytes_told}
 use Rattle.link_lines_values.proofs.NumbersTold.{digits_are, numbers_told}
 use Rattle.link_lines_values.proofs.OneLine.{values_stand}

@@ -1,4 +1,4 @@
--- Addresses, sets of flags and other values are told by their text.
+-- The texts of addresses, sets of flags and other values determine them.
 use Rattle.std.proofs.Common.{◌≡◌, ℕ, zero, suc, ◌+◌, ◌*◌, ◌^◌, ◌<◌, ◌≤◌, Bool, true, false, List, [], ◌∷◌, ◌++◌, length, take, drop, refl, sym, ap, subst, ◌∙◌, arith}
 use Rattle.std.specs.Prelude.{◌==◌, cond, get_or, codes}
 use Rattle.std.specs.Net.Addr.{segments_of}
@@ -89,7 +89,7 @@ sized_4 p q a b l k e = number_alone number lowest_first hex_number hex_told p q
 sized_2 : (p q : List ℕ) → AreBytes p → AreBytes q → length p ≡ 2 → length q ≡ 2 → sized_flags_value p ≡ sized_flags_value q → p ≡ q
 sized_2 p q a b l k e = number_alone big_endian highest_first hex_number hex_told p q a b (omega arith) (l ∙ sym k) (rw (l, k) at e)
 
--- the numbers of two halves, with something between them that ends the first
+-- The numbers of two halves, with text between them that ends the first.
 halves_told : (value : List ℕ → ℕ) → Reads value → (text : ℕ → List ℕ) → Tells (2 ^ 64) text → (between : List ℕ) → ((s : List ℕ) → Ends (between ++ s)) →
     (n : ℕ) (p q : List ℕ) → n ≤ 8 → AreBytes p → AreBytes q → length p ≡ n + n → length q ≡ n + n →
     32 ∷ (text (value (take n p)) ++ (between ++ text (value (drop n p)))) ≡ 32 ∷ (text (value (take n q)) ++ (between ++ text (value (drop n q)))) → p ≡ q
@@ -106,7 +106,7 @@ masked p q a b l k e = halves_told number lowest_first hex_number hex_told (code
 ports : (p q : List ℕ) → AreBytes p → AreBytes q → length p ≡ 4 → length q ≡ 4 → port_range_value p ≡ port_range_value q → p ≡ q
 ports p q a b l k e = halves_told big_endian highest_first decimal decimal_told (codes " ") (λ s. omega arith) 2 p q (omega arith) a b l k (rw (l, k) at e)
 
--- ---- a byte or none
+-- ---- an optional byte
 
 optional : (p q : List ℕ) → AreBytes p → AreBytes q → length p ≤ 1 → length q ≤ 1 → optional_byte_value p ≡ optional_byte_value q → p ≡ q
 optional [] [] a b l k e = refl
@@ -117,7 +117,7 @@ optional (x ∷ []) (y ∷ []) a b l k e =
     cc
 optional p q a b l k e = absurd (omega arith)
 
--- ---- truths
+-- ---- booleans
 
 truths_by : (m n : ℕ) (a b : Bool) → (m == 0) ≡ a → (n == 0) ≡ b → m ≤ 1 → n ≤ 1 → (s t : List ℕ) →
     cond a (codes "off") (codes "on") ++ s ≡ cond b (codes "off") (codes "on") ++ t → (m ≡ n) × (s ≡ t)

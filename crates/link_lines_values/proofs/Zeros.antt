@@ -1,4 +1,4 @@
--- The bytes without the zeros at the end, counted from the first on.
+-- The number of bytes without the zeros at the end, counted from the first byte on.
 use Rattle.std.proofs.Common.{◌≡◌, ◌≢◌, ℕ, ◌+◌, ◌&&◌, Bool, true, false, cond, List, [], ◌∷◌, refl, ap, sym, ◌∙◌, zero-add, add_assoc, eq-eqb, ne_eqb, ◌<◌, length, drop, get_or, drop-cons, add-one, arith}
 use Rattle.std.specs.Prelude.{◌*◌, ◌==◌}
 use Rattle.std.proofs.lemmas.Bool.{eqb-true}
@@ -6,7 +6,7 @@ use Rattle.std.proofs.lemmas.Bool.Decides.{nat_tests}
 use Rattle.attribute_tables_grammar.specs.Shapes.{number}
 use Rattle.link_lines_values.specs.Bytes.{is_zero, count_without_zeros}
 
--- the count, where count holds of the first i bytes, and these are the rest
+-- The count over all bytes, given the count over the first i and the rest.
 abbrev pub counted : ℕ → ℕ → List ℕ → ℕ
 counted i count rest = cond (is_zero rest) count (i + count_without_zeros rest)
 
@@ -53,7 +53,7 @@ counted_same i count n bytes l h e =
 zero_by : (b n : ℕ) (t : Bool) → (n == 0) ≡ t → (b + 256 * n == 0) ≡ (b == 0) && t
 zero_by b n t h = grind (arith, nat_tests)
 
--- bytes are zeros where their number is zero
+-- Bytes are zeros if their number is zero.
 pub zero_by_number : (p : List ℕ) → (number p == 0) ≡ is_zero p
 zero_by_number [] = refl
 zero_by_number (b ∷ p) = zero_by b (number p) (is_zero p) (zero_by_number p)

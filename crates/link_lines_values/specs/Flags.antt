@@ -3,39 +3,39 @@ use Rattle.std.specs.Prelude.{ℕ, ◌-◌, ◌==◌, bit_and, Bool, true, false
 use Rattle.link_lines_values.specs.Digits.{hex_number}
 use Rattle.link_lines_values.specs.Names.{Text}
 
--- the names of the bits that are set
+-- The names of the bits that are set.
 abbrev pub names_set : List Text → ℕ → List (List ℕ)
 names_set [] n = []
 names_set (r ∷ rs) n = cond (bit_and n r.0 == 0) (names_set rs n) (r.1 ∷ names_set rs n)
 
--- the bits without a name
+-- The bits without a name.
 abbrev pub nameless : List Text → ℕ → ℕ
 nameless [] n = n
 nameless (r ∷ rs) n = nameless rs (n - bit_and n r.0)
 
--- each name with ` | ` before it
+-- Each name with ` | ` before it.
 abbrev pub separated : List (List ℕ) → List ℕ
 separated [] = []
 separated (name ∷ names) = codes " | " ++ (name ++ separated names)
 
--- no names
+-- Whether there are no names.
 abbrev pub has_none : List (List ℕ) → Bool
 has_none [] = true
 has_none (name ∷ names) = false
 
--- names with ` (` before the first and ` | ` before each other
+-- Names with ` (` before the first and ` | ` before each other.
 abbrev pub opened : List (List ℕ) → List ℕ
 opened [] = []
 opened (name ∷ names) = codes " (" ++ (name ++ separated names)
 
--- the bits without a name, last, where there are any
+-- The bits without a name, which come last, if there are any.
 abbrev pub nameless_text : ℕ → List ℕ
 nameless_text n = cond (n == 0) [] (codes " | " ++ hex_number n)
 
--- names and nameless bits in brackets, with ` | ` between; nothing where there is no name
+-- Names, and bits without a name, in brackets with ` | ` between them; nothing if there is no name.
 abbrev pub listed : List (List ℕ) → ℕ → List ℕ
 listed names rest = cond (has_none names) [] (opened names ++ (nameless_text rest ++ codes ")"))
 
--- as `0x1003 (Up | Broadcast | Multicast)`
+-- Flags as in `0x1003 (Up | Broadcast | Multicast)`.
 abbrev pub named_flags : List Text → ℕ → List ℕ
 named_flags names n = hex_number n ++ listed (names_set names n) (nameless names n)

@@ -1,6 +1,6 @@
--- What lines begin with.
+-- The indentation of lines.
 use Rattle.std.specs.Prelude.{ℕ, ◌*◌, List, replicate}
 
--- two spaces for each level
+-- The indentation of a level: two spaces for each.
 abbrev pub indent : ℕ → List ℕ
 indent level = replicate (2 * level) 32

@@ -1,4 +1,4 @@
--- What a text tells of the bytes it is of, as the functions of `laws` state it.
+-- What a text determines of the bytes that it shows, which the functions of `laws` have as contracts.
 use Rattle.std.specs.Prelude.{◌≡◌, ℕ, ◌^◌, ◌<◌, ◌≤◌, Bool, true, List, [], ◌∷◌, ◌++◌, ⊤, codes, length, take, drop}
 use Rattle.std.specs.Fmt.{decimal}
 use Rattle.std.specs.List.{AllByRecursion}
@@ -13,37 +13,38 @@ use Rattle.link_lines_values.specs.Names.{Text}
 use Rattle.link_lines_values.specs.Records.{Field, fields_tell, record_text, total_size}
 use Rattle.link_lines_values.specs.Values.{Shown, is_shown_on_a_line, tells_sized, value_text, number_value, big_endian_value, signed_value, flags_value, named_flags_value, big_endian_flags_value, flags_and_mask_value, optional_byte_value, port_range_value, sized_flags_value}
 
--- nothing, or a byte under the digits: a space, a bracket, a newline
+-- A text is empty, or begins with a byte below the digits: a space, a bracket, a newline.
 abbrev pub Ends : List ℕ → Type 0
 Ends [] = ⊤
 Ends (c ∷ s) = c < 48
 
--- Digits in front of such bytes tell their number, in decimal or in hex.
+-- Digits that such bytes follow determine their number, in decimal or in hex.
 pub record DigitsAreTold : Type 0 where
   pub decimal_digits : (m n : ℕ) (s t : List ℕ) → m < 2 ^ 64 → n < 2 ^ 64 → Ends s → Ends t → decimal m ++ s ≡ decimal n ++ t → (m ≡ n) × (s ≡ t)
   pub hex_digits : (m n : ℕ) (s t : List ℕ) → m < 2 ^ 64 → n < 2 ^ 64 → Ends s → Ends t → hex_number m ++ s ≡ hex_number n ++ t → (m ≡ n) × (s ≡ t)
 
--- no byte under 32, so no newline
+-- A text has no byte under 32, so no newline.
 abbrev pub IsLine : List ℕ → Type 0
 IsLine s = AllByRecursion (λ c. 32 ≤ c) s
 
--- nothing, or a space in front
+-- A text is empty, or begins with a space.
 abbrev pub IsBehindASpace : List ℕ → Type 0
 IsBehindASpace [] = ⊤
 IsBehindASpace (c ∷ s) = c ≡ 32
 
--- A value's text stands on one line, where the texts that it may show do, and behind a space.
+-- A value's text is on one line if the names that it may show are, and is empty or begins with a space.
 pub record ValuesStandOnALine : Type 0 where
   pub line : (shown : Shown) (p : List ℕ) → is_shown_on_a_line shown ≡ true → IsLine (value_text shown p)
   pub space : (shown : Shown) (p : List ℕ) → IsBehindASpace (value_text shown p)
 
--- Bytes in hex, with or without colons, are told by their text, and bytes in quotes up to a NUL at the end.
+-- The text of bytes in hex, with or without colons, determines the bytes; that of bytes in quotes determines them up to
+-- a NUL at the end.
 pub record BytesAreTold : Type 0 where
   pub bytes : (p q : List ℕ) → AreBytes p → AreBytes q → bytes_text p ≡ bytes_text q → p ≡ q
   pub hardware : (p q : List ℕ) → AreBytes p → AreBytes q → hardware_text p ≡ hardware_text q → p ≡ q
   pub text : (p q : List ℕ) → AreBytes p → AreBytes q → quoted p ≡ quoted q → without_nul p ≡ without_nul q
 
--- Numbers of one size are told by their text, whatever names stand behind them.
+-- The text of a number determines it among numbers of one size, whatever names follow it.
 pub record NumbersAreTold : Type 0 where
   pub little : (texts : List Text) (p q : List ℕ) → AreBytes p → AreBytes q → length p ≡ length q → is_number p ≡ true → number_value texts p ≡ number_value texts q → p ≡ q
   pub big : (texts : List Text) (p q : List ℕ) → AreBytes p → AreBytes q → length p ≡ length q → is_number p ≡ true → big_endian_value texts p ≡ big_endian_value texts q → p ≡ q
@@ -51,12 +52,12 @@ pub record NumbersAreTold : Type 0 where
   pub flags : (p q : List ℕ) → AreBytes p → AreBytes q → length p ≡ length q → is_number p ≡ true → flags_value p ≡ flags_value q → p ≡ q
   pub named_flags : (names : List Text) (p q : List ℕ) → AreBytes p → AreBytes q → length p ≡ length q → is_number p ≡ true → named_flags_value names p ≡ named_flags_value names q → p ≡ q
 
--- Addresses of one size are told by their text.
+-- The text of an address determines it among addresses of one size.
 pub record AddressesAreTold : Type 0 where
   pub ipv4 : (p q : List ℕ) → AreBytes p → AreBytes q → length p ≡ 4 → length q ≡ 4 → address_text p ≡ address_text q → p ≡ q
   pub ipv6 : (p q : List ℕ) → AreBytes p → AreBytes q → length p ≡ 16 → length q ≡ 16 → address_text p ≡ address_text q → p ≡ q
 
--- So are other sets of flags, a byte or none, two port numbers, and truths that are 0 or 1.
+-- The texts of sets of flags, of an optional byte, of two port numbers, and of booleans that are 0 or 1 determine them.
 pub record SettingsAreTold : Type 0 where
   pub big : (p q : List ℕ) → AreBytes p → AreBytes q → length p ≡ length q → is_number p ≡ true → big_endian_flags_value p ≡ big_endian_flags_value q → p ≡ q
   pub sized_4 : (p q : List ℕ) → AreBytes p → AreBytes q → length p ≡ 4 → length q ≡ 4 → sized_flags_value p ≡ sized_flags_value q → p ≡ q
@@ -70,27 +71,29 @@ pub record SettingsAreTold : Type 0 where
 abbrev pub AddressSizesAreTold : Type 0
 AddressSizesAreTold = (p q : List ℕ) → AreBytes p → AreBytes q → length p ≡ 4 → length q ≡ 16 → address_text p ≡ address_text q → ⊥
 
--- a truth is 0 or 1
+-- A field that is shown as a boolean is 0 or 1.
 abbrev pub IsKnown : FieldShown → List ℕ → Type 0
 IsKnown S.Truth p = number p ≤ 1
 IsKnown v p = ⊤
 
+-- Every field that is shown as a boolean is 0 or 1.
 abbrev pub AllKnown : List Field → List ℕ → Type 0
 AllKnown [] p = ⊤
 AllKnown (f ∷ fs) p = IsKnown f.2 (take f.1 p) × AllKnown fs (drop f.1 p)
 
--- the bytes hold the fields of the record, each truth among them 0 or 1, and zeros behind them
+-- The bytes hold the fields of the record, each boolean among them 0 or 1, followed by zeros only.
 pub record HoldsFields (fs : List Field) (p : List ℕ) : Type 0 where
   pub bytes : AreBytes p
   pub whole : total_size fs ≤ length p
   pub zeros : is_zero (drop (total_size fs) p) ≡ true
   pub known : AllKnown fs (take (total_size fs) p)
 
--- Records of one size are told by their text, whether fields that are zero are left out or not.
+-- The text of a record determines it among records of one size, whether fields that are zero are left out or not.
 abbrev pub RecordsAreTold : Type 0
 RecordsAreTold = (sparse : Bool) (fs : List Field) (p q : List ℕ) → fields_tell fs ≡ true → HoldsFields fs p → HoldsFields fs q → length p ≡ length q → record_text sparse fs p ≡ record_text sparse fs q → p ≡ q
 
--- Payloads of so many bytes are told by a value that tells their size. None begins as bytes behind the word `bytes` do.
+-- The text of a payload of n bytes determines it if its format knows n; and no such text begins as that of bytes after
+-- the word `bytes` does.
 pub record SizedValuesAreTold : Type 0 where
   pub told : (n : ℕ) (shown : Shown) (p q : List ℕ) → tells_sized n shown ≡ true → AreBytes p → AreBytes q → length p ≡ n → length q ≡ n → value_text shown p ≡ value_text shown q → p ≡ q
   pub apart : (n : ℕ) (shown : Shown) (p s : List ℕ) → tells_sized n shown ≡ true → AreBytes p → length p ≡ n → value_text shown p ≡ codes " bytes" ++ s → ⊥

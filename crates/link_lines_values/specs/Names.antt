@@ -1,26 +1,26 @@
--- Numbers, and their names beside them.
+-- Numbers, and the names that are shown beside them.
 use Rattle.std.specs.Prelude.{ℕ, ◌==◌, List, [], ◌∷◌, ◌++◌, codes, cond}
 use Rattle.std.specs.Fmt.{decimal}
 
--- a number and its text
+-- A number and its name.
 abbrev pub Text : Type 0
 Text = ℕ × List ℕ
 
--- what rows in code say
+-- The names that rows in code represent.
 abbrev pub texts_of : {N : Type 0} → (N → List ℕ) → List (ℕ × N) → List Text
 texts_of f [] = []
 texts_of f (r ∷ rs) = (r.0, f r.1) ∷ texts_of f rs
 
--- the text of a number in these rows, or nothing
+-- The name of a number in these rows, or nothing.
 abbrev pub text_in : List Text → ℕ → List ℕ
 text_in [] n = []
 text_in (r ∷ rs) n = cond (n == r.0) r.1 (text_in rs n)
 
--- a name in brackets; nothing for no name
+-- A name in brackets; nothing for no name.
 abbrev pub bracketed : List ℕ → List ℕ
 bracketed [] = []
 bracketed (c ∷ name) = codes " (" ++ (c ∷ name ++ codes ")")
 
--- as `6 (UP)`, or `6` where the number has no name
+-- A number as in `6 (UP)`, or `6` if it has no name.
 abbrev pub named_number : List Text → ℕ → List ℕ
 named_number texts n = decimal n ++ bracketed (text_in texts n)

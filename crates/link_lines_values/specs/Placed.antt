@@ -1,17 +1,17 @@
--- Rows by place.
+-- Rows of consecutive kinds, in which the index determines the kind.
 use Rattle.std.specs.Prelude.{ℕ, suc, ◌==◌, ◌&&◌, Bool, true, cond, List, [], ◌∷◌, Option, None}
 
--- what stands behind a kind
+-- The entry of a kind.
 abbrev pub find : {A : Type 0} → ℕ → List (ℕ × Option A) → Option A
 find k [] = None
 find k (t ∷ ts) = cond (t.0 == k) t.1 (find k ts)
 
--- rows of all kinds from this one on
+-- Whether rows are for all kinds from this one on, without a gap.
 abbrev pub stand_from : {A : Type 0} → ℕ → List (ℕ × Option A) → Bool
 stand_from n [] = true
 stand_from n (t ∷ ts) = (t.0 == n) && stand_from (suc n) ts
 
--- rows of all kinds from that of the first one on
+-- Whether rows are for all kinds from that of the first row on, without a gap.
 abbrev pub are_dense : {A : Type 0} → List (ℕ × Option A) → Bool
 are_dense [] = true
 are_dense (t ∷ ts) = stand_from (suc t.0) ts

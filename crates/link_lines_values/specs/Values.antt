@@ -1,4 +1,4 @@
--- Payloads of attributes as text, with the space before it where there is any.
+-- Payloads of attributes as text, with the space before it if there is any.
 use Rattle.std.specs.Prelude.{ℕ, ◌==◌, nat_le, Bool, true, false, List, [], ◌∷◌, ◌++◌, Option, None, Some, codes, cond, length, take, drop}
 use Rattle.std.specs.Fmt.{decimal}
 use Rattle.std.specs.List.{list_all}
@@ -12,11 +12,11 @@ use Rattle.link_lines_values.specs.Flags.{named_flags}
 use Rattle.link_lines_values.specs.Names.{Text, named_number, texts_of}
 use Rattle.link_lines_values.specs.Records.{Field, fields_of, is_size, record_text}
 
--- how a payload is shown: numbers with their texts, flags with their names, records with their fields
+-- How a payload is shown: numbers with their names, flags with the names of their bits, records with their fields.
 abbrev pub Shown : Type 0
 Shown = ShownBy (List Text) (List Field)
 
--- what a form in code says
+-- The format that a value in code represents.
 abbrev pub seen : {N T R : Type 0} → (N → List ℕ) → (T → List (ℕ × N)) → (R → List (FieldOf N)) → ShownBy T R → Shown
 seen f g h (S.Number texts) = S.Number (texts_of f (g texts))
 seen f g h (S.BigEndian texts) = S.BigEndian (texts_of f (g texts))
@@ -37,56 +37,58 @@ seen f g h S.FlagsAndMask = S.FlagsAndMask
 seen f g h (S.Record fields) = S.Record (fields_of f (h fields))
 seen f g h (S.SparseRecord fields) = S.SparseRecord (fields_of f (h fields))
 
--- numbers of 1, 2, 4 or 8 bytes, with their names; other sizes as bytes
+-- A little-endian number of 1, 2, 4 or 8 bytes with its name; other sizes as bytes.
 abbrev pub number_value : List Text → List ℕ → List ℕ
 number_value texts p = cond (is_number p) (32 ∷ named_number texts (number p)) (bytes_text p)
 
+-- A big-endian number of 1, 2, 4 or 8 bytes with its name; other sizes as bytes.
 abbrev pub big_endian_value : List Text → List ℕ → List ℕ
 big_endian_value texts p = cond (is_number p) (32 ∷ named_number texts (big_endian p)) (bytes_text p)
 
--- a number of 4 bytes with its sign
+-- A signed number of 4 bytes; other sizes as bytes.
 abbrev pub signed_value : List ℕ → List ℕ
 signed_value p = cond (length p == 4) (32 ∷ signed_text (number p)) (bytes_text p)
 
--- a space and flags in hex; where there are none, bytes
+-- A space and flags in hex; bytes if there are no flags.
 abbrev pub hex_or_bytes : Option ℕ → List ℕ → List ℕ
 hex_or_bytes (Some n) p = 32 ∷ hex_number n
 hex_or_bytes None p = bytes_text p
 
--- sets of flags of 1, 2, 4 or 8 bytes, whose bits have no names
+-- A set of little-endian flags of 1, 2, 4 or 8 bytes, without names.
 abbrev pub flags_value : List ℕ → List ℕ
 flags_value p = cond (is_number p) (32 ∷ hex_number (number p)) (bytes_text p)
 
--- those with names
+-- A set of little-endian flags with the names of their bits.
 abbrev pub named_flags_value : List Text → List ℕ → List ℕ
 named_flags_value names p = cond (is_number p) (32 ∷ named_flags names (number p)) (bytes_text p)
 
+-- A set of big-endian flags of 1, 2, 4 or 8 bytes, without names.
 abbrev pub big_endian_flags_value : List ℕ → List ℕ
 big_endian_flags_value p = cond (is_number p) (32 ∷ hex_number (big_endian p)) (bytes_text p)
 
--- the byte order goes by the size: 4 bytes the lowest first, 2 bytes the highest first
+-- A set of flags whose byte order depends on its size: little-endian in 4 bytes, big-endian in 2.
 abbrev pub sized_flags_value : List ℕ → List ℕ
 sized_flags_value p =
     cond (length p == 4) (32 ∷ hex_number (number p))
     (cond (length p == 2) (32 ∷ hex_number (big_endian p)) (bytes_text p))
 
--- a byte in decimal, or nothing
+-- A byte in decimal, or nothing.
 abbrev pub optional_byte_value : List ℕ → List ℕ
 optional_byte_value [] = []
 optional_byte_value (byte ∷ []) = 32 ∷ decimal byte
 optional_byte_value (a ∷ b ∷ p) = bytes_text (a ∷ b ∷ p)
 
--- two numbers of 2 bytes, the highest byte first
+-- Two big-endian numbers of 2 bytes.
 abbrev pub port_range_value : List ℕ → List ℕ
 port_range_value p =
     cond (length p == 4) (32 ∷ (decimal (big_endian (take 2 p)) ++ 32 ∷ decimal (big_endian (drop 2 p)))) (bytes_text p)
 
--- flags of 4 bytes and a mask of 4 bytes, as `0x1 mask 0x1`
+-- Flags of 4 bytes and a mask of 4 bytes, as in `0x1 mask 0x1`.
 abbrev pub flags_and_mask_value : List ℕ → List ℕ
 flags_and_mask_value p =
     cond (length p == 8) (32 ∷ (hex_number (number (take 4 p)) ++ (codes " mask " ++ hex_number (number (drop 4 p))))) (bytes_text p)
 
--- a payload as text
+-- A payload as text, by its format.
 abbrev pub value_text : Shown → List ℕ → List ℕ
 value_text (S.Number texts) p = number_value texts p
 value_text (S.BigEndian texts) p = big_endian_value texts p
@@ -107,11 +109,13 @@ value_text S.FlagsAndMask p = flags_and_mask_value p
 value_text (S.Record fields) p = record_text false fields p
 value_text (S.SparseRecord fields) p = record_text true fields p
 
--- ---- whether a value stands on a line: none of the texts and names has a byte under 32
+-- ---- whether a value is on one line: none of the names has a byte under 32
 
+-- Whether a text has no byte under 32.
 abbrev pub is_line : List ℕ → Bool
 is_line s = list_all (nat_le 32) s
 
+-- Whether all names that a format may show are on one line.
 abbrev pub is_shown_on_a_line : Shown → Bool
 is_shown_on_a_line (S.Number texts) = list_all (λ t. is_line t.1) texts
 is_shown_on_a_line (S.BigEndian texts) = list_all (λ t. is_line t.1) texts
@@ -120,8 +124,9 @@ is_shown_on_a_line (S.Record fields) = list_all (λ f. is_line f.0) fields
 is_shown_on_a_line (S.SparseRecord fields) = list_all (λ f. is_line f.0) fields
 is_shown_on_a_line shown = true
 
--- ---- whether a value tells payloads of so many bytes
+-- ---- whether a value determines payloads of one size
 
+-- Whether a format determines the payloads of n bytes.
 abbrev pub tells_sized : ℕ → Shown → Bool
 tells_sized n (S.Number texts) = is_size n
 tells_sized n (S.BigEndian texts) = is_size n

@@ -33,7 +33,8 @@ fn push_ipv6(octets: [u8; 16], out: &mut Vec<u8>) -> Result<(), AllocError>
     }
 }
 
-/// Appends a space and an address of 4 bytes (IPv4) or 16 (IPv6), the first octet first; other sizes as bytes.
+/// Appends a space and an address of 4 bytes (IPv4) or 16 (IPv6), in network byte order; other
+/// sizes as bytes.
 pub(crate) fn push_address(bytes: &[u8], out: &mut Vec<u8>) -> Result<(), AllocError>
     ensures ok { OnOk result (out.new.items ≡ out.old.items ++ address_text bytes.now) }
 {

@@ -1,4 +1,4 @@
-//! Bytes as text: in hex, with colons between, in quotes.
+//! Bytes as text: in hex, with colons between them, in quotes.
 
 ghost use Rattle.std.specs.Prelude.{◌≡◌, ◌++◌, ◌∷◌, [], flat_map, OnOk};
 ghost use Rattle.link_lines_values.specs.Bytes.{hex_text, bytes_text, colon_byte, colons, hardware_text, is_zero};
@@ -8,7 +8,7 @@ use crate::digits::hex_byte;
 use netlink_packet_core_numbers::without_nul;
 use std::alloc::AllocError;
 
-/// Appends bytes in hex, unbroken.
+/// Appends bytes in hex, without separators.
 pub(crate) fn push_hex_text(bytes: &[u8], out: &mut Vec<u8>) -> Result<(), AllocError>
     ensures ok { OnOk result (out.new.items ≡ out.old.items ++ hex_text bytes.now) }
 {
@@ -18,7 +18,11 @@ pub(crate) fn push_hex_text(bytes: &[u8], out: &mut Vec<u8>) -> Result<(), Alloc
     Ok(())
 }
 
-/// Appends a space and bytes in hex, unbroken; nothing for no bytes.
+/// Appends a space and bytes in hex, without separators; nothing if there are no bytes.
+///
+/// # Errors
+///
+/// `AllocError` if `out` can't grow; it may then have a part of the text.
 pub fn push_bytes(bytes: &[u8], out: &mut Vec<u8>) -> Result<(), AllocError>
     ensures ok { OnOk result (out.new.items ≡ out.old.items ++ bytes_text bytes.now) }
 {
@@ -40,7 +44,7 @@ fn push_colon_bytes(bytes: &[u8], out: &mut Vec<u8>) -> Result<(), AllocError>
     Ok(())
 }
 
-/// Appends bytes in hex with colons between.
+/// Appends bytes in hex with colons between them.
 pub(crate) fn push_colons(bytes: &[u8], out: &mut Vec<u8>) -> Result<(), AllocError>
     ensures ok { OnOk result (out.new.items ≡ out.old.items ++ colons bytes.now) }
 {
@@ -51,7 +55,7 @@ pub(crate) fn push_colons(bytes: &[u8], out: &mut Vec<u8>) -> Result<(), AllocEr
     Ok(())
 }
 
-/// Appends a space and bytes in hex with colons between; nothing for no bytes.
+/// Appends a space and bytes in hex with colons between them; nothing if there are no bytes.
 pub(crate) fn push_hardware_address(bytes: &[u8], out: &mut Vec<u8>) -> Result<(), AllocError>
     ensures ok { OnOk result (out.new.items ≡ out.old.items ++ hardware_text bytes.now) }
 {
@@ -62,7 +66,7 @@ pub(crate) fn push_hardware_address(bytes: &[u8], out: &mut Vec<u8>) -> Result<(
     push_colons(bytes, out)
 }
 
-/// Whether no byte but zeros is there.
+/// Returns whether all bytes are zero.
 pub(crate) fn is_zero(bytes: &[u8]) -> bool
     ensures { result ≡ is_zero bytes.now }
 {
@@ -74,7 +78,7 @@ pub(crate) fn is_zero(bytes: &[u8]) -> bool
     true
 }
 
-// How many bytes there are without the zeros at the end.
+// Returns the number of bytes without the zeros at the end.
 fn count_without_zeros(bytes: &[u8]) -> usize
     ensures { result ≡ count_without_zeros bytes.now }
 {
@@ -87,7 +91,8 @@ fn count_without_zeros(bytes: &[u8]) -> usize
     count
 }
 
-/// Appends an address in a longer field: with colons, without the zeros at the end from the 7th byte on.
+/// Appends an address in a longer field: with colons, without the zeros at the end from the 7th
+/// byte on.
 pub(crate) fn push_padded_address(bytes: &[u8], out: &mut Vec<u8>) -> Result<(), AllocError>
     ensures ok { OnOk result (out.new.items ≡ out.old.items ++ padded_address bytes.now) }
 {
@@ -128,7 +133,7 @@ pub(crate) fn push_text(bytes: &[u8], out: &mut Vec<u8>) -> Result<(), AllocErro
     out.extend_from_slice(b"\"")
 }
 
-/// Appends `on` where a byte isn't zero, or else `off`.
+/// Appends `on` if a byte isn't zero, or else `off`.
 pub(crate) fn push_truth(bytes: &[u8], out: &mut Vec<u8>) -> Result<(), AllocError>
     ensures ok { OnOk result (out.new.items ≡ out.old.items ++ truth_text bytes.now) }
 {

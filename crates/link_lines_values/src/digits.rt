@@ -1,4 +1,4 @@
-//! Numbers as digits, and the numbers that bytes stand for.
+//! Numbers as digits, and bytes as numbers.
 
 ghost use Rattle.std.specs.Prelude.{◌≡◌, ◌≤◌, ◌<◌, ◌==◌, ◌++◌, false, Some, None, cond, length, drop, OnOk};
 ghost use Rattle.std.specs.Fmt.{decimal, digits, digit_glyph};
@@ -8,7 +8,7 @@ ghost use Rattle.link_lines_values.specs.Digits.{big_endian, is_number, hex_byte
 use itoa::Buffer;
 use std::alloc::AllocError;
 
-/// The number that 1, 2, 4 or 8 bytes stand for, the lowest byte first; None of any other size.
+/// Returns the little-endian number of 1, 2, 4 or 8 bytes; None for any other size.
 #[tactic(auto, using(crate::proofs::Readings::low_first))]
 pub(crate) fn little_endian(bytes: &[u8]) -> Option<u64>
     ensures { result ≡ cond (is_number bytes.now) (Some (number bytes.now)) None }
@@ -22,7 +22,7 @@ pub(crate) fn little_endian(bytes: &[u8]) -> Option<u64>
     }
 }
 
-/// The number that 1, 2, 4 or 8 bytes stand for, the highest byte first; None of any other size.
+/// Returns the big-endian number of 1, 2, 4 or 8 bytes; None for any other size.
 #[tactic(auto, using(crate::proofs::Readings::high_first))]
 pub(crate) fn big_endian(bytes: &[u8]) -> Option<u64>
     ensures { result ≡ cond (is_number bytes.now) (Some (big_endian bytes.now)) None }
@@ -36,7 +36,11 @@ pub(crate) fn big_endian(bytes: &[u8]) -> Option<u64>
     }
 }
 
-/// Appends a number in decimal. Most have one digit.
+/// Appends a number in decimal. A number of one digit, as most are, is written without formatting.
+///
+/// # Errors
+///
+/// `AllocError` if `out` can't grow.
 #[tactic(auto, using(crate::proofs::Readings::one_digit))]
 pub fn push_decimal(number: u64, out: &mut Vec<u8>) -> Result<(), AllocError>
     ensures ok { OnOk result (out.new.items ≡ out.old.items ++ decimal number) }
@@ -48,7 +52,7 @@ pub fn push_decimal(number: u64, out: &mut Vec<u8>) -> Result<(), AllocError>
     out.extend_from_slice(buffer.format(number).as_bytes())
 }
 
-/// Appends a number of 4 bytes with its sign, in decimal.
+/// Appends a number of 4 bytes as a signed one, in decimal.
 pub(crate) fn push_signed(number: u64, out: &mut Vec<u8>) -> Result<(), AllocError>
     ensures ok { OnOk result (out.new.items ≡ out.old.items ++ signed_text number) }
 {
@@ -59,7 +63,7 @@ pub(crate) fn push_signed(number: u64, out: &mut Vec<u8>) -> Result<(), AllocErr
     push_decimal(0x1_0000_0000u64.saturating_sub(number), out)
 }
 
-// A hex digit in lower case.
+// Returns a hex digit in lower case.
 fn glyph(digit: u8) -> u8
     requires { digit < 16 }
     ensures { result ≡ digit_glyph false digit }
@@ -71,7 +75,7 @@ fn glyph(digit: u8) -> u8
     }
 }
 
-/// A byte as two hex digits.
+/// Returns a byte as two hex digits.
 pub(crate) fn hex_byte(byte: u8) -> [u8; 2]
     ensures { result ≡ hex_byte byte }
 {
@@ -107,6 +111,10 @@ pub(crate) fn push_hex(number: u64, out: &mut Vec<u8>) -> Result<(), AllocError>
 }
 
 /// Appends a number of 2 bytes as `0x` and four hex digits.
+///
+/// # Errors
+///
+/// `AllocError` if `out` can't grow.
 pub fn push_four_digits(number: u16, out: &mut Vec<u8>) -> Result<(), AllocError>
     ensures ok { OnOk result (out.new.items ≡ out.old.items ++ four_digits number) }
 {

@@ -1,33 +1,33 @@
-//! The fields of records, in the order in which they stand.
+//! The fields of records, in the order of their bytes.
 
 use FieldShown::{Address, BigEndian, Number, Signed, Truth};
 
-/// How a field is shown.
+/// How a field of a record is shown.
 #[derive(Clone, Copy)]
 pub enum FieldShown {
-    /// A number, the lowest byte first.
+    /// A little-endian number.
     Number,
-    /// A number of 4 bytes with its sign, the lowest byte first.
+    /// A signed little-endian number of 4 bytes.
     Signed,
-    /// A number, the highest byte first.
+    /// A big-endian number.
     BigEndian,
-    /// A hardware address, filled up with zeros.
+    /// A hardware address, padded with zeros.
     Address,
-    /// A number that is zero or not.
+    /// A boolean: a number that is zero or not.
     Truth,
 }
 
-/// A field: its name, its size in bytes, and how it is shown, with names of that type.
+/// A field of a record: its name, its size in bytes, and how it is shown, with names of type `N`.
 #[derive(Clone, Copy)]
 pub struct FieldOf<N>(pub N, pub u8, pub FieldShown);
 
-/// A field.
+/// A field whose name is a byte string.
 pub type Field = FieldOf<&'static [u8]>;
 
 /// The fields of a record.
 pub type Fields = &'static [Field];
 
-/// Statistics in 4 bytes each (if_link.h: struct rtnl_link_stats).
+/// Statistics of 4 bytes each (if_link.h: struct rtnl_link_stats).
 pub const STATS: Fields = &[
     FieldOf(b"rx_packets", 4, Number),
     FieldOf(b"tx_packets", 4, Number),
@@ -55,7 +55,7 @@ pub const STATS: Fields = &[
     FieldOf(b"rx_nohandler", 4, Number),
 ];
 
-/// Statistics in 8 bytes each (if_link.h: struct rtnl_link_stats64).
+/// Statistics of 8 bytes each (if_link.h: struct rtnl_link_stats64).
 pub const STATS64: Fields = &[
     FieldOf(b"rx_packets", 8, Number),
     FieldOf(b"tx_packets", 8, Number),
@@ -268,7 +268,7 @@ pub const VF_VLAN: Fields = &[
     FieldOf(b"qos", 4, Number),
 ];
 
-/// One of a virtual function's VLANs (if_link.h: struct ifla_vf_vlan_info).
+/// One entry of a virtual function's list of VLANs (if_link.h: struct ifla_vf_vlan_info).
 pub const VF_VLAN_INFO: Fields = &[
     FieldOf(b"vf", 4, Number),
     FieldOf(b"vlan", 4, Number),
@@ -279,14 +279,15 @@ pub const VF_VLAN_INFO: Fields = &[
 /// A virtual function's rate (if_link.h: struct ifla_vf_tx_rate).
 pub const VF_TX_RATE: Fields = &[FieldOf(b"vf", 4, Number), FieldOf(b"rate", 4, Number)];
 
-/// A virtual function's lowest and highest rate (if_link.h: struct ifla_vf_rate).
+/// A virtual function's minimum and maximum rate (if_link.h: struct ifla_vf_rate).
 pub const VF_RATE: Fields = &[
     FieldOf(b"vf", 4, Number),
     FieldOf(b"min_tx_rate", 4, Number),
     FieldOf(b"max_tx_rate", 4, Number),
 ];
 
-/// A setting of a virtual function (if_link.h: struct ifla_vf_spoofchk and its like).
+/// A setting of a virtual function that is on or off (if_link.h: struct ifla_vf_spoofchk and others
+/// of its layout).
 pub const VF_SETTING: Fields = &[FieldOf(b"vf", 4, Number), FieldOf(b"setting", 4, Truth)];
 
 /// A virtual function's link state (if_link.h: struct ifla_vf_link_state).

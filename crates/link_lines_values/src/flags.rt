@@ -10,7 +10,7 @@ use std::alloc::AllocError;
 /// A bit and its name.
 pub type FlagName = (u32, &'static [u8]);
 
-/// The bits of a set of flags that have names, the lowest bit first.
+/// The bits of a set of flags that have names, in ascending order.
 pub type FlagNames = &'static [FlagName];
 
 /// Flags of links (if.h: IFF_*).
@@ -36,7 +36,7 @@ pub const LINK_FLAGS: FlagNames = &[
     (0x40000, b"Echo"),
 ];
 
-/// What is asked for of links (rtnetlink.h: RTEXT_FILTER_*).
+/// The mask of a request for links (rtnetlink.h: RTEXT_FILTER_*).
 pub const LINK_EXTENT_MASK: FlagNames = &[
     (0x1, b"Vf"),
     (0x2, b"Brvlan"),
@@ -48,7 +48,7 @@ pub const LINK_EXTENT_MASK: FlagNames = &[
     (0x80, b"Mst"),
 ];
 
-/// The flags of any message, and behind them those of some.
+/// The flags of any message, followed by those given, which only some types have.
 macro_rules! message_flags {
     ($($flag:expr),*) => {
         &[
@@ -87,7 +87,7 @@ pub const MESSAGE_DELETE_FLAGS: FlagNames = message_flags!((0x100, b"NONREC"), (
 /// Flags of acknowledgements (netlink.h: NLM_F_*).
 pub const MESSAGE_ACK_FLAGS: FlagNames = message_flags!((0x100, b"CAPPED"), (0x200, b"ACK_TLVS"));
 
-// The bits without a name.
+// Returns the bits without a name.
 #[tactic(auto, using(std::proofs::lemmas::Nat::and_le_l))]
 fn nameless(rows: &[FlagName], number: u64) -> u64
     ensures { result ≡ nameless (texts_of (λ b. b.now) rows.now) number }
@@ -99,8 +99,8 @@ fn nameless(rows: &[FlagName], number: u64) -> u64
     rest
 }
 
-// Appends the names of the bits that are set, with ` (` before the first and ` | ` before each other. Whether there is
-// any.
+// Appends the names of the bits that are set, with ` (` before the first and ` | ` before each
+// other. Returns whether there is any.
 fn push_names(rows: &[FlagName], number: u64, out: &mut Vec<u8>) -> Result<bool, AllocError>
     ensures names { OnOk result (out.new.items ≡ out.old.items ++ opened (names_set (texts_of (λ b. b.now) rows.now) number)) }
     ensures any { IfOk result (λ is_any. is_any ≡ not (has_none (names_set (texts_of (λ b. b.now) rows.now) number))) }
@@ -116,7 +116,7 @@ fn push_names(rows: &[FlagName], number: u64, out: &mut Vec<u8>) -> Result<bool,
     Ok(is_any)
 }
 
-// Appends bits without a name, where there are any.
+// Appends the bits without a name in hex, if there are any.
 fn push_nameless(rest: u64, out: &mut Vec<u8>) -> Result<(), AllocError>
     ensures ok { OnOk result (out.new.items ≡ out.old.items ++ nameless_text rest) }
 {
@@ -127,7 +127,12 @@ fn push_nameless(rest: u64, out: &mut Vec<u8>) -> Result<(), AllocError>
     push_hex(rest, out)
 }
 
-/// Appends flags in hex, and where a bit has a name, in brackets the names, and last the bits without one.
+/// Appends flags in hex, followed in brackets by the names of their bits and, last, the bits
+/// without a name; no brackets if no bit has a name.
+///
+/// # Errors
+///
+/// `AllocError` if `out` can't grow; it may then have a part of the text.
 pub fn push_flags(names: &[FlagName], number: u64, out: &mut Vec<u8>) -> Result<(), AllocError>
     ensures ok { OnOk result (out.new.items
         ≡ out.old.items ++ named_flags (texts_of (λ b. b.now) names.now) number) }

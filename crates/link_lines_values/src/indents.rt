@@ -1,14 +1,18 @@
-//! What lines begin with.
+//! The indentation of lines.
 
 ghost use Rattle.std.specs.Prelude.{◌≡◌, ◌++◌, OnOk};
 ghost use Rattle.link_lines_values.specs.Indents.{indent};
 
 use std::alloc::AllocError;
 
-/// What lines of the first levels begin with.
+/// The indentation of the first levels.
 const SPACES: [u8; 16] = [b' '; 16];
 
-/// Appends so many levels of two spaces.
+/// Appends the indentation of `level` levels, two spaces for each.
+///
+/// # Errors
+///
+/// `AllocError` if `out` can't grow; it may then have a part of the spaces.
 #[tactic(auto, using(crate::proofs::Deeper::spaces))]
 pub fn push_indent(level: usize, out: &mut Vec<u8>) -> Result<(), AllocError>
     ensures ok { OnOk result (out.new.items ≡ out.old.items ++ indent level) }

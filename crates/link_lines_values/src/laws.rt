@@ -1,32 +1,34 @@
-//! Laws of the definitions: each function does nothing, and what it states holds of all values.
+//! Laws of the definitions: each function has an empty body, and its contract holds for all values.
 #![tactic(auto, using(crate::proofs::Together::laws))]
 
 ghost use Rattle.link_lines_values.specs.Laws.{AddressesAreTold, AddressSizesAreTold, BytesAreTold, DigitsAreTold};
 ghost use Rattle.link_lines_values.specs.Laws.{NumbersAreTold, RecordsAreTold, SettingsAreTold, SizedValuesAreTold};
 ghost use Rattle.link_lines_values.specs.Laws.{ValuesStandOnALine};
 
-/// Bytes in hex, with or without colons, are told by their text, and bytes in quotes up to a NUL at the end.
+/// The text of bytes in hex, with or without colons, determines the bytes; that of bytes in quotes
+/// determines them up to a NUL at the end.
 pub fn bytes_are_told()
     ensures { BytesAreTold }
 {}
 
-/// Digits, in decimal or in hex, tell their number, and what stands behind them where that begins with a byte under
-/// the digits.
+/// Digits, in decimal or in hex, determine their number and what follows them, if that is empty or
+/// begins with a byte below the digits.
 pub fn digits_are_told()
     ensures { DigitsAreTold }
 {}
 
-/// Numbers of one size are told by their text, whatever names stand behind them.
+/// The text of a number determines it among numbers of one size, whatever names follow it.
 pub fn numbers_are_told()
     ensures { NumbersAreTold }
 {}
 
-/// Addresses of one size are told by their text.
+/// The text of an address determines it among addresses of one size.
 pub fn addresses_are_told()
     ensures { AddressesAreTold }
 {}
 
-/// So are other sets of flags, a byte or none, two port numbers, and truths that are 0 or 1.
+/// The texts of sets of flags, of an optional byte, of two port numbers, and of booleans that are 0
+/// or 1 determine them.
 pub fn settings_are_told()
     ensures { SettingsAreTold }
 {}
@@ -36,18 +38,19 @@ pub fn address_sizes_are_told()
     ensures { AddressSizesAreTold }
 {}
 
-/// Records of one size are told by their text, whether fields that are zero are left out or not.
+/// The text of a record determines it among records of one size, whether fields that are zero are
+/// left out or not.
 pub fn records_are_told()
     ensures { RecordsAreTold }
 {}
 
-/// A value's text stands on one line, behind a space.
+/// A value's text is on one line, and is empty or begins with a space.
 pub fn values_stand_on_a_line()
     ensures { ValuesStandOnALine }
 {}
 
-/// Payloads of one size are told by their value where its form knows the size, and no such value reads as bytes behind
-/// the word `bytes`.
+/// The text of a payload determines it among payloads of one size, if its format knows the size;
+/// and no such text begins as that of bytes after the word `bytes` does.
 pub fn sized_values_are_told()
     ensures { SizedValuesAreTold }
 {}

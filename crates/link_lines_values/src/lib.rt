@@ -1,4 +1,4 @@
-// How the values of attributes of links are shown as text: numbers and their names, flags, addresses, records.
+// The text of link attributes' values: numbers and their names, flags, addresses, records.
 #![tactic(auto)]
 
 mod addresses;

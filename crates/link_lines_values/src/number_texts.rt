@@ -1,21 +1,22 @@
-//! The texts of numbers, a table for each type of numbers.
+//! The names of numbers, a table for each type of number. They repeat the displays of the typed
+//! crates, so that `linkshow` builds none of these; laws of `link_lines_tests` compare both.
 
-/// A number and its text.
+/// A number and its name.
 pub type NumberText = (u32, &'static [u8]);
 
-/// The numbers of a type that have texts.
+/// The numbers of a type that have names.
 pub type Numbers = &'static [NumberText];
 
-/// Numbers without texts.
+/// The table of numbers without names.
 pub const PLAIN: Numbers = &[];
 
 /// Modes of amt devices (if_link.h: IFLA_AMT_MODE).
 pub const AMT_MODE: Numbers = &[(0, b"gateway"), (1, b"relay")];
 
-/// What geneve does with the DF bit (if_link.h: IFLA_GENEVE_DF).
+/// The treatment of the DF bit by geneve (if_link.h: IFLA_GENEVE_DF).
 pub const GENEVE_DF: Numbers = &[(0, b"unset"), (1, b"set"), (2, b"inherit")];
 
-/// What vxlan does with the DF bit (if_link.h: IFLA_VXLAN_DF).
+/// The treatment of the DF bit by vxlan (if_link.h: IFLA_VXLAN_DF).
 pub const VXLAN_DF: Numbers = &[(0, b"unset"), (1, b"set"), (2, b"inherit")];
 
 /// Roles of gtp devices (if_link.h: IFLA_GTP_ROLE).
@@ -59,7 +60,7 @@ pub const NETKIT_MODE: Numbers = &[(0, b"l2"), (1, b"l3")];
 /// Policies of netkit (if_link.h: NETKIT_*).
 pub const NETKIT_POLICY: Numbers = &[(0, b"forward"), (2, b"blackhole"), (7, b"redirect")];
 
-/// What netkit scrubs (if_link.h: NETKIT_SCRUB_*).
+/// Scrubbing by netkit (if_link.h: NETKIT_SCRUB_*).
 pub const NETKIT_SCRUB: Numbers = &[(0, b"none"), (1, b"default")];
 
 /// Operational states (if.h: IF_OPER_*).

@@ -7,7 +7,7 @@ use crate::digits::push_decimal;
 use crate::number_texts::NumberText;
 use std::alloc::AllocError;
 
-// The text of a number, or nothing.
+// Returns the name of a number, or nothing.
 fn find_text(rows: &[NumberText], number: u64) -> &'static [u8]
     ensures { result.now ≡ text_in (texts_of (λ b. b.now) rows.now) number }
 {
@@ -19,7 +19,7 @@ fn find_text(rows: &[NumberText], number: u64) -> &'static [u8]
     &[]
 }
 
-// Appends a name in brackets; nothing for no name.
+// Appends a name in brackets; nothing if the name is empty.
 fn push_bracketed(name: &[u8], out: &mut Vec<u8>) -> Result<(), AllocError>
     ensures ok { OnOk result (out.new.items ≡ out.old.items ++ bracketed name.now) }
 {
@@ -31,14 +31,22 @@ fn push_bracketed(name: &[u8], out: &mut Vec<u8>) -> Result<(), AllocError>
     out.extend_from_slice(b")")
 }
 
-/// Appends the name of a number, or nothing where it has none.
+/// Appends the name of a number, or nothing if it has none.
+///
+/// # Errors
+///
+/// `AllocError` if `out` can't grow.
 pub fn push_name(texts: &[NumberText], number: u64, out: &mut Vec<u8>) -> Result<(), AllocError>
     ensures ok { OnOk result (out.new.items ≡ out.old.items ++ text_in (texts_of (λ b. b.now) texts.now) number) }
 {
     out.extend_from_slice(find_text(texts, number))
 }
 
-/// Appends a number in decimal, and in brackets its name where it has one.
+/// Appends a number in decimal, followed by its name in brackets if it has one.
+///
+/// # Errors
+///
+/// `AllocError` if `out` can't grow; it may then have a part of the text.
 pub fn push_number(texts: &[NumberText], number: u64, out: &mut Vec<u8>) -> Result<(), AllocError>
     ensures ok { OnOk result (out.new.items ≡ out.old.items ++ named_number (texts_of (λ b. b.now) texts.now) number) }
 {

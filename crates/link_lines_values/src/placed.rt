@@ -1,10 +1,10 @@
-//! The look-up of a kind in rows that stand by place.
+//! The look-up of a kind by its index in rows of consecutive kinds.
 
 ghost use Rattle.std.specs.Prelude.{◌≡◌, true};
 ghost use Rattle.link_lines_values.specs.Placed.{are_dense, find};
 
-/// What stands behind a kind, where its row has anything: each row stands as far behind the first as its kind is above
-/// the first one's.
+/// Returns the entry of a kind, if its row has one. The rows are for consecutive kinds, so that the
+/// index of a row is its kind minus the kind of the first row.
 pub fn look_up<T: Copy>(rows: &[(u16, Option<T>)], kind: u16) -> Option<T>
     requires { are_dense rows.now ≡ true }
     ensures { result ≡ find kind rows.now }

@@ -10,7 +10,8 @@ use crate::digits::{big_endian, little_endian, push_decimal, push_signed};
 use crate::fields::{Field, FieldShown};
 use std::alloc::AllocError;
 
-// What stands behind the fields of a record; None where the bytes end before.
+// Returns the bytes after the fields of a record; None if there are fewer bytes than the fields
+// have.
 #[tactic(auto, using(crate::proofs::Listing::further_on))]
 fn behind_fields<'a>(rows: &[Field], bytes: &'a [u8]) -> Option<&'a [u8]>
     ensures some { IfSome result (λ rest. rest.now ≡ drop (total_size (fields_of (λ b. b.now) rows.now)) bytes.now) }
@@ -29,7 +30,7 @@ fn behind_fields<'a>(rows: &[Field], bytes: &'a [u8]) -> Option<&'a [u8]>
     Some(rest)
 }
 
-// Appends the number of a field, or its bytes where their size is not a number's.
+// Appends the number of a field, or its bytes if no number has their size.
 fn push_field_number(number: Option<u64>, part: &[u8], out: &mut Vec<u8>) -> Result<(), AllocError>
     ensures ok { OnOk result (out.new.items ≡ out.old.items ++ number_or_hex number part.now) }
 {
@@ -39,7 +40,7 @@ fn push_field_number(number: Option<u64>, part: &[u8], out: &mut Vec<u8>) -> Res
     }
 }
 
-// Appends the number of a field with its sign, or its bytes where they are not 4.
+// Appends the number of a field with its sign, or its bytes if they are not 4.
 fn push_field_signed(part: &[u8], out: &mut Vec<u8>) -> Result<(), AllocError>
     ensures ok { OnOk result (out.new.items ≡ out.old.items ++ field_value FieldShown.Signed part.now) }
 {
@@ -73,7 +74,7 @@ fn push_field(field: &Field, part: &[u8], out: &mut Vec<u8>) -> Result<(), Alloc
     push_field_value(field.2, part, out)
 }
 
-// Whether a field is zero, by its number where it has one.
+// Returns whether a field is zero, by its number if it has one.
 #[tactic(auto, using(crate::proofs::Zeros::zero_by_number))]
 fn is_zero_field(part: &[u8]) -> bool
     ensures { result ≡ is_zero part.now }
@@ -84,7 +85,7 @@ fn is_zero_field(part: &[u8]) -> bool
     }
 }
 
-// Appends the fields that are shown: of a sparse record those that aren't zero.
+// Appends the fields that are shown: for a sparse record only those that aren't zero.
 fn push_fields(
     is_sparse: bool,
     rows: &[Field],
@@ -106,8 +107,8 @@ fn push_fields(
     Ok(())
 }
 
-/// Appends a record, of a sparse one without the fields that are zero. Zeros may stand behind it; other bytes are
-/// shown as they are.
+/// Appends the fields of a record, without those that are zero if the record is sparse. Only zeros
+/// may follow the fields; any other bytes are shown in hex.
 #[tactic(auto, unfolding(crate::specs::Records::record_text))]
 pub(crate) fn push_record(
     is_sparse: bool,

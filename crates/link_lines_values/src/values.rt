@@ -18,28 +18,28 @@ use crate::numbers::push_number;
 use crate::records::push_record;
 use std::alloc::AllocError;
 
-/// How a payload is shown, with numbers and records of those types; names of flags are texts of numbers too. A payload
-/// of a size that the form doesn't know is shown as its bytes.
+/// How a payload is shown, with names of numbers of type `N`, also for bits, and with records of
+/// type `R`. A payload of a size that the format doesn't know is shown as its bytes.
 #[derive(Clone, Copy)]
 pub enum ShownBy<N, R> {
-    /// A number of 1, 2, 4 or 8 bytes, the lowest byte first, with its name.
+    /// A little-endian number of 1, 2, 4 or 8 bytes, with its name.
     Number(N),
-    /// The same, the highest byte first.
+    /// A big-endian number of 1, 2, 4 or 8 bytes, with its name.
     BigEndian(N),
-    /// A number of 4 bytes with its sign, the lowest byte first.
+    /// A signed little-endian number of 4 bytes.
     Signed,
-    /// Flags of 1, 2, 4 or 8 bytes, the lowest byte first.
+    /// Little-endian flags of 1, 2, 4 or 8 bytes, without names.
     Flags,
-    /// The same, with the names of their bits.
+    /// Little-endian flags of 1, 2, 4 or 8 bytes, with the names of their bits.
     NamedFlags(N),
-    /// Flags without names, the highest byte first.
+    /// Big-endian flags of 1, 2, 4 or 8 bytes, without names.
     BigEndianFlags,
-    /// Flags of 4 bytes, the lowest byte first, or of 2 bytes, the highest byte first (if_tunnel.h:
+    /// Little-endian flags of 4 bytes, or big-endian ones of 2 bytes (if_tunnel.h:
     /// IFLA_IPTUN_FLAGS).
     FlagsBySize,
-    /// `on` where a byte isn't zero, or else `off`.
+    /// A boolean: `on` if a byte isn't zero, or else `off`.
     Truth,
-    /// Nothing.
+    /// Nothing: the attribute only has to be present.
     Presence,
     /// A byte in decimal, or nothing.
     OptionalByte,
@@ -47,13 +47,13 @@ pub enum ShownBy<N, R> {
     Text,
     /// Bytes in hex.
     Bytes,
-    /// Bytes in hex with colons between.
+    /// Bytes in hex with colons between them.
     HardwareAddress,
-    /// An address of 4 bytes (IPv4) or 16 (IPv6), the first octet first.
+    /// An address of 4 bytes (IPv4) or 16 (IPv6), in network byte order.
     Address,
-    /// Two numbers of 2 bytes, the highest byte first (if_link.h: struct ifla_vxlan_port_range).
+    /// Two big-endian numbers of 2 bytes (if_link.h: struct ifla_vxlan_port_range).
     PortRange,
-    /// Flags and a mask of 4 bytes each, the lowest byte first (if_link.h: struct ifla_rmnet_flags).
+    /// Little-endian flags and a mask of 4 bytes each (if_link.h: struct ifla_rmnet_flags).
     FlagsAndMask,
     /// The fields of a record.
     Record(R),
@@ -61,9 +61,11 @@ pub enum ShownBy<N, R> {
     SparseRecord(R),
 }
 
-/// How a payload is shown: numbers with their texts, flags with their names, records with their fields.
+/// How a payload is shown: numbers with their names, flags with the names of their bits, records
+/// with their fields.
 pub type Shown = ShownBy<Numbers, Fields>;
 
+/// Appends a space and a little-endian number with its name, or bytes if no number has their size.
 fn push_number_value(
     texts: &[NumberText],
     payload: &[u8],
@@ -79,6 +81,7 @@ fn push_number_value(
     push_number(texts, number, out)
 }
 
+/// Appends a space and a big-endian number with its name, or bytes if no number has their size.
 fn push_big_endian_value(
     texts: &[NumberText],
     payload: &[u8],
@@ -94,6 +97,7 @@ fn push_big_endian_value(
     push_number(texts, number, out)
 }
 
+/// Appends a space and a signed number, or bytes if they are not 4.
 fn push_signed_value(payload: &[u8], out: &mut Vec<u8>) -> Result<(), AllocError>
     ensures ok { OnOk result (out.new.items ≡ out.old.items ++ signed_value payload.now) }
 {
@@ -106,7 +110,7 @@ fn push_signed_value(payload: &[u8], out: &mut Vec<u8>) -> Result<(), AllocError
     }
 }
 
-// Appends a space and flags in hex, or bytes where there are no flags.
+// Appends a space and flags in hex, or bytes if there are no flags.
 fn push_flags_or_bytes(
     flags: Option<u64>,
     payload: &[u8],
@@ -123,6 +127,7 @@ fn push_flags_or_bytes(
     }
 }
 
+/// Appends a space and flags with the names of their bits, or bytes if no number has their size.
 fn push_named_flags(names: &[FlagName], payload: &[u8], out: &mut Vec<u8>) -> Result<(), AllocError>
     ensures ok { OnOk result (out.new.items
         ≡ out.old.items ++ named_flags_value (texts_of (λ b. b.now) names.now) payload.now) }
@@ -134,6 +139,7 @@ fn push_named_flags(names: &[FlagName], payload: &[u8], out: &mut Vec<u8>) -> Re
     push_flags(names, flags, out)
 }
 
+/// Appends flags in the byte order of their size.
 fn push_sized_flags(payload: &[u8], out: &mut Vec<u8>) -> Result<(), AllocError>
     ensures ok { OnOk result (out.new.items ≡ out.old.items ++ sized_flags_value payload.now) }
 {
@@ -145,6 +151,7 @@ fn push_sized_flags(payload: &[u8], out: &mut Vec<u8>) -> Result<(), AllocError>
     push_flags_or_bytes(flags, payload, out)
 }
 
+/// Appends a space and a byte in decimal; nothing for no byte; more as bytes.
 fn push_optional_byte(payload: &[u8], out: &mut Vec<u8>) -> Result<(), AllocError>
     ensures ok { OnOk result (out.new.items ≡ out.old.items ++ optional_byte_value payload.now) }
 {
@@ -157,6 +164,7 @@ fn push_optional_byte(payload: &[u8], out: &mut Vec<u8>) -> Result<(), AllocErro
     }
 }
 
+/// Appends a space and two port numbers, or bytes if they are not 4.
 #[tactic(auto, using(crate::proofs::Readings::high_first))]
 fn push_port_range(payload: &[u8], out: &mut Vec<u8>) -> Result<(), AllocError>
     ensures ok { OnOk result (out.new.items ≡ out.old.items ++ port_range_value payload.now) }
@@ -183,6 +191,7 @@ fn push_mask(flags: u32, mask: u32, out: &mut Vec<u8>) -> Result<(), AllocError>
     push_hex(u64::from(mask), out)
 }
 
+/// Appends a space, flags and their mask, or bytes if they are not 8.
 fn push_flags_and_mask(payload: &[u8], out: &mut Vec<u8>) -> Result<(), AllocError>
     ensures ok { OnOk result (out.new.items ≡ out.old.items ++ flags_and_mask_value payload.now) }
 {
@@ -196,6 +205,7 @@ fn push_flags_and_mask(payload: &[u8], out: &mut Vec<u8>) -> Result<(), AllocErr
     }
 }
 
+/// Appends a space and `on` or `off`.
 fn push_truth_value(payload: &[u8], out: &mut Vec<u8>) -> Result<(), AllocError>
     ensures ok { OnOk result (out.new.items ≡ out.old.items ++ 32 ∷ truth_text payload.now) }
 {
@@ -203,7 +213,11 @@ fn push_truth_value(payload: &[u8], out: &mut Vec<u8>) -> Result<(), AllocError>
     push_truth(payload, out)
 }
 
-/// Appends a payload as text, with a space before it where there is anything to show.
+/// Appends a payload as text, with a space before it if there is anything to show.
+///
+/// # Errors
+///
+/// `AllocError` if `out` can't grow; it may then have a part of the text.
 pub fn push_value(shown: Shown, payload: &[u8], out: &mut Vec<u8>) -> Result<(), AllocError>
     ensures ok { OnOk result (out.new.items
         ≡ out.old.items ++ value_text (seen (λ b. b.now) (λ t. t.now) (λ r. r.now) shown.entry) payload.now) }

@@ -16,7 +16,7 @@ use Rattle.link_message.proofs.Lists.{numbered}
 abbrev equal : InfoAmt → InfoAmt → Bool
 equal = (equality.ghosts).eq
 
--- the number of a variant is that of its row
+-- The number of a variant is that of its row.
 abbrev variant : InfoAmt → ℕ
 variant (Mode a) = 1
 variant (RelayPort a) = 2

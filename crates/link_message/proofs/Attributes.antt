@@ -36,7 +36,7 @@ use Rattle.link_message.proofs.Ports.{port_injective, ports_injective, protocol_
 abbrev equal : LinkAttribute → LinkAttribute → Bool
 equal = (equality.ghosts).eq
 
--- the number of a variant is that of its row
+-- The number of a variant is that of its row.
 abbrev variant : LinkAttribute → ℕ
 variant (Link.VfInfoList a) = 22
 variant (Link.VfPorts a) = 24

@@ -16,7 +16,7 @@ use Rattle.link_message.proofs.Lists.{numbered}
 abbrev equal : InfoBareUdp → InfoBareUdp → Bool
 equal = (equality.ghosts).eq
 
--- the number of a variant is that of its row
+-- The number of a variant is that of its row.
 abbrev variant : InfoBareUdp → ℕ
 variant (Port a) = 1
 variant (Ethertype a) = 2

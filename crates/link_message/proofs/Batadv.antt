@@ -15,7 +15,7 @@ use Rattle.link_message.proofs.Records.{string_same}
 abbrev equal : InfoBatAdv → InfoBatAdv → Bool
 equal = (equality.ghosts).eq
 
--- the number of a variant is that of its row
+-- The number of a variant is that of its row.
 abbrev variant : InfoBatAdv → ℕ
 variant (AlgoName a) = 1
 variant (Other a) = 0

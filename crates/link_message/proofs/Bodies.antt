@@ -1,4 +1,4 @@
--- What the rule of bodies says of bytes that hold a header.
+-- The rule of bodies for bytes that hold a header.
 use Rattle.std.proofs.Common.{◌≡◌, ℕ, ◌≤◌, ◌<◌, Bool, true, false, List, [], ◌∷◌, ◌++◌, length, Some, refl, sym, ap, subst, ◌∙◌, arith, inl, inr}
 use Rattle.std.specs.Prelude.{◌&&◌, ◌||◌, ◌==◌, nat_le, slice_index, map}
 use Rattle.std.specs.List.{list_any}
@@ -32,7 +32,7 @@ body-canonical parts b = (parts b).canonical
 pub body-fits : BodiesAreHeadersAndAttributes link_peer → (b : List ℕ) → link_body.fits b ≡ (attributes_rule (family b)).fits (attribute_bytes b)
 body-fits parts b = (parts b).fits
 
--- what the attributes are read as tells whether they have ports of which nothing is kept
+-- The attributes that are read determine whether they have ports of which no entry is kept.
 read_empty : (vs : List LinkAttribute) → list_any (λ w. is_emptied w.entry) (map (written_as link_attribute_entry link_attribute_fits) vs) ≡ list_any (λ v. is_emptied (link_attribute_entry v)) vs
 read_empty [] = refl
 read_empty (v ∷ vs) = ap (λ t. is_emptied (link_attribute_entry v) || t) (read_empty vs)
@@ -41,7 +41,7 @@ pub body-empty_ports : BodiesAreHeadersAndAttributes link_peer → EmptyPortsAre
 body-empty_ports parts law b f h vs r =
     sym (read_empty vs) ∙ sym (law f (attribute_bytes b) _ r) ∙ ap (λ g. (attributes_rule g).empty_ports (attribute_bytes b)) h ∙ sym (parts b).empty_ports
 
--- a size of which `buffer_len` and its like tell, is 0 where they tell 0
+-- A size that `buffer_len` and similar functions return is 0 if they return 0.
 pub size_told : (n : ℕ) → (as_usize n == 0) ≡ (n == 0)
 size_told n =
     elim (cases_lt 18446744073709551615 n) [
@@ -51,7 +51,7 @@ size_told n =
 
 pub ruleset sizes = (size_told)
 
--- ---- the table of the family that a header names
+-- ---- the table of the family in a header
 
 abbrev Agrees : ℕ → Type 0
 Agrees n = table_family (address_family_of n) ≡ family_of n
@@ -71,7 +71,7 @@ family-table n =
     at n 17 (n == 17) refl refl (λ g.
     at n 45 (n == 45) refl refl (λ h. rw (a, b, c, d, e, f, g, h) refl))))))))
 
--- the family of the header is the one whose rows the body has
+-- The family of the header is the one whose rows the body has.
 pub body-family : (b : List ℕ) (a : AddressFamily) → a ≡ address_family_of (slice_index b 0) → table_family a ≡ family b
 body-family b a h = ap table_family h ∙ family-table (slice_index b 0)
 

@@ -16,7 +16,7 @@ use Rattle.link_message.proofs.Records.{string_same}
 abbrev equal : DevlinkPort → DevlinkPort → Bool
 equal = (equality.ghosts).eq
 
--- the number of a variant is that of its row
+-- The number of a variant is that of its row.
 abbrev variant : DevlinkPort → ℕ
 variant (BusName a) = 1
 variant (DevName a) = 2

@@ -15,7 +15,7 @@ use Rattle.link_message.proofs.Lists.{numbered}
 abbrev equal : LinkProtocolDownReason → LinkProtocolDownReason → Bool
 equal = (equality.ghosts).eq
 
--- the number of a variant is that of its row
+-- The number of a variant is that of its row.
 abbrev variant : LinkProtocolDownReason → ℕ
 variant (Mask a) = 1
 variant (Value a) = 2

@@ -15,7 +15,7 @@ use Rattle.link_message.proofs.Lists.{numbered}
 abbrev equal : DpllPin → DpllPin → Bool
 equal = (equality.ghosts).eq
 
--- the number of a variant is that of its row
+-- The number of a variant is that of its row.
 abbrev variant : DpllPin → ℕ
 variant (PinId a) = 1
 variant (Other a) = 0

@@ -16,7 +16,7 @@ use Rattle.link_message.proofs.Lists.{numbered}
 abbrev equal : InfoGeneve → InfoGeneve → Bool
 equal = (equality.ghosts).eq
 
--- the number of a variant is that of its row
+-- The number of a variant is that of its row.
 abbrev variant : InfoGeneve → ℕ
 variant (Id a) = 1
 variant (Remote a) = 2

@@ -24,7 +24,7 @@ gre_encap_flags_bits_equal f g e = λ i. record f { 0 = e i }
 gre_io_flags_bits_equal : (f g : GreIOFlags) → f.0 ≡ g.0 → f ≡ g
 gre_io_flags_bits_equal f g e = λ i. record f { 0 = e i }
 
--- the number of a variant is that of its row
+-- The number of a variant is that of its row.
 abbrev variant : InfoGre6 → ℕ
 variant (Link a) = 1
 variant (IFlags a) = 2

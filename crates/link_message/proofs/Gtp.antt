@@ -16,7 +16,7 @@ use Rattle.link_message.proofs.Lists.{numbered}
 abbrev equal : InfoGtp → InfoGtp → Bool
 equal = (equality.ghosts).eq
 
--- the number of a variant is that of its row
+-- The number of a variant is that of its row.
 abbrev variant : InfoGtp → ℕ
 variant (Fd0 a) = 1
 variant (Fd1 a) = 2

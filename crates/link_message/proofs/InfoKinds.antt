@@ -28,7 +28,7 @@ strings_equal s t e = (bytes_decides s.bytes.items t.bytes.items).1 e
 
 -- ---- kinds of links
 
--- a listed kind is the one that it is listed as
+-- A listed kind is the variant of its name.
 pub listed_is : (k n : InfoKind) → listed_kind k ≡ Some n → k ≡ n
 listed_is (Kind.Other s) n h = absurd cc
 listed_is k n h = some_equal k n h

@@ -26,7 +26,7 @@ ip6_tunnel_flags_bits_equal f g e = λ i. record f { 0 = e i }
 tunnel_encap_flags_bits_equal : (f g : TunnelEncapFlags) → f.0 ≡ g.0 → f ≡ g
 tunnel_encap_flags_bits_equal f g e = λ i. record f { 0 = e i }
 
--- the number of a variant is that of its row
+-- The number of a variant is that of its row.
 abbrev variant : InfoIpTunnel → ℕ
 variant (Link a) = 1
 variant (Local a) = 2

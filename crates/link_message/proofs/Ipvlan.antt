@@ -22,7 +22,7 @@ equal n = (equality.ghosts (number n)).eq
 ip_vlan_flags_bits_equal : (f g : IpVlanFlags) → f.0 ≡ g.0 → f ≡ g
 ip_vlan_flags_bits_equal f g e = λ i. record f { 0 = e i }
 
--- the number of a variant is that of its row
+-- The number of a variant is that of its row.
 abbrev variant : {n : ℕ} → IpVlanData n → ℕ
 variant (IpVlan.Mode a) = 1
 variant (IpVlan.Flags a) = 2

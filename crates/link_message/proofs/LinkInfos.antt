@@ -98,7 +98,7 @@ by_variant c v w i p q e = absurd (omega (arith, i))
 info_injective : (c : Context) → IsInjective equal link_info_entry (link_info_names_row c)
 info_injective c v w p q e = by_variant c v w (variant_number c v p ∙ ap (λ (a : Attribute). row_number (proper_kind a.kind)) e ∙ sym (variant_number c w q)) p q e
 
--- each in the context that the ones before it leave, whatever the grammar
+-- Each value is in the context after those before it, whatever the grammar.
 entries_equal : (g : Grammar) (c : Context) (vs ws : List LinkInfo) → all_named g link_info_entry link_info_names_row c vs → all_named g link_info_entry link_info_names_row c ws → map link_info_entry vs ≡ map link_info_entry ws → pointwise equal vs ws ≡ true
 entries_equal g c [] [] p q e = refl
 entries_equal g c [] (w ∷ ws) p q e = absurd cc

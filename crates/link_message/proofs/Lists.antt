@@ -9,7 +9,7 @@ use Rattle.attribute_tables_grammar.specs.LookUps.{Line, line_at}
 use Rattle.attribute_tables_grammar.specs.Tables.{Table}
 use Rattle.link_message.specs.Injective.{IsInjective}
 
--- the number of a row: its kind, or 0 where there is none
+-- The number of a row: its kind, or 0 if there is none.
 abbrev pub numbered : Option Line → ℕ → ℕ
 numbered None k = 0
 numbered (Some l) k = k
@@ -30,7 +30,7 @@ singleton : (a : Attribute) → list_text (a ∷ []) ≡ attribute_text a
 unfolding list_text
 singleton a = append-nil (attribute_text a)
 
--- one attribute is determined by its text
+-- One attribute is determined by its text.
 pub one_attribute : (a b : Attribute) → attribute_text a ≡ attribute_text b → a ≡ b
 one_attribute a b e = first_equal a b [] [] (one_list (a ∷ []) (b ∷ []) (singleton a ∙ e ∙ sym (singleton b)))
 

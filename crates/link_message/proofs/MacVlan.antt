@@ -61,7 +61,7 @@ address_by (Other x) (Other y) i p q e = same (Other x) (Other y) (ap Other e)
 address_by (MacAddrData' s r) w i p q e = absurd p
 address_by v w i p q e = absurd (omega (arith, i))
 
--- in the list of addresses
+-- The same statement in the list of addresses.
 pub address_injective : IsInjective equal mac_vlan_entry mac_vlan_address_names_row
 address_injective v w p q e = address_by v w (variant_number v p ∙ ap of_address e ∙ sym (variant_number w q)) p q e
 

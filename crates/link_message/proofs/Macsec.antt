@@ -16,7 +16,7 @@ use Rattle.link_message.proofs.Lists.{numbered}
 abbrev equal : InfoMacSec → InfoMacSec → Bool
 equal = (equality.ghosts).eq
 
--- the number of a variant is that of its row
+-- The number of a variant is that of its row.
 abbrev variant : InfoMacSec → ℕ
 variant (MacSec.Sci a) = 1
 variant (MacSec.Port a) = 2

@@ -16,7 +16,7 @@ use Rattle.link_message.proofs.Lists.{numbered}
 abbrev equal : AfSpecMctp → AfSpecMctp → Bool
 equal = (equality.ghosts).eq
 
--- the number of a variant is that of its row
+-- The number of a variant is that of its row.
 abbrev variant : AfSpecMctp → ℕ
 variant (Net a) = 1
 variant (PhysBinding a) = 2

@@ -22,7 +22,7 @@ use Rattle.link_message.proofs.Records.{number_4_equal, after_4_equal, number_2_
 use Rattle.link_message.proofs.Lists.{lists_injective}
 use Rattle.link_message.proofs.Attributes.{attribute_injective}
 
--- a header in front of other bytes
+-- A header, followed by other bytes.
 with_header : LinkHeader → List ℕ → List ℕ
 with_header h t = address_family_number h.interface_family ∷ 0 ∷ le2 (link_layer_type_number h.link_layer_type) ++ (le4 h.index ++ (le4 (link_flags_bits h.flags) ++ (le4 (link_flags_bits h.change_mask) ++ t)))
 

@@ -15,7 +15,7 @@ use Rattle.link_message.specs.Injective.{IsInjective}
 use Rattle.link_message.proofs.Numbers.{le2_injective, le4_injective, truth_injective}
 use Rattle.link_message.proofs.Lists.{numbered}
 
--- a scrub has a name of its own for each number that it is written as
+-- A scrub has a different name for each number as which it is written.
 netkit_scrub_equal : (s t : NetkitScrub) → netkit_scrub_number s ≡ netkit_scrub_number t → s ≡ t
 netkit_scrub_equal NetkitScrub.None NetkitScrub.None e = refl
 netkit_scrub_equal NetkitScrub.Default NetkitScrub.Default e = refl
@@ -25,7 +25,7 @@ netkit_scrub_equal NetkitScrub.Default NetkitScrub.None e = absurd (omega (arith
 abbrev equal : InfoNetkit → InfoNetkit → Bool
 equal = (equality.ghosts).eq
 
--- the number of a variant is that of its row
+-- The number of a variant is that of its row.
 abbrev variant : InfoNetkit → ℕ
 variant (Netkit.Peer a) = 1
 variant (Netkit.Primary a) = 2

@@ -33,7 +33,7 @@ be4_injective m n e = sym (from_be4 m) ∙ ap (from_be_bytes w32) e ∙ from_be4
 pub be8_injective : (m n : ℕ) → be8 m ≡ be8 n → m ≡ n
 be8_injective m n e = sym (from_be8 m) ∙ ap (from_be_bytes w64) e ∙ from_be8 n
 
--- as `==` has it
+-- Equality by `==`.
 pub le4_same : (m n : ℕ) → le4 m ≡ le4 n → (m == n) ≡ true
 le4_same m n e = eq-eqb m n (le4_injective m n e)
 
@@ -105,7 +105,7 @@ range_injective r s e =
     let high = be2_injective r.1 s.1 (rests_are r.0 s.0 _ _ e) in
     λ i. (low i, high i)
 
--- addresses of one length are of one version
+-- Addresses of one length are of one version.
 pub ip_injective : (a b : IpAddr) → HasAddressLength a → HasAddressLength b → ip_octets a ≡ ip_octets b → a ≡ b
 ip_injective (V4 x) (V4 y) p q e = ap V4 (ipv4_injective x y e)
 ip_injective (V6 x) (V6 y) p q e = ap V6 (ipv6_injective x y e)

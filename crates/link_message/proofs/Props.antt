@@ -16,7 +16,7 @@ use Rattle.link_message.proofs.Records.{string_same}
 abbrev equal : Prop → Prop → Bool
 equal = (equality.ghosts).eq
 
--- the number of a variant is that of its row
+-- The number of a variant is that of its row.
 abbrev variant : Prop → ℕ
 variant (AltIfName a) = 53
 variant (Other a) = 0

@@ -9,7 +9,7 @@ use Rattle.link_info_devices.specs.contracts.raw_data.RawDataPartialEq.TheImpl a
 use Rattle.link_info_devices.specs.contracts.raw_data.RawDataEq.TheImpl.Laws.{laws-law}
 use Rattle.link_message.specs.Injective.{IsInjective}
 
--- of the family of a number
+-- Raw data of the family of a number.
 abbrev equal : (n : ℕ) → RawData n → RawData n → Bool
 equal n = (equality.ghosts (number n)).eq
 

@@ -28,7 +28,7 @@ flag_pair_equal r s e =
 abbrev equal : InfoRmNet → InfoRmNet → Bool
 equal = (equality.ghosts).eq
 
--- the number of a variant is that of its row
+-- The number of a variant is that of its row.
 abbrev variant : InfoRmNet → ℕ
 variant (MuxId a) = 1
 variant (Flags a) = 2

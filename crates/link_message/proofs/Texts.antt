@@ -1,11 +1,11 @@
--- A message is written as its header and then its attributes.
+-- A message is written as its header, followed by its attributes.
 use Rattle.std.proofs.Common.{◌≡◌, ℕ, ◌+◌, List, ◌++◌, length, drop, sym, ap, ◌∙◌, arith, length-append, append_assoc, append-nil}
 use Rattle.std.proofs.lemmas.List.{drop-drop, drop_all}
 use Rattle.link_message_types.specs.Headers.{link_header_bytes}
 use Rattle.link_message_types.specs.Laws.{HeadersAreSixteenBytes}
 use Rattle.link_message_types.specs.declared.header.LinkHeader.{LinkHeader}
 
--- the size of a header, alone and in front of other bytes
+-- The size of a header, alone and before other bytes.
 pub length-header : HeadersAreSixteenBytes → (h : LinkHeader) → length (link_header_bytes h) ≡ 16
 length-header law = law
 
@@ -14,11 +14,11 @@ length-header-append law h r = omega (arith, length-append (link_header_bytes h)
 
 pub ruleset headers = (length-header, length-header-append)
 
--- in a place of its size the header is all
+-- In a buffer of its size the header is all.
 pub header_alone : (h front : List ℕ) → length front ≡ length h → h ++ drop (length h) front ≡ h
 header_alone h front e = ap (λ x. h ++ x) (drop_all (length h) front (omega arith)) ∙ append-nil h
 
--- a header and attributes in front of what was there
+-- A header and attributes, written before what was there.
 pub header_then : (h t old : List ℕ) (n : ℕ) → length h ≡ 16 → length t ≡ n → h ++ (t ++ drop n (drop 16 old)) ≡ (h ++ t) ++ drop (length (h ++ t)) old
 header_then h t old n s e =
     let size : length (h ++ t) ≡ 16 + n = omega (arith, length-append h t) in

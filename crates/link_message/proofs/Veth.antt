@@ -17,7 +17,7 @@ use Rattle.link_message.proofs.Lists.{numbered}
 abbrev equal : (n : ℕ) → PairData n → PairData n → Bool
 equal n = (equality.ghosts (number n)).eq
 
--- the number of a variant is that of its row
+-- The number of a variant is that of its row.
 abbrev variant : {n : ℕ} → PairData n → ℕ
 variant (Pair.Peer a) = 1
 variant (Pair.Other a) = 0

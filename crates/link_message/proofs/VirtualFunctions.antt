@@ -39,7 +39,7 @@ use Rattle.link_message.proofs.Lists.{lists_injective}
 payload_of : (a b : Attribute) → a ≡ b → a.payload ≡ b.payload
 payload_of a b e = ap (λ (x : Attribute). x.payload) e
 
--- one more than the kind of a row, 0 where there is none
+-- One more than the kind of a row, 0 if there is none.
 abbrev after_row : Option Line → ℕ → ℕ
 after_row None k = 0
 after_row (Some l) k = suc k

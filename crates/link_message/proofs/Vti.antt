@@ -15,7 +15,7 @@ use Rattle.link_message.proofs.Lists.{numbered}
 abbrev equal : InfoVti → InfoVti → Bool
 equal = (equality.ghosts).eq
 
--- the number of a variant is that of its row
+-- The number of a variant is that of its row.
 abbrev variant : InfoVti → ℕ
 variant (Link a) = 1
 variant (IKey a) = 2

@@ -16,7 +16,7 @@ use Rattle.link_message.proofs.Lists.{numbered}
 abbrev equal : InfoVxlan → InfoVxlan → Bool
 equal = (equality.ghosts).eq
 
--- the number of a variant is that of its row
+-- The number of a variant is that of its row.
 abbrev variant : InfoVxlan → ℕ
 variant (Id a) = 1
 variant (Group a) = 2

@@ -16,7 +16,7 @@ use Rattle.link_message.proofs.Lists.{numbered}
 abbrev equal : LinkXdp → LinkXdp → Bool
 equal = (equality.ghosts).eq
 
--- the number of a variant is that of its row
+-- The number of a variant is that of its row.
 abbrev variant : LinkXdp → ℕ
 variant (Fd z) = 1
 variant (Attached v) = 2

@@ -1,4 +1,4 @@
--- Link messages: what each is written as, and the variants that rows name.
+-- Link messages: their bytes, and the variants that rows name.
 use Rattle.std.specs.Prelude.{ℕ, Bool, List, ◌++◌, map}
 use Rattle.std.specs.List.{All, list_any}
 use Rattle.netlink_packet_core.specs.Lists.{text_by, all_fit_by}
@@ -10,21 +10,22 @@ use Rattle.link_message_types.specs.Headers.{link_header_bytes}
 use Rattle.link_message_attributes.specs.LinkAttributes.{link_attribute_entry, link_attribute_fits, link_attribute_names_row}
 use Rattle.link_message.specs.declared.message.LinkMessage.{LinkMessage}
 
+-- The bytes of a message: its header, followed by its attributes.
 abbrev pub link_message_text : LinkMessage → List ℕ
 link_message_text m = link_header_bytes m.header ++ text_by link_attribute_entry m.attributes.items
 
--- each length inside fits the 2 bytes of its header
+-- Each length inside a message fits the 2 bytes of its header.
 abbrev pub link_message_fits : LinkMessage → Bool
 link_message_fits m = all_fit_by link_attribute_entry link_attribute_fits m.attributes.items
 
--- an attribute is written as a list of ports without an entry
+-- Whether an attribute is written as a list of ports without an entry.
 abbrev pub link_message_empty_ports : LinkMessage → Bool
 link_message_empty_ports m = list_any (λ v. is_emptied (link_attribute_entry v)) m.attributes.items
 
--- what each attribute is written as, and whether what is inside it fits
+-- The attributes that a message is written as, each with whether what is inside it fits.
 abbrev pub link_message_written : LinkMessage → List Written
 link_message_written m = map (written_as link_attribute_entry link_attribute_fits) m.attributes.items
 
--- each attribute is the variant that its row names, under the family of the header
+-- Each attribute is the variant that its row names, under the family of the header.
 abbrev pub link_message_names_row : LinkMessage → Type 0
 link_message_names_row m = All (link_attribute_names_row (table_family m.header.interface_family)) m.attributes.items

@@ -1,4 +1,5 @@
-//! Facts of the definitions, some of them stated in the crates below. No function here makes a call.
+//! Facts about the definitions, each a function with an empty body; some are stated in the crates of
+//! the parts.
 
 ghost use Rattle.link_message.specs.EqualTexts.{EqualTextsMeanEqualMessages};
 
@@ -15,9 +16,10 @@ pub use link_message_types::laws::{
     numbers_are_kept,
 };
 
-/// The text of a message determines it, up to `==`: messages of one address family that are written
-/// as the same bytes are equal, if each value is the variant that its row names. `LinkMessage::parse`
-/// promises family, text and variants, so messages that are read from the same bytes are equal.
+/// The text of a message determines it, up to `==`: two messages of one address family that are
+/// written as the same bytes are equal, if each value is the variant that its row names.
+/// `LinkMessage::parse` guarantees family, text and variants, so messages that are read from the
+/// same bytes are equal.
 #[tactic(auto, using(crate::proofs::Messages::messages_injective))]
 pub fn equal_texts_mean_equal_messages()
     ensures { EqualTextsMeanEqualMessages }

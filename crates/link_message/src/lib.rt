@@ -1,6 +1,7 @@
-//! Link messages (rtnetlink.h, RTM_NEWLINK and its like): a header and the attributes of a link.
+//! Link messages (rtnetlink.h, RTM_NEWLINK and similar types): a header and the attributes of a
+//! link.
 //!
-//! Beside messages this crate offers the items of its parts again, so a caller needs no other.
+//! Beside messages this crate re-exports the items of its parts, so that callers need no other.
 #![tactic(auto)]
 
 pub mod laws;

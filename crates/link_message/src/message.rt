@@ -19,22 +19,26 @@ use std::alloc::Global;
 
 const IFLA_VF_PORTS: u16 = 24;
 
-/// A link message (rtnetlink.h, RTM_NEWLINK and its like): what follows the header of the frame.
+/// A link message (rtnetlink.h, RTM_NEWLINK and similar types): what follows the header of the
+/// frame.
 #[derive(Debug, PartialEq, Eq, Drop)]
 pub struct LinkMessage {
     /// The header, `struct ifinfomsg`: 16 bytes.
     pub header: LinkHeader,
-    /// The attributes, whose rows go by the address family of the header.
+    /// The attributes, whose rows depend on the address family of the header.
     pub attributes: Vec<LinkAttribute>,
 }
 
 impl LinkMessage {
-    /// Reads a message. It succeeds exactly where the body is legal, memory aside: where there are
-    /// 16 bytes of header, and then a list of attributes, each accepted by its row under the
-    /// family of the header. The peers of `netkit`, `veth` and `vxcan` are judged as link bodies, one
-    /// level deep, and a value of one holds its canonical text, which this call reads in turn. It
-    /// answers want of memory of legal bodies alone: where a growth was refused, the rest of the
-    /// attributes is judged without memory.
+    /// Reads a message: a header of 16 bytes, followed by a list of attributes, each accepted by
+    /// its row under the family of the header. The peers of `netkit`, `veth` and `vxcan` are judged
+    /// as link bodies, one level deep; the value of a peer holds its canonical text, which this
+    /// function can read in turn. Allocates the returned message, nothing for a header only.
+    ///
+    /// # Errors
+    ///
+    /// A refusal if the body isn't legal; out of memory if an allocation fails for a legal one.
+    /// After a failed allocation the rest of the attributes is checked without allocating.
     #[tactic(auto, using(crate::proofs::Bodies::bodies))]
     pub fn parse(alloc: Global, bytes: &[u8]) -> Result<LinkMessage, DecodeError>
         ensures ok { OnOk result (IsTrue (link_body.accepted bytes.now)) }
@@ -62,8 +66,9 @@ impl LinkMessage {
         Ok(LinkMessage { header, attributes })
     }
 
-    /// Whether an attribute is written as a list of ports (IFLA_VF_PORTS) without an entry, which no
-    /// legal body has. A message that was read has one where the body held foreign entries alone.
+    /// Returns whether an attribute is written as a list of ports (IFLA_VF_PORTS) without an entry,
+    /// which no legal body has. A message that was read has one if the list in the body had only
+    /// entries of kinds other than 1.
     #[tactic(auto, using(crate::proofs::Bodies::sizes))]
     pub fn has_empty_ports(&self) -> bool
         ensures { result ≡ link_message_empty_ports self.now }
@@ -72,7 +77,7 @@ impl LinkMessage {
             && attribute.value_len() == 0)
     }
 
-    /// Whether each length inside fits its 2 bytes.
+    /// Returns whether each length inside fits its 2 bytes.
     pub fn fits(&self) -> bool
         ensures { result ≡ link_message_fits self.now }
     {

@@ -14,7 +14,7 @@ attributes-rule law = law
 
 pub ruleset attribute_rules = (attributes-rule)
 
--- no bytes are no link info
+-- Empty bytes are no link info.
 pub no_info : (b : List ℕ) → true ≡ length b == 0 → info_payload_rule.accepted b ≡ false
 unfolding LookUps.link_info_of Attributes.attributes_within
 no_info [] h = refl

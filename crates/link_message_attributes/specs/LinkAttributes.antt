@@ -37,6 +37,7 @@ use Rattle.link_message_nested.specs.VfPorts.{vf_port_entry, link_vf_port_entry,
 use Rattle.link_message_attributes.specs.declared.attributes.LinkAttribute.{LinkAttribute}
 use Rattle.link_message_attributes.specs.declared.attributes.LinkAttribute.TheVariants as Link
 
+-- The kind and the payload of a value.
 abbrev pub link_attribute_entry : LinkAttribute → Attribute
 link_attribute_entry (Link.VfInfoList vs) = attribute 22 (text_by link_vf_info_entry vs.items)
 link_attribute_entry (Link.VfPorts vs) = attribute 24 (text_by link_vf_port_entry vs.items)
@@ -103,7 +104,7 @@ link_attribute_entry (Link.GroIpv4MaxSize n) = attribute 64 (le4 n)
 link_attribute_entry (Link.DpllPin vs) = attribute 0x8041 (text_by dpll_pin_entry vs.items)
 link_attribute_entry (Link.Other a) = a
 
--- each length inside fits the 2 bytes of its header
+-- Each length inside a value fits the 2 bytes of its header.
 abbrev pub link_attribute_fits : LinkAttribute → Bool
 link_attribute_fits (Link.VfInfoList vs) = all_fit_by link_vf_info_entry link_vf_info_fits vs.items
 link_attribute_fits (Link.VfPorts vs) = all_fit_by link_vf_port_entry link_vf_port_fits vs.items
@@ -120,8 +121,9 @@ link_attribute_fits (Link.DevlinkPort vs) = all_fit_by devlink_port_entry (λ _.
 link_attribute_fits (Link.DpllPin vs) = all_fit_by dpll_pin_entry (λ _. true) vs.items
 link_attribute_fits _ = true
 
--- a number that has a name is read as what it names, a mask as its bits in order, and no kind that has a row under the family as another attribute;
--- what goes by the family is the family's own variant
+-- The value is the variant that its row names under the family: a kind with a row isn't kept as `Other`, nor a named
+-- number as `Other`; a mask is the list of its bits in order; and an attribute that depends on the family is the
+-- family's own variant.
 abbrev pub link_attribute_names_row : Family → LinkAttribute → Type 0
 link_attribute_names_row f (Link.VfInfoList vs) = All link_vf_info_names_row vs.items
 link_attribute_names_row f (Link.Xdp vs) = All link_xdp_names_row vs.items
@@ -143,26 +145,29 @@ link_attribute_names_row f (Link.DpllPin vs) = All dpll_pin_names_row vs.items
 link_attribute_names_row f (Link.Other a) = ((proper_kind a.kind == 12) ≡ false) × has_no_link_row f (proper_kind a.kind)
 link_attribute_names_row f _ = Unit {0}
 
--- the row of a kind where peers are bytes, which is that of every kind but link info's
+-- The row of a kind under the rule by which peers are bytes, which is the row in force of every kind except link
+-- info's.
 abbrev pub plain_row : Family → ℕ → Row
 plain_row = attribute_row_under bytes_peer
 
--- a row whose payload is a list of attributes
+-- Whether a payload is a list of attributes.
 abbrev pub payload_holds_list : Payload → Bool
 payload_holds_list (list form t) = true
 payload_holds_list (link_info form data' port_data) = true
 payload_holds_list _ = false
 
+-- Whether a row's payload is a list of attributes.
 abbrev pub line_holds_list : Option Line → Bool
 line_holds_list None = false
 line_holds_list (Some l) = payload_holds_list l.payload
 
--- what each address family tells may want memory, where a row holds a list of it
+-- Whether reading the attributes of all address families may allocate; only a row with a list of them does.
 abbrev pub families_may_want_memory : Family → List ℕ → Bool
 families_may_want_memory unspec p = begins_readable (family_row specific) (table_may_want_memory specific) p
 families_may_want_memory f p = line_may_want_memory (link_line f 26) p
 
--- link info may want memory where it is accepted; another list of attributes where its first attribute is, or is itself a list that may want it
+-- Whether reading a list may allocate: link info if it is accepted; another list of attributes if its first attribute
+-- is accepted, or is a list whose reading may allocate.
 abbrev pub list_may_want_memory : Family → ℕ → List ℕ → Bool
 list_may_want_memory f k p =
     cond (k == 18) (info_payload_rule.accepted p)
@@ -171,16 +176,17 @@ list_may_want_memory f k p =
     (cond (k == 26) (families_may_want_memory f p)
     (line_may_want_memory (link_line f k) p))))
 
--- reading a payload may want memory: a list of attributes by what it begins with, and bytes, text and the bits of a mask where the row accepts them
+-- Whether reading a payload may allocate: for a list of attributes this depends on its start; for bytes, a text and the
+-- bits of a mask, on whether the row accepts them.
 abbrev pub row_may_want_memory : Family → ℕ → List ℕ → Bool
 row_may_want_memory f k p =
     cond (line_holds_list (link_line f k)) (list_may_want_memory f k p) ((k == 29 || line_holds_bytes (link_line f k)) && (attribute_row f k).rule.accepted p)
 
--- the same of the attribute that the bytes begin with
+-- Whether reading the attribute at the start of some bytes may allocate.
 abbrev pub link_attribute_may_want_memory : Family → List ℕ → Bool
 link_attribute_may_want_memory f b = row_may_want_memory f (proper_kind (viewed_kind b)) (viewed_payload b)
 
--- none of the kinds whose payload isn't one number
+-- The kind isn't one of those whose payload is no number.
 abbrev pub IsReadAsNumber : ℕ → Type 0
 IsReadAsNumber k =
     ((k == 1) ≡ false) × ((k == 2) ≡ false) × ((k == 3) ≡ false) × ((k == 6) ≡ false) × ((k == 7) ≡ false) × ((k == 12) ≡ false) × ((k == 14) ≡ false)

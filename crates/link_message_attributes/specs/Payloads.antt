@@ -1,4 +1,4 @@
--- What the attributes of a link hold, as bytes.
+-- The payloads of a link's attributes, as bytes.
 use Rattle.std.specs.Prelude.{ℕ, Bool, true, List}
 use Rattle.netlink_packet_core.specs.Fields.{field_bytes}
 use Rattle.netlink_packet_core.specs.Lists.{text_by, all_fit_by}
@@ -17,6 +17,7 @@ use Rattle.link_message_nested.specs.VfPorts.{vf_port_entry, link_vf_port_entry,
 use Rattle.link_message_attributes.specs.declared.payload.LinkPayload.{LinkPayload}
 use Rattle.link_message_attributes.specs.declared.payload.LinkPayload.TheVariants as Payload
 
+-- The bytes of a payload.
 abbrev pub link_payload_bytes : LinkPayload → List ℕ
 link_payload_bytes (Payload.Field f) = field_bytes f
 link_payload_bytes (Payload.Stats r) = u32_values_bytes r.now
@@ -35,7 +36,7 @@ link_payload_bytes (Payload.DownReasons vs) = text_by link_protocol_down_reason_
 link_payload_bytes (Payload.DevlinkPort vs) = text_by devlink_port_entry vs.now
 link_payload_bytes (Payload.DpllPin vs) = text_by dpll_pin_entry vs.now
 
--- each length inside fits the 2 bytes of its header
+-- Each length inside a payload fits the 2 bytes of its header.
 abbrev pub link_payload_fits : LinkPayload → Bool
 link_payload_fits (Payload.Field f) = true
 link_payload_fits (Payload.Stats r) = true

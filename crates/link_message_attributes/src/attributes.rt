@@ -134,55 +134,55 @@ pub enum LinkAttribute {
     /// kept.
     VfInfoList(Vec<LinkVfInfo>),
     /// `IFLA_VF_PORTS`: the ports of virtual functions; a list of attributes, of which those of
-    /// kind 1 are kept. A list without an attribute is refused, so where none is kept the list that
-    /// is written isn't read again.
+    /// kind 1 are kept. A list without an attribute is refused, so if no attribute is kept, the
+    /// list that is written can't be read back.
     VfPorts(Vec<LinkVfPort>),
-    /// `IFLA_PORT_SELF`: the port of the link itself; a list of attributes. It is written without a
-    /// header of its own.
+    /// `IFLA_PORT_SELF`: the port of the link itself; the port's attributes without an attribute
+    /// around them.
     PortSelf(LinkVfPort),
-    /// `IFLA_PHYS_PORT_ID`: the identity of the physical port; any bytes.
+    /// `IFLA_PHYS_PORT_ID`: the id of the physical port; any bytes.
     PhysPortId(LinkPhysId),
-    /// `IFLA_PHYS_SWITCH_ID`: the identity of the switch; any bytes.
+    /// `IFLA_PHYS_SWITCH_ID`: the id of the switch; any bytes.
     PhysSwitchId(LinkPhysId),
-    /// `IFLA_XDP`: the programs of the express data path; a list of attributes.
+    /// `IFLA_XDP`: the XDP programs; a list of attributes.
     Xdp(Vec<LinkXdp>),
-    /// `IFLA_EVENT`: what the message is sent for; 4 bytes.
+    /// `IFLA_EVENT`: the event for which the message is sent; 4 bytes.
     Event(LinkEvent),
-    /// `IFLA_NEW_NETNSID`: the number of the network namespace that the link moved to; 4 bytes.
+    /// `IFLA_NEW_NETNSID`: the id of the network namespace to which the link was moved; 4 bytes.
     NewNetnsId(u32),
-    /// `IFLA_IF_NETNSID`: the number of the network namespace that the link is in; 4 bytes.
+    /// `IFLA_IF_NETNSID`: the id of the network namespace that the link is in; 4 bytes.
     IfNetnsId(u32),
-    /// `IFLA_CARRIER_UP_COUNT`: how often the carrier came; 4 bytes.
+    /// `IFLA_CARRIER_UP_COUNT`: how often the carrier was detected; 4 bytes.
     CarrierUpCount(u32),
-    /// `IFLA_CARRIER_DOWN_COUNT`: how often the carrier went; 4 bytes.
+    /// `IFLA_CARRIER_DOWN_COUNT`: how often the carrier was lost; 4 bytes.
     CarrierDownCount(u32),
-    /// `IFLA_NEW_IFINDEX`: the index of the link in the network namespace that it moved to; 4
+    /// `IFLA_NEW_IFINDEX`: the index of the link in the network namespace to which it was moved; 4
     /// bytes.
     NewIfIndex(u32),
-    /// `IFLA_LINKINFO`: what the link is; a list of attributes, of which there is one or more.
+    /// `IFLA_LINKINFO`: the link's kind and its data; a list of one or more attributes.
     LinkInfo(Vec<LinkInfo>),
-    /// `IFLA_PROTINFO` of a bridge: what its protocol tells; a list of attributes.
+    /// `IFLA_PROTINFO` of a bridge: the port's settings and state; a list of attributes.
     ProtoInfoBridge(Vec<DefaultNla>),
-    /// `IFLA_PROTINFO` of IPv6: what the protocol tells; a list of attributes.
+    /// `IFLA_PROTINFO` of IPv6: the IPv6 state and settings; a list of attributes.
     ProtoInfoInet6(Vec<LinkProtoInfoInet6>),
-    /// `IFLA_PROTINFO` of any other family, kept as it is.
+    /// `IFLA_PROTINFO` of any other family, kept unchanged.
     ProtoInfoUnknown(DefaultNla),
-    /// `IFLA_PROP_LIST`: other names; a list of attributes, written with the nested bit.
+    /// `IFLA_PROP_LIST`: alternative names; a list of attributes, written with the nested bit.
     PropList(Vec<Prop>),
-    /// `IFLA_PROTO_DOWN_REASON`: why a protocol holds the link down; a list of attributes, written
-    /// with the nested bit.
+    /// `IFLA_PROTO_DOWN_REASON`: the reasons why a protocol keeps the link down; a list of
+    /// attributes, written with the nested bit.
     ProtoDownReason(Vec<LinkProtocolDownReason>),
     /// `IFLA_ADDRESS`: the hardware address; any bytes.
     Address(Vec<u8>),
-    /// `IFLA_BROADCAST`: the hardware address that reaches all; any bytes.
+    /// `IFLA_BROADCAST`: the broadcast hardware address; any bytes.
     Broadcast(Vec<u8>),
-    /// `IFLA_PERM_ADDRESS`: the hardware address that the device came with; any bytes.
+    /// `IFLA_PERM_ADDRESS`: the permanent hardware address of the device; any bytes.
     PermAddress(Vec<u8>),
     /// `IFLA_IFNAME`: the name; a text.
     IfName(String),
     /// `IFLA_QDISC`: the queueing discipline; a text.
     Qdisc(String),
-    /// `IFLA_IFALIAS`: a further name, for people; a text.
+    /// `IFLA_IFALIAS`: an alias, for people; a text.
     IfAlias(String),
     /// `IFLA_PHYS_PORT_NAME`: the name of the physical port; a text.
     PhysPortName(String),
@@ -192,43 +192,45 @@ pub enum LinkAttribute {
     Carrier(u8),
     /// `IFLA_PROTO_DOWN`: whether a protocol keeps the link down; 1 byte.
     ProtoDown(u8),
-    /// `IFLA_MTU`: the most bytes of a packet; 4 bytes.
+    /// `IFLA_MTU`: the maximum transmission unit in bytes; 4 bytes.
     Mtu(u32),
-    /// `IFLA_LINK`: the index of the link below; 4 bytes.
+    /// `IFLA_LINK`: the index of the lower link; 4 bytes.
     Link(u32),
-    /// `IFLA_MASTER`: the index of the link that this one is a port of; 4 bytes.
+    /// `IFLA_MASTER`: the index of the controller of which this link is a port; 4 bytes.
     Controller(u32),
-    /// `IFLA_TXQLEN`: how many packets may wait to be sent; 4 bytes.
+    /// `IFLA_TXQLEN`: the length of the transmit queue, in packets; 4 bytes.
     TxQueueLen(u32),
-    /// `IFLA_NET_NS_PID`: a process whose network namespace the link is moved to; 4 bytes.
+    /// `IFLA_NET_NS_PID`: the id of a process to whose network namespace the link is to be moved; 4
+    /// bytes.
     NetNsPid(u32),
-    /// `IFLA_NUM_VF`: how many virtual functions there are; 4 bytes.
+    /// `IFLA_NUM_VF`: the number of virtual functions; 4 bytes.
     NumVf(u32),
-    /// `IFLA_GROUP`: the group of links that this one is in; 4 bytes.
+    /// `IFLA_GROUP`: the group of the link; 4 bytes.
     Group(u32),
-    /// `IFLA_NET_NS_FD`: a descriptor of the network namespace that the link is moved to; 4
-    /// bytes, signed.
+    /// `IFLA_NET_NS_FD`: a file descriptor of the network namespace to which the link is to be
+    /// moved; 4 bytes, signed.
     NetNsFd(i32),
-    /// `IFLA_EXT_MASK`: what an answer is to tell beside the rest; 4 bytes, whose set bits are
+    /// `IFLA_EXT_MASK`: the additional parts that a reply is to have; 4 bytes, whose set bits are
     /// the list.
     ExtMask(Vec<LinkExtentMask>),
-    /// `IFLA_PROMISCUITY`: how many want every packet; 4 bytes.
+    /// `IFLA_PROMISCUITY`: the count of requests for promiscuous mode; 4 bytes.
     Promiscuity(u32),
-    /// `IFLA_NUM_TX_QUEUES`: how many queues there are to send from; 4 bytes.
+    /// `IFLA_NUM_TX_QUEUES`: the number of transmit queues; 4 bytes.
     NumTxQueues(u32),
-    /// `IFLA_NUM_RX_QUEUES`: how many queues there are to receive into; 4 bytes.
+    /// `IFLA_NUM_RX_QUEUES`: the number of receive queues; 4 bytes.
     NumRxQueues(u32),
-    /// `IFLA_CARRIER_CHANGES`: how often the carrier came or went; 4 bytes.
+    /// `IFLA_CARRIER_CHANGES`: how often the carrier changed; 4 bytes.
     CarrierChanges(u32),
-    /// `IFLA_GSO_MAX_SEGS`: the most segments of a packet that the device cuts up; 4 bytes.
+    /// `IFLA_GSO_MAX_SEGS`: the maximum number of segments of a packet by generic segmentation
+    /// offload; 4 bytes.
     GsoMaxSegs(u32),
-    /// `IFLA_GSO_MAX_SIZE`: the most bytes of a packet that is cut up later; 4 bytes.
+    /// `IFLA_GSO_MAX_SIZE`: the maximum size of a packet for generic segmentation offload; 4 bytes.
     GsoMaxSize(u32),
-    /// `IFLA_MIN_MTU`: the least `Mtu` that may be set; 4 bytes.
+    /// `IFLA_MIN_MTU`: the minimum `Mtu` that may be set; 4 bytes.
     MinMtu(u32),
-    /// `IFLA_MAX_MTU`: the greatest `Mtu` that may be set; 4 bytes.
+    /// `IFLA_MAX_MTU`: the maximum `Mtu` that may be set; 4 bytes.
     MaxMtu(u32),
-    /// `IFLA_LINK_NETNSID`: the number of the network namespace of the link below; 4 bytes.
+    /// `IFLA_LINK_NETNSID`: the id of the network namespace of the lower link; 4 bytes.
     LinkNetnsId(u32),
     /// `IFLA_OPERSTATE`: the operational state; 1 byte.
     OperState(State),
@@ -236,42 +238,42 @@ pub enum LinkAttribute {
     Stats(Stats),
     /// `IFLA_STATS64`: statistics, written as 200 bytes and read from any number of bytes.
     Stats64(Stats64),
-    /// `IFLA_MAP`: the memory of the device, written as 32 bytes and read from at least 28.
+    /// `IFLA_MAP`: the memory map of the device, written as 32 bytes and read from at least 28.
     Map(Map),
-    /// `IFLA_AF_SPEC` where the family is none: what each address family tells; a list of
-    /// attributes.
+    /// `IFLA_AF_SPEC` under AF_UNSPEC: the attributes of each address family; a list of attributes.
     AfSpecUnspec(Vec<AfSpecUnspec>),
     /// `IFLA_AF_SPEC` of a bridge; a list of attributes.
     AfSpecBridge(Vec<DefaultNla>),
     /// `IFLA_AF_SPEC` of any other family; any bytes.
     AfSpecUnknown(Vec<u8>),
-    /// `IFLA_PARENT_DEV_NAME`: the name of the device that holds the link; a text.
+    /// `IFLA_PARENT_DEV_NAME`: the name of the parent device; a text.
     ParentDevName(String),
-    /// `IFLA_PARENT_DEV_BUS_NAME`: the name of the bus of that device; a text.
+    /// `IFLA_PARENT_DEV_BUS_NAME`: the name of the parent device's bus; a text.
     ParentDevBusName(String),
-    /// `IFLA_GRO_MAX_SIZE`: the most bytes of a packet that is put together; 4 bytes.
+    /// `IFLA_GRO_MAX_SIZE`: the maximum size of a packet by generic receive offload; 4 bytes.
     GroMaxSize(u32),
-    /// `IFLA_TSO_MAX_SIZE`: the most bytes of a packet that the device itself cuts up; 4 bytes.
+    /// `IFLA_TSO_MAX_SIZE`: the maximum size of a packet for TCP segmentation offload, by the
+    /// device; 4 bytes.
     TsoMaxSize(u32),
-    /// `IFLA_TSO_MAX_SEGS`: the most segments of a packet that the device itself cuts up; 4
-    /// bytes.
+    /// `IFLA_TSO_MAX_SEGS`: the maximum number of segments of a packet by TCP segmentation offload,
+    /// by the device; 4 bytes.
     TsoMaxSegs(u32),
-    /// `IFLA_ALLMULTI`: how many want every multicast packet; 4 bytes.
+    /// `IFLA_ALLMULTI`: the count of requests for all multicast packets; 4 bytes.
     AllMulti(u32),
-    /// `IFLA_DEVLINK_PORT`: the port of devlink; a list of attributes, written with the nested bit.
+    /// `IFLA_DEVLINK_PORT`: the devlink port; a list of attributes, written with the nested bit.
     DevlinkPort(Vec<DevlinkPort>),
-    /// `IFLA_GSO_IPV4_MAX_SIZE`: as `GsoMaxSize`, of IPv4; 4 bytes.
+    /// `IFLA_GSO_IPV4_MAX_SIZE`: as `GsoMaxSize`, for IPv4; 4 bytes.
     GsoIpv4MaxSize(u32),
-    /// `IFLA_GRO_IPV4_MAX_SIZE`: as `GroMaxSize`, of IPv4; 4 bytes.
+    /// `IFLA_GRO_IPV4_MAX_SIZE`: as `GroMaxSize`, for IPv4; 4 bytes.
     GroIpv4MaxSize(u32),
-    /// `IFLA_DPLL_PIN`: the pin of a phase-locked loop; a list of attributes, written with the
-    /// nested bit.
+    /// `IFLA_DPLL_PIN`: the pin of a digital phase-locked loop; a list of attributes, written with
+    /// the nested bit.
     DpllPin(Vec<DpllPin>),
-    /// Any other kind, kept as it is.
+    /// Any other kind, kept unchanged.
     Other(DefaultNla),
 }
 
-/// A payload without attributes.
+/// A payload that is a number, a text or bytes.
 macro_rules! field {
     ($variant:ident, $value:expr) => {
         LinkPayload::Field(Field::$variant($value))
@@ -279,7 +281,7 @@ macro_rules! field {
 }
 
 impl LinkAttribute {
-    // The kind and the payload.
+    // Returns the kind and the payload.
     #[tactic(auto, using(netlink_packet_core_grammar::proofs::Numbers::signs))]
     fn payload(&self) -> (u16, LinkPayload<'_>)
         ensures kind { result.0 ≡ (link_attribute_entry self.now).kind }
@@ -384,7 +386,8 @@ impl Nla for LinkAttribute {
 }
 
 impl LinkAttribute {
-    // Reads IFLA_PROTINFO, whose payload goes by the address family; `None` where it has no row.
+    // Reads IFLA_PROTINFO, whose payload depends on the address family; `None` if it has no row
+    // under the family.
     fn parse_protocol_info(
         alloc: Global,
         family: AddressFamily,
@@ -415,7 +418,7 @@ impl LinkAttribute {
         }
     }
 
-    // Reads IFLA_AF_SPEC, whose payload goes by the address family.
+    // Reads IFLA_AF_SPEC, whose payload depends on the address family.
     fn parse_af_spec(
         alloc: Global,
         family: AddressFamily,
@@ -446,7 +449,9 @@ impl LinkAttribute {
         }
     }
 
-    // Reads the payload of a kind that isn't link info's; `None` where the kind has no row.
+    // Reads the payload of a kind other than link info; `None` if the kind has no row. Kinds that
+    // hold a number are left to `read_number`, since the prover's time for a match grows with its
+    // paths times the variants.
     fn read_plain_row(
         alloc: Global,
         family: AddressFamily,
@@ -478,6 +483,7 @@ impl LinkAttribute {
             IFLA_VFINFO_LIST => typed!(VfInfoList, parse_vf_infos(alloc, payload)),
             IFLA_STATS64 => Ok(Some(Self::Stats64(read_settings(payload)))),
             IFLA_VF_PORTS => typed!(VfPorts, parse_vf_ports(alloc, payload)),
+            // A `match`, since a `?` in an arm costs the prover more.
             IFLA_PORT_SELF => match parse_family(alloc, payload) {
                 Ok(list) => Ok(Some(Self::PortSelf(LinkVfPort(list)))),
                 Err(error) => Err(error),
@@ -499,7 +505,7 @@ impl LinkAttribute {
         }
     }
 
-    // Reads the payload of a kind without its flag bits; `None` where the kind has no row.
+    // Reads the payload of a kind without its flag bits; `None` if the kind has no row.
     fn read_row(
         alloc: Global,
         family: AddressFamily,
@@ -525,7 +531,7 @@ impl LinkAttribute {
         }
     }
 
-    // Reads one attribute, and may tell want of memory in front of a refusal.
+    // Reads one attribute; out of memory may hide a refusal.
     fn read(
         alloc: Global,
         buf: &NlaBuffer<&[u8]>,
@@ -553,9 +559,13 @@ impl LinkAttribute {
         }
     }
 
-    /// Reads one attribute under an address family, which counts by its variant. It succeeds
-    /// exactly where its row accepts it, memory aside, and answers want of memory of an accepted
-    /// attribute alone: where a growth was refused, the rest is judged without memory.
+    /// Reads one attribute under an address family, of which only the variant counts. Allocates the
+    /// returned value.
+    ///
+    /// # Errors
+    ///
+    /// A refusal if the attribute's row doesn't accept it; out of memory if an allocation fails for
+    /// an accepted attribute. After a failed allocation the rest is checked without allocating.
     pub fn parse_with_param(
         alloc: Global,
         buf: &NlaBuffer<&[u8]>,
@@ -581,7 +591,7 @@ impl LinkAttribute {
         }
     }
 
-    // Reads attributes, and may tell want of memory in front of a refusal.
+    // Reads attributes; out of memory may hide a refusal.
     #[tactic(auto, using(crate::proofs::Rules::attribute_rules))]
     fn read_list(
         alloc: Global,
@@ -602,10 +612,14 @@ impl LinkAttribute {
         parse_list(alloc, &LinkAttributeReader { family }, bytes)
     }
 
-    /// Reads the attributes of a link under an address family, which counts by its variant. It
-    /// succeeds exactly where the list is accepted, memory aside; a list of no bytes is never
-    /// refused. It answers want of memory of accepted lists alone: where a growth was refused, the
-    /// rest of the list is judged without memory.
+    /// Reads the attributes of a link under an address family, of which only the variant counts.
+    /// Allocates the returned list, nothing for no bytes.
+    ///
+    /// # Errors
+    ///
+    /// A refusal if the list isn't accepted, which a list of no bytes always is; out of memory if
+    /// an allocation fails for an accepted list. After a failed allocation the rest of the list is
+    /// checked without allocating.
     pub fn parse_list(
         alloc: Global,
         bytes: &[u8],
@@ -628,7 +642,7 @@ impl LinkAttribute {
     }
 }
 
-/// Reads the attributes of a link under an address family, which counts by its variant.
+/// The reader of a link's attributes under an address family, of which only the variant counts.
 #[derive(Drop)]
 struct LinkAttributeReader {
     family: AddressFamily,

@@ -1,4 +1,4 @@
-//! Families as the checks of attributes know them.
+//! Address families as the checks of attributes number them.
 
 ghost use Rattle.std.specs.Prelude.{◌≡◌};
 ghost use Rattle.link_message_grammar.specs.LinkMessage.{family_of};
@@ -6,8 +6,8 @@ ghost use Rattle.link_message_types.specs.AddressFamilies.{table_family};
 
 use link_message_types::AddressFamily;
 
-/// A number whose attributes have the table of this family. A family counts by its variant, so
-/// this is not the number that it is written with.
+/// Returns the number of the table of a family's attributes. Only the variant counts, so this isn't
+/// the number that the family is written as.
 pub fn number_of_table(family: AddressFamily) -> u8
     ensures { family_of result ≡ table_family family }
 {

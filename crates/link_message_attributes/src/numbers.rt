@@ -25,7 +25,9 @@ use link_message_types::{AddressFamily, LinkEvent, LinkMode, State};
 use netlink_packet_core::{DecodeError, parse_i32, parse_u8, parse_u32};
 
 impl LinkAttribute {
-    // The attribute of a kind that holds 1 byte; `None` where the kind holds something else.
+    // Returns the attribute of a kind that holds 1 byte; `None` for any other kind. Wide matches
+    // are split into functions that each know part of the kinds, since the prover's time for a
+    // match grows with its paths times the variants.
     fn of_u8(kind: u16, number: u8) -> Option<Self>
         ensures value { IfSome result
             (λ v. link_attribute_entry v ≡ attribute kind (number ∷ [])) }
@@ -44,7 +46,7 @@ impl LinkAttribute {
         }
     }
 
-    // The attribute of a kind that holds a number of 4 bytes; `None` where the kind holds something else.
+    // Returns the attribute of a kind that holds a number of 4 bytes; `None` for any other kind.
     fn of_u32(kind: u16, number: u32) -> Option<Self>
         ensures value { IfSome result
             (λ v. link_attribute_entry v ≡ attribute kind (le4 number)) }
@@ -91,8 +93,7 @@ impl LinkAttribute {
         }
     }
 
-    // Reads the payload of a kind that isn't read otherwise, as a number; `None` where the kind has
-    // no row.
+    // Reads the payload of a kind that holds a number; `None` if the kind has no row.
     pub(crate) fn read_number(
         family: AddressFamily,
         kind: u16,

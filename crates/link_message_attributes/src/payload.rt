@@ -1,4 +1,4 @@
-//! What the attributes of a link hold.
+//! The payloads of a link's attributes.
 
 ghost use Rattle.std.specs.Prelude.{◌≡◌, ◌==◌, ◌<◌, true, length, IsTrue, IfOk, IfErr, OnOk};
 ghost use Rattle.netlink_packet_core.specs.Errors.{is_memory};
@@ -26,45 +26,45 @@ use netlink_packet_core::{
 };
 use std::alloc::Global;
 
-/// What an attribute of a link holds: a payload without attributes, or a list of them.
+/// The payload of a link's attribute: a field, or a list of attributes.
 #[derive(Clone, Copy)]
 pub(crate) enum LinkPayload<'a> {
     /// A number, a text or bytes.
     Field(Field<'a>),
-    /// Statistics, numbers of 4 bytes.
+    /// Statistics of 4 bytes each.
     Stats(&'a Stats),
-    /// Statistics, numbers of 8 bytes.
+    /// Statistics of 8 bytes each.
     Stats64(&'a Stats64),
-    /// The memory of the device.
+    /// The memory map of the device.
     Map(&'a Map),
-    /// What the link is.
+    /// Link info.
     LinkInfo(&'a [LinkInfo]),
     /// Virtual functions.
     VfInfos(&'a [LinkVfInfo]),
     /// Ports of virtual functions.
     VfPorts(&'a [LinkVfPort]),
-    /// What one port holds.
+    /// The attributes of one port.
     Port(&'a [VfPort]),
-    /// Programs of the express data path.
+    /// XDP programs.
     Xdp(&'a [LinkXdp]),
-    /// What the protocol of IPv6 tells.
+    /// Protocol information of IPv6.
     ProtocolInfos(&'a [LinkProtoInfoInet6]),
-    /// What each address family tells.
+    /// The attributes of all address families.
     Families(&'a [AfSpecUnspec]),
-    /// Attributes as they are.
+    /// Raw attributes.
     Raw(&'a [DefaultNla]),
-    /// Other names.
+    /// Alternative names.
     Props(&'a [Prop]),
-    /// Why a protocol holds the link down.
+    /// The reasons why a protocol keeps the link down.
     DownReasons(&'a [LinkProtocolDownReason]),
-    /// A port of devlink.
+    /// A devlink port.
     DevlinkPort(&'a [DevlinkPort]),
-    /// A pin of a phase-locked loop.
+    /// A pin of a digital phase-locked loop.
     DpllPin(&'a [DpllPin]),
 }
 
 impl<'a> LinkPayload<'a> {
-    /// How many bytes there are; `usize::MAX` stands for more.
+    /// Returns the size in bytes; `usize::MAX` if it is larger.
     #[tactic(auto, using(attribute_tables::proofs::Lists::lists))]
     pub(crate) fn len(self) -> usize
         ensures { result ≡ as_usize (length (link_payload_bytes self.entry)) }
@@ -89,7 +89,7 @@ impl<'a> LinkPayload<'a> {
         }
     }
 
-    /// Writes the bytes into a buffer of their size.
+    /// Writes the bytes to a buffer of their size.
     #[tactic(auto, using(attribute_tables::proofs::Lists::lists))]
     pub(crate) fn fill(self, buffer: &mut [u8])
         requires fits { link_payload_fits self ≡ true }
@@ -116,7 +116,7 @@ impl<'a> LinkPayload<'a> {
         }
     }
 
-    /// Whether each attribute inside fits its header; true where there is none.
+    /// Returns whether each attribute inside fits its header; true if there are none.
     pub(crate) fn fits(self) -> bool
         ensures { result ≡ link_payload_fits self.entry }
     {
@@ -141,7 +141,7 @@ impl<'a> LinkPayload<'a> {
     }
 }
 
-/// Reads the bits of a mask of exactly 4 bytes.
+/// Reads the masks of a number of exactly 4 bytes.
 pub(crate) fn parse_extent_masks(
     alloc: Global,
     payload: &[u8],
@@ -155,8 +155,12 @@ pub(crate) fn parse_extent_masks(
     LinkExtentMask::list(alloc, parse_u32(payload)?)
 }
 
-/// Reads link info, peers as link bodies. It succeeds exactly where the list is legal and there is
-/// an attribute in it, memory aside.
+/// Reads link info, with peers as link bodies.
+///
+/// # Errors
+///
+/// A refusal if the list isn't legal or has no attribute; out of memory if an allocation fails for
+/// a legal list.
 pub(crate) fn parse_link_info(alloc: Global, payload: &[u8]) -> Result<Vec<LinkInfo>, DecodeError>
     ensures judged { IsRefusedUnless result (info_payload_rule.accepted payload.now) }
     ensures written { ListIsWrittenBy result link_info_entry link_info_fits info_payload_rule

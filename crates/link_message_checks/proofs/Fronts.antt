@@ -1,4 +1,4 @@
--- How far from its front a body is its own text.
+-- The size of a body's canonical prefix.
 use Rattle.std.proofs.Common.{◌≡◌, ℕ, ◌+◌, ◌-◌, ◌≤◌, ◌++◌, Bool, true, false, cond, List, length, take, drop, refl, sym, ap, subst, ◌∙◌, append_assoc, arith}
 use Rattle.std.specs.Prelude.{◌&&◌}
 use Rattle.std.proofs.Math.Seq.{take-add}
@@ -17,16 +17,16 @@ use Rattle.link_interpreter.specs.Fronts.{IsOwnFront, GoesOn}
 use Rattle.link_interpreter.specs.Measures.{rows_of}
 use Rattle.link_message_checks.specs.Fronts.{IsBodyFront}
 
--- the attributes of a family are a list of the rows that are looked up
+-- The attributes of a family are a list of the rows that are looked up.
 pub attributes_rule : RowsAreLookedUp → (p : Peer) (f : Family) (t : Table) → t ≡ link_table f → list_rule any (rows_of p t) ≡ list_rule_of p f
 unfolding rows_rule list_rule_of
 attributes_rule law p f t e = sym (law.payload p any t) ∙ ap (λ t. rule p (list any t)) e
 
--- where no front is told
+-- When no prefix is reported.
 pub no_front : (p : Peer) (b : List ℕ) → IsBodyFront p b 0
 no_front p b = record { within = omega arith; header = λ l. absurd (omega (arith, l)); attributes = λ l. absurd (omega (arith, l)) }
 
--- a header that is its own text, and so much of its attributes; none is told where that is much
+-- A canonical header, and the canonical prefix of its attributes; none is reported if that is too long for its number.
 pub body_front : (p : Peer) (b : List ℕ) (own small : Bool) (n : ℕ) → 16 ≤ length b → (own ≡ true → header_text b ≡ take 16 b) → IsOwnFront (list_rule_of p (family b)) (attribute_bytes b) n → IsBodyFront p b (cond (own && small) (16 + n) 0)
 body_front p b true true n long h f = record {
   within = omega (arith, f.within, length-drop 16 b, long);
@@ -36,7 +36,7 @@ body_front p b true true n long h f = record {
 body_front p b true false n long h f = no_front p b
 body_front p b false small n long h f = no_front p b
 
--- behind such a front come accepted attributes, and the text goes on with theirs
+-- Such a prefix is followed by accepted attributes, and the text continues with theirs.
 pub record BodyGoesOn (p : Peer) (b : List ℕ) (n : ℕ) : Type 0 where
   pub accepted : (list_rule_of p (family b)).accepted (drop n b) ≡ true
   pub fits : (list_rule_of p (family b)).fits (drop n b) ≡ true

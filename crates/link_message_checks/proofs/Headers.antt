@@ -1,4 +1,4 @@
--- A header that is written as it stands, and two that are compared.
+-- Canonical headers, and the comparison of two headers.
 use Rattle.std.proofs.Common.{◌≡◌, ℕ, ◌+◌, ◌-◌, ◌*◌, ◌/◌, ◌%◌, ◌<◌, ◌≤◌, min, true, false, cond, List, [], ◌∷◌, ◌++◌, length, take, drop, refl, sym, ap, ◌∙◌, arith}
 use Rattle.std.specs.Prelude.{bytes_eq, slice_index}
 use Rattle.std.proofs.lemmas.Bool.{false_from_ne_true}
@@ -12,7 +12,7 @@ own_header (f ∷ x ∷ k ∷ l ∷ tail) long z h =
     ap (λ v. f ∷ 0 ∷ (cond v (k ∷ l ∷ []) (255 ∷ 255 ∷ []) ++ take 12 tail)) h ∙ ap (λ n. f ∷ n ∷ k ∷ l ∷ take 12 tail) (sym z)
 own_header b long z h = absurd (omega arith)
 
--- the layer type that is written, in two bytes
+-- The layer type that is written, in two bytes.
 pub named_layer : (a b : ℕ) → a < 256 → is_listed (a + 256 * b) ≡ true → (a + 256 * b) % 256 ∷ (a + 256 * b) / 256 ∷ [] ≡ layer_type_text a b
 named_layer a b l h =
     let m : (a + 256 * b) % 256 ≡ a = omega (arith, l) in
@@ -22,12 +22,13 @@ named_layer a b l h =
 pub void_layer : (a b : ℕ) → is_listed (a + 256 * b) ≡ false → 255 ∷ 255 ∷ [] ≡ layer_type_text a b
 void_layer a b h = ap (λ v. cond v (a ∷ b ∷ []) (255 ∷ 255 ∷ [])) (sym h)
 
--- ---- two headers, of which each may be cut short behind its layer type
+-- ---- two headers, each of which may be cut short after its layer type
 
 abbrev fields : ℕ → ℕ → List ℕ → List ℕ
 fields family layer rest = family ∷ 0 ∷ layer % 256 ∷ layer / 256 ∷ rest
 
--- a header's text by what the code compares: its family, the number of its layer type, and its bytes from there up to an end
+-- A header's text by what the code compares: its family, the number of its layer type, and its bytes from there up to
+-- an end.
 pub by_fields : (b : List ℕ) (end layer : ℕ) → 4 ≤ length b → end ≡ min (length b) 16 → layer % 256 ∷ layer / 256 ∷ [] ≡ layer_type_text (slice_index b 2) (slice_index b 3) →
     header_text b ≡ fields (slice_index b 0) layer (take (end - 4) (drop 4 b))
 by_fields (f ∷ x ∷ k ∷ l ∷ tail) end layer long e t =

@@ -1,4 +1,4 @@
--- Bodies under the 16 bytes of a header, which have the front of one and no attributes.
+-- Bodies under the 16 bytes of a header, which have its first fields and no attributes.
 use Rattle.std.proofs.Common.{◌≡◌, ℕ, ◌+◌, ◌*◌, ◌<◌, ◌≤◌, min, Bool, true, false, cond, List, [], ◌∷◌, length, take, ◌⊎◌, inl, inr, refl, sym, ap, ◌∙◌, arith, length-append}
 use Rattle.std.specs.Prelude.{◌&&◌, bytes_eq}
 use Rattle.std.proofs.Math.ListN.{drop_of_length-le}
@@ -60,6 +60,6 @@ module _ (p : Peer) (a b : List ℕ) where
   by s false e = refl
   by s true e = let t = both s ((bytes_eq-Decides (header_text a) (header_text b)).0 e) in sym (none_behind t.0 t.1)
 
-  -- where one of two bodies is cut short, their headers tell whether they mean the same
+  -- If one of two bodies is cut short, their headers determine whether they mean the same.
   pub headers_tell : one_short → headers_same ≡ (headers_same && attributes_same)
   headers_tell s = by s headers_same refl

@@ -1,10 +1,11 @@
--- How far from its front a body is its own text.
+-- The canonical prefix of a body.
 use Rattle.std.specs.Prelude.{◌≡◌, ℕ, ◌-◌, ◌≤◌, List, length, take}
 use Rattle.attribute_tables_grammar.specs.Peers.{Peer}
 use Rattle.link_message_grammar.specs.Body.{attribute_bytes, family, header_text, list_rule_of}
 use Rattle.link_interpreter.specs.Fronts.{IsOwnFront}
 
--- of a body under a rule of peers so many bytes in front are written as they stand: where these are 16 or more, the header and attributes behind it
+-- The first n bytes of a body under a rule of peers are canonical: if n is 16 or more, the header and the attributes up
+-- to there are.
 pub record IsBodyFront (p : Peer) (b : List ℕ) (n : ℕ) : Type 0 where
   pub within : n ≤ length b
   pub header : 16 ≤ n → header_text b ≡ take 16 b

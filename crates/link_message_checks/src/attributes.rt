@@ -1,5 +1,5 @@
-//! Checks of attributes under an address family, without memory and without a typed value; for the
-//! crates that read them.
+//! Checks of attributes under an address family, without allocating and without a typed value; for
+//! the crates that read them.
 
 ghost use Rattle.std.specs.Prelude.{◌≡◌, false, true};
 ghost use Rattle.netlink_packet_core_grammar.specs.Attributes.{proper_kind};
@@ -15,7 +15,7 @@ use link_message_grammar::laws::kinds_are_looked_up;
 use link_tables::family_table;
 use netlink_packet_core_numbers::DecodeError;
 
-/// Whether an attribute's payload is accepted as what the row of its kind holds under an address
+/// Returns whether an attribute's payload is accepted by the row of its kind under an address
 /// family. The kind may have its flag bits.
 pub fn accepts_attribute(family: u8, kind: u16, payload: &[u8]) -> bool
     ensures { result
@@ -27,7 +27,7 @@ pub fn accepts_attribute(family: u8, kind: u16, payload: &[u8]) -> bool
     measure_held(&LinkPeer, found.held, payload).is_some()
 }
 
-/// Whether the bytes are attributes of an address family.
+/// Returns whether the bytes are attributes of an address family.
 pub fn accepts_attributes(family: u8, bytes: &[u8]) -> bool
     ensures { result ≡ (attributes_rule (family_of family)).accepted bytes.now }
 {
@@ -35,8 +35,9 @@ pub fn accepts_attributes(family: u8, bytes: &[u8]) -> bool
     walk_attributes(&LinkPeer, family, bytes).is_some()
 }
 
-/// What is told where an attribute wasn't read: want of memory where its payload is accepted, and a
-/// refusal where it isn't. The error may be want of memory in front of a refusal.
+/// Returns the error for an attribute that wasn't read: out of memory if its payload is accepted, a
+/// refusal if it isn't. `error` may be out of memory although a later part of the payload is
+/// refused.
 pub fn attribute_error(family: u8, kind: u16, payload: &[u8], error: DecodeError) -> DecodeError
     requires refused { is_memory error ≡ false
         → (attribute_row (family_of family) (proper_kind kind)).rule.accepted payload.now ≡ false }
@@ -50,8 +51,9 @@ pub fn attribute_error(family: u8, kind: u16, payload: &[u8], error: DecodeError
     error
 }
 
-/// What is told where attributes of an address family weren't read: want of memory where they are
-/// accepted, and a refusal where they aren't. The error may be want of memory in front of a refusal.
+/// Returns the error for attributes of an address family that weren't read: out of memory if they
+/// are accepted, a refusal if they aren't. `error` may be out of memory although a later attribute
+/// is refused.
 pub fn attributes_error(family: u8, bytes: &[u8], error: DecodeError) -> DecodeError
     requires refused { is_memory error ≡ false
         → (attributes_rule (family_of family)).accepted bytes.now ≡ false }

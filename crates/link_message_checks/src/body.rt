@@ -1,4 +1,4 @@
-//! Bodies of link messages and their attributes, over peers.
+//! Bodies of link messages and their attributes, under a set of peers.
 
 ghost use Rattle.std.specs.Prelude.{◌≡◌, ◌≤◌, ◌+◌, ◌-◌, ◌^◌, ◌++◌, ◌&&◌, nat_lt, true, cond, length, option_map, vec_capacity, IfSome};
 ghost use Rattle.attribute_tables_grammar.specs.Walks.{measure};
@@ -18,7 +18,7 @@ use link_message_grammar::laws::{
 };
 use link_tables::{Form, Held, LINK_HEADER_LEN, family_table};
 
-// What is known of bodies over these peers. It does nothing.
+// States the laws of bodies under these peers for the prover; the body is empty.
 pub(crate) fn body_laws_hold<P: PeerSet>(peers: &P)
     ensures { BodyLaws P.peer }
 {
@@ -26,8 +26,8 @@ pub(crate) fn body_laws_hold<P: PeerSet>(peers: &P)
     peers.peers_are_lawful();
 }
 
-// Whether the bytes are attributes of a family over these peers, and their measure, which tells how far from their front
-// they are their own text.
+// Walks the attributes of a family under these peers. Returns their measure, which has the size of
+// their canonical prefix; None if they aren't accepted.
 pub(crate) fn walk_attributes<P: PeerSet>(peers: &P, family: u8, bytes: &[u8]) -> Option<Measured>
     ensures measure { option_map view result
         ≡ measure (list_rule_of P.peer (family_of family)) bytes.now }
@@ -41,7 +41,7 @@ pub(crate) fn walk_attributes<P: PeerSet>(peers: &P, family: u8, bytes: &[u8]) -
     walk_list(peers, Form::Any, family_table(family), bytes)
 }
 
-// How far a body is its own text, whose attributes are so far.
+// Returns the size of the canonical prefix of a body, from that of its attributes.
 fn front_of(is_own_header: bool, front: u32) -> u32
     ensures { result ≡ cond (is_own_header && nat_lt front (2 ^ 32 - 16)) (16 + front) 0 }
 {
@@ -52,7 +52,7 @@ fn front_of(is_own_header: bool, front: u32) -> u32
     }
 }
 
-// Whether the bytes are a body over these peers, and what is found in one walk of them.
+// Walks a body under these peers. Returns all that one walk finds; None if it isn't accepted.
 pub(crate) fn walk_body_over<P: PeerSet>(peers: &P, bytes: &[u8]) -> Option<Measured>
     ensures measure { option_map view result ≡ measure (body_rule P.peer) bytes.now }
     ensures own { IfSome result
@@ -75,12 +75,13 @@ pub(crate) fn walk_body_over<P: PeerSet>(peers: &P, bytes: &[u8]) -> Option<Meas
         attributes: found.attributes,
         fits: found.fits,
         empty_ports: found.empty_ports,
+        // `&`, since `&&` in a struct literal splits the prover's goals.
         is_own: found.is_own & is_own_header,
         front: front_of(is_own_header, found.front),
     })
 }
 
-// Whether two lists of attributes of a family over these peers mean the same.
+// Returns whether two lists of attributes of a family under these peers mean the same.
 fn same_attributes<P: PeerSet>(peers: &P, family: u8, left: &[u8], right: &[u8]) -> bool
     ensures { result ≡ (list_rule_of P.peer (family_of family)).same left.now right.now }
 {
@@ -88,7 +89,8 @@ fn same_attributes<P: PeerSet>(peers: &P, family: u8, left: &[u8], right: &[u8])
     same_held(peers, held, left, right)
 }
 
-// Whether two bodies over these peers mean the same. Each has at least the bytes of a header.
+// Returns whether two bodies under these peers mean the same. Each has at least the bytes of a
+// header.
 pub(crate) fn same_body_over<P: PeerSet>(peers: &P, left: &[u8], right: &[u8]) -> bool
     requires left { 16 ≤ length left.now }
     requires right { 16 ≤ length right.now }
@@ -104,7 +106,7 @@ pub(crate) fn same_body_over<P: PeerSet>(peers: &P, left: &[u8], right: &[u8]) -
         )
 }
 
-// Appends the canonical text of attributes of a family over these peers.
+// Appends the canonical text of attributes of a family under these peers.
 fn write_attributes<P: WritePeer>(peers: &P, family: u8, bytes: &[u8], out: &mut Vec<u8>)
     requires accepted { (list_rule_of P.peer (family_of family)).accepted bytes.now ≡ true }
     requires fits { (list_rule_of P.peer (family_of family)).fits bytes.now ≡ true }
@@ -117,8 +119,8 @@ fn write_attributes<P: WritePeer>(peers: &P, family: u8, bytes: &[u8], out: &mut
     write_held(peers, held, bytes, out);
 }
 
-// Appends the canonical text of an accepted body over these peers that fits, of which so many bytes in front are known to
-// be their own text, for which there has to be room.
+// Appends the canonical text of an accepted body that fits, under these peers. Its first `front`
+// bytes are known to be canonical; `out` has to have capacity for the text.
 pub(crate) fn write_body_over<P: WritePeer>(
     peers: &P,
     bytes: &[u8],

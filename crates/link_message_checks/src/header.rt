@@ -1,4 +1,4 @@
-//! Headers of link messages: how each is written, and which mean the same.
+//! Headers of link messages: their canonical text, and when two mean the same.
 
 ghost use Rattle.std.specs.Prelude.{◌≡◌, ◌≤◌, ◌+◌, ◌%◌, ◌/◌, ◌∷◌, ◌++◌, [], true, length, take, bytes_eq};
 ghost use Rattle.std.specs.Prelude.{slice_index, vec_capacity};
@@ -9,14 +9,14 @@ use crate::layer_types::LAYER_TYPES;
 use link_interpreter::append;
 use link_tables::LINK_HEADER_LEN;
 
-/// The bytes of a header up to the end of its layer type.
+/// The size of a header up to the end of its layer type.
 const FRONT_LEN: usize = 4;
 
-/// The layer type without a name (if_arp.h, ARPHRD_VOID).
+/// The layer type for types without a name (if_arp.h, ARPHRD_VOID).
 const VOID_LAYER: u16 = 0xffff;
 
-// Whether a body's header is written as it stands: its second byte is zero, and its layer type has
-// a name.
+// Returns whether a body's header is canonical: its second byte is zero, and its layer type has a
+// name.
 pub(crate) fn is_own_header(bytes: &[u8]) -> bool
     requires { 16 ≤ length bytes.now }
     ensures { result ≡ true → header_text bytes.now ≡ take 16 bytes.now }
@@ -25,7 +25,7 @@ pub(crate) fn is_own_header(bytes: &[u8]) -> bool
     bytes[1] == 0 && LAYER_TYPES.contains(&layer_type)
 }
 
-// The layer type of a header (if_arp.h, ARPHRD_*); void where it has no name.
+// Returns the layer type of a header (if_arp.h, ARPHRD_*); void if it has no name.
 fn layer_type(bytes: &[u8]) -> u16
     requires { 4 ≤ length bytes.now }
     ensures { result % 256 ∷ result / 256 ∷ []
@@ -39,8 +39,9 @@ fn layer_type(bytes: &[u8]) -> u16
     }
 }
 
-// Whether two headers mean the same: their second byte is no matter, and layer types without a name
-// are one. Of a header that is cut short counts what is there, and of one under four bytes nothing.
+// Returns whether two headers mean the same: their second byte is ignored, and all layer types
+// without a name are equal. Of a header that is cut short, the bytes that are there count; of one
+// under four bytes none.
 pub(crate) fn same_header(left: &[u8], right: &[u8]) -> bool
     ensures { result ≡ bytes_eq (header_text left.now) (header_text right.now) }
 {
@@ -53,7 +54,8 @@ pub(crate) fn same_header(left: &[u8], right: &[u8]) -> bool
             == &right[FRONT_LEN..right.len().min(LINK_HEADER_LEN)]
 }
 
-// Appends a header as it is written: its second byte zero, and a layer type without a name void.
+// Appends a header in canonical form: its second byte zero, and a layer type without a name as
+// void.
 pub(crate) fn write_header(bytes: &[u8], out: &mut Vec<u8>)
     requires header { 16 ≤ length bytes.now }
     requires room { length out.old.items + 16 ≤ vec_capacity out.old }

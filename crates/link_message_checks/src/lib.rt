@@ -1,4 +1,4 @@
-// Link messages judged on their bytes.
+// Checks of link messages on their bytes.
 #![tactic(auto)]
 
 mod attributes;

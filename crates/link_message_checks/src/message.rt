@@ -1,6 +1,6 @@
-//! Checks of link messages, without memory and without a typed value. The other end of a link, which
-//! the link info of netkit, veth and vxcan holds, is the body of a link message too, and is judged as
-//! one, by `LinkPeer`.
+//! Checks of link messages, without allocating and without a typed value. The other end of a link,
+//! which the link info of netkit, veth and vxcan holds, is the body of a link message too, and is
+//! checked as one by `LinkPeer`.
 
 ghost use Rattle.std.specs.Prelude.{◌≡◌, ◌≤◌, ◌<◌, ◌+◌, ◌++◌, true, false, length};
 ghost use Rattle.std.specs.Prelude.{is_ok, option_map, vec_capacity, IfSome, IfOk, IfErr, OnOk, OnErr};
@@ -19,21 +19,21 @@ use link_interpreter::Measured;
 use netlink_packet_core_numbers::DecodeError;
 use std::alloc::AllocError;
 
-/// What the body of a link message is written as.
+/// The measure of a body's canonical text.
 #[derive(Clone, Copy, Debug, PartialEq, Eq)]
 pub struct BodyMeasure {
-    /// The length of the canonical text in bytes, with the 16 of the header.
+    /// The length of the canonical text in bytes, including the 16 of the header.
     pub text_len: u128,
-    /// The attribute headers, at all depths.
+    /// The number of attribute headers, at all depths.
     pub attributes: u64,
     /// Whether each length in the text is at most 65535.
     pub fits: bool,
-    /// Whether a list of ports keeps nothing, which has no text.
+    /// Whether a list of ports keeps no entry; such a body has no text.
     pub empty_ports: bool,
 }
 
-/// Whether the bytes are the body of a link message, and what is found in one walk of them; for the
-/// crates that check captures.
+/// Walks the body of a link message. Returns all that one walk finds; None if it isn't accepted.
+/// For the crates that check captures.
 pub fn walk_body(bytes: &[u8]) -> Option<Measured>
     ensures measure { option_map view result ≡ measure link_body bytes.now }
     ensures own { IfSome result
@@ -43,10 +43,13 @@ pub fn walk_body(bytes: &[u8]) -> Option<Measured>
     walk_body_over(&LinkPeer, bytes)
 }
 
-/// Whether the bytes are the body of a link message, a header of 16 bytes and attributes, and what
-/// it is written as. It takes no memory. A body that isn't accepted is refused, and so is one with a
-/// peer that `LinkPeer` doesn't accept: the peers of netkit, veth and vxcan are bodies as well, one
+/// Returns the measure of the canonical text of a link message's body, which is a header of 16
+/// bytes and attributes. Allocates nothing. The peers of netkit, veth and vxcan are bodies too, one
 /// level deep, and what a peer inside a peer holds stays bytes. The attributes of peers count.
+///
+/// # Errors
+///
+/// A refusal if the body isn't accepted, or has a peer that `LinkPeer` doesn't accept.
 pub fn check(bytes: &[u8]) -> Result<BodyMeasure, DecodeError>
     ensures ok { is_ok result ≡ link_body.accepted bytes.now }
     ensures measure { IfOk result (λ m. IsBodyMeasure link_body bytes.now m) }
@@ -64,10 +67,10 @@ pub fn check(bytes: &[u8]) -> Result<BodyMeasure, DecodeError>
     })
 }
 
-/// Whether two bodies of link messages mean the same: their headers, and each attribute of the one
-/// that of the other, whatever bytes spell them; peers are compared as bodies, and the peers inside
-/// them by their bytes. It takes no memory, and builds no value. It is of use where `check` accepts
-/// both; each has at least the 16 bytes of a header.
+/// Returns whether two bodies of link messages mean the same: their headers do, and each attribute
+/// of the one means the same as that of the other, however they are encoded. Peers are compared as
+/// bodies, and the peers inside them by their bytes. Allocates nothing, and builds no value. The
+/// result has a meaning if `check` accepts both; each has at least the 16 bytes of a header.
 pub fn same(left: &[u8], right: &[u8]) -> bool
     requires left { 16 ≤ length left.now }
     requires right { 16 ≤ length right.now }
@@ -76,8 +79,8 @@ pub fn same(left: &[u8], right: &[u8]) -> bool
     same_body_over(&LinkPeer, left, right)
 }
 
-/// Appends the canonical text of an accepted body that fits, of which so many bytes in front are known to be their own
-/// text, for which there has to be room; for the crates that write captures.
+/// Appends the canonical text of an accepted body that fits; for the crates that write captures.
+/// The first `front` bytes are known to be canonical; `out` has to have capacity for the text.
 pub fn write_body(bytes: &[u8], front: usize, out: &mut Vec<u8>)
     requires front { IsBodyFront link_peer bytes.now front }
     requires accepted { link_body.accepted bytes.now ≡ true }
@@ -89,9 +92,12 @@ pub fn write_body(bytes: &[u8], front: usize, out: &mut Vec<u8>)
     write_body_over(&LinkPeer, bytes, front, out);
 }
 
-/// Appends the canonical text of a body that `check` accepts, and that fits and has no empty ports:
-/// what a message that says the same is written as. It builds no value. Want of memory is answered
-/// only where `out` had less room than the text wants, and `out` is then as before.
+/// Appends the canonical text of a body that `check` accepts, and that fits and has no empty ports.
+/// Builds no value.
+///
+/// # Errors
+///
+/// `AllocError` only if `out` had less capacity than the text needs; `out` is then unchanged.
 pub fn write_canonical(bytes: &[u8], out: &mut Vec<u8>) -> Result<(), AllocError>
     requires accepted { link_body.accepted bytes.now ≡ true }
     requires fits { link_body.fits bytes.now ≡ true }

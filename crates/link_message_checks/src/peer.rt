@@ -1,4 +1,4 @@
-//! Peers that are themselves bodies of link messages.
+//! Peers that are bodies of link messages.
 
 ghost use Rattle.std.specs.Prelude.{◌≡◌, true};
 ghost use Rattle.attribute_tables_grammar.specs.Peers.{bytes_peer};
@@ -13,13 +13,13 @@ use link_tables::LINK_HEADER_LEN;
 use netlink_packet_core_numbers::DecodeError;
 use std::alloc::Global;
 
-/// The refusal of a payload that is no such peer.
+/// The reason for refusing a payload that isn't such a peer.
 const NO_PEER: &str = "not the body of a link message that can be written";
 
-/// Peers that are bodies of link messages, one level deep: what a peer inside a peer holds stays
-/// bytes. A payload is accepted where it is a body that fits and has no empty ports. Two mean the
-/// same where the bodies do; each is written as the canonical text of its body, and the body's
-/// attributes count.
+/// The rule of peers that are bodies of link messages, one level deep: what a peer inside a peer
+/// holds stays bytes. A payload is accepted if it is a body that fits and has no empty ports. Two
+/// payloads mean the same if the bodies do; each is written as the canonical text of its body, and
+/// the body's attributes count.
 #[derive(Clone, Copy, Debug, PartialEq, Eq)]
 pub struct LinkPeer;
 
@@ -78,7 +78,7 @@ impl PeerSet for LinkPeer {
         Some(found)
     }
 
-    // Bytes that end in the header have no attributes.
+    // Bytes that end inside the header have no attributes.
     #[tactic(auto, unfolding(link_message_grammar::specs::Body::link_peer))]
     fn same_peer(&self, left: &[u8], right: &[u8]) -> bool {
         body_laws_hold(&BytesPeer);
@@ -96,7 +96,7 @@ impl WritePeer for LinkPeer {
     }
 }
 
-/// Whether an accepted link that is a peer has an IFLA_VF_PORTS of which nothing is kept.
+/// Returns whether an accepted link that is a peer has an IFLA_VF_PORTS of which no entry is kept.
 pub fn has_empty_ports(body: &[u8]) -> bool
     requires { (body_rule bytes_peer).accepted body.now ≡ true }
     ensures { result ≡ (body_rule bytes_peer).empty_ports body.now }

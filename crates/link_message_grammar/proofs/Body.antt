@@ -21,7 +21,7 @@ use Rattle.link_message_grammar.specs.Laws.{LinkPeersAreLawful, LinkPeerIsLawful
 
 -- ---- the header
 
--- the header of a body that is long enough, field by field
+-- The header of a body that is long enough, field by field.
 pub record Header (b : List ℕ) : Type 0 where
   pub f : ℕ
   pub x : ℕ
@@ -35,7 +35,7 @@ pub header_of : (b : List ℕ) → nat_le 16 (length b) ≡ true → Header b
 header_of (f ∷ x ∷ k ∷ l ∷ tail) h = record { f = f; x = x; k = k; l = l; tail = tail; is = refl; long = omega (arith, leb-true 16 (length (f ∷ x ∷ k ∷ l ∷ tail)) h) }
 header_of b h = absurd cc
 
--- a layer type that is written is listed
+-- A layer type that is written is listed.
 pub record LayerType (k l : ℕ) : Type 0 where
   pub a : ℕ
   pub b : ℕ
@@ -54,7 +54,7 @@ layer_type_by k l false t =
 layer_type_of : (k l : ℕ) → LayerType k l
 layer_type_of k l = layer_type_by k l (is_listed (k + 256 * l)) refl
 
--- a header that is written, in front of anything
+-- A header that is written, before any bytes.
 pub record WrittenHeader (b : List ℕ) : Type 0 where
   pub size : length (header_text b) ≡ 16
   pub first_byte : slice_index (header_text b) 0 ≡ slice_index b 0
@@ -96,12 +96,12 @@ one_family a b v w h = ap (λ n. family_of n) (sym v.first_byte ∙ ap (λ z. sl
 small_rest : (L l : ℕ) → nla_align (4 + L) ≤ 77 * (4 + l) → nla_align (4 + (16 + L)) ≤ 77 * (4 + (16 + l))
 small_rest L l h = omega arith
 
--- where q's attributes renew those of p, its bodies do
+-- If q's attributes migrate those of p, its bodies migrate those of p.
 module _ (p q : Peer) (renews : (f : Family) → Renews (list_rule_of p f) (list_rule_of q f)) where
   abbrev old_text : List ℕ → List ℕ
   old_text b = (list_rule_of p (family b)).canonical (attribute_bytes b)
 
-  -- what both accept: a header that is written, and attributes
+  -- Both accept a header that is written, and attributes.
   record BothAccept (b : List ℕ) : Type 0 where
     header : WrittenHeader b
     old : (list_rule_of p (family b)).accepted (attribute_bytes b) ≡ true
@@ -114,7 +114,7 @@ module _ (p q : Peer) (renews : (f : Family) → Renews (list_rule_of p f) (list
       let t = and_parts (nat_le 16 (length b)) ((list_rule_of q (family b)).accepted (attribute_bytes b)) y in
       record { header = written_header b s.0; old = s.1; new = t.1 }
 
-  -- what q says of the attributes in p's text
+  -- The result of q for the attributes in p's text.
   inside : {A : Type 0} (say : Rule → List ℕ → A) (b : List ℕ) → WrittenHeader b → say (list_rule_of q (family (header_text b ++ old_text b))) (attribute_bytes (header_text b ++ old_text b)) ≡ say (list_rule_of q (family b)) (old_text b)
   inside say b w =
       ap (λ f. say (list_rule_of q f) (attribute_bytes (header_text b ++ old_text b))) (family_again b (old_text b) w) ∙ ap (say (list_rule_of q (family b))) (w.rest (old_text b))
@@ -194,7 +194,7 @@ module _ (p : Peer) (lawful_peer : LawfulPeer p) where
       let c = (list_rule_of p (family b)).canonical (attribute_bytes b) in
       omega (arith, length-append (header_text b) c, w.size, length-drop 16 b, leb-true 16 (length b) s.0, (law (family b)).bounded (attribute_bytes b) s.1)
 
--- bodies whose peers were bytes, under any rule of peers
+-- Bodies whose peers were bytes, under any rule of peers.
 pub old_bodies_are_renewed : OldBodiesAreRenewed
 unfolding list_rule_of
 old_bodies_are_renewed p = bodies_renew bytes_peer p (λ f. renewed p (list any (link_table f)) (table_bounded f))
@@ -224,7 +224,7 @@ link_peer_lawful_of r l small = record {
 pub link_peers_are_lawful : LinkPeersAreLawful
 link_peers_are_lawful p l = link_peer_lawful_of (body_rule p) (body_lawful p l) (body_size p l)
 
--- so the one in force is, whose own peers are bytes
+-- The rule of peers in force, under which the peers inside a peer are bytes, is lawful.
 pub link_peer_lawful : LinkPeerIsLawful
 unfolding link_peer
 link_peer_lawful = link_peers_are_lawful bytes_peer bytes_peer_lawful

@@ -1,4 +1,4 @@
--- A list of ports of which nothing is kept is told by what it is written as.
+-- The attributes as which a list is written determine whether it has a list of ports of which no entry is kept.
 use Rattle.std.proofs.Common.{◌≡◌, ℕ, ◌+◌, Bool, true, false, cond, List, [], ◌∷◌, length, Option, Some, None, refl, sym, ap, ap₂, subst, ◌∙◌, arith}
 use Rattle.std.specs.Prelude.{◌==◌, ◌&&◌, ◌||◌, bytes_eq}
 use Rattle.std.specs.List.{list_any}
@@ -23,7 +23,7 @@ abbrev is_other : ListForm → Bool
 is_other ports = false
 is_other _ = true
 
--- ---- the test: no list of ports stands in a payload
+-- ---- the test: no payload holds a list of ports
 
 abbrev mutual
   without_ports : Payload → Bool
@@ -40,7 +40,7 @@ abbrev mutual
   names_without_ports others = true
   names_without_ports (name m s ns) = without_ports s && names_without_ports ns
 
--- none but that of IFLA_VF_PORTS
+-- No other list of ports than that of IFLA_VF_PORTS.
 abbrev other_rows_without_ports : Table → Bool
 other_rows_without_ports end = true
 other_rows_without_ports (row k n s t) = (k == 24 || without_ports s) && other_rows_without_ports t
@@ -66,13 +66,13 @@ at_read f h (Some es) = h es
 list_full : (form : ListForm) (g : Grammar) → is_other form ≡ true → ((c : Context) (k : ℕ) → NeverEmpty (g.row c k).rule) → NeverEmpty (list_rule form g)
 list_full form g h rows b = at_read _ (λ es. or_from _ _ (form_full form h (kept form es)) (some_full g rows nothing (kept form es))) (read_as form b)
 
--- ---- the lines of links but that of IFLA_VF_PORTS
+-- ---- the lines of links except that of IFLA_VF_PORTS
 
 abbrev line_without_ports : Option Line → Bool
 line_without_ports None = true
 line_without_ports (Some l) = without_ports l.payload
 
--- a test whose first part is known to fail has to hold by the second
+-- A test whose first part is known to fail has to hold by the second.
 second : (a b : Bool) → a ≡ false → (a || b) ≡ true → b ≡ true
 second true b h m = absurd cc
 second false b h m = m
@@ -143,7 +143,7 @@ module _ (p : Peer) where
         let h = and_parts (without_ports s) (names_without_ports ns) m in
         pick_rule NeverEmpty (bytes_eq n l) (rule p s) (named p ns n) (full s h.0) (names_full ns h.1 n)
 
-  -- ---- the rows of links but IFLA_VF_PORTS
+  -- ---- the rows of links except IFLA_VF_PORTS
 
   payload_full : (s : Payload) → without_ports s ≡ true → NeverEmpty (payload_rule p s)
   unfolding list_of link_info_of

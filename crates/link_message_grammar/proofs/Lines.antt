@@ -1,4 +1,4 @@
--- The look-up of a kind finds what the table of the family says.
+-- The look-up of a kind finds its row in the table of the family.
 use Rattle.std.proofs.Common.{◌≡◌, ℕ, Bool, true, false, cond, refl, sym, ap, subst, ◌∙◌}
 use Rattle.std.specs.Prelude.{◌==◌}
 use Rattle.std.proofs.lemmas.Bool.{eqb-true}

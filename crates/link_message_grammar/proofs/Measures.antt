@@ -10,7 +10,7 @@ use Rattle.link_message_grammar.specs.Laws.{BodiesAreMeasured}
 use Rattle.link_message_grammar.proofs.Body.{written_header}
 
 module _ (p : Peer) (b : List ℕ) where
-  -- what a body of this size is measured as
+  -- The measure of a body of this size.
   told : ℕ → Measure
   told n = let r = list_rule_of p (family b) in let a = attribute_bytes b in record { size = n; attributes = r.attributes a; fits = r.fits a; empty_ports = r.empty_ports a }
 

@@ -1,4 +1,4 @@
--- Peers stand in link info alone: every other row of a link's attributes is the same under every rule of peers.
+-- Only link info holds peers: every other row of a link's attributes is the same under every rule of peers.
 use Rattle.std.proofs.Common.{◌≡◌, true, refl, sym, ap, ◌∙◌}
 use Rattle.attribute_tables_grammar.specs.LookUps.{row_of_line}
 use Rattle.attribute_tables_grammar.specs.Tables.{holds_no_peers_but}

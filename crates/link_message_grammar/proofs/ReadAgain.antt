@@ -1,4 +1,4 @@
--- The canonical text of a body is read as the body, under every lawful rule of peers.
+-- The canonical text of a body is read as the body is, under every lawful rule of peers.
 use Rattle.std.proofs.Common.{◌≡◌, ℕ, true, false, List, ◌++◌, length, sym, ap, subst, ◌∙◌}
 use Rattle.std.specs.Prelude.{nat_le}
 use Rattle.std.proofs.lemmas.Bool.{and_parts}

@@ -1,4 +1,4 @@
--- How long canonical bodies are, and that short ones fit.
+-- The sizes of canonical bodies; short ones fit.
 use Rattle.std.proofs.Common.{◌≡◌, ℕ, ◌+◌, true, List, length, ap, ◌∙◌, arith, length-append}
 use Rattle.std.specs.Prelude.{nat_le}
 use Rattle.std.proofs.lemmas.Bool.{and_parts}
@@ -14,7 +14,7 @@ use Rattle.link_message_grammar.specs.Laws.{BodiesGrowByAttributes, ShortBodiesF
 use Rattle.link_message_grammar.proofs.Body.{written_header}
 use Rattle.link_message_grammar.proofs.Tables.{table_bounded}
 
--- an accepted body has accepted attributes, and is written with a header of 16 bytes
+-- An accepted body has accepted attributes, and is written with a header of 16 bytes.
 record Parts (p : Peer) (b : List ℕ) : Type 0 where
   accepted : (list_rule_of p (family b)).accepted (attribute_bytes b) ≡ true
   size : length ((body_rule p).canonical b) ≡ 16 + length ((list_rule_of p (family b)).canonical (attribute_bytes b))

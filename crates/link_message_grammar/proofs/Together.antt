@@ -1,4 +1,4 @@
--- The laws that want more than one lemma, and what all laws go by.
+-- The laws that need more than one lemma, and the lemmas that all laws use.
 use Rattle.attribute_tables_grammar.proofs.Together.{one_text_each, keeps_meaning}
 use Rattle.link_message_grammar.specs.Body.{body_rule}
 use Rattle.link_message_grammar.specs.Laws.{BodiesTellMeanings, BodiesKeepMeanings, BodyLawsHoldForAnyPeers}
@@ -27,7 +27,7 @@ body_laws p lawful = record {
   info_inside = info_is_a_list_inside p;
 }
 
--- what the laws go by: tables, bodies under any rule of peers, and peers
+-- The lemmas that the laws use: of tables, of bodies under any rule of peers, and of peers.
 pub ruleset tables = (kinds_rise, kinds_are_looked_up, attributes_are_looked_up, info_is_a_list_inside)
 
 pub ruleset bodies = (body_lawful, body_size, bodies_grow_by_attributes, short_bodies_fit, bodies_tell_meanings, bodies_keep_meanings, old_bodies_are_renewed, bodies_are_measured)

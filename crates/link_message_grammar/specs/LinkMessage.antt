@@ -1,4 +1,4 @@
--- The tables of link messages (IFLA_*, if_link.h), by the address family of the message: a row in a line, in the order
+-- The tables of link messages (IFLA_*, if_link.h), by the address family of the message: one row a line, in the order
 -- of the header, as in `Families`.
 use Rattle.std.specs.Prelude.{◌≡◌, ℕ, ◌==◌, false, cond, Option, Some, None}
 use Rattle.attribute_tables_grammar.specs.Shapes.{exact, text, raw, fixed_record}
@@ -11,33 +11,33 @@ use Rattle.link_info_grammar.specs.Families.{kinds, port_kinds}
 use Rattle.link_message_grammar.specs.NestedTables.{resized, props, protocol_down_reason, vf_infos, vf_ports, xdp}
 use Rattle.link_message_grammar.specs.NestedTables.{devlink_port, dpll_pin, specific}
 
--- the address families whose tables differ
+-- The address families whose tables differ.
 pub data Family : Type 0 where
   unspec bridge inet_6 other : Family
 
--- the family of a number of an address family: AF_UNSPEC, AF_BRIDGE, AF_INET6
+-- The family of an address family's number: AF_UNSPEC, AF_BRIDGE, AF_INET6, or any other.
 abbrev pub family_of : ℕ → Family
 family_of n = cond (n == 0) unspec (cond (n == 7) bridge (cond (n == 10) inet_6 other))
 
--- IFLA_LINKINFO: link info, with at least one attribute
+-- The payload of IFLA_LINKINFO: link info, with at least one attribute.
 abbrev pub info : Payload
 info = link_info non_empty kinds port_kinds
 
--- IFLA_AF_SPEC: a list for each address family, the attributes of a bridge, or else bytes
+-- The payload of IFLA_AF_SPEC: a list for each address family, the attributes of a bridge, or else bytes.
 abbrev pub family_payload : Family → Payload
 family_payload unspec = list any specific
 family_payload bridge = raw_list
 family_payload inet_6 = plain raw
 family_payload other = plain raw
 
--- IFLA_PROTINFO: raw attributes for bridges and for IPv6; under any other family the kind has no row
+-- The line of IFLA_PROTINFO: raw attributes for bridges and for IPv6; under any other family the kind has no row.
 abbrev pub protocol_line : Family → Option Line
 protocol_line unspec = None
 protocol_line bridge = Some (record { is_nested = false; payload = raw_list })
 protocol_line inet_6 = Some (record { is_nested = false; payload = raw_list })
 protocol_line other = None
 
--- the row of IFLA_PROTINFO, if the family has one, and the rows after it
+-- The row of IFLA_PROTINFO, if the family has one, and the rows after it.
 abbrev pub with_protocol : Family → Table → Table
 with_protocol unspec t = t
 with_protocol bridge t =
@@ -48,7 +48,7 @@ with_protocol inet_6 t =
     t
 with_protocol other t = t
 
--- the rows before IFLA_PROTINFO, and others after them
+-- The rows before IFLA_PROTINFO, followed by others.
 abbrev pub below_protocol : Table → Table
 below_protocol t =
     1 ↪ raw ⸴  -- IFLA_ADDRESS
@@ -61,7 +61,7 @@ below_protocol t =
     10 ↪ exact 4 ⸴  -- IFLA_MASTER
     t
 
--- the rows after IFLA_PROTINFO
+-- The rows after IFLA_PROTINFO.
 abbrev pub above_protocol : Family → Table
 above_protocol f =
     13 ↪ exact 4 ⸴  -- IFLA_TXQLEN
@@ -116,14 +116,14 @@ above_protocol f =
     65 ⇉ list any dpll_pin ⸴  -- IFLA_DPLL_PIN
     end
 
--- IFLA_* under a family; a kind that isn't listed is a raw attribute
+-- The table of IFLA_* under a family; a kind that isn't listed is a raw attribute.
 abbrev pub link_table : Family → Table
 link_table f = below_protocol (with_protocol f (above_protocol f))
 
--- the row of a kind without its flag bits, where IFLA_PROTINFO, which only some families list, is looked up apart
+-- The row of a kind without its flag bits. IFLA_PROTINFO, which only some families list, is looked up separately.
 abbrev pub link_line : Family → ℕ → Option Line
 link_line f k = cond (k == 12) (protocol_line f) (line_at (below_protocol (above_protocol f)) k)
 
--- no row of the table is that kind's
+-- No row of the table is that kind's.
 abbrev pub has_no_link_row : Family → ℕ → Type 0
 has_no_link_row f k = link_line f k ≡ None

@@ -1,4 +1,4 @@
--- The tables of the lists inside attributes of link messages: a row in a line, in the order of their header, as in
+-- The tables of the lists inside attributes of link messages: one row a line, in the order of their header, as in
 -- `Families`.
 use Rattle.std.specs.Prelude.{ℕ}
 use Rattle.attribute_tables_grammar.specs.Shapes as shapes
@@ -7,32 +7,32 @@ use Rattle.attribute_tables_grammar.specs.Lists.{any}
 use Rattle.attribute_tables_grammar.specs.Tables.{Payload, Payload.plain, Payload.list, Table, Table.end}
 use Rattle.attribute_tables_grammar.specs.Rows.{◌↪◌, ◌↠◌, ◌⸴◌, raw_list}
 
--- a payload of the shape `resized n`, unfolded only by proofs that ask for it, since its rule shows n zeros
+-- A payload of the shape `resized n`, unfolded only by proofs that ask for it, since its rule shows n zeros.
 unfoldable pub resized : ℕ → Payload
 resized n = plain (shapes.resized n)
 
 -- ---- if_link.h
 
--- IFLA_PROP_LIST: other names of the link, under a kind of IFLA_*
+-- The table of IFLA_PROP_LIST: alternative names of the link, under a kind of IFLA_*.
 abbrev pub props : Table
 props =
     53 ↪ text ⸴  -- IFLA_ALT_IFNAME
     end
 
--- IFLA_PROTO_DOWN_REASON: IFLA_PROTO_DOWN_REASON_*
+-- The table of IFLA_PROTO_DOWN_REASON: IFLA_PROTO_DOWN_REASON_*.
 abbrev pub protocol_down_reason : Table
 protocol_down_reason =
     1 ↪ exact 4 ⸴  -- IFLA_PROTO_DOWN_REASON_MASK
     2 ↪ exact 4 ⸴  -- IFLA_PROTO_DOWN_REASON_VALUE
     end
 
--- IFLA_AF_SPEC, of IPv4: IFLA_INET_*
+-- The table of IPv4 in IFLA_AF_SPEC: IFLA_INET_*.
 abbrev pub inet : Table
 inet =
     1 ↠ resized 132 ⸴  -- IFLA_INET_CONF
     end
 
--- IFLA_AF_SPEC, of IPv6: IFLA_INET6_*
+-- The table of IPv6 in IFLA_AF_SPEC: IFLA_INET6_*.
 abbrev pub inet6 : Table
 inet6 =
     1 ↪ exact 4 ⸴  -- IFLA_INET6_FLAGS
@@ -45,7 +45,7 @@ inet6 =
     9 ↪ exact 4 ⸴  -- IFLA_INET6_RA_MTU
     end
 
--- IFLA_VF_STATS: IFLA_VF_STATS_*
+-- The table of IFLA_VF_STATS: IFLA_VF_STATS_*.
 abbrev pub vf_stats : Table
 vf_stats =
     0 ↪ exact 8 ⸴  -- IFLA_VF_STATS_RX_PACKETS
@@ -58,13 +58,13 @@ vf_stats =
     8 ↪ exact 8 ⸴  -- IFLA_VF_STATS_TX_DROPPED
     end
 
--- IFLA_VF_VLAN_LIST: IFLA_VF_VLAN_*
+-- The table of IFLA_VF_VLAN_LIST: IFLA_VF_VLAN_*.
 abbrev pub vf_vlans : Table
 vf_vlans =
     1 ↪ fixed_record 14 16 ⸴  -- IFLA_VF_VLAN_INFO
     end
 
--- IFLA_VF_INFO, of one virtual function: IFLA_VF_*
+-- The table of one virtual function, IFLA_VF_INFO: IFLA_VF_*.
 abbrev pub vf : Table
 vf =
     1 ↪ fixed_record 36 36 ⸴  -- IFLA_VF_MAC
@@ -80,19 +80,19 @@ vf =
     13 ↪ fixed_record 32 32 ⸴  -- IFLA_VF_BROADCAST
     end
 
--- IFLA_VFINFO_LIST: IFLA_VF_INFO_*, of which kind 1 alone is kept
+-- The table of IFLA_VFINFO_LIST: IFLA_VF_INFO_*, of which only kind 1 is kept.
 abbrev pub vf_infos : Table
 vf_infos =
     1 ↠ list any vf ⸴  -- IFLA_VF_INFO
     end
 
--- IFLA_VF_PORTS: IFLA_VF_PORT_*, of which kind 1 alone is kept
+-- The table of IFLA_VF_PORTS: IFLA_VF_PORT_*, of which only kind 1 is kept.
 abbrev pub vf_ports : Table
 vf_ports =
     1 ↠ raw_list ⸴  -- IFLA_VF_PORT
     end
 
--- IFLA_XDP: IFLA_XDP_*
+-- The table of IFLA_XDP: IFLA_XDP_*.
 abbrev pub xdp : Table
 xdp =
     1 ↪ exact 4 ⸴  -- IFLA_XDP_FD
@@ -105,7 +105,7 @@ xdp =
     8 ↪ exact 4 ⸴  -- IFLA_XDP_EXPECTED_FD
     end
 
--- IFLA_AF_SPEC, of MCTP: IFLA_MCTP_*
+-- The table of MCTP in IFLA_AF_SPEC: IFLA_MCTP_*.
 abbrev pub mctp : Table
 mctp =
     1 ↪ exact 4 ⸴  -- IFLA_MCTP_NET
@@ -114,7 +114,7 @@ mctp =
 
 -- ---- other headers
 
--- IFLA_DEVLINK_PORT: DEVLINK_ATTR_* (devlink.h)
+-- The table of IFLA_DEVLINK_PORT: DEVLINK_ATTR_* (devlink.h).
 abbrev pub devlink_port : Table
 devlink_port =
     1 ↪ text ⸴  -- DEVLINK_ATTR_BUS_NAME
@@ -122,13 +122,13 @@ devlink_port =
     3 ↪ exact 4 ⸴  -- DEVLINK_ATTR_PORT_INDEX
     end
 
--- IFLA_DPLL_PIN: DPLL_A_PIN_* (dpll.h)
+-- The table of IFLA_DPLL_PIN: DPLL_A_PIN_* (dpll.h).
 abbrev pub dpll_pin : Table
 dpll_pin =
     1 ↪ exact 4 ⸴  -- DPLL_A_PIN_ID
     end
 
--- IFLA_AF_SPEC under AF_UNSPEC: a list for each address family, by its number (AF_*, linux/socket.h)
+-- The table of IFLA_AF_SPEC under AF_UNSPEC: a list for each address family, by its number (AF_*, linux/socket.h).
 abbrev pub specific : Table
 specific =
     2 ↠ list any inet ⸴  -- AF_INET

@@ -1,4 +1,4 @@
--- The rule of a list of raw attributes is the rule of rows of which there is none.
+-- The rule of a list of raw attributes is the rule of an empty table of rows.
 use Rattle.std.proofs.Common.{◌≡◌}
 use Rattle.attribute_tables_grammar.specs.Laws.{RowsAreLookedUp}
 use Rattle.attribute_tables_grammar.specs.Lists.{any}

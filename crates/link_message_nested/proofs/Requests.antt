@@ -1,4 +1,4 @@
--- Settings that are asked for.
+-- Settings that are requested.
 use Rattle.std.proofs.Common.{◌≡◌, ℕ, ℤ, suc, ◌+◌, ◌<◌, true, List, [], ◌∷◌, ◌++◌, length, take, get_or, refl, sym, ap, ◌∙◌, arith, append-nil, append_assoc}
 use Rattle.std.specs.Int.{w32, cast_unsigned}
 use Rattle.std.proofs.lemmas.List.{take_more, length-take-le}
@@ -21,7 +21,7 @@ requested_more k (y ∷ zs) z =
     ∙ sym (append_assoc (requested_setting k (cast_unsigned w32 y)) (requested_from (suc k) zs) (requested_setting (suc k + length zs) (cast_unsigned w32 z)))
     ∙ ap (λ n. (requested_setting k (cast_unsigned w32 y) ++ requested_from (suc k) zs) ++ requested_setting n (cast_unsigned w32 z)) (omega arith)
 
--- one setting more
+-- One setting more.
 pub requested_next : (zs : List ℤ) (i : ℕ) (z : ℤ) → i < length zs → requested_from 1 (take (i + 1) zs) ≡ requested_from 1 (take i zs) ++ requested_setting (i + 1) (cast_unsigned w32 (get_or zs i z))
 requested_next zs i z h =
     ap (requested_from 1) (take_more zs i z h)

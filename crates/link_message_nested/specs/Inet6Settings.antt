@@ -1,4 +1,4 @@
--- What IPv6 tells of a link: the kind and the payload of each value.
+-- The IPv6 state and settings of a link: the kind and the payload of each value.
 use Rattle.std.specs.Prelude.{◌≡◌, [], ◌∷◌}
 use Rattle.std.specs.Net.Addr.{ipv6_octets}
 use Rattle.netlink_packet_core.specs.Attributes.{Attribute, proper_kind}
@@ -11,6 +11,7 @@ use Rattle.link_message_records.specs.ValueRecords.{i32_values_bytes, u64_values
 use Rattle.link_message_types.specs.Inet6Types.{inet_6_iface_flags_bits, in_6_addr_gen_mode_number, in_6_addr_gen_mode_of}
 use Rattle.link_message_nested.specs.declared.inet6.AfSpecInet6.{AfSpecInet6}
 
+-- The kind and the payload of a value.
 abbrev pub af_spec_inet_6_entry : AfSpecInet6 → Attribute
 af_spec_inet_6_entry (AfSpecInet6.Flags f) = attribute 1 (le4 (inet_6_iface_flags_bits f))
 af_spec_inet_6_entry (AfSpecInet6.CacheInfo r) = attribute 5 (inet_6_cache_info_bytes r)
@@ -22,7 +23,7 @@ af_spec_inet_6_entry (AfSpecInet6.AddrGenMode m) = attribute 8 (in_6_addr_gen_mo
 af_spec_inet_6_entry (AfSpecInet6.RaMtu n) = attribute 9 (le4 n)
 af_spec_inet_6_entry (AfSpecInet6.Other a) = a
 
--- no kind that has a row is read as another attribute, and a number that has a name as what it names
+-- The value is the variant that its row names: a kind with a row isn't kept as `Other`, nor a named number as `Other`.
 abbrev pub af_spec_inet_6_names_row : AfSpecInet6 → Type 0
 af_spec_inet_6_names_row (AfSpecInet6.AddrGenMode m) = m ≡ in_6_addr_gen_mode_of (in_6_addr_gen_mode_number m)
 af_spec_inet_6_names_row (AfSpecInet6.Other a) = has_no_row inet6 (proper_kind a.kind)

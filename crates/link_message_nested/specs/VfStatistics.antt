@@ -7,6 +7,7 @@ use Rattle.link_message_grammar.specs.NestedTables.{vf_stats}
 use Rattle.link_message_nested.specs.declared.vf_stats.VfStats.{VfStats}
 use Rattle.link_message_nested.specs.declared.vf_stats.VfStats.TheVariants.{RxPackets, TxPackets, RxBytes, TxBytes, Broadcast, Multicast, RxDropped, TxDropped, Other}
 
+-- The kind and the payload of a value.
 abbrev pub vf_stats_entry : VfStats → Attribute
 vf_stats_entry (RxPackets n) = attribute 0 (le8 n)
 vf_stats_entry (TxPackets n) = attribute 1 (le8 n)
@@ -18,7 +19,7 @@ vf_stats_entry (RxDropped n) = attribute 7 (le8 n)
 vf_stats_entry (TxDropped n) = attribute 8 (le8 n)
 vf_stats_entry (Other a) = a
 
--- no kind that has a row is read as another attribute
+-- The value is the variant that its row names: a kind with a row isn't kept as `Other`.
 abbrev pub vf_stats_names_row : VfStats → Type 0
 vf_stats_names_row (Other a) = has_no_row vf_stats (proper_kind a.kind)
 vf_stats_names_row _ = Unit {0}

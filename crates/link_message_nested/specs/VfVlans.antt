@@ -8,11 +8,12 @@ use Rattle.link_message_types.specs.VlanTypes.{vlan_protocol_number, vlan_protoc
 use Rattle.link_message_records.specs.VfRecords.{vf_vlan_info_bytes}
 use Rattle.link_message_nested.specs.declared.vf_vlan.VfVlan.{VfVlan}
 
+-- The kind and the payload of a value.
 abbrev pub vf_vlan_entry : VfVlan → Attribute
 vf_vlan_entry (VfVlan.Info r) = attribute 1 (vf_vlan_info_bytes r)
 vf_vlan_entry (VfVlan.Other a) = a
 
--- no kind that has a row is read as another attribute, and a number that has a name as what it names
+-- The value is the variant that its row names: a kind with a row isn't kept as `Other`, nor a named number as `Other`.
 abbrev pub vf_vlan_names_row : VfVlan → Type 0
 vf_vlan_names_row (VfVlan.Info r) = r.protocol ≡ vlan_protocol_of (vlan_protocol_number r.protocol)
 vf_vlan_names_row (VfVlan.Other a) = has_no_row vf_vlans (proper_kind a.kind)

@@ -16,17 +16,18 @@ const DEVLINK_ATTR_DEV_NAME: u16 = 2;
 
 const DEVLINK_ATTR_PORT_INDEX: u16 = 3;
 
-/// An attribute of the port of devlink that a link has.
+/// An attribute of the devlink port of a link.
 #[derive(Debug, PartialEq, Eq, Drop)]
 pub enum DevlinkPort {
-    /// `DEVLINK_ATTR_BUS_NAME`: the bus; UTF-8 and one NUL, which a reader doesn't ask for.
+    /// `DEVLINK_ATTR_BUS_NAME`: the name of the bus; UTF-8 and one NUL, which may be missing when
+    /// reading.
     BusName(String),
-    /// `DEVLINK_ATTR_DEV_NAME`: the device on the bus; UTF-8 and one NUL, which a reader doesn't
-    /// ask for.
+    /// `DEVLINK_ATTR_DEV_NAME`: the name of the device on the bus; UTF-8 and one NUL, which may be
+    /// missing when reading.
     DevName(String),
-    /// `DEVLINK_ATTR_PORT_INDEX`: the number of the port; 4 bytes.
+    /// `DEVLINK_ATTR_PORT_INDEX`: the index of the port; 4 bytes.
     PortIndex(u32),
-    /// Any other kind, kept as it is.
+    /// Any other kind, kept unchanged.
     Other(DefaultNla),
 }
 

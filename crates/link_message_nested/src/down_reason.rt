@@ -1,4 +1,5 @@
-//! Why a protocol holds a link down (if_link.h, IFLA_PROTO_DOWN_REASON_*). Numbers are little-endian.
+//! The reasons why a protocol keeps a link down (if_link.h, IFLA_PROTO_DOWN_REASON_*). Numbers are
+//! little-endian.
 
 ghost use Rattle.std.specs.Prelude.{refl};
 ghost use Rattle.link_message_grammar.specs.NestedTables.{protocol_down_reason};
@@ -12,14 +13,14 @@ const IFLA_PROTO_DOWN_REASON_MASK: u16 = 1;
 
 const IFLA_PROTO_DOWN_REASON_VALUE: u16 = 2;
 
-/// An attribute of the reasons why a protocol holds a link down.
+/// An attribute of the reasons why a protocol keeps a link down.
 #[derive(Debug, PartialEq, Eq, Drop)]
 pub enum LinkProtocolDownReason {
-    /// `IFLA_PROTO_DOWN_REASON_MASK`: which reasons are changed; 4 bytes.
+    /// `IFLA_PROTO_DOWN_REASON_MASK`: the mask of the reasons that are changed; 4 bytes.
     Mask(u32),
     /// `IFLA_PROTO_DOWN_REASON_VALUE`: the reasons; 4 bytes.
     Value(u32),
-    /// Any other kind, kept as it is.
+    /// Any other kind, kept unchanged.
     Other(DefaultNla),
 }
 

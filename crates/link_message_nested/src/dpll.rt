@@ -1,4 +1,4 @@
-//! Pins of phase-locked loops (dpll.h, DPLL_A_PIN_*). Numbers are little-endian.
+//! Pins of digital phase-locked loops (dpll.h, DPLL_A_PIN_*). Numbers are little-endian.
 
 ghost use Rattle.std.specs.Prelude.{refl};
 ghost use Rattle.link_message_grammar.specs.NestedTables.{dpll_pin};
@@ -10,12 +10,12 @@ use std::alloc::Global;
 
 const DPLL_A_PIN_ID: u16 = 1;
 
-/// An attribute of the pin of a phase-locked loop that a link has.
+/// An attribute of the DPLL pin of a link.
 #[derive(Debug, PartialEq, Eq, Drop)]
 pub enum DpllPin {
-    /// `DPLL_A_PIN_ID`: the number of the pin; 4 bytes.
+    /// `DPLL_A_PIN_ID`: the id of the pin; 4 bytes.
     PinId(u32),
-    /// Any other kind, kept as it is.
+    /// Any other kind, kept unchanged.
     Other(DefaultNla),
 }
 

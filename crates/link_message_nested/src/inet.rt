@@ -1,4 +1,4 @@
-//! Settings of IPv4 on a link (if_link.h, IFLA_INET_*). Numbers are little-endian.
+//! The IPv4 settings of a link (if_link.h, IFLA_INET_*). Numbers are little-endian.
 
 ghost use Rattle.std.specs.Prelude.{◌≡◌, ◌<◌, ◌≤◌, ◌+◌, ◌++◌, true, length, map, take};
 ghost use Rattle.std.specs.Int.{w32, cast_unsigned};
@@ -21,23 +21,23 @@ use std::alloc::Global;
 
 const IFLA_INET_CONF: u16 = 1;
 
-/// How many settings there are.
+/// The number of settings.
 const SETTINGS: usize = 33;
 
-/// An attribute of the settings of IPv4 on a link.
+/// An attribute of the IPv4 settings of a link.
 #[derive(Debug, PartialEq, Eq, Drop)]
 pub enum AfSpecInet {
     /// `IFLA_INET_CONF`: all settings, written as 132 bytes and read from any number of bytes.
     DevConf(InetDevConf),
     /// `IFLA_INET_CONF` as a request to change settings: a list of attributes with the nested bit,
-    /// one of 4 bytes for each setting that isn't 0, whose kind is the setting's place from 1 on. It
-    /// is written and never read: what is read is a `DevConf`.
+    /// one of 4 bytes for each setting that isn't 0, whose kind is the setting's index plus 1. It
+    /// is only written: reading always yields a `DevConf`.
     DevConfRequest(InetDevConf),
-    /// Any other kind, kept as it is.
+    /// Any other kind, kept unchanged.
     Other(DefaultNla),
 }
 
-/// A setting that is asked for.
+/// A setting that is requested: its kind and its value.
 #[derive(Clone, Copy)]
 struct RequestedSetting {
     kind: u16,
@@ -52,7 +52,7 @@ impl FieldNla for RequestedSetting {
     }
 }
 
-/// The settings that are asked for: the first so many.
+/// The settings that are requested, at the start of an array, with their number.
 #[derive(Clone, Copy)]
 struct Request {
     settings: [RequestedSetting; SETTINGS],
@@ -60,7 +60,7 @@ struct Request {
 }
 
 impl Request {
-    /// The settings of a record that aren't 0.
+    /// Returns the settings of a record that aren't 0.
     fn new(asked: &InetDevConf) -> Self
         ensures room { result.count ≤ 33 }
         ensures requested { requested_so_far result ≡ requested_from 1 asked.now.values }
@@ -76,7 +76,7 @@ impl Request {
         request
     }
 
-    /// Takes a setting in, unless it is 0.
+    /// Appends a setting, unless it is 0.
     fn push(&mut self, kind: u16, number: u32)
         requires { self.old.count < 33 }
         ensures room { self.new.count ≤ self.old.count + 1 }
@@ -89,7 +89,7 @@ impl Request {
         }
     }
 
-    /// The settings.
+    /// Returns the settings.
     fn as_slice(&self) -> &[RequestedSetting]
         requires { self.now.count ≤ 33 }
         ensures { map requested_entry result.now ≡ requested_so_far self.now }
@@ -134,7 +134,7 @@ impl Nla for AfSpecInet {
     }
 }
 
-/// Reads settings of IPv4.
+/// The reader of the attributes of IPv4 settings.
 pub struct AfSpecInetReader;
 
 impl Reader for AfSpecInetReader {

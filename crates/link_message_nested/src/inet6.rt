@@ -1,4 +1,4 @@
-//! What IPv6 tells of a link (if_link.h, IFLA_INET6_*). Numbers are little-endian.
+//! The IPv6 state and settings of a link (if_link.h, IFLA_INET6_*). Numbers are little-endian.
 
 ghost use Rattle.std.specs.Prelude.{◌≡◌, true};
 ghost use Rattle.netlink_packet_core.specs.AttributeViews.{IsAttribute};
@@ -37,27 +37,28 @@ const IFLA_INET6_ADDR_GEN_MODE: u16 = 8;
 
 const IFLA_INET6_RA_MTU: u16 = 9;
 
-/// An attribute of what IPv6 tells of a link.
+/// An attribute of the IPv6 state and settings of a link.
 #[derive(Debug, PartialEq, Eq, Drop)]
 pub enum AfSpecInet6 {
-    /// `IFLA_INET6_FLAGS`: what the link knows of routers; 4 bytes, of which every bit is kept.
+    /// `IFLA_INET6_FLAGS`: the state of router discovery; 4 bytes, of which every bit is kept.
     Flags(Inet6IfaceFlags),
-    /// `IFLA_INET6_CACHEINFO`: times; 16 bytes, and a reader drops what follows them.
+    /// `IFLA_INET6_CACHEINFO`: timers; 16 bytes, and any bytes after them are dropped when reading.
     CacheInfo(Inet6CacheInfo),
     /// `IFLA_INET6_CONF`: all settings, written as 236 bytes and read from any number of bytes.
     DevConf(Inet6DevConf),
     /// `IFLA_INET6_STATS`: statistics, written as 304 bytes and read from any number of bytes.
     Stats(Inet6Stats),
-    /// `IFLA_INET6_ICMP6STATS`: statistics of ICMPv6, written as 56 bytes and read from any number of
-    /// bytes.
+    /// `IFLA_INET6_ICMP6STATS`: statistics of ICMPv6, written as 56 bytes and read from any number
+    /// of bytes.
     Icmp6Stats(Icmp6Stats),
-    /// `IFLA_INET6_TOKEN`: the end of the addresses that the link makes; 16 bytes.
+    /// `IFLA_INET6_TOKEN`: the interface identifier of the addresses that the link generates; 16
+    /// bytes.
     Token(Ipv6Addr),
-    /// `IFLA_INET6_ADDR_GEN_MODE`: how the link makes its own addresses; 1 byte.
+    /// `IFLA_INET6_ADDR_GEN_MODE`: how the link generates its addresses; 1 byte.
     AddrGenMode(In6AddrGenMode),
-    /// `IFLA_INET6_RA_MTU`: the greatest packet that a router told; 4 bytes.
+    /// `IFLA_INET6_RA_MTU`: the MTU that a router advertised; 4 bytes.
     RaMtu(u32),
-    /// Any other kind, kept as it is.
+    /// Any other kind, kept unchanged.
     Other(DefaultNla),
 }
 
@@ -114,7 +115,7 @@ impl Nla for AfSpecInet6 {
     }
 }
 
-/// Reads what IPv6 tells of a link.
+/// The reader of the attributes of IPv6.
 pub struct AfSpecInet6Reader;
 
 impl Reader for AfSpecInet6Reader {

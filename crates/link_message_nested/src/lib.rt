@@ -1,5 +1,5 @@
-// Lists inside attributes of link messages: virtual functions and their ports, other lists, and what each address family
-// tells of a link.
+// Lists inside attributes of link messages: virtual functions and their ports, other lists, and the
+// attributes of each address family.
 #![tactic(auto)]
 
 mod devlink;

@@ -1,4 +1,5 @@
-//! The management component transport protocol of a link (if_link.h, IFLA_MCTP_*). Numbers are little-endian.
+//! The management component transport protocol (MCTP) on a link (if_link.h, IFLA_MCTP_*). Numbers
+//! are little-endian.
 
 ghost use Rattle.std.specs.Prelude.{refl};
 ghost use Rattle.link_message_grammar.specs.NestedTables.{mctp};
@@ -15,14 +16,14 @@ const IFLA_MCTP_NET: u16 = 1;
 
 const IFLA_MCTP_PHYS_BINDING: u16 = 2;
 
-/// An attribute of the management component transport protocol of a link.
+/// An attribute of MCTP on a link.
 #[derive(Debug, PartialEq, Eq, Drop)]
 pub enum AfSpecMctp {
-    /// `IFLA_MCTP_NET`: the network; 4 bytes.
+    /// `IFLA_MCTP_NET`: the network id; 4 bytes.
     Net(u32),
-    /// `IFLA_MCTP_PHYS_BINDING`: what it is carried over; 1 byte.
+    /// `IFLA_MCTP_PHYS_BINDING`: the physical binding; 1 byte.
     PhysBinding(MctpPhysBinding),
-    /// Any other kind, kept as it is.
+    /// Any other kind, kept unchanged.
     Other(DefaultNla),
 }
 

@@ -1,4 +1,4 @@
-//! Other names of a link (if_link.h, IFLA_PROP_LIST).
+//! Alternative names of a link (if_link.h, IFLA_PROP_LIST).
 
 ghost use Rattle.std.specs.Prelude.{refl};
 ghost use Rattle.link_message_grammar.specs.NestedTables.{props};
@@ -13,10 +13,10 @@ const IFLA_ALT_IFNAME: u16 = 53;
 /// An attribute of a list of properties.
 #[derive(Debug, PartialEq, Eq, Drop)]
 pub enum Prop {
-    /// `IFLA_ALT_IFNAME`: another name of the link; UTF-8 and one NUL, which a reader doesn't ask
-    /// for.
+    /// `IFLA_ALT_IFNAME`: an alternative name of the link; UTF-8 and one NUL, which may be missing
+    /// when reading.
     AltIfName(String),
-    /// Any other kind, kept as it is.
+    /// Any other kind, kept unchanged.
     Other(DefaultNla),
 }
 

@@ -1,4 +1,4 @@
-//! Protocol information of IPv6 (if_link.h, IFLA_INET6_*), each attribute as it is.
+//! Protocol information of IPv6 (if_link.h, IFLA_INET6_*), each attribute kept unchanged.
 
 ghost use Rattle.std.specs.Prelude.{⊤, refl};
 ghost use Rattle.attribute_tables_grammar.specs.Tables.{Table.end};
@@ -10,7 +10,7 @@ use std::alloc::Global;
 /// An attribute of the protocol information of IPv6.
 #[derive(Debug, PartialEq, Eq, Drop)]
 pub enum LinkProtoInfoInet6 {
-    /// Any kind, kept as it is.
+    /// Any kind, kept unchanged.
     Other(DefaultNla),
 }
 

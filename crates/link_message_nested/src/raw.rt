@@ -1,4 +1,4 @@
-//! Lists of attributes that are kept as they are.
+//! Lists of raw attributes.
 
 ghost use Rattle.std.specs.Prelude.{◌≡◌, ◌<◌, ⊤, true, length, IfErr};
 ghost use Rattle.netlink_packet_core.specs.Families.{family_row, may_want_memory};
@@ -14,7 +14,7 @@ use attribute_tables_grammar::laws::rows_are_looked_up;
 use netlink_packet_core::{DecodeError, DefaultNla, NlaBuffer, Parseable};
 use std::alloc::Global;
 
-/// Reads attributes of any kinds, each kept as it is.
+/// The reader of raw attributes of any kinds.
 struct RawReader;
 
 impl Reader for RawReader {
@@ -31,8 +31,13 @@ impl Reader for RawReader {
     }
 }
 
-/// Reads a list of attributes of any kinds, each kept as it is. It succeeds exactly where the bytes
-/// are a list, memory aside.
+/// Reads a list of attributes of any kinds, each kept unchanged. Allocates the returned list,
+/// nothing for no bytes.
+///
+/// # Errors
+///
+/// A refusal if the bytes aren't a list; out of memory if an allocation fails, which requires that
+/// the first attribute is valid.
 #[tactic(auto, using(crate::proofs::RawRules::raw_rules, attribute_tables::proofs::Families::family_lists))]
 pub fn parse_raw(alloc: Global, bytes: &[u8]) -> Result<Vec<DefaultNla>, DecodeError>
     ensures judged { SucceedsWhere result ((list_of bytes_peer any end).accepted bytes.now) }

@@ -1,5 +1,5 @@
-//! What all address families tell of a link (if_link.h, IFLA_AF_SPEC): a list for each of them,
-//! under its number.
+//! The attributes of all address families of a link (if_link.h, IFLA_AF_SPEC): a list for each
+//! family, under its number.
 
 ghost use Rattle.std.specs.Prelude.{◌≡◌, ◌<◌, true, length, IfOk, IfErr};
 ghost use Rattle.std.specs.List.{All};
@@ -31,16 +31,17 @@ const AF_INET6: u16 = 10;
 
 const AF_MCTP: u16 = 45;
 
-/// What one address family tells of a link.
+/// The attributes of one address family.
 #[derive(Debug, PartialEq, Eq, Drop)]
 pub enum AfSpecUnspec {
-    /// `AF_INET`: settings of IPv4; a list of attributes.
+    /// `AF_INET`: the IPv4 settings; a list of attributes.
     Inet(Vec<AfSpecInet>),
-    /// `AF_INET6`: what IPv6 tells; a list of attributes.
+    /// `AF_INET6`: the IPv6 state and settings; a list of attributes.
     Inet6(Vec<AfSpecInet6>),
-    /// `AF_MCTP`: what the management component transport protocol tells; a list of attributes.
+    /// `AF_MCTP`: the settings of the management component transport protocol; a list of
+    /// attributes.
     Mctp(Vec<AfSpecMctp>),
-    /// Any other kind, kept as it is.
+    /// Any other kind, kept unchanged.
     Other(DefaultNla),
 }
 
@@ -88,7 +89,7 @@ impl Nla for AfSpecUnspec {
     }
 }
 
-/// Reads what all address families tell of a link.
+/// The reader of the attributes of all address families.
 pub struct AfSpecUnspecReader;
 
 impl Reader for AfSpecUnspecReader {
@@ -129,8 +130,13 @@ impl<'a> Parseable<NlaBuffer<&'a [u8]>> for AfSpecUnspec {
     }
 }
 
-/// Reads what all address families tell of a link (`IFLA_AF_SPEC`). It succeeds exactly where the
-/// list is accepted, memory aside; a list of no bytes is never refused.
+/// Reads the attributes of all address families (`IFLA_AF_SPEC`). Allocates the returned list,
+/// nothing for no bytes.
+///
+/// # Errors
+///
+/// A refusal if the list isn't accepted, which a list of no bytes always is; out of memory if an
+/// allocation fails. This may hide a refusal of a later attribute, but not of the first one.
 #[tactic(auto, using(crate::proofs::FamilyRules::family_rules))]
 pub fn parse_families(alloc: Global, bytes: &[u8]) -> Result<Vec<AfSpecUnspec>, DecodeError>
     ensures judged { SucceedsWhere result ((list_of bytes_peer any specific).accepted bytes.now) }

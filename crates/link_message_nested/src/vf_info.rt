@@ -60,15 +60,15 @@ pub enum VfInfo {
     Mac(VfInfoMac),
     /// `IFLA_VF_VLAN`: its VLAN; 12 bytes.
     Vlan(VfInfoVlan),
-    /// `IFLA_VF_TX_RATE`: how much it may send; 8 bytes.
+    /// `IFLA_VF_TX_RATE`: its maximum rate; 8 bytes.
     TxRate(VfInfoTxRate),
-    /// `IFLA_VF_SPOOFCHK`: whether its source addresses are checked; 8 bytes.
+    /// `IFLA_VF_SPOOFCHK`: whether spoofed source addresses are checked; 8 bytes.
     SpoofCheck(VfInfoSpoofCheck),
-    /// `IFLA_VF_LINK_STATE`: whether its link is up; 8 bytes.
+    /// `IFLA_VF_LINK_STATE`: its link state; 8 bytes.
     LinkState(VfInfoLinkState),
-    /// `IFLA_VF_RATE`: between which bounds it sends; 12 bytes.
+    /// `IFLA_VF_RATE`: its minimum and maximum rate; 12 bytes.
     Rate(VfInfoRate),
-    /// `IFLA_VF_RSS_QUERY_EN`: whether it may ask how its packets are spread; 8 bytes.
+    /// `IFLA_VF_RSS_QUERY_EN`: whether it may query its RSS configuration; 8 bytes.
     RssQueryEn(VfInfoRssQueryEn),
     /// `IFLA_VF_STATS`: a list of statistics.
     Stats(Vec<VfStats>),
@@ -78,7 +78,7 @@ pub enum VfInfo {
     VlanList(Vec<VfVlan>),
     /// `IFLA_VF_BROADCAST`: its broadcast address; 32 bytes.
     Broadcast(VfInfoBroadcast),
-    /// Any other kind, kept as it is.
+    /// Any other kind, kept unchanged.
     Other(DefaultNla),
 }
 
@@ -149,7 +149,7 @@ impl Nla for VfInfo {
     }
 }
 
-/// Reads settings of a virtual function.
+/// The reader of the settings of a virtual function.
 pub struct VfInfoReader;
 
 impl Reader for VfInfoReader {
@@ -226,7 +226,7 @@ impl Nla for LinkVfInfo {
     }
 }
 
-/// Reads virtual functions.
+/// The reader of virtual functions.
 pub struct LinkVfInfoReader;
 
 impl EntryReader for LinkVfInfoReader {
@@ -246,8 +246,12 @@ impl EntryReader for LinkVfInfoReader {
 }
 
 /// Reads a list of virtual functions (`IFLA_VFINFO_LIST`), of which the attributes of kind 1 are
-/// kept. It succeeds exactly where the list is accepted, memory aside; a list of no bytes is never
-/// refused.
+/// kept. Allocates the returned list, nothing for no bytes.
+///
+/// # Errors
+///
+/// A refusal if the list isn't accepted, which a list of no bytes always is; out of memory if an
+/// allocation fails, which may hide a refusal of a later attribute.
 #[tactic(auto, using(crate::proofs::VfRules::vf_rules), unfolding(crate::specs::VfInfos::vf_infos_begin_readable))]
 pub fn parse_vf_infos(alloc: Global, bytes: &[u8]) -> Result<Vec<LinkVfInfo>, DecodeError>
     ensures judged { SucceedsWhere result

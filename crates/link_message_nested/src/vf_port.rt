@@ -1,4 +1,4 @@
-//! Ports of virtual functions (if_link.h, IFLA_PORT_*), each attribute as it is.
+//! Ports of virtual functions (if_link.h, IFLA_PORT_*), each attribute kept unchanged.
 
 ghost use Rattle.std.specs.Prelude.{◌≡◌, ◌&&◌, ◌<◌, ⊤, true, length, refl};
 ghost use Rattle.netlink_packet_core.specs.AttributeViews.{viewed_attribute, viewed_payload, IsAttribute};
@@ -25,7 +25,7 @@ use std::alloc::Global;
 /// An attribute of the port of a virtual function.
 #[derive(Debug, PartialEq, Eq, Drop)]
 pub enum VfPort {
-    /// Any kind, kept as it is.
+    /// Any kind, kept unchanged.
     Other(DefaultNla),
 }
 
@@ -84,7 +84,7 @@ impl Nla for LinkVfPort {
     }
 }
 
-/// Reads ports.
+/// The reader of ports.
 pub struct LinkVfPortReader;
 
 impl EntryReader for LinkVfPortReader {
@@ -103,8 +103,13 @@ impl EntryReader for LinkVfPortReader {
     }
 }
 
-/// Reads a list of ports (`IFLA_VF_PORTS`), of which the attributes of kind 1 are kept, and which
-/// has an attribute of any kind in it. It succeeds exactly where the list is accepted, memory aside.
+/// Reads a list of ports (`IFLA_VF_PORTS`), which has at least one attribute, and of which the
+/// attributes of kind 1 are kept. Allocates the returned list.
+///
+/// # Errors
+///
+/// A refusal if the list isn't accepted; out of memory if an allocation fails, which may hide a
+/// refusal of a later attribute.
 #[tactic(auto, using(crate::proofs::VfRules::vf_rules), unfolding(crate::specs::VfPorts::vf_ports_begin_readable))]
 pub fn parse_vf_ports(alloc: Global, bytes: &[u8]) -> Result<Vec<LinkVfPort>, DecodeError>
     ensures judged { SucceedsWhere result ((list_of bytes_peer ports vf_ports).accepted bytes.now) }

@@ -46,7 +46,7 @@ pub enum VfStats {
     RxDropped(u64),
     /// `IFLA_VF_STATS_TX_DROPPED`: packets to be sent that were dropped; 8 bytes.
     TxDropped(u64),
-    /// Any other kind, kept as it is.
+    /// Any other kind, kept unchanged.
     Other(DefaultNla),
 }
 
@@ -69,7 +69,7 @@ impl FieldNla for VfStats {
 }
 
 impl VfStats {
-    // The statistic of a kind.
+    // Returns the statistic of a kind; `None` if the kind has no row.
     fn of_u64(kind: u16, number: u64) -> Option<Self>
         ensures value { IfSome result (λ v. vf_stats_entry v ≡ attribute kind (le8 number)) }
         ensures names_row { IfSome result (λ v. vf_stats_names_row v) }

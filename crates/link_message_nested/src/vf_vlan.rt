@@ -21,7 +21,7 @@ const IFLA_VF_VLAN_INFO: u16 = 1;
 pub enum VfVlan {
     /// `IFLA_VF_VLAN_INFO`: the VLAN, written as 16 bytes and read from at least 14.
     Info(VfVlanInfo),
-    /// Any other kind, kept as it is.
+    /// Any other kind, kept unchanged.
     Other(DefaultNla),
 }
 
@@ -56,7 +56,7 @@ impl Nla for VfVlan {
     }
 }
 
-/// Reads VLANs of a virtual function.
+/// The reader of VLANs of a virtual function.
 pub struct VfVlanReader;
 
 impl Reader for VfVlanReader {

@@ -1,4 +1,4 @@
-//! Programs of the express data path (if_link.h, IFLA_XDP_*). Numbers are little-endian.
+//! XDP programs of a link (if_link.h, IFLA_XDP_*). Numbers are little-endian.
 
 ghost use Rattle.std.specs.Prelude.{refl, IfNone, IfSome, ◌≡◌, ◌≢◌};
 ghost use Rattle.netlink_packet_core.specs.Families.{attribute};
@@ -29,26 +29,27 @@ const IFLA_XDP_HW_PROG_ID: u16 = 7;
 
 const IFLA_XDP_EXPECTED_FD: u16 = 8;
 
-/// An attribute of the program of a link.
+/// An attribute of the XDP programs of a link.
 #[derive(Debug, PartialEq, Eq, Drop)]
 pub enum LinkXdp {
-    /// `IFLA_XDP_FD`: the descriptor of the program; 4 bytes, signed.
+    /// `IFLA_XDP_FD`: the file descriptor of the program; 4 bytes, signed.
     Fd(i32),
-    /// `IFLA_XDP_ATTACHED`: where it is attached; 1 byte.
+    /// `IFLA_XDP_ATTACHED`: the hook to which it is attached; 1 byte.
     Attached(XdpAttached),
-    /// `IFLA_XDP_FLAGS`: how it is attached; 4 bytes.
+    /// `IFLA_XDP_FLAGS`: the flags of attaching it; 4 bytes.
     Flags(u32),
-    /// `IFLA_XDP_PROG_ID`: the number of the program; 4 bytes.
+    /// `IFLA_XDP_PROG_ID`: the id of the program; 4 bytes.
     ProgId(u32),
-    /// `IFLA_XDP_DRV_PROG_ID`: the number of the program in the driver; 4 bytes.
+    /// `IFLA_XDP_DRV_PROG_ID`: the id of the program in the driver; 4 bytes.
     DrvProgId(u32),
-    /// `IFLA_XDP_SKB_PROG_ID`: the number of the program behind the driver; 4 bytes.
+    /// `IFLA_XDP_SKB_PROG_ID`: the id of the program at the generic hook, after the driver; 4
+    /// bytes.
     SkbProgId(u32),
-    /// `IFLA_XDP_HW_PROG_ID`: the number of the program in the device; 4 bytes.
+    /// `IFLA_XDP_HW_PROG_ID`: the id of the program in the device; 4 bytes.
     HwProgId(u32),
-    /// `IFLA_XDP_EXPECTED_FD`: the descriptor of the program that is replaced; 4 bytes.
+    /// `IFLA_XDP_EXPECTED_FD`: the file descriptor of the program that is to be replaced; 4 bytes.
     ExpectedFd(u32),
-    /// Any other kind, kept as it is.
+    /// Any other kind, kept unchanged.
     Other(DefaultNla),
 }
 
@@ -72,7 +73,7 @@ impl FieldNla for LinkXdp {
 }
 
 impl LinkXdp {
-    // The attribute of a kind that holds 4 bytes without a sign.
+    // Returns the attribute of a kind that holds 4 bytes without a sign; `None` for any other kind.
     fn of_u32(kind: u16, number: u32) -> Option<Self>
         ensures value { IfSome result (λ v. link_xdp_entry v ≡ attribute kind (le4 number)) }
         ensures names_row { IfSome result (λ v. link_xdp_names_row v) }

@@ -1,11 +1,11 @@
--- Bytes cut or filled up to a size, part by part.
+-- Bytes truncated or padded to a size, part by part.
 use Rattle.std.proofs.Common.{◌≡◌, ℕ, zero, suc, ◌+◌, ◌*◌, ◌<◌, ◌≤◌, List, [], ◌∷◌, ◌++◌, length, get_or, set, take, drop, refl, sym, ap, ◌∙◌, arith, append-nil, length-append}
 use Rattle.std.specs.List.{flat_map}
 use Rattle.std.proofs.lemmas.List.{take_more, take_more_set, take-append-drop, drop-drop}
 use Rattle.std.proofs.lemmas.List.Concat.{flat_map-append}
 use Rattle.netlink_packet_core_grammar.specs.Attributes.{zeros}
 
--- the same by recursion
+-- The same definition by recursion.
 first : ℕ → List ℕ → List ℕ
 first zero p = []
 first (suc n) [] = 0 ∷ first n []
@@ -42,7 +42,7 @@ filled_add m n p =
     ∙ ap (λ a. a ++ first n (drop m p)) (sym (first_is m m p (omega arith)))
     ∙ ap (λ b. take m (p ++ zeros m) ++ b) (sym (first_is n n (drop m p) (omega arith)))
 
--- one number more
+-- One number more.
 pub flat_one : {X : Type 0} (f : X → List ℕ) (xs : List X) (x : X) → flat_map f (xs ++ x ∷ []) ≡ flat_map f xs ++ f x
 flat_one f xs x = flat_map-append f xs (x ∷ []) ∙ ap (λ r. flat_map f xs ++ r) (append-nil (f x))
 
@@ -61,7 +61,7 @@ rest_more s i p rest after r e =
     let next : s * i + s ≡ s * (i + 1) = grind arith in
     e ∙ ap (drop s) r ∙ drop-drop s (s * i) p ∙ ap (λ n. drop n p) next
 
--- the numbers after some have room behind them
+-- The numbers after some have enough bytes for those that follow.
 pub room_at : {X : Type 0} (f : X → List ℕ) (s : ℕ) (xs : List X) (i : ℕ) (v : X) → i < length xs → v ≡ get_or xs i v → length (f v) ≡ s → length (flat_map f (take i xs)) + s ≤ length (flat_map f xs)
 room_at f s xs i v h is e =
     let one = ap length (ap (flat_map f) (take_more xs i v h) ∙ flat_one f (take i xs) (get_or xs i v)) in
@@ -69,7 +69,7 @@ room_at f s xs i v h is e =
     let whole = ap (λ l. length (flat_map f l)) (sym (take-append-drop (i + 1) xs)) ∙ ap length (flat_map-append f (take (i + 1) xs) (drop (i + 1) xs)) in
     omega (arith, one, size, whole, length-append (flat_map f (take i xs)) (f (get_or xs i v)), length-append (flat_map f (take (i + 1) xs)) (flat_map f (drop (i + 1) xs)))
 
--- numbers of one size
+-- Numbers of one size.
 pub length_flat : {X : Type 0} (f : X → List ℕ) (s : ℕ) (xs : List X) → ((v : X) → length (f v) ≡ s) → length (flat_map f xs) ≡ s * length xs
 length_flat f s [] h = grind arith
 length_flat f s (x ∷ xs) h =

@@ -1,4 +1,4 @@
--- Fields one after another, read and written.
+-- Fields, one after the other, read and written.
 use Rattle.std.proofs.Common.{◌≡◌, ℕ, ◌+◌, List, ◌++◌, length, take, drop, sym, ap, ◌∙◌, arith, append_assoc, length-append, length-drop, append-nil}
 use Rattle.std.proofs.Math.ListN.{drop_of_length-le}
 use Rattle.std.proofs.Math.Seq.{take-add}
@@ -16,7 +16,7 @@ write_both x y b w r0 r1 z m n k e p q r s t =
     ∙ ap (λ l. x ++ l) (t ∙ ap (λ l. y ++ drop n l) back ∙ ap (λ l. y ++ l) (drop-drop n m b))
     ∙ sym (append_assoc x y (drop (m + n) b))
 
--- fields with zeros behind them
+-- Fields followed by zeros.
 pub padded : (x f w r0 r1 z t : List ℕ) (m p n k : ℕ) → length x ≡ m → m + p ≡ n → length f ≡ n → w ≡ x ++ drop m f → k ≡ m → r0 ≡ take k w → r1 ≡ drop k w → z ≡ zeros (length r1) → t ≡ x ++ zeros p → r0 ++ z ≡ t
 padded x f w r0 r1 z t m p n k e a l h q r s u g =
     let front : r0 ≡ x = r ∙ ap (λ i. take i w) q ∙ ap (take m) h ∙ take_at x (drop m f) m e in
@@ -29,7 +29,7 @@ both_sizes a b = length-append a b
 
 pub ruleset pairs = (both_sizes)
 
--- nothing is left of a buffer that a text fills
+-- A text of the buffer's size leaves nothing of the buffer.
 pub whole_text : (t b : List ℕ) → length b ≡ length t → t ++ drop (length t) b ≡ t
 whole_text t b e = ap (λ x. t ++ x) (drop_of_length-le b (omega arith)) ∙ append-nil t
 

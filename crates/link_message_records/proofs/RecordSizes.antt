@@ -1,4 +1,4 @@
--- How many bytes records have.
+-- The sizes of records in bytes.
 use Rattle.std.proofs.Common.{◌≡◌, length, refl}
 use Rattle.netlink_packet_core_grammar.specs.Numbers.{le2, le4, le8, be2}
 use Rattle.link_message_records.specs.Maps.{map_bytes}

@@ -1,4 +1,4 @@
--- A number is zero where the sum of its bytes is.
+-- A number is zero if and only if the sum of its bytes is.
 use Rattle.std.proofs.Common.{◌≡◌, ℕ, zero, suc, ◌+◌, ◌<◌, Bool, true, false, [], ◌∷◌, ◌++◌, length, refl, sym, ap, arith, length-append}
 use Rattle.std.specs.Prelude.{◌==◌, not}
 use Rattle.std.proofs.lemmas.Bool.{eqb-true}

@@ -1,4 +1,4 @@
-//! Times of IPv6 on a link.
+//! The IPv6 timers of a link.
 
 ghost use Rattle.std.specs.Prelude.{◌≡◌, ⊤, refl};
 ghost use Rattle.std.proofs.Common.{append-nil, sym};
@@ -8,17 +8,18 @@ use super::record::{FieldRecord, bytes_of, write_record};
 use link_message_types::{Record, RecordBuffer};
 use netlink_packet_core::Emitable;
 
-/// Times of IPv6 on a link, `struct ifla_cacheinfo` of `linux/if_link.h`. On the wire 16 bytes,
-/// numbers of 4 in native order.
+/// The IPv6 timers of a link, `struct ifla_cacheinfo` of `linux/if_link.h`. On the wire 16 bytes,
+/// four numbers of 4 bytes in native order.
 #[derive(Debug, PartialEq, Eq, Clone, Copy)]
 pub struct Inet6CacheInfo {
-    /// The longest packet that is put together from parts, in bytes.
+    /// The maximum size of a reassembled packet, in bytes.
     pub max_reasm_len: u32,
-    /// When the settings changed last, in hundredths of a second since the start.
+    /// The time of the last change of the settings, in hundredths of a second since the system's
+    /// start.
     pub tstamp: u32,
-    /// How long a neighbour is taken to be there, in milliseconds.
+    /// The time for which a neighbour is considered reachable, in milliseconds.
     pub reachable_time: u32,
-    /// How long an answer is waited for, in milliseconds.
+    /// The time between retransmissions, in milliseconds.
     pub retrans_time: u32,
 }
 

@@ -1,28 +1,28 @@
-//! Values that stand one after another in bytes.
+//! Values that follow one another in bytes.
 
 ghost use Rattle.std.specs.Prelude.{◌≡◌, ◌↔◌, ◌+◌, ◌≤◌, ◌++◌, ◌∷◌, [], ℕ, List, length, take, drop, IsSome, IfSome};
 ghost use Rattle.netlink_packet_core.specs.Numbers.{le2, le4, le8};
 
 use netlink_packet_core::{fill_u16, fill_u32, fill_u64, parse_u16, parse_u32, parse_u64};
 
-/// Values that stand one after another in a fixed number of bytes. A pair is its first value in
-/// front of its second, so three fields are `(A, (B, C))`.
+/// Values that follow one another in a fixed number of bytes. A pair is its first value followed by
+/// its second, so three fields are `(A, (B, C))`.
 pub trait Fields: Copy {
-    /// The bytes that they are written as.
+    /// The bytes of the values.
     ghost bytes: { Self → List ℕ };
 
-    /// How many bytes these are.
+    /// The size of the values in bytes.
     ghost size: { ℕ };
 
-    /// Reads the values that some bytes begin with, and tells what follows them; `None` where there
-    /// are too few bytes.
+    /// Reads the values at the start of some bytes, and returns them with the bytes that follow;
+    /// `None` if there are too few bytes.
     fn read_front(front: &[u8]) -> Option<(Self, &[u8])>
         ensures size { IsSome result ↔ (size ≤ length front.now) }
         ensures values { IfSome result (λ r. bytes r.0 ≡ take size front.now) }
         ensures rest { IfSome result (λ r. r.1.now ≡ drop size front.now) };
 
-    /// Writes the values into the front of a buffer, leaves the rest of the buffer alone, and tells
-    /// how many bytes were written.
+    /// Writes the values to the start of a buffer, leaves the rest of the buffer unchanged, and
+    /// returns the number of bytes written.
     fn write_front(&self, buffer: &mut [u8]) -> usize
         requires { size ≤ length buffer.old }
         ensures buffer { buffer.new ≡ bytes self.now ++ drop size buffer.old }
@@ -30,7 +30,7 @@ pub trait Fields: Copy {
         ensures size { result ≡ size };
 }
 
-/// 1 byte.
+/// A number of 1 byte.
 impl Fields for u8 {
     ghost bytes = { λ n. n ∷ [] };
 
@@ -47,7 +47,7 @@ impl Fields for u8 {
     }
 }
 
-/// 2 bytes, the lowest first.
+/// A number of 2 bytes, little-endian.
 impl Fields for u16 {
     ghost bytes = { le2 };
 
@@ -66,7 +66,7 @@ impl Fields for u16 {
     }
 }
 
-/// 4 bytes, the lowest first.
+/// A number of 4 bytes, little-endian.
 impl Fields for u32 {
     ghost bytes = { le4 };
 
@@ -85,7 +85,7 @@ impl Fields for u32 {
     }
 }
 
-/// 8 bytes, the lowest first.
+/// A number of 8 bytes, little-endian.
 impl Fields for u64 {
     ghost bytes = { le8 };
 
@@ -104,7 +104,7 @@ impl Fields for u64 {
     }
 }
 
-/// `N` bytes as they are.
+/// An array of `N` bytes.
 impl<const N: usize> Fields for [u8; N] {
     ghost bytes = { λ b. b };
 

@@ -1,12 +1,12 @@
-//! Facts of the types. No function here makes a call.
+//! Facts about the types, each a function with an empty body.
 
 ghost use Rattle.std.specs.Prelude.{◌≡◌};
 ghost use Rattle.link_message_records.specs.VfSettings.{vf_info_setting_kind};
 
 use super::vf_setting::{VfInfoRssQueryEn, VfInfoSpoofCheck, VfInfoTrust};
 
-/// Each setting has the kind of its attribute: `IFLA_VF_SPOOFCHK`, `IFLA_VF_RSS_QUERY_EN` and `IFLA_VF_TRUST` of
-/// `linux/if_link.h`.
+/// Each setting has the kind of its attribute: `IFLA_VF_SPOOFCHK`, `IFLA_VF_RSS_QUERY_EN` and
+/// `IFLA_VF_TRUST` of `linux/if_link.h`.
 pub fn settings_have_kinds(
     spoof_check: &VfInfoSpoofCheck,
     rss_query_en: &VfInfoRssQueryEn,

@@ -1,4 +1,4 @@
-//! The memory of a device.
+//! The memory map of a device.
 
 ghost use Rattle.std.specs.Prelude.{◌≡◌, ⊤, refl};
 ghost use Rattle.link_message_records.specs.Maps.{map_bytes};
@@ -7,20 +7,20 @@ use super::record::{FieldRecord, bytes_of, write_record};
 use link_message_types::{Record, RecordBuffer};
 use netlink_packet_core::Emitable;
 
-/// Where a device stands in memory, `struct rtnl_link_ifmap` of `linux/if_link.h`. On the wire 32
-/// bytes: three numbers of 8, one of 2, two of 1, in native order, and 4 zeros, of which a reader
-/// asks for none.
+/// The memory map of a device, `struct rtnl_link_ifmap` of `linux/if_link.h`. On the wire 32 bytes:
+/// three numbers of 8 bytes, one of 2 and two of 1, in native order, and 4 zeros, which may be
+/// missing when reading.
 #[derive(Debug, PartialEq, Eq, Clone, Copy)]
 pub struct Map {
-    /// Where its memory begins.
+    /// The start of its memory.
     pub memory_start: u64,
-    /// Where its memory ends.
+    /// The end of its memory.
     pub memory_end: u64,
-    /// Where its registers are.
+    /// The base address of its registers.
     pub base_address: u64,
-    /// Its interrupt.
+    /// Its interrupt number.
     pub irq: u16,
-    /// Its channel of direct memory access.
+    /// Its DMA channel.
     pub dma: u8,
     /// Its port.
     pub port: u8,

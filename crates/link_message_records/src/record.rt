@@ -1,4 +1,4 @@
-//! Records that are their fields, one after another.
+//! Records that consist of fields, one after the other.
 
 ghost use Rattle.std.specs.Prelude.{◌≡◌, ◌↔◌, ◌+◌, ◌++◌, ◌≤◌, ℕ, List, true, false, length, drop, IsOk, IfOk, IfErr};
 ghost use Rattle.netlink_packet_core.specs.Attributes.{zeros};
@@ -8,33 +8,38 @@ ghost use Rattle.attribute_tables_grammar.specs.Shapes.{Shape, accepts, meaning,
 use super::fields::Fields;
 use netlink_packet_core::{DecodeError, Emitable};
 
-/// A record that is its fields, one after another, and zeros behind them: `N` bytes in all.
+/// A record that consists of fields, one after the other, followed by zeros: `N` bytes in all.
 pub trait FieldRecord<const N: usize>: Sized {
-    /// The fields, as they stand in the bytes.
+    /// The fields, in the order of the bytes.
     type Fields: Fields;
 
     /// The fields of a record.
     ghost fields_of: { Self → Self.Fields };
 
-    /// How many zeros stand behind them.
+    /// The number of zeros after the fields.
     ghost padding: { ℕ };
 
-    /// The bytes that a record is written as.
+    /// The bytes of a record.
     ghost record_text: { Self → List ℕ };
 
-    /// Each number in it that has a name is held as what it names.
+    /// Each number in the record that has a name is represented by the variant of that name.
     ghost is_named: { Self → Type 0 };
 
-    /// The record with these fields.
+    /// Returns the record with these fields.
     fn from_fields(fields: Self::Fields) -> Self
         ensures fields { fields_of result ≡ fields }
         ensures named { is_named result };
 
-    /// The fields.
+    /// Returns the fields.
     fn fields(&self) -> Self::Fields
         ensures { result ≡ fields_of self.now };
 
-    /// Reads the record that a payload begins with; what follows it is dropped.
+    /// Reads the record at the start of a payload; the bytes after it are dropped. Allocates
+    /// nothing.
+    ///
+    /// # Errors
+    ///
+    /// A refusal if the payload is shorter than the fields.
     fn parse(payload: &[u8]) -> Result<Self, DecodeError>
         ensures size { IsOk result
             ↔ (accepts (fixed_record Self.Fields.size N) payload.now ≡ true) }
@@ -51,15 +56,15 @@ pub trait FieldRecord<const N: usize>: Sized {
         }
     }
 
-    /// The fields' bytes and the zeros are all.
+    /// The size of the fields and the zeros is that of the record.
     ghost has_room: { Self.Fields.size + padding ≡ N };
 
-    /// The bytes of a record are those of its fields' and the zeros.
+    /// The bytes of a record are those of its fields, followed by the zeros.
     ghost is_text: { (v : Self)
         → record_text v ≡ Self.Fields.bytes (fields_of v) ++ zeros padding };
 }
 
-/// Writes a record into the front of a buffer, and leaves the rest of the buffer alone.
+/// Writes a record to the start of a buffer, and leaves the rest of the buffer unchanged.
 pub(crate) fn write_record<R: FieldRecord<N>, const N: usize>(value: &R, buffer: &mut [u8])
     requires { N ≤ length buffer.old }
     ensures { buffer.new ≡ R.record_text value.now ++ drop N buffer.old }
@@ -70,7 +75,7 @@ pub(crate) fn write_record<R: FieldRecord<N>, const N: usize>(value: &R, buffer:
     fill_zeros(rest);
 }
 
-/// The bytes that a record is written as.
+/// Returns the bytes of a record.
 pub(crate) fn bytes_of<R: FieldRecord<N>, const N: usize>(value: &R) -> [u8; N]
     ensures { result ≡ R.record_text value.now }
 {
@@ -79,7 +84,7 @@ pub(crate) fn bytes_of<R: FieldRecord<N>, const N: usize>(value: &R) -> [u8; N]
     bytes
 }
 
-/// Writes a value into a buffer of its size.
+/// Writes a value to a buffer of its size.
 #[tactic(auto, using(crate::proofs::Pairs::whole_texts))]
 pub fn emit_record<R: Emitable>(value: &R, buffer: &mut [u8])
     requires ready { R.can_emit value.now }
@@ -89,7 +94,7 @@ pub fn emit_record<R: Emitable>(value: &R, buffer: &mut [u8])
     value.emit(buffer);
 }
 
-/// Writes zeros all over a buffer.
+/// Fills a buffer with zeros.
 fn fill_zeros(buffer: &mut [u8])
     ensures { buffer.new ≡ zeros (length buffer.old) }
 {

@@ -1,8 +1,8 @@
-//! Where each setting and each number stands in a record, by the kernel's names.
+//! The index of each setting and each number in its record, by the kernel's names.
 
 use super::values::{Icmp6Stats, Inet6DevConf, Inet6Stats, InetDevConf};
 
-/// The places of the settings, one less than the numbers of `IPV4_DEVCONF_*` in `linux/ip.h`.
+/// The indexes of the settings, one less than the numbers of `IPV4_DEVCONF_*` in `linux/ip.h`.
 impl InetDevConf {
     /// `IPV4_DEVCONF_FORWARDING`, 1.
     pub const FORWARDING: usize = 0;
@@ -72,7 +72,7 @@ impl InetDevConf {
     pub const ARP_EVICT_NOCARRIER: usize = 32;
 }
 
-/// The places of the settings, the numbers of `DEVCONF_*` in `linux/ipv6.h`.
+/// The indexes of the settings, which are the numbers of `DEVCONF_*` in `linux/ipv6.h`.
 impl Inet6DevConf {
     /// `DEVCONF_FORWARDING`, 0.
     pub const FORWARDING: usize = 0;
@@ -194,7 +194,7 @@ impl Inet6DevConf {
     pub const ACCEPT_RA_MIN_LFT: usize = 58;
 }
 
-/// The places of the numbers, those of `IPSTATS_MIB_*` in `linux/snmp.h`.
+/// The indexes of the numbers, which are those of `IPSTATS_MIB_*` in `linux/snmp.h`.
 impl Inet6Stats {
     /// `IPSTATS_MIB_NUM`, 0.
     pub const NUM: usize = 0;
@@ -274,7 +274,7 @@ impl Inet6Stats {
     pub const OUTPKTS: usize = 37;
 }
 
-/// The places of the numbers, those of `ICMP6_MIB_*` in `linux/snmp.h`.
+/// The indexes of the numbers, which are those of `ICMP6_MIB_*` in `linux/snmp.h`.
 impl Icmp6Stats {
     /// `ICMP6_MIB_NUM`, 0.
     pub const NUM: usize = 0;

@@ -1,4 +1,4 @@
-//! The statistics of a link are read by their names.
+//! The statistics of a link, by name.
 
 ghost use Rattle.std.specs.Prelude.{◌≡◌, Some, slice_get};
 
@@ -26,7 +26,7 @@ impl LinkStatistics for Stats64 {
 }
 
 impl Stats64 {
-    /// Packets received that another host was to have, and dropped.
+    /// Returns the number of received packets that were addressed to another host, and dropped.
     pub fn rx_otherhost_dropped(&self) -> u64
         ensures { slice_get self.now.values 24 ≡ Some result }
     {

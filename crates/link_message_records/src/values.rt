@@ -14,19 +14,19 @@ use super::vf::filled;
 use link_message_types::{Record, RecordBuffer};
 use netlink_packet_core::{DecodeError, Emitable, parse_u32, parse_u64};
 
-/// A number of a fixed size, the lowest byte first.
+/// A little-endian number of a fixed size.
 pub trait Number: Fields {
-    /// How many bytes it has.
+    /// Returns the size of the number in bytes.
     fn len() -> usize
         ensures { result ≡ Self.size };
 
-    /// Reads the number that some bytes begin with, with zeros for bytes that are missing, and tells
-    /// what follows it.
+    /// Reads the number at the start of some bytes, with zeros for missing bytes, and returns it
+    /// with the bytes that follow.
     fn read_filled(front: &[u8]) -> (Self, &[u8])
         ensures number { Self.bytes result.0 ≡ take Self.size (front.now ++ zeros Self.size) }
         ensures rest { result.1.now ≡ drop Self.size front.now };
 
-    /// Every number has that size.
+    /// Every number has the same size.
     ghost has_size: { (v : Self) → length (Self.bytes v) ≡ Self.size };
 }
 
@@ -66,7 +66,7 @@ impl Number for u64 {
     ghost has_size = { le8_size };
 }
 
-/// 4 bytes, the lowest first.
+/// A signed number of 4 bytes, little-endian.
 impl Fields for i32 {
     ghost bytes = { λ z. le4 (signed_bits z) };
 
@@ -98,8 +98,8 @@ impl Number for i32 {
     ghost has_size = { λ z. le4_size (signed_bits z) };
 }
 
-/// Numbers in the order of the bytes, as many as the record has. Newer kernels may send more, which
-/// are dropped; for numbers that are missing stands 0.
+/// Numbers in the order of the bytes. What newer kernels append is dropped; numbers that are
+/// missing are 0.
 #[derive(Debug, PartialEq, Eq, Clone, Copy)]
 pub struct Values<T, const N: usize> {
     /// The numbers.
@@ -107,7 +107,12 @@ pub struct Values<T, const N: usize> {
 }
 
 impl<T: Number, const N: usize> Values<T, N> {
-    /// Reads any bytes: further ones are dropped, and zeros stand for those that are missing.
+    /// Reads numbers from any bytes: excess bytes are dropped, and missing ones are read as zeros.
+    /// Allocates nothing.
+    ///
+    /// # Errors
+    ///
+    /// Never fails.
     pub fn parse(payload: &[u8]) -> Result<Self, DecodeError>
         ensures size { IsOk result }
         ensures text { IfOk result
@@ -127,7 +132,7 @@ impl<T: Number, const N: usize> Values<T, N> {
     }
 }
 
-/// Reads numbers as a row of settings holds them: any bytes are accepted.
+/// Reads the numbers of a row of settings; any bytes are accepted.
 #[tactic(auto, unfolding(link_message_grammar::specs::NestedTables::resized))]
 pub fn read_settings<T: Number, const N: usize>(payload: &[u8]) -> Values<T, N>
     ensures accepted { (settings_rule (T.size * N)).accepted payload.now ≡ true }
@@ -155,8 +160,8 @@ impl<T: Number, const N: usize> Emitable for Values<T, N> {
     }
 }
 
-/// Writes numbers one after another into the front of a buffer, and leaves the rest of the buffer
-/// alone.
+/// Writes numbers, one after the other, to the start of a buffer, and leaves the rest of the buffer
+/// unchanged.
 fn write_values<T: Number>(values: &[T], buffer: &mut [u8])
     requires { length (flat_map T.bytes values.now) ≤ length buffer.old }
     ensures { buffer.new
@@ -169,7 +174,7 @@ fn write_values<T: Number>(values: &[T], buffer: &mut [u8])
     }
 }
 
-/// The bytes that numbers are written as.
+/// Returns the bytes of numbers.
 fn values_to_bytes<T: Number, const N: usize, const M: usize>(numbers: &Values<T, N>) -> [u8; M]
     requires { T.size * N ≡ M }
     ensures { result ≡ flat_map T.bytes numbers.now.values }
@@ -182,7 +187,8 @@ fn values_to_bytes<T: Number, const N: usize, const M: usize>(numbers: &Values<T
 /// The statistics of a link, `struct rtnl_link_stats` of `linux/if_link.h`: 24 numbers of 4 bytes.
 pub type Stats = Values<u32, 24>;
 
-/// The statistics of a link, `struct rtnl_link_stats64` of `linux/if_link.h`: 25 numbers of 8 bytes.
+/// The statistics of a link, `struct rtnl_link_stats64` of `linux/if_link.h`: 25 numbers of 8
+/// bytes.
 pub type Stats64 = Values<u64, 25>;
 
 /// Settings of IPv4 on a link, `IPV4_DEVCONF_*` of `linux/ip.h`: 33 signed numbers of 4 bytes.

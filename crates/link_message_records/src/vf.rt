@@ -15,19 +15,19 @@ use link_message_types::{Record, RecordBuffer, VfLinkState, VlanProtocol};
 use netlink_packet_core::Emitable;
 
 /// The VLAN of a virtual function, `struct ifla_vf_vlan` of `linux/if_link.h`. On the wire 12
-/// bytes, numbers of 4 in native order.
+/// bytes, numbers of 4 bytes in native order.
 #[derive(Debug, PartialEq, Eq, Clone, Copy)]
 pub struct VfInfoVlan {
-    /// The virtual function.
+    /// The number of the virtual function.
     pub vf_id: u32,
-    /// The VLAN, 0 for none.
+    /// The VLAN id, 0 for none.
     pub vlan_id: u32,
-    /// The quality of service.
+    /// The quality of service (priority).
     pub qos: u32,
 }
 
 impl VfInfoVlan {
-    /// A record of these fields.
+    /// Returns a record of these fields.
     pub fn new(vf_id: u32, vlan_id: u32, qos: u32) -> Self
         ensures vf_id { result.vf_id ≡ vf_id }
         ensures vlan_id { result.vlan_id ≡ vlan_id }
@@ -94,18 +94,18 @@ impl FieldRecord<12> for VfInfoVlan {
 /// The 12 bytes of a `VfInfoVlan`.
 pub type VfInfoVlanBuffer = RecordBuffer<VfInfoVlan, 12>;
 
-/// How much a virtual function may send, `struct ifla_vf_tx_rate` of `linux/if_link.h`. On the wire
-/// 8 bytes, numbers of 4 in native order.
+/// The maximum rate of a virtual function, `struct ifla_vf_tx_rate` of `linux/if_link.h`. On the
+/// wire 8 bytes, numbers of 4 bytes in native order.
 #[derive(Debug, PartialEq, Eq, Clone, Copy)]
 pub struct VfInfoTxRate {
-    /// The virtual function.
+    /// The number of the virtual function.
     pub vf_id: u32,
-    /// The most that it may send, in Mbit/s, 0 for any.
+    /// The maximum rate of transmission, in Mbit/s, 0 for no limit.
     pub rate: u32,
 }
 
 impl VfInfoTxRate {
-    /// A record of these fields.
+    /// Returns a record of these fields.
     pub fn new(vf_id: u32, rate: u32) -> Self
         ensures vf_id { result.vf_id ≡ vf_id }
         ensures rate { result.rate ≡ rate }
@@ -163,20 +163,20 @@ impl FieldRecord<8> for VfInfoTxRate {
 /// The 8 bytes of a `VfInfoTxRate`.
 pub type VfInfoTxRateBuffer = RecordBuffer<VfInfoTxRate, 8>;
 
-/// Between which bounds a virtual function sends, `struct ifla_vf_rate` of `linux/if_link.h`. On
-/// the wire 12 bytes, numbers of 4 in native order.
+/// The minimum and maximum rate of a virtual function, `struct ifla_vf_rate` of `linux/if_link.h`.
+/// On the wire 12 bytes, numbers of 4 bytes in native order.
 #[derive(Debug, PartialEq, Eq, Clone, Copy)]
 pub struct VfInfoRate {
-    /// The virtual function.
+    /// The number of the virtual function.
     pub vf_id: u32,
-    /// The least that it can always send, in Mbit/s.
+    /// The guaranteed minimum rate of transmission, in Mbit/s.
     pub min_tx_rate: u32,
-    /// The most that it may send, in Mbit/s, 0 for any.
+    /// The maximum rate of transmission, in Mbit/s, 0 for no limit.
     pub max_tx_rate: u32,
 }
 
 impl VfInfoRate {
-    /// A record of these fields.
+    /// Returns a record of these fields.
     pub fn new(vf_id: u32, min_tx_rate: u32, max_tx_rate: u32) -> Self
         ensures vf_id { result.vf_id ≡ vf_id }
         ensures min_tx_rate { result.min_tx_rate ≡ min_tx_rate }
@@ -243,18 +243,18 @@ impl FieldRecord<12> for VfInfoRate {
 /// The 12 bytes of a `VfInfoRate`.
 pub type VfInfoRateBuffer = RecordBuffer<VfInfoRate, 12>;
 
-/// Whether the link of a virtual function is up, `struct ifla_vf_link_state` of `linux/if_link.h`.
-/// On the wire 8 bytes, numbers of 4 in native order.
+/// The link state of a virtual function, `struct ifla_vf_link_state` of `linux/if_link.h`. On the
+/// wire 8 bytes, numbers of 4 bytes in native order.
 #[derive(Debug, PartialEq, Eq, Clone, Copy)]
 pub struct VfInfoLinkState {
-    /// The virtual function.
+    /// The number of the virtual function.
     pub vf_id: u32,
-    /// Whether it is up.
+    /// The link state.
     pub state: VfLinkState,
 }
 
 impl VfInfoLinkState {
-    /// A record of these fields.
+    /// Returns a record of these fields.
     pub fn new(vf_id: u32, state: VfLinkState) -> Self
         ensures vf_id { result.vf_id ≡ vf_id }
         ensures state { result.state ≡ state }
@@ -316,18 +316,18 @@ impl FieldRecord<8> for VfInfoLinkState {
 pub type VfInfoLinkStateBuffer = RecordBuffer<VfInfoLinkState, 8>;
 
 /// The hardware address of a virtual function, `struct ifla_vf_mac` of `linux/if_link.h`. On the
-/// wire 36 bytes: a number of 4 in native order, and 32 bytes.
+/// wire 36 bytes: a number of 4 bytes in native order, and 32 bytes.
 #[derive(Debug, PartialEq, Eq, Clone, Copy)]
 pub struct VfInfoMac {
-    /// The virtual function.
+    /// The number of the virtual function.
     pub vf_id: u32,
-    /// The address, and zeros behind it.
+    /// The address, padded with zeros.
     pub mac: [u8; 32],
 }
 
 impl VfInfoMac {
-    /// A record of a virtual function and the address of a device: a longer one is cut, a shorter
-    /// one filled up with zeros.
+    /// Returns a record of a virtual function and an address; a longer address is truncated, a
+    /// shorter one padded with zeros.
     pub fn new(vf_id: u32, mac: &[u8]) -> Self
         ensures vf_id { result.vf_id ≡ vf_id }
         ensures mac { result.mac ≡ take 32 (mac.now ++ zeros 32) }
@@ -392,13 +392,12 @@ pub type VfInfoMacBuffer = RecordBuffer<VfInfoMac, 36>;
 /// the wire 32 bytes.
 #[derive(Debug, PartialEq, Eq, Clone, Copy)]
 pub struct VfInfoBroadcast {
-    /// The address, and zeros behind it.
+    /// The address, padded with zeros.
     pub addr: [u8; 32],
 }
 
 impl VfInfoBroadcast {
-    /// A record of the address of a device: a longer one is cut, a shorter one filled up with
-    /// zeros.
+    /// Returns a record of an address; a longer one is truncated, a shorter one padded with zeros.
     pub fn new(addr: &[u8]) -> Self
         ensures { result.addr ≡ take 32 (addr.now ++ zeros 32) }
     {
@@ -456,22 +455,22 @@ impl FieldRecord<32> for VfInfoBroadcast {
 pub type VfInfoBroadcastBuffer = RecordBuffer<VfInfoBroadcast, 32>;
 
 /// A VLAN in the list of a virtual function, `struct ifla_vf_vlan_info` of `linux/if_link.h`. On
-/// the wire 16 bytes: three numbers of 4 in native order, the protocol in 2, big-endian, and 2
-/// zeros, of which a reader asks for none.
+/// the wire 16 bytes: three numbers of 4 bytes in native order, the protocol in 2 bytes,
+/// big-endian, and 2 zeros, which may be missing when reading.
 #[derive(Debug, PartialEq, Eq, Clone, Copy)]
 pub struct VfVlanInfo {
-    /// The virtual function.
+    /// The number of the virtual function.
     pub vf_id: u32,
-    /// The VLAN, 0 for none.
+    /// The VLAN id, 0 for none.
     pub vlan_id: u32,
-    /// The quality of service.
+    /// The quality of service (priority).
     pub qos: u32,
     /// The protocol of the tag.
     pub protocol: VlanProtocol,
 }
 
 impl VfVlanInfo {
-    /// A record of these fields.
+    /// Returns a record of these fields.
     pub fn new(vf_id: u32, vlan_id: u32, qos: u32, protocol: VlanProtocol) -> Self
         ensures vf_id { result.vf_id ≡ vf_id }
         ensures vlan_id { result.vlan_id ≡ vlan_id }
@@ -550,7 +549,7 @@ impl FieldRecord<16> for VfVlanInfo {
 /// The 16 bytes of a `VfVlanInfo`.
 pub(crate) type VfVlanInfoBuffer = RecordBuffer<VfVlanInfo, 16>;
 
-/// The first `N` of some bytes, and zeros where there are fewer.
+/// Returns the first `N` of some bytes, padded with zeros if there are fewer.
 pub(crate) fn filled<const N: usize>(bytes: &[u8]) -> [u8; N]
     ensures { result ≡ take N (bytes.now ++ zeros N) }
 {

@@ -10,24 +10,24 @@ ghost use Rattle.link_message_records.specs.VfSettings.{vf_info_setting_bytes};
 use link_message_types::{Record, RecordBuffer};
 use netlink_packet_core::{DecodeError, Emitable, fill_bool, fill_u32, parse_u32};
 
-/// How many bytes a setting has.
+/// The size of a setting in bytes.
 const VF_INFO_SETTING_LEN: usize = 8;
 
-/// A setting of a virtual function that is on or off, as `struct ifla_vf_spoofchk` of
-/// `linux/if_link.h`, by the kind of its attribute. On the wire 8 bytes, numbers of 4 in native
-/// order; every number that isn't 0 is on, and written 1.
+/// A setting of a virtual function that is on or off, such as `struct ifla_vf_spoofchk` of
+/// `linux/if_link.h`, by the kind of its attribute. On the wire 8 bytes, numbers of 4 bytes in
+/// native order; every number except 0 is on, and is written as 1.
 #[derive(Debug, PartialEq, Eq, Clone, Copy)]
 pub struct VfInfoSetting<const KIND: u16> {
-    /// The virtual function.
+    /// The number of the virtual function.
     pub vf_id: u32,
-    /// Whether it is on.
+    /// Whether the setting is on.
     pub enabled: bool,
 }
 
-/// Whether the source addresses of a virtual function are checked: `IFLA_VF_SPOOFCHK`.
+/// Whether spoofed source addresses of a virtual function are checked: `IFLA_VF_SPOOFCHK`.
 pub type VfInfoSpoofCheck = VfInfoSetting<4>;
 
-/// Whether a virtual function may ask how its packets are spread: `IFLA_VF_RSS_QUERY_EN`.
+/// Whether a virtual function may query its RSS configuration: `IFLA_VF_RSS_QUERY_EN`.
 pub type VfInfoRssQueryEn = VfInfoSetting<7>;
 
 /// Whether a virtual function is trusted: `IFLA_VF_TRUST`.
@@ -43,7 +43,7 @@ pub type VfInfoRssQueryEnBuffer = RecordBuffer<VfInfoRssQueryEn, 8>;
 pub type VfInfoTrustBuffer = RecordBuffer<VfInfoTrust, 8>;
 
 impl<const KIND: u16> VfInfoSetting<KIND> {
-    /// A record of these fields.
+    /// Returns a record of these fields.
     pub fn new(vf_id: u32, enabled: bool) -> Self
         ensures vf_id { result.vf_id ≡ vf_id }
         ensures enabled { result.enabled ≡ enabled }
@@ -51,7 +51,12 @@ impl<const KIND: u16> VfInfoSetting<KIND> {
         Self { vf_id, enabled }
     }
 
-    /// Reads the record that a payload begins with; what follows it is dropped.
+    /// Reads the record at the start of a payload; the bytes after it are dropped. Allocates
+    /// nothing.
+    ///
+    /// # Errors
+    ///
+    /// A refusal if the payload has fewer than 8 bytes.
     pub fn parse(payload: &[u8]) -> Result<Self, DecodeError>
         ensures size { IsOk result ↔ (accepts id_and_truth payload.now ≡ true) }
         ensures text { IfOk result
@@ -71,7 +76,7 @@ impl<const KIND: u16> VfInfoSetting<KIND> {
     }
 }
 
-/// Whether the number of 4 bytes isn't 0.
+/// Returns whether a number of 4 bytes isn't 0.
 #[tactic(auto, using(crate::proofs::TruthBytes::truths))]
 fn is_true(bytes: &[u8]) -> bool
     requires { length bytes.now ≡ 4 }
@@ -108,7 +113,7 @@ impl<const KIND: u16> Record<8> for VfInfoSetting<KIND> {
     }
 }
 
-/// Writes a setting into a buffer of its size.
+/// Writes a setting to a buffer of its size.
 #[tactic(auto, using(netlink_packet_core_grammar::proofs::Sizes::sizes))]
 fn fill_setting<const KIND: u16>(setting: &VfInfoSetting<KIND>, buffer: &mut [u8])
     requires { length buffer.old ≡ 8 }

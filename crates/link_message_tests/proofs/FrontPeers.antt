@@ -1,4 +1,4 @@
--- The rule of four bytes is lawful.
+-- The rule of peers by their first four bytes is lawful.
 use Rattle.std.proofs.Common.{◌≡◌, ℕ, ◌≤◌, true, List, length, take, arith}
 use Rattle.std.specs.Prelude.{nat_le}
 use Rattle.std.proofs.lemmas.Bool.Decides.{nat_tests}

@@ -1,8 +1,9 @@
--- Peers of which the first four bytes count.
+-- A rule of peers of which only the first four bytes count.
 use Rattle.std.specs.Prelude.{nat_le, length, take, bytes_eq}
 use Rattle.attribute_tables_grammar.specs.Peers.{Peer}
 
--- four bytes or more are accepted, and the first four are compared and written: they are the header of an attribute
+-- The rule by which four bytes or more are accepted, and the first four are compared and written: they are the header
+-- of an attribute.
 abbrev pub front_peer : Peer
 front_peer = record {
   accepted = λ b. nat_le 4 (length b);

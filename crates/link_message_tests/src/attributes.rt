@@ -26,13 +26,13 @@ const REFUSED: [&[u8]; 8] = [
     &[8, 0, 18, 0, 4, 0, 2, 0],
 ];
 
-/// Reads the attribute that these bytes are, under no family.
+/// Reads the attribute of these bytes, under AF_UNSPEC.
 fn read(alloc: Global, bytes: &[u8]) -> Result<LinkAttribute, DecodeError> {
     let buf = NlaBuffer::new_checked(bytes)?;
     LinkAttribute::parse_with_param(alloc, &buf, AddressFamily::Unspec)
 }
 
-/// Whether a value is written as these bytes, 64 at most.
+/// Returns whether a value is written as these bytes, at most 64.
 fn is_written_as(value: &LinkAttribute, bytes: &[u8]) -> bool {
     let mut buffer = [0xffu8; 64];
     let size = value.buffer_len();
@@ -43,7 +43,7 @@ fn is_written_as(value: &LinkAttribute, bytes: &[u8]) -> bool {
     &buffer[..size] == bytes
 }
 
-/// Whether an attribute is read as this value, and both are written as this text.
+/// Returns whether an attribute is read as this value, and both are written as this text.
 fn is_read_as(alloc: Global, bytes: &[u8], value: &LinkAttribute, text: &[u8]) -> bool {
     match read(alloc, bytes) {
         Ok(read) => read == *value && is_written_as(&read, text) && is_written_as(value, text),
@@ -51,7 +51,7 @@ fn is_read_as(alloc: Global, bytes: &[u8], value: &LinkAttribute, text: &[u8]) -
     }
 }
 
-/// The first attribute that isn't read as its value, or isn't written from it.
+/// Returns the first attribute that isn't read as its value, or isn't written back from it.
 fn first_wrong<'a>(alloc: Global, cases: &[(&'a [u8], LinkAttribute)]) -> Option<&'a [u8]> {
     for (bytes, value) in cases {
         if !is_read_as(alloc, bytes, value, bytes) {
@@ -134,8 +134,8 @@ fn other_payloads_are_refused(rt: HostRuntime) {
     }
 }
 
-/// The number of a bridge in `Other` is no bridge: IFLA_PROTINFO holds any bytes, and its kind
-/// keeps its flag bits, as under every family that isn't listed.
+/// The number of a bridge in `Other` isn't the variant `Bridge`: IFLA_PROTINFO holds any bytes, and
+/// its kind keeps its flag bits, as under every family that isn't listed.
 #[test]
 fn a_family_counts_by_its_variant(rt: HostRuntime) -> Result<(), Fail> {
     let bytes = [5, 0, 12, 0xc0, 3, 0, 0, 0];

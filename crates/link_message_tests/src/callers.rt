@@ -1,4 +1,4 @@
-//! Calls of link messages, which the page `docs/link_message.md` quotes.
+//! Example calls on link messages, which the page `docs/link_message.md` quotes.
 
 ghost use Rattle.std.specs.Prelude.{◌≡◌, ◌++◌, true, IfOk};
 ghost use Rattle.netlink_packet_core.specs.Attributes.{attribute_text};
@@ -15,7 +15,11 @@ use link_message::{
 use netlink_packet_core::{DecodeError, Emitable};
 use std::alloc::Global;
 
-/// The bytes of a message, where each length inside fits its 2 bytes.
+/// Returns the bytes of a message. Allocates the returned bytes.
+///
+/// # Errors
+///
+/// A refusal if a length inside doesn't fit its 2 bytes; out of memory if the allocation fails.
 pub fn written(alloc: Global, message: &LinkMessage) -> Result<Vec<u8>, DecodeError>
     ensures { IfOk result (λ bytes. bytes.items ≡ link_message_text message.now) }
 {
@@ -28,7 +32,11 @@ pub fn written(alloc: Global, message: &LinkMessage) -> Result<Vec<u8>, DecodeEr
     Ok(bytes)
 }
 
-/// The body of a request for the link of this name, without its statistics.
+/// Returns the body of a request for the link of this name, without its statistics.
+///
+/// # Errors
+///
+/// A refusal if the name is too long for an attribute; out of memory if an allocation fails.
 pub fn request_by_name(alloc: Global, name: &str) -> Result<Vec<u8>, DecodeError>
     ensures { IfOk result (λ bytes. bytes.items ≡ request_text name.now) }
 {
@@ -47,7 +55,12 @@ pub fn request_by_name(alloc: Global, name: &str) -> Result<Vec<u8>, DecodeError
     written(alloc, &message)
 }
 
-/// A body that says as much as another one, and another greatest size of a packet at its end.
+/// Returns a body that means the same as another one, with an additional MTU at its end.
+///
+/// # Errors
+///
+/// A refusal if the body isn't legal, or a length inside doesn't fit its 2 bytes; out of memory if
+/// an allocation fails.
 pub fn with_mtu(alloc: Global, body: &[u8], mtu: u32) -> Result<Vec<u8>, DecodeError>
     ensures legal { IfOk result (λ _. link_body.accepted body.now ≡ true) }
     ensures text { IfOk result

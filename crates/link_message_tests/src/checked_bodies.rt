@@ -3,15 +3,15 @@
 use link_message::{BodyMeasure, check, same};
 use std::test::Fail;
 
-// A name and a mask.
+// A body with a name and a mask.
 const NAMED: &[u8] = b"\0\0\0\0\0\0\0\0\0\0\0\0\0\0\0\0\x08\0\x1d\0\x09\0\0\0\x07\0\x03\0lo\0\0";
 
-// A link of a family that has no kind of data.
+// A link of a kind whose data have no table.
 const PFCP: &[u8] =
     b"\0\0\xfe\xff\x10\0\0\0\x90\x10\0\0\0\0\0\0\x0a\0\x03\0pfcp0\0\0\0\x0c\0\x12\0\x08\0\
     \x01\0pfcp";
 
-// Data of a tunnel that are written shorter.
+// The data of a tunnel, whose canonical text is shorter.
 const VXLAN: &[u8] =
     b"\0\0\0\0\0\0\0\0\0\0\0\0\0\0\0\0$\0\x12\0\x0a\0\x01\0vxlan\0\0\0\x14\0\x02\0\x05\0\
     \x07\0\x05\0\0\0\x05\0\x17\0\xaa\0\0\0";
@@ -19,18 +19,18 @@ const VXLAN: &[u8] =
 // Virtual functions, of which one attribute is dropped.
 const DROPPED: &[u8] = b"\0\0\0\0\0\0\0\0\0\0\0\0\0\0\0\0\x0c\0\x16\0\x04\0\x05\0\x04\0\x01\0";
 
-// A peer with an attribute behind it, which is dropped.
+// A peer followed by an attribute, which is dropped.
 const VETH: &[u8] =
     b"\0\0\0\0\0\0\0\0\0\0\0\0\0\0\0\0\x20\0\x12\0\x09\0\x01\0veth\0\0\0\0\x0d\0\x02\0\x05\
     \0\x02\0a\0\0\0\xff\0\0\0";
 
-// Empty link info.
+// A body with empty link info.
 const EMPTY_INFO: &[u8] = b"\0\0\0\0\0\0\0\0\0\0\0\0\0\0\0\0\x04\0\x12\0";
 
-// Ports without an entry.
+// A body with ports without an entry.
 const EMPTY_PORTS: &[u8] = b"\0\0\0\0\0\0\0\0\0\0\0\0\0\0\0\0\x08\0\x18\0\x04\0\x07\0";
 
-// Settings of IPv6, 210 times of no number, each written as 76 of them.
+// The IPv6 settings, 210 times without any number, each written as 76 of them.
 const SETTINGS: [u8; 864] = [
     0, 0, 0, 0, 0, 0, 0, 0, 0, 0, 0, 0, 0, 0, 0, 0, 80, 3, 26, 0, 76, 3, 10, 0, 4, 0, 3, 0, 4, 0,
     3, 0, 4, 0, 3, 0, 4, 0, 3, 0, 4, 0, 3, 0, 4, 0, 3, 0, 4, 0, 3, 0, 4, 0, 3, 0, 4, 0, 3, 0, 4, 0,
@@ -92,7 +92,7 @@ const LAYER_10: &[u8] = b"\0\0\x0a\0\0\0\0\0\0\0\0\0\0\0\0\0";
 
 const ETHERNET: &[u8] = b"\0\0\x01\0\0\0\0\0\0\0\0\0\0\0\0\0";
 
-// The data of a tunnel as they are written.
+// The canonical text of the tunnel's data.
 const VXLAN_WRITTEN: &[u8] =
     b"\0\0\0\0\0\0\0\0\0\0\0\0\0\0\0\0\x20\0\x12\0\x0a\0\x01\0vxlan\0\0\0\x10\0\x02\0\x05\0\
     \x07\0\x01\0\0\0\x04\0\x17\0";
@@ -100,7 +100,7 @@ const VXLAN_WRITTEN: &[u8] =
 // Virtual functions without the attribute that is dropped.
 const KEPT: &[u8] = b"\0\0\0\0\0\0\0\0\0\0\0\0\0\0\0\0\x08\0\x16\0\x04\0\x01\0";
 
-// A name and a mask, exchanged.
+// A name and a mask in reverse order.
 const EXCHANGED: &[u8] =
     b"\0\0\0\0\0\0\0\0\0\0\0\0\0\0\0\0\x07\0\x03\0lo\0\0\x08\0\x1d\0\x09\0\0\0";
 

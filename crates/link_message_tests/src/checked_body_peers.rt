@@ -4,14 +4,14 @@ use super::messages::canonical;
 use link_message::{BodyMeasure, check, same};
 use std::test::Fail;
 
-// A pair whose peer has a name without a NUL, and as it is written.
+// A pair whose peer has a name without a NUL, and its canonical text.
 const PEER: &[u8] = b"\0\0\0\0\0\0\0\0\0\0\0\0\0\0\0\0\x2e\0\x12\0\x09\0\x01\0veth\0\0\0\0\
     \x1e\0\x02\0\x1a\0\x01\0\0\0\0\0\0\0\0\0\0\0\0\0\0\0\0\0\x06\0\x03\0lo";
 
 const PEER_WRITTEN: &[u8] = b"\0\0\0\0\0\0\0\0\0\0\0\0\0\0\0\0\x30\0\x12\0\x09\0\x01\0veth\0\0\0\0\
     \x20\0\x02\0\x1c\0\x01\0\0\0\0\0\0\0\0\0\0\0\0\0\0\0\0\0\x07\0\x03\0lo\0\0";
 
-// The same with another second byte in the peer's header, and one whose peer has another name.
+// The same pair with another second byte in the peer's header, and one whose peer has another name.
 const PEER_OTHERWISE: &[u8] =
     b"\0\0\0\0\0\0\0\0\0\0\0\0\0\0\0\0\x2e\0\x12\0\x09\0\x01\0veth\0\0\0\0\
     \x1e\0\x02\0\x1a\0\x01\0\0\x05\0\0\0\0\0\0\0\0\0\0\0\0\0\0\x06\0\x03\0lo";
@@ -19,8 +19,8 @@ const PEER_OTHERWISE: &[u8] =
 const OTHER_PEER: &[u8] = b"\0\0\0\0\0\0\0\0\0\0\0\0\0\0\0\0\x2e\0\x12\0\x09\0\x01\0veth\0\0\0\0\
     \x1e\0\x02\0\x1a\0\x01\0\0\0\0\0\0\0\0\0\0\0\0\0\0\0\0\0\x06\0\x03\0l1";
 
-// A pair whose peer has fifteen bytes, fewer than a header, and a body with that pair as the peer of
-// another, and its text.
+// A pair whose peer has fifteen bytes, fewer than a header; a body with that pair as the peer of
+// another; and its text.
 const CUT_PEER: &[u8] = b"\0\0\0\0\0\0\0\0\0\0\0\0\0\0\0\0\x27\0\x12\0\x09\0\x01\0veth\0\0\0\0\
     \x17\0\x02\0\x13\0\x01\0\0\0\0\0\0\0\0\0\0\0\0\0\0\0\0";
 
@@ -35,7 +35,7 @@ const CUT_INSIDE_WRITTEN: &[u8] =
     \x28\0\x12\0\x09\0\x01\0veth\0\0\0\0\
     \x18\0\x02\0\x13\0\x01\0\0\0\0\0\0\0\0\0\0\0\0\0\0\0\0\0";
 
-// The first two bodies as the peers of others, which are bytes inside a peer.
+// The first two bodies as the peers of others: peers inside a peer are bytes.
 const INSIDE: &[u8] = b"\0\0\0\0\0\0\0\0\0\0\0\0\0\0\0\0\x56\0\x12\0\x09\0\x01\0veth\0\0\0\0\
     \x46\0\x02\0\x42\0\x01\0\0\0\0\0\0\0\0\0\0\0\0\0\0\0\0\0\
     \x2e\0\x12\0\x09\0\x01\0veth\0\0\0\0\
@@ -47,7 +47,7 @@ const INSIDE_WRITTEN: &[u8] =
     \x30\0\x12\0\x09\0\x01\0veth\0\0\0\0\
     \x20\0\x02\0\x1c\0\x01\0\0\0\0\0\0\0\0\0\0\0\0\0\0\0\0\0\x07\0\x03\0lo\0\0";
 
-// A pair whose peer has ports of which nothing is kept.
+// A pair whose peer has ports of which no entry is kept.
 const EMPTY_PORTS: &[u8] = b"\0\0\0\0\0\0\0\0\0\0\0\0\0\0\0\0\x30\0\x12\0\x09\0\x01\0veth\0\0\0\0\
     \x20\0\x02\0\x1c\0\x01\0\0\0\0\0\0\0\0\0\0\0\0\0\0\0\0\0\x08\0\x18\0\x04\0\x07\0";
 

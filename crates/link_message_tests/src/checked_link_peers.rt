@@ -5,19 +5,20 @@ use link_info::{PeerRule, check_list, check_list_with, same_list, same_list_with
 use link_message::LinkPeer;
 use std::test::Fail;
 
-// A body with a name, as it is written.
+// A canonical body with a name.
 const BODY: &[u8] = b"\0\0\0\0\0\0\0\0\0\0\0\0\0\0\0\0\x09\0\x03\0eth0\0\0\0\0";
 
-// The same body without the NUL behind its name.
+// The same body without the NUL after its name.
 const BODY_SHORTER: &[u8] = b"\0\0\0\0\0\0\0\0\0\0\0\0\0\0\0\0\x08\0\x03\0eth0";
 
-// The same with other padding, and another second byte in its header.
+// The same body with other padding, and another second byte in its header.
 const BODY_PADDED: &[u8] = b"\0\x05\0\0\0\0\0\0\0\0\0\0\0\0\0\0\x09\0\x03\0eth0\0***";
 
-// A body with ports of which nothing is kept.
+// A body with ports of which no entry is kept.
 const EMPTY_PORTS: &[u8] = b"\0\0\0\0\0\0\0\0\0\0\0\0\0\0\0\0\x08\0\x18\0\x04\0\x07\0";
 
-// Pairs whose peers are these, one whose peer has another name, and one whose peer has three bytes.
+// Pairs with these bodies as peers, one whose peer has another name, and one whose peer has three
+// bytes.
 const VETH: &[u8] = b"\x09\0\x01\0veth\0\0\0\0\x24\0\x02\0\x20\0\x01\0\
     \0\0\0\0\0\0\0\0\0\0\0\0\0\0\0\0\x09\0\x03\0eth0\0\0\0\0";
 
@@ -68,7 +69,7 @@ fn peers_are_compared_as_bodies(rt: HostRuntime) {
     }
 }
 
-// Headers that are cut short: up to the layer type, before it, and a byte behind it.
+// Headers that are cut short: after the layer type, before it, and a byte after it.
 #[test]
 fn bytes_under_a_header_are_compared(rt: HostRuntime) {
     for (left, right, is_same) in [

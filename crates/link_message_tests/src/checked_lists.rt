@@ -12,7 +12,7 @@ const NO_KIND: &[u8] = b"\x04\0\x02\0";
 
 #[test]
 fn lists_are_counted(rt: HostRuntime) {
-    // The longest name, which is written with a NUL more than fits.
+    // The longest name, whose canonical text has one NUL too many to fit.
     let mut name = [0x61u8; 65535];
     name[..4].copy_from_slice(b"\xff\xff\x01\0");
     for (bytes, told) in [
@@ -25,11 +25,11 @@ fn lists_are_counted(rt: HostRuntime) {
     }
 }
 
-// The same link without the NUL behind its name, and with flag bits.
+// The same link without the NUL after its name, and with flag bits.
 const XFRM_OTHERWISE: &[u8] = b"\x08\0\x01\0xfrm\
     \x14\0\x02\0\x08\0\x01\x40\x02\0\0\0\x08\0\x02\x80\x0a\0\0\0";
 
-// One whose data stand the other way round.
+// The same link with its data in reverse order.
 const XFRM_EXCHANGED: &[u8] = b"\x08\0\x01\0xfrm\
     \x14\0\x02\0\x08\0\x02\0\x0a\0\0\0\x08\0\x01\0\x02\0\0\0";
 
@@ -38,7 +38,7 @@ const UNLISTED: &[u8] = b"\x05\0\x46\xc0\x01\0\0\0";
 
 const UNLISTED_NESTED: &[u8] = b"\x05\0\x46\x80\x01\0\0\0";
 
-// A tunnel whose lifetime is inherited by a flag, and by a byte.
+// A tunnel whose TTL is inherited, by a flag and by a byte.
 const TTL_FLAG: &[u8] = b"\x0a\0\x01\0vxlan\0\0\0\x08\0\x02\0\x04\0\x1c\0";
 
 const TTL_BYTE: &[u8] = b"\x0a\0\x01\0vxlan\0\0\0\x0c\0\x02\0\x05\0\x1c\0\0\0\0\0";

@@ -1,4 +1,4 @@
-//! Link info under a rule of peers of a caller's own.
+//! Link info under a caller's own rule of peers.
 
 ghost use Rattle.link_message_tests.specs.FrontPeers.{front_peer};
 
@@ -10,10 +10,10 @@ use netlink_packet_core::DecodeError;
 use std::alloc::Global;
 use std::test::Fail;
 
-// The bytes that count of a peer.
+// The number of a peer's bytes that count.
 const FRONT: usize = 4;
 
-// Peers of which the first four bytes count, the header of an attribute.
+// A rule of peers of which only the first four bytes count, the header of an attribute.
 #[derive(Clone, Copy)]
 struct FrontPeer;
 
@@ -47,7 +47,8 @@ const VETH: &[u8] = b"\x09\0\x01\0veth\0\0\0\0\x10\0\x02\0\x0a\0\x01\0abcdef\0\0
 
 const VETH_SHORT: &[u8] = b"\x09\0\x01\0veth\0\0\0\0\x0c\0\x02\0\x07\0\x01\0abc\0";
 
-// The same of netkit, the first with an attribute behind its peer: whether it is the primary end.
+// The same pairs as netkit, the first with an attribute after its peer: whether it is the primary
+// end.
 const NETKIT: &[u8] =
     b"\x0b\0\x01\0netkit\0\0\x18\0\x02\0\x0a\0\x01\0abcdef\0\0\x05\0\x02\0\x01\0\0\0";
 
@@ -73,7 +74,7 @@ fn peers_are_counted_by_the_rule(rt: HostRuntime) {
     }
 }
 
-// The first pair with other bytes behind the four, and with others among them.
+// The first pair with other bytes after the four, and with others among them.
 const VETH_BEHIND: &[u8] = b"\x09\0\x01\0veth\0\0\0\0\x10\0\x02\0\x09\0\x01\0abcdX\0\0\0";
 
 const VETH_AMONG: &[u8] = b"\x09\0\x01\0veth\0\0\0\0\x10\0\x02\0\x0a\0\x01\0abcXef\0\0";

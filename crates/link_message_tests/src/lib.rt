@@ -1,5 +1,6 @@
-// Calls of link messages that the pages quote, and worked cases of link messages and of what checks and compares them on their
-// bytes, as tests. The wanted values come from outside this project's code.
+// Calls on link messages that the pages quote, and tests of link messages and of the checks on
+// their bytes, in a crate of their own, since a crate with tests is proved twice. The expected
+// values come from outside this project's code.
 #![tactic(auto)]
 
 #[cfg(test)]

@@ -1,4 +1,4 @@
-//! Bodies of link messages: what they are read as, and written as.
+//! Bodies of link messages, read and written.
 
 use super::values::{is_refused, is_value};
 use crate::callers::{request_by_name, with_mtu, written};
@@ -15,11 +15,11 @@ use std::test::Fail;
 const REQUEST: &[u8] = b"\0\0\0\0\0\0\0\0\0\0\0\0\0\0\0\0\
     \x08\0\x1d\0\x09\0\0\0\x07\0\x03\0lo\0\0";
 
-// A VXLAN: it learns, told by the byte 5, and has group policies, told with a byte.
+// A VXLAN whose learning is switched on by the byte 5, and whose group policy flag has a byte.
 const VXLAN: &[u8] = b"\x24\0\x12\0\x0a\0\x01\0vxlan\0\0\0\
     \x14\0\x02\0\x05\0\x07\0\x05\0\0\0\x05\0\x17\0\xaa\0\0\0";
 
-// The same as it is written.
+// The canonical text of the VXLAN.
 const VXLAN_TEXT: &[u8] = b"\x20\0\x12\0\x0a\0\x01\0vxlan\0\0\0\
     \x10\0\x02\0\x05\0\x07\0\x01\0\0\0\x04\0\x17\0";
 
@@ -27,7 +27,7 @@ const VXLAN_TEXT: &[u8] = b"\x20\0\x12\0\x0a\0\x01\0vxlan\0\0\0\
 const VETH: &[u8] = b"\x2e\0\x12\0\x09\0\x01\0veth\0\0\0\0\x1e\0\x02\0\x1a\0\x01\0\
     \0\0\0\0\0\0\0\0\0\0\0\0\0\0\0\0\x06\0\x03\0lo";
 
-// The same as it is written.
+// The canonical text of the veth.
 const VETH_TEXT: &[u8] = b"\x30\0\x12\0\x09\0\x01\0veth\0\0\0\0\x20\0\x02\0\x1c\0\x01\0\
     \0\0\0\0\0\0\0\0\0\0\0\0\0\0\0\0\x07\0\x03\0lo\0\0";
 
@@ -40,7 +40,7 @@ const VETH_TWICE: &[u8] = b"\x4f\0\x12\0\x09\0\x01\0veth\0\0\0\0\x3f\0\x02\0\x3b
     \x27\0\x12\0\x09\0\x01\0veth\0\0\0\0\x17\0\x02\0\x13\0\x01\0\
     \0\0\0\0\0\0\0\0\0\0\0\0\0\0\0";
 
-// The same as it is written.
+// The canonical text of this veth.
 const VETH_TWICE_TEXT: &[u8] = b"\x50\0\x12\0\x09\0\x01\0veth\0\0\0\0\x40\0\x02\0\x3c\0\x01\0\
     \0\0\0\0\0\0\0\0\0\0\0\0\0\0\0\0\
     \x28\0\x12\0\x09\0\x01\0veth\0\0\0\0\x18\0\x02\0\x13\0\x01\0\
@@ -51,10 +51,10 @@ const PEER_TWICE: &[u8] = b"\0\0\0\0\0\0\0\0\0\0\0\0\0\0\0\0\
     \x28\0\x12\0\x09\0\x01\0veth\0\0\0\0\x18\0\x02\0\x13\0\x01\0\
     \0\0\0\0\0\0\0\0\0\0\0\0\0\0\0\0";
 
-// Attributes, the bytes that their peer is held as, and whether these are read as a message.
+// Attributes, the bytes of their peer, and whether these are read as a message.
 const PEERS: [(&[u8], &[u8], bool); 2] = [(VETH, PEER, true), (VETH_TWICE, PEER_TWICE, false)];
 
-// Attributes, and what they are written as.
+// Attributes, and their canonical text.
 const REWRITTEN: [(&[u8], &[u8]); 18] = [
     // flag bits and padding of a name
     (b"\x07\0\x03\x80lo\0\xff", b"\x07\0\x03\0lo\0\0"),
@@ -70,7 +70,7 @@ const REWRITTEN: [(&[u8], &[u8]); 18] = [
     (b"\x07\0\x03\xc0lo\0", b"\x07\0\x03\0lo\0\0"),
     // a number with both flag bits
     (b"\x08\0\x04\xc0\xdc\x05\0\0", b"\x08\0\x04\0\xdc\x05\0\0"),
-    // a kind that isn't listed keeps them, each for itself
+    // a kind that isn't listed keeps both flag bits
     (b"\x05\0\x46\xc0\x01", b"\x05\0\x46\xc0\x01\0\0\0"),
     (b"\x05\0\x46\x80\x01", b"\x05\0\x46\x80\x01\0\0\0"),
     (b"\x05\0\x46\x40\x01", b"\x05\0\x46\x40\x01\0\0\0"),
@@ -91,7 +91,7 @@ const REWRITTEN: [(&[u8], &[u8]); 18] = [
     (VETH, VETH_TEXT),
     // a peer inside a peer is kept as bytes
     (VETH_TWICE, VETH_TWICE_TEXT),
-    // the peer of a netkit, which stands in a list
+    // the peer of a netkit, which is in a list
     (
         b"\x2e\0\x12\0\x0b\0\x01\0netkit\0\0\x1e\0\x02\0\x1a\0\x01\0\
     \0\0\0\0\0\0\0\0\0\0\0\0\0\0\0\0\x06\0\x03\0lo",
@@ -100,14 +100,14 @@ const REWRITTEN: [(&[u8], &[u8]); 18] = [
     ),
 ];
 
-// Headers without attributes, and what they are written as.
+// Headers without attributes, and their canonical text.
 const HEADERS: [(&[u8], &[u8]); 2] = [
     // a second byte that isn't 0, and a layer type without a name
     (
         b"\0\x05\x09\0\0\0\0\0\0\0\0\0\0\0\0\0",
         b"\0\0\xff\xff\0\0\0\0\0\0\0\0\0\0\0\0",
     ),
-    // each field, and a layer type for none
+    // each field, and a layer type for no link layer
     (
         b"\0\0\xfe\xff\x10\0\0\0\x90\x10\0\0\0\0\0\0",
         b"\0\0\xfe\xff\x10\0\0\0\x90\x10\0\0\0\0\0\0",
@@ -121,7 +121,7 @@ const SHORT: [&[u8]; 3] = [b"", b"\x11\0\0\0", b"\0\0\0\0\0\0\0\0\0\0\0\0\0\0\0"
 const REFUSED: [&[u8]; 9] = [
     // link info without an attribute
     b"\x04\0\x12\0",
-    // a kind is in force in its own link info alone
+    // a kind is in force only in its own link info
     b"\x10\0\x12\0\x09\0\x01\0xfrm\0\0\0\0\x10\0\x12\0\x0c\0\x02\0\x08\0\x01\0\x02\0\0\0",
     // data of a port without its kind
     b"\x08\0\x12\0\x04\0\x05\0",
@@ -143,31 +143,31 @@ const REFUSED: [&[u8]; 9] = [
 
 // Attributes, and whether their list of ports has no port, which is an entry of kind 1.
 const PORTS: [(&[u8], bool); 5] = [
-    // another entry alone
+    // only another entry
     (b"\x08\0\x18\0\x04\0\x05\0", true),
-    // behind another attribute
+    // after another attribute
     (b"\x08\0\x04\0\xdc\x05\0\0\x08\0\x18\x80\x04\0\x05\0", true),
     // a port
     (b"\x08\0\x18\0\x04\0\x01\0", false),
-    // a port behind another entry
+    // a port after another entry
     (b"\x0c\0\x18\0\x04\0\x05\0\x04\0\x01\0", false),
     // no list of ports
     (b"\x08\0\x04\0\xdc\x05\0\0", false),
 ];
 
-/// A body of no family, about all links.
+/// Returns a body of AF_UNSPEC, about all links.
 fn body(alloc: Global, attributes: &[u8]) -> Result<Vec<u8>, Fail> {
     let mut bytes = Vec::from_elem(alloc, 0u8, LINK_HEADER_LEN)?;
     bytes.extend_from_slice(attributes)?;
     Ok(bytes)
 }
 
-/// What a body is written as.
+/// Returns the bytes as which the message of a body is written.
 fn rewritten(alloc: Global, bytes: &[u8]) -> Result<Vec<u8>, Fail> {
     Ok(written(alloc, &LinkMessage::parse(alloc, bytes)?)?)
 }
 
-/// The canonical text of a body, straight from its bytes.
+/// Returns the canonical text of a body, made from its bytes.
 pub(crate) fn canonical(alloc: Global, bytes: &[u8]) -> Result<Vec<u8>, Fail> {
     let Ok(found) = check(bytes) else {
         return Err(Fail::from("refused"));
@@ -183,17 +183,17 @@ pub(crate) fn canonical(alloc: Global, bytes: &[u8]) -> Result<Vec<u8>, Fail> {
     Ok(out)
 }
 
-/// Whether a body is written as this text, by its message and straight from its bytes.
+/// Returns whether a body is written as this text, by its message and from its bytes.
 fn has_text(alloc: Global, bytes: &[u8], text: &[u8]) -> Result<bool, Fail> {
     Ok(rewritten(alloc, bytes)?.as_slice() == text && canonical(alloc, bytes)?.as_slice() == text)
 }
 
-/// Whether attributes of a body have a list of ports without a port.
+/// Returns whether attributes of a body have a list of ports without a port.
 fn have_empty_ports(alloc: Global, attributes: &[u8]) -> Result<bool, Fail> {
     Ok(LinkMessage::parse(alloc, &body(alloc, attributes)?)?.has_empty_ports())
 }
 
-/// A message of this family about all links, with this attribute.
+/// Returns a message of this family about all links, with this attribute.
 fn message_with(
     alloc: Global,
     family: AddressFamily,
@@ -207,13 +207,13 @@ fn message_with(
     })
 }
 
-/// What a message of this family is written as, with an MTU of 1500.
+/// Returns the bytes of a message of this family, with an MTU of 1500.
 fn written_under(alloc: Global, family: AddressFamily) -> Result<Vec<u8>, Fail> {
     let message = message_with(alloc, family, LinkAttribute::Mtu(1500))?;
     Ok(written(alloc, &message)?)
 }
 
-/// How many bytes a message with a name of so many bytes has; none, if it doesn't fit.
+/// Returns the size of a message with a name of `size` bytes; none if it doesn't fit.
 fn size_with_name(alloc: Global, size: usize) -> Result<Option<usize>, Fail> {
     let Ok(name) = String::from_utf8(Vec::from_elem(alloc, b'a', size)?) else {
         return Err(Fail::from("a name of ASCII"));
@@ -222,7 +222,7 @@ fn size_with_name(alloc: Global, size: usize) -> Result<Option<usize>, Fail> {
     Ok(message.fits().then_some(message.buffer_len()))
 }
 
-/// Whether link info is that of a VXLAN with these data.
+/// Returns whether link info is that of a VXLAN with these data.
 fn are_vxlan(infos: &[LinkInfo], data: &[InfoVxlan]) -> bool {
     match infos {
         [
@@ -233,7 +233,7 @@ fn are_vxlan(infos: &[LinkInfo], data: &[InfoVxlan]) -> bool {
     }
 }
 
-/// Whether the data of a link are this peer of a veth.
+/// Returns whether the data of a link are this peer of a veth.
 fn is_peer(data: &InfoData, peer: &[u8]) -> bool {
     match data {
         InfoData::Veth(InfoVeth::Peer(found)) => found.as_slice() == peer,
@@ -241,7 +241,7 @@ fn is_peer(data: &InfoData, peer: &[u8]) -> bool {
     }
 }
 
-/// Whether link info is that of a veth with this peer.
+/// Returns whether link info is that of a veth with this peer.
 fn is_veth(infos: &[LinkInfo], peer: &[u8]) -> bool {
     match infos {
         [LinkInfo::Kind(InfoKind::Veth), LinkInfo::Data(data)] => is_peer(data, peer),
@@ -249,7 +249,7 @@ fn is_veth(infos: &[LinkInfo], peer: &[u8]) -> bool {
     }
 }
 
-/// Whether attributes are read as such link info.
+/// Returns whether attributes are read as such link info.
 fn are_veth(alloc: Global, attributes: &[u8], peer: &[u8]) -> Result<bool, Fail> {
     let message = LinkMessage::parse(alloc, &body(alloc, attributes)?)?;
     match message.attributes.as_slice() {
@@ -258,7 +258,7 @@ fn are_veth(alloc: Global, attributes: &[u8], peer: &[u8]) -> Result<bool, Fail>
     }
 }
 
-/// Whether a list is read as such link info by itself, under the rule of peers.
+/// Returns whether a list alone is read as such link info, under the rule of peers.
 fn is_list_of_veth(alloc: Global, list: &[u8], peer: &[u8]) -> bool {
     match LinkInfo::parse_list_with(alloc, list, &LinkPeer) {
         Ok(infos) => is_veth(&infos, peer),
@@ -266,14 +266,14 @@ fn is_list_of_veth(alloc: Global, list: &[u8], peer: &[u8]) -> bool {
     }
 }
 
-/// Whether a payload is read as the data in it by themselves, under the rule of peers.
+/// Returns whether a payload alone is read as the data, under the rule of peers.
 fn are_data_of_veth(alloc: Global, payload: &[u8], peer: &[u8]) -> Result<bool, Fail> {
     let wanted = InfoData::Veth(InfoVeth::Peer(Vec::from_slice(alloc, peer)?));
     let data = InfoData::parse_with_peers(alloc, payload, &InfoKind::Veth, &LinkPeer);
     Ok(is_value(data, wanted))
 }
 
-/// Whether a body is read as a message with this name alone.
+/// Returns whether a body is read as a message with only this name.
 fn is_named(alloc: Global, bytes: &[u8], name: &str) -> Result<bool, Fail> {
     let message = LinkMessage::parse(alloc, bytes)?;
     match message.attributes.as_slice() {
@@ -318,8 +318,8 @@ fn link_info_is_typed(rt: HostRuntime) -> Result<(), Fail> {
     Ok(())
 }
 
-/// A peer is held as it is written, and so it is by itself under the rule of peers. Read as a
-/// message, it is judged as one, with the peers in it.
+/// A peer is held as its canonical text, also if it is read alone under the rule of peers. Read as
+/// a message, it is judged as one, with the peers in it.
 #[test]
 fn peers_are_messages(rt: HostRuntime) -> Result<(), Fail> {
     for (attributes, peer, is_message) in PEERS {
@@ -410,7 +410,7 @@ fn a_name_of_65530_bytes_fits(rt: HostRuntime) -> Result<(), Fail> {
     Ok(())
 }
 
-/// The number of a bridge in `Other` is written as that number, which names a bridge.
+/// The number of a bridge in `Other` is written as that number, which is read as a bridge.
 #[test]
 fn a_family_is_written_as_its_number(rt: HostRuntime) -> Result<(), Fail> {
     let bytes = written_under(rt.alloc(), AddressFamily::Other(7))?;

@@ -1,3 +1,5 @@
+//! Lists inside attributes of links, read and written.
+
 use super::values::{is_value, mctp, virtual_function};
 use attribute_tables::parse_family;
 use link_message::{AddressFamily, LinkAttribute};
@@ -12,7 +14,7 @@ use std::alloc::Global;
 use std::net::Ipv6Addr;
 use std::test::Fail;
 
-/// Whether values are written as these bytes, 64 at most.
+/// Returns whether values are written as these bytes, at most 64.
 pub(crate) fn are_written_as<N: Nla>(values: &[N], bytes: &[u8]) -> bool {
     let mut text = [0xffu8; 64];
     let size = len_all(values);
@@ -23,7 +25,7 @@ pub(crate) fn are_written_as<N: Nla>(values: &[N], bytes: &[u8]) -> bool {
     &text[..size] == bytes
 }
 
-/// Whether a list is read as these values, and written from them again.
+/// Returns whether a list is read as these values, and written back from them.
 fn is_list_of<F>(alloc: Global, bytes: &[u8], values: &[F]) -> bool
 where
     F: Family + PartialEq + Drop,
@@ -95,13 +97,13 @@ fn what_inet6_tells_is_kept(rt: HostRuntime) -> Result<(), Fail> {
     Ok(())
 }
 
-/// A list of one attribute that is kept as it is: kind 0x8001, and a byte 7.
+/// Returns a list of one attribute that is kept unchanged: kind 0x8001, and a byte 7.
 fn kept(alloc: Global) -> Result<Vec<DefaultNla>, Fail> {
     let nla = DefaultNla::new(0x8001, [7u8].to_vec(alloc)?);
     Ok(vec![in alloc; nla]?)
 }
 
-/// Whether a list is read as what these families tell, and written from it again.
+/// Returns whether a list is read as these families, and written back from them.
 fn are_families(alloc: Global, bytes: &[u8], values: &[AfSpecUnspec]) -> bool {
     match parse_families(alloc, bytes) {
         Ok(list) => list.as_slice() == values && are_written_as(&list, bytes),
@@ -141,7 +143,8 @@ fn settings_are_requested(rt: HostRuntime) {
     assert!(rt; are_written_as(request, bytes));
 }
 
-/// Whether an attribute is read in a list under a family as this value, and written from it again.
+/// Returns whether an attribute in a list under a family is read as this value, and written back
+/// from it.
 fn is_attribute(alloc: Global, family: AddressFamily, bytes: &[u8], value: &LinkAttribute) -> bool {
     let Ok(list) = LinkAttribute::parse_list(alloc, bytes, family) else {
         return false;
@@ -152,7 +155,7 @@ fn is_attribute(alloc: Global, family: AddressFamily, bytes: &[u8], value: &Link
     }
 }
 
-/// The first attribute that isn't read so under its family.
+/// Returns the first attribute that isn't read so under its family.
 fn first_wrong<'a>(
     alloc: Global,
     cases: &[(AddressFamily, &'a [u8], LinkAttribute)],
@@ -208,7 +211,7 @@ fn rows_go_by_the_family(rt: HostRuntime) -> Result<(), Fail> {
     Ok(())
 }
 
-/// A port with an attribute that is kept as it is, of the kind 7 and without a byte.
+/// Returns a port with an attribute that is kept unchanged, of kind 7 and without a byte.
 fn port(alloc: Global) -> Result<LinkVfPort, Fail> {
     let nla = DefaultNla::new(7, Vec::new(alloc));
     Ok(LinkVfPort(vec![in alloc; VfPort::Other(nla)]?))

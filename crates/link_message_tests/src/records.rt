@@ -1,4 +1,4 @@
-//! Records by the names of what they hold.
+//! Records by the names of their fields.
 
 use link_message::{
     Icmp6Stats, Icmp6StatsBuffer, Inet6CacheInfo, Inet6CacheInfoBuffer, Inet6DevConf,
@@ -11,7 +11,7 @@ use link_message::{
 };
 use link_message_types::RecordBuffer;
 
-// The numbers of a record, each the place where it stands.
+// The numbers of a record, each of which is its index.
 const PLACES: [u64; 25] = [
     0, 1, 2, 3, 4, 5, 6, 7, 8, 9, 10, 11, 12, 13, 14, 15, 16, 17, 18, 19, 20, 21, 22, 23, 24,
 ];
@@ -49,7 +49,7 @@ fn statistics_have_the_kernels_names(rt: HostRuntime) {
     assert!(rt; named == PLACES);
 }
 
-// The places of settings and numbers, in the order of the kernel's headers.
+// The indexes of settings and numbers, in the order of the kernel's headers.
 const INET: [usize; 33] = [
     InetDevConf::FORWARDING,
     InetDevConf::MC_FORWARDING,
@@ -199,7 +199,7 @@ const ICMP6_STATS: [usize; 7] = [
     Icmp6Stats::RATELIMITHOST,
 ];
 
-/// Whether each place is one behind the place before it, from 0 on.
+/// Returns whether each index is one more than that before it, from 0 on.
 fn are_in_order(places: &[usize]) -> bool {
     for (at, place) in places.iter().enumerate() {
         if at != *place {
@@ -209,7 +209,8 @@ fn are_in_order(places: &[usize]) -> bool {
     true
 }
 
-/// `IPV4_DEVCONF_*` of linux/ip.h, `DEVCONF_*` of linux/ipv6.h, `IPSTATS_MIB_*` and `ICMP6_MIB_*` of linux/snmp.h.
+/// `IPV4_DEVCONF_*` of linux/ip.h, `DEVCONF_*` of linux/ipv6.h, `IPSTATS_MIB_*` and `ICMP6_MIB_*`
+/// of linux/snmp.h.
 #[test]
 fn settings_stand_where_the_kernel_has_them(rt: HostRuntime) {
     for places in [
@@ -236,7 +237,8 @@ type Buffers = (
     ),
 );
 
-/// The same by the sizes in bytes of the kernel's structs (if_link.h, linux/ip.h, linux/ipv6.h, linux/snmp.h).
+/// The same buffers by the sizes in bytes of the kernel's structs (if_link.h, linux/ip.h,
+/// linux/ipv6.h, linux/snmp.h).
 type KernelBuffers = (
     (
         RecordBuffer<Stats, 96>,
@@ -270,7 +272,7 @@ type KernelBuffers = (
     ),
 );
 
-/// A buffer of another size would be of another type.
+/// The types are equal only if the sizes of the buffers are.
 pub fn buffers_have_the_kernels_sizes(buffers: Buffers) -> KernelBuffers {
     buffers
 }

@@ -1,5 +1,5 @@
-//! Single attributes by their own readers, which stand beside those of lists. The bytes are written by hand from
-//! if_link.h and mctp.h.
+//! Single attributes by their own readers, which exist beside those of lists. The bytes are written
+//! by hand from if_link.h and mctp.h.
 
 use super::values::{is_value, mctp, virtual_function, vlan_list};
 use link_message_nested::{
@@ -12,13 +12,13 @@ use std::test::Fail;
 /// An attribute of the kind 99, which no table has, and a byte.
 const UNLISTED: [u8; 8] = [5, 0, 99, 0, 7, 0, 0, 0];
 
-/// What is kept of it.
+/// Returns the value as which it is kept.
 fn unlisted(alloc: Global) -> Result<DefaultNla, Fail> {
     Ok(DefaultNla::new(99, [7u8].to_vec(alloc)?))
 }
 
-/// `IFLA_VF_INFO` with `IFLA_VF_VLAN_LIST`, and in it `IFLA_VF_VLAN_INFO`: the function 0, the VLAN 100, no priority, and
-/// 802.1Q, big-endian.
+/// `IFLA_VF_INFO` with `IFLA_VF_VLAN_LIST`, and in it `IFLA_VF_VLAN_INFO`: the function 0, the VLAN
+/// 100, no priority, and 802.1Q, big-endian.
 const FUNCTION: [u8; 28] = [
     28, 0, 1, 0, 24, 0, 12, 0, 20, 0, 1, 0, 0, 0, 0, 0, 100, 0, 0, 0, 0, 0, 0, 0, 129, 0, 0, 0,
 ];
@@ -48,7 +48,7 @@ fn ports_are_read(rt: HostRuntime) -> Result<(), Fail> {
     Ok(())
 }
 
-/// Whether an attribute is a virtual function, and whether it is a port.
+/// Returns whether an attribute is read as a virtual function, and whether as a port.
 fn are_read(alloc: Global, bytes: &[u8]) -> Result<[bool; 2], DecodeError> {
     let buffer = NlaBuffer::new_checked(bytes)?;
     Ok([

@@ -1,3 +1,5 @@
+//! Number types, sets of flags and headers of link messages.
+
 use link_message_types::{
     AddressFamily, Flags, In6AddrGenMode, LinkEvent, LinkExtentMask, LinkFlags, LinkHeader,
     LinkLayerType, LinkMessageBuffer, LinkMode, LinkPhysId, MctpPhysBinding, State, VfLinkState,

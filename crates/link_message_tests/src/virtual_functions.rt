@@ -1,3 +1,5 @@
+//! Virtual functions and their ports, read and written.
+
 use super::nested::are_written_as;
 use super::values::{is_value, virtual_function};
 use attribute_tables::{parse_entries, parse_ports};
@@ -6,7 +8,7 @@ use link_message_records::VfInfoMac;
 use std::alloc::Global;
 use std::test::Fail;
 
-/// Virtual functions, and what they are written as.
+/// Virtual functions, and their canonical text.
 const REWRITTEN: [(&[u8], &[u8]); 4] = [
     (&FUNCTION, &FUNCTION_TEXT),
     (
@@ -22,12 +24,12 @@ const FUNCTION: [u8; 26] = [
     26, 0, 1, 0, 22, 0, 12, 0, 18, 0, 1, 0, 0, 0, 0, 0, 100, 0, 0, 0, 0, 0, 0, 0, 129, 0,
 ];
 
-/// The same as it is written.
+/// Its canonical text.
 const FUNCTION_TEXT: [u8; 28] = [
     28, 0, 1, 0, 24, 0, 12, 0, 20, 0, 1, 0, 0, 0, 0, 0, 100, 0, 0, 0, 0, 0, 0, 0, 129, 0, 0, 0,
 ];
 
-/// Whether virtual functions are written as these bytes.
+/// Returns whether virtual functions are written as these bytes.
 fn are_rewritten(alloc: Global, bytes: &[u8], text: &[u8]) -> bool {
     match parse_entries(alloc, &LinkVfInfoReader, bytes) {
         Ok(functions) => are_written_as(&functions, text),
@@ -57,7 +59,7 @@ fn a_list_of_vlans_is_read(rt: HostRuntime) -> Result<(), Fail> {
     Ok(())
 }
 
-/// How many ports a list holds; none, where it is refused.
+/// Returns the number of ports that a list holds; none if it is refused.
 fn ports(alloc: Global, bytes: &[u8]) -> Option<usize> {
     match parse_ports(alloc, &LinkVfPortReader, bytes) {
         Ok(list) => Some(list.len()),

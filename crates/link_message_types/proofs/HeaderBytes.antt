@@ -23,12 +23,12 @@ length-link_header_bytes-append h r = omega (arith, length-append (link_header_b
 
 pub ruleset headers = (length-link_header_bytes, length-link_header_bytes-append)
 
--- the header's text, by places
+-- The header's text, by offsets.
 pub header_is : (b : List ℕ) → 16 ≤ length b → header_text b ≡ slice_index b 0 ∷ 0 ∷ layer_type_text (slice_index b 2) (slice_index b 3) ++ take 12 (drop 4 b)
 header_is (f ∷ x ∷ a ∷ b ∷ rest) h = refl
 header_is x h = absurd (omega arith)
 
--- the number of two bytes
+-- The number of two bytes.
 pub number_of : (n : ℕ) (p : List ℕ) → n < 2 ^ 16 → le2 n ≡ p → n ≡ u16_at 0 p
 number_of n p h e = sym (u16_at-le2 n []) ∙ ap (λ x. u16_at 0 x) (append-nil (le2 n) ∙ e)
 
@@ -37,12 +37,12 @@ unfolding le2
 layer_by n k l true p e q = ap (λ s. le2 (cond s n 65535)) p ∙ q ∙ sym (ap (λ s. cond s (k ∷ l ∷ []) (255 ∷ 255 ∷ [])) (ap is_listed (sym e) ∙ p))
 layer_by n k l false p e q = ap (λ s. le2 (cond s n 65535)) p ∙ sym (ap (λ s. cond s (k ∷ l ∷ []) (255 ∷ 255 ∷ [])) (ap is_listed (sym e) ∙ p))
 
--- the bytes of a layer type are those of the grammar
+-- The bytes of a layer type are those of the grammar.
 pub layer_bytes : (n : ℕ) (b : List ℕ) → n < 2 ^ 16 → 4 ≤ length b → le2 n ≡ take 2 (drop 2 b) → le2 (link_layer_type_number (link_layer_type_of n)) ≡ layer_type_text (slice_index b 2) (slice_index b 3)
 layer_bytes n (f ∷ x ∷ k ∷ l ∷ rest) h s e = ap le2 (layer_type_numbered n) ∙ layer_by n k l (is_listed n) refl (number_of n (k ∷ l ∷ []) h e ∙ u16_at-bytes k l []) e
 layer_bytes n x h s e = absurd (omega arith)
 
--- a header of these numbers has the text of the bytes
+-- A header of these numbers has the text of the bytes.
 pub header_text_of : (h : LinkHeader) (b : List ℕ) → 16 ≤ length b → address_family_number h.interface_family ≡ slice_index b 0 → le2 (link_layer_type_number h.link_layer_type) ≡ layer_type_text (slice_index b 2) (slice_index b 3) → le4 h.index ≡ take 4 (drop 4 b) → le4 (link_flags_bits h.flags) ≡ take 4 (drop 8 b) → le4 (link_flags_bits h.change_mask) ≡ take 4 (drop 12 b) → link_header_bytes h ≡ header_text b
 unfolding link_header_bytes
 header_text_of h b s f t i g m =
@@ -51,7 +51,7 @@ header_text_of h b s f t i g m =
     let text = header_is b s in
     cc
 
--- a header written into 16 bytes is all of them
+-- A header that is written into 16 bytes fills them.
 pub whole_header : (h : LinkHeader) (old new : List ℕ) → length old ≡ 16 → new ≡ link_header_bytes h ++ drop (length (link_header_bytes h)) old → new ≡ link_header_bytes h
 whole_header h old new l e =
     e ∙ ap (λ x. link_header_bytes h ++ x) (drop_of_length-le old (omega (arith, length-link_header_bytes h))) ∙ append-nil (link_header_bytes h)

@@ -9,7 +9,7 @@ use Rattle.link_message_grammar.specs.Body.{is_listed}
 use Rattle.link_message_types.specs.LinkLayerTypes.{link_layer_type_number, link_layer_type_of, listed_link_layer_types}
 use Rattle.link_message_types.specs.declared.link_layer_type.LinkLayerType.{LinkLayerType}
 
--- the number of a value found by its number
+-- The number of a value that is found by its number.
 numbered : {V : Type 0} (number : V → ℕ) (vs : List V) (w : V) (n : ℕ) → number (numbered_by number vs (λ _. w) n) ≡ cond (list_any (λ m. m == n) (map number vs)) n (number w)
 numbered number [] w n = refl
 numbered number (v ∷ vs) w n = by_test (number v == n) (n == number v) refl refl (numbered number vs w n)

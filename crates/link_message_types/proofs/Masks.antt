@@ -11,7 +11,7 @@ use Rattle.std.proofs.lemmas.Nat.Bits.{bit_at_and, bit_at_or, bit_at-lt, and_pow
 use Rattle.link_message_types.specs.ExtentMasks.{link_extent_mask_number, listed_link_extent_masks, set_extent_masks, other_extent_mask, link_extent_masks_of, joined_extent_masks}
 use Rattle.link_message_types.specs.declared.ext_mask.LinkExtentMask.{LinkExtentMask}
 
--- the bits of three numbers
+-- The bits of three numbers.
 or-assoc : (a b c : ℕ) → bit_or (bit_or a b) c ≡ bit_or a (bit_or b c)
 or-assoc a b c = same_from_bits _ _ (λ i. omega (arith, bit_at_or (bit_or a b) c i, bit_at_or a b i, bit_at_or a (bit_or b c) i, bit_at_or b c i))
 
@@ -22,7 +22,7 @@ joined-append : (xs ys : List LinkExtentMask) → joined_extent_masks (xs ++ ys)
 joined-append [] ys = sym (or_zero_l (joined_extent_masks ys))
 joined-append (x ∷ xs) ys = ap (λ t. bit_or (link_extent_mask_number x) t) (joined-append xs ys) ∙ sym (or-assoc (link_extent_mask_number x) (joined_extent_masks xs) (joined_extent_masks ys))
 
--- one bit of a number is there or not
+-- One bit of a number is set or not.
 bit_by : (n m b : ℕ) → b < 2 → bit_and n m ≡ b * m → (bit_and n m == 0) ≡ false → m ≡ bit_and n m
 bit_by n m zero h p e = absurd (grind (arith, nat_tests))
 bit_by n m (suc zero) h p e = omega arith
@@ -36,7 +36,7 @@ if_joined : (t : Bool) (v : LinkExtentMask) (vs : List LinkExtentMask) → joine
 if_joined true v vs = sym (or_zero_l (joined_extent_masks vs))
 if_joined false v vs = refl
 
--- a mask of one bit joins what the number has of it
+-- A mask of one bit joins that bit of the number.
 one : (v : LinkExtentMask) (vs : List LinkExtentMask) (n k : ℕ) → link_extent_mask_number v ≡ 2 ^ k → joined_extent_masks (set_extent_masks vs n) ≡ bit_and n (joined_extent_masks vs) → joined_extent_masks (set_extent_masks (v ∷ vs) n) ≡ bit_and n (joined_extent_masks (v ∷ vs))
 one v vs n k e more =
     let m = link_extent_mask_number v in
@@ -46,7 +46,7 @@ one v vs n k e more =
     ∙ ap (λ x. bit_or x (bit_and n (joined_extent_masks vs))) (bit_there n k m t e refl)
     ∙ sym (and-or n m (joined_extent_masks vs))
 
--- the listed masks from one on
+-- The listed masks from one on.
 abbrev from_mask : ℕ → List LinkExtentMask
 from_mask i = drop i listed_link_extent_masks
 
@@ -69,7 +69,7 @@ other_by n false e = or_zero_r n
 joined-other : (n : ℕ) → joined_extent_masks (other_extent_mask n) ≡ n
 joined-other n = other_by n (n == 0) refl
 
--- the bits of a number are those below the eighth and those from it on
+-- The bits of a number are those below the eighth and those from it on.
 part_bits : (n i : ℕ) → n < 2 ^ 32 → bit_at (bit_or (bit_and n 255) (bit_and n 0xffffff00)) i ≡ bit_at n i
 part_bits n i h = by_place (cases_lt i 8) (cases_lt i 32)
   where
@@ -88,7 +88,7 @@ masks_joined n h =
     ∙ ap (λ x. bit_or (bit_and n 255) x) (joined-other (bit_and n 0xffffff00))
     ∙ two_parts n h
 
--- a mask joined to what stands before it
+-- A mask joined to those before it.
 pub join_step : (n r : ℕ) (ms : List LinkExtentMask) (i : ℕ) (d : LinkExtentMask) → i < length ms → r ≡ link_extent_mask_number (get_or ms i d) → bit_or n (joined_extent_masks (drop i ms)) ≡ bit_or (bit_or n r) (joined_extent_masks (drop (i + 1) ms))
 join_step n r ms i d h e =
     rw add-one (ap (λ x. bit_or n (joined_extent_masks x)) (drop-cons ms i d h)

@@ -4,7 +4,7 @@ use Rattle.netlink_packet_core.specs.Named.{numbered_by}
 use Rattle.netlink_packet_core.specs.Numbers.{le4}
 use Rattle.link_message_types.specs.declared.event.LinkEvent.{LinkEvent}
 
--- the number of an event
+-- The number of an event.
 abbrev pub link_event_number : LinkEvent → ℕ
 link_event_number LinkEvent.None = 0
 link_event_number LinkEvent.Reboot = 1
@@ -15,6 +15,7 @@ link_event_number LinkEvent.IgmpResend = 5
 link_event_number LinkEvent.BondingOptions = 6
 link_event_number (LinkEvent.Other n) = n
 
+-- The events with a variant of their own.
 abbrev pub listed_link_events : List LinkEvent
 listed_link_events =
     LinkEvent.None ∷
@@ -26,9 +27,10 @@ listed_link_events =
     LinkEvent.BondingOptions ∷
     []
 
+-- The event of a number.
 abbrev pub link_event_of : ℕ → LinkEvent
 link_event_of n = numbered_by link_event_number listed_link_events LinkEvent.Other n
 
--- the 4 bytes that an event is written as
+-- The 4 bytes that an event is written as.
 abbrev pub link_event_bytes : LinkEvent → List ℕ
 link_event_bytes v = le4 (link_event_number v)

@@ -1,10 +1,10 @@
--- Which parts of a link a request asks for: numbers, and lists of them.
+-- The parts of a link that a request asks for: masks, their numbers, and lists of them.
 use Rattle.std.specs.Prelude.{ℕ, List, [], ◌∷◌, ◌++◌, ◌==◌, if◌then◌else◌}
 use Rattle.std.specs.Int.RustNames.{bit_and, bit_or}
 use Rattle.netlink_packet_core.specs.Named.{numbered_by}
 use Rattle.link_message_types.specs.declared.ext_mask.LinkExtentMask.{LinkExtentMask}
 
--- the number of a mask
+-- The number of a mask.
 abbrev pub link_extent_mask_number : LinkExtentMask → ℕ
 link_extent_mask_number LinkExtentMask.Vf = 1
 link_extent_mask_number LinkExtentMask.Brvlan = 2
@@ -16,6 +16,7 @@ link_extent_mask_number LinkExtentMask.CfmStatus = 64
 link_extent_mask_number LinkExtentMask.Mst = 128
 link_extent_mask_number (LinkExtentMask.Other n) = n
 
+-- The masks with a variant of their own, in the order of their bits.
 abbrev pub listed_link_extent_masks : List LinkExtentMask
 listed_link_extent_masks =
     LinkExtentMask.Vf ∷
@@ -28,25 +29,26 @@ listed_link_extent_masks =
     LinkExtentMask.Mst ∷
     []
 
+-- The mask of a number.
 abbrev pub link_extent_mask_of : ℕ → LinkExtentMask
 link_extent_mask_of n = numbered_by link_extent_mask_number listed_link_extent_masks LinkExtentMask.Other n
 
--- the masks whose bit is set in a number
+-- The masks whose bit is set in a number.
 abbrev pub set_extent_masks : List LinkExtentMask → ℕ → List LinkExtentMask
 set_extent_masks [] n = []
 set_extent_masks (v ∷ vs) n =
     if bit_and n (link_extent_mask_number v) == 0 then set_extent_masks vs n else v ∷ set_extent_masks vs n
 
--- the other bits of a number as one mask; none where there are none
+-- The other bits of a number as one mask; no mask if there are none.
 abbrev pub other_extent_mask : ℕ → List LinkExtentMask
 other_extent_mask bits = if bits == 0 then [] else LinkExtentMask.Other bits ∷ []
 
--- the list of a number
+-- The list of masks of a number.
 abbrev pub link_extent_masks_of : ℕ → List LinkExtentMask
 link_extent_masks_of n =
     set_extent_masks listed_link_extent_masks n ++ other_extent_mask (bit_and n 0xffffff00)
 
--- the number of a list
+-- The number of a list of masks.
 abbrev pub joined_extent_masks : List LinkExtentMask → ℕ
 joined_extent_masks [] = 0
 joined_extent_masks (v ∷ vs) = bit_or (link_extent_mask_number v) (joined_extent_masks vs)

@@ -6,7 +6,7 @@ use Rattle.link_message_types.specs.LinkFlagTypes.{link_flags_bits}
 use Rattle.link_message_types.specs.LinkLayerTypes.{link_layer_type_number}
 use Rattle.link_message_types.specs.declared.header.LinkHeader.{LinkHeader}
 
--- the 16 bytes that a header is written as
+-- The 16 bytes that a header is written as.
 unfoldable pub link_header_bytes : LinkHeader → List ℕ
 link_header_bytes h =
     (address_family_number h.interface_family ∷ 0 ∷ [])

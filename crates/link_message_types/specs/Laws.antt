@@ -1,4 +1,4 @@
--- The laws of number types, of constants and of the header, as the functions of `laws` state them.
+-- The laws of number types, of constants and of the header, which the functions of `laws` have as contracts.
 use Rattle.std.specs.Prelude.{◌≡◌, ℕ, ◌<◌, ◌^◌, List, [], ◌∷◌, codes, length}
 use Rattle.link_message_types.specs.AddressFamilies.{address_family_number, address_family_of}
 use Rattle.link_message_types.specs.Events.{link_event_number, link_event_of}
@@ -19,10 +19,11 @@ use Rattle.link_message_types.specs.declared.link_flag.TheConstants.LinkFlags.{U
 use Rattle.link_message_types.specs.declared.link_layer_type.LinkLayerType.{LinkLayerType}
 use Rattle.link_message_types.specs.declared.link_layer_type.TheConstants.LinkLayerType.{Cisco}
 
--- a value of a number has that number
+-- The value of each number has that number.
 abbrev pub Keeps : {V : Type 0} → (V → ℕ) → (ℕ → V) → Type 0
 Keeps number of = (n : ℕ) → number (of n) ≡ n
 
+-- A number is converted to a value and back without change, for address families and each number type.
 pub record NumbersAreKept : Type 0 where
   pub address_families : Keeps address_family_number address_family_of
   pub events : Keeps link_event_number link_event_of
@@ -35,18 +36,19 @@ pub record NumbersAreKept : Type 0 where
   pub vlan_protocols : Keeps vlan_protocol_number vlan_protocol_of
   pub attached_programs : Keeps xdp_attached_number xdp_attached_of
 
--- the list of a number, joined again
+-- A number of 4 bytes is read as a list of masks and joined to the same number.
 abbrev pub MasksAreKept : Type 0
 MasksAreKept = (n : ℕ) → n < 2 ^ 32 → joined_extent_masks (link_extent_masks_of n) ≡ n
 
+-- A layer type is converted to its number and back without change.
 abbrev pub LayerTypesAreNamed : Type 0
 LayerTypesAreNamed = (t : LinkLayerType) → link_layer_type_of (link_layer_type_number t) ≡ t
 
--- a header is written as 16 bytes
+-- A header is written as 16 bytes.
 abbrev pub HeadersAreSixteenBytes : Type 0
 HeadersAreSixteenBytes = (h : LinkHeader) → length (link_header_bytes h) ≡ 16
 
--- the constants of flags of links, each behind its name
+-- The constants of a link's flags, each after its name.
 abbrev pub link_flags_constants : List (List ℕ × ℕ)
 link_flags_constants =
     (codes "Up", link_flags_bits Up) ∷
@@ -70,7 +72,7 @@ link_flags_constants =
     (codes "Echo", link_flags_bits Echo) ∷
     []
 
--- the constants of flags of IPv6 interfaces, each behind its name
+-- The constants of an IPv6 interface's flags, each after its name.
 abbrev pub inet_6_iface_flags_constants : List (List ℕ × ℕ)
 inet_6_iface_flags_constants =
     (codes "RsSent", inet_6_iface_flags_bits RsSent) ∷
@@ -80,8 +82,8 @@ inet_6_iface_flags_constants =
     (codes "Ready", inet_6_iface_flags_bits Ready) ∷
     []
 
--- The constant of each flag has the bits that stand beside its name in the table, and the other name of a layer type means the same type: ARPHRD_CISCO of
--- linux/if_arp.h is ARPHRD_HDLC.
+-- The constant of each flag has the bits that are beside its name in the table, and the alias of a layer type is that
+-- type: ARPHRD_CISCO of linux/if_arp.h is ARPHRD_HDLC.
 pub record ConstantsAreNamed : Type 0 where
   pub flags_of_links : link_flags_constants ≡ link_flags_table
   pub flags_of_interfaces : inet_6_iface_flags_constants ≡ inet_6_iface_flags_table

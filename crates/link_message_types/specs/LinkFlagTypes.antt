@@ -6,11 +6,11 @@ use Rattle.std.specs.List.{join_by}
 use Rattle.bitflags.specs.Sets.{known_bits, without}
 use Rattle.link_message_types.specs.declared.link_flag.LinkFlags.{LinkFlags}
 
--- the bits of a set of flags
+-- The bits of a set of flags.
 abbrev pub link_flags_bits : LinkFlags → ℕ
 link_flags_bits f = f.0
 
--- the flags that have a name
+-- The flags that have a name, each with its bits.
 abbrev pub link_flags_table : List (List ℕ × ℕ)
 link_flags_table =
     (codes "Up", 0x1) ∷
@@ -34,15 +34,15 @@ link_flags_table =
     (codes "Echo", 0x40000) ∷
     []
 
--- the names of the flags of a table that a number has
+-- The names of the flags of a table that are set in a number.
 abbrev pub flag_names : List (List ℕ × ℕ) → ℕ → List (List ℕ)
 flag_names table n = map (λ row. row.0) (filter (λ row. bit_and n row.1 == row.1) table)
 
--- the bits that have no name as one number in hexadecimal; no text where there are none
+-- The bits without a name as one hexadecimal number; no text if there are none.
 abbrev pub unnamed_text : ℕ → List (List ℕ)
 unnamed_text n = if n == 0 then [] else (codes "0x" ++ digits 16 false n) ∷ []
 
--- what a set of flags is written as: the names of its flags, and then its bits that have no name, with ` | ` between each two
+-- The display of a set of flags: the names of its flags, and then its bits without a name, with ` | ` between each two.
 unfoldable pub link_flags_text : LinkFlags → List ℕ
 link_flags_text f =
     let unnamed = without 32 f.0 (known_bits link_flags_table) in

@@ -1,9 +1,9 @@
--- The numbers and texts of the types of the layer below a link.
+-- The numbers and names of the types of the layer below a link.
 use Rattle.std.specs.Prelude.{ℕ, List, [], ◌∷◌, codes}
 use Rattle.netlink_packet_core.specs.Named.{numbered_by}
 use Rattle.link_message_types.specs.declared.link_layer_type.LinkLayerType.{LinkLayerType}
 
--- the number and the text of a type
+-- The number and the name of a type.
 abbrev pub link_layer_type_row : LinkLayerType → ℕ × List ℕ
 link_layer_type_row LinkLayerType.Netrom = (0, codes "netrom")
 link_layer_type_row LinkLayerType.Ether = (1, codes "ether")
@@ -73,6 +73,7 @@ link_layer_type_row LinkLayerType.Vsockmon = (826, codes "vsockmon")
 link_layer_type_row LinkLayerType.None = (65534, codes "none")
 link_layer_type_row LinkLayerType.Void = (65535, codes "void")
 
+-- The types in the order of their numbers.
 abbrev pub listed_link_layer_types : List LinkLayerType
 listed_link_layer_types =
     LinkLayerType.Netrom ∷
@@ -144,13 +145,15 @@ listed_link_layer_types =
     LinkLayerType.Void ∷
     []
 
+-- The number of a type.
 abbrev pub link_layer_type_number : LinkLayerType → ℕ
 link_layer_type_number v = (link_layer_type_row v).0
 
--- every number that isn't listed is void
+-- The type of a number; every number that isn't listed is void.
 unfoldable pub link_layer_type_of : ℕ → LinkLayerType
 link_layer_type_of n =
     numbered_by link_layer_type_number listed_link_layer_types (λ _. LinkLayerType.Void) n
 
+-- The display of a type.
 abbrev pub link_layer_type_text : LinkLayerType → List ℕ
 link_layer_type_text v = (link_layer_type_row v).1

@@ -1,10 +1,10 @@
--- The numbers and texts of the management component transport protocol.
+-- The numbers and names of the management component transport protocol.
 use Rattle.std.specs.Prelude.{ℕ, List, [], ◌∷◌, codes}
 use Rattle.std.specs.Fmt.{decimal}
 use Rattle.netlink_packet_core.specs.Named.{numbered_by}
 use Rattle.link_message_types.specs.declared.mctp.MctpPhysBinding.{MctpPhysBinding}
 
--- the number and the text of a binding
+-- The number and the name of a binding.
 abbrev pub mctp_phys_binding_row : MctpPhysBinding → ℕ × List ℕ
 mctp_phys_binding_row MctpPhysBinding.Smbus = (1, codes "smbus")
 mctp_phys_binding_row MctpPhysBinding.PcieVdm = (2, codes "pcievdm")
@@ -18,6 +18,7 @@ mctp_phys_binding_row MctpPhysBinding.Ucie = (9, codes "ucie")
 mctp_phys_binding_row MctpPhysBinding.Vendor = (255, codes "vendor")
 mctp_phys_binding_row (MctpPhysBinding.Other n) = (n, decimal n)
 
+-- The bindings with a variant of their own.
 abbrev pub listed_mctp_phys_bindings : List MctpPhysBinding
 listed_mctp_phys_bindings =
     MctpPhysBinding.Smbus ∷
@@ -32,11 +33,14 @@ listed_mctp_phys_bindings =
     MctpPhysBinding.Vendor ∷
     []
 
+-- The number of a binding.
 abbrev pub mctp_phys_binding_number : MctpPhysBinding → ℕ
 mctp_phys_binding_number v = (mctp_phys_binding_row v).0
 
+-- The binding of a number.
 abbrev pub mctp_phys_binding_of : ℕ → MctpPhysBinding
 mctp_phys_binding_of n = numbered_by mctp_phys_binding_number listed_mctp_phys_bindings MctpPhysBinding.Other n
 
+-- The display of a binding.
 abbrev pub mctp_phys_binding_text : MctpPhysBinding → List ℕ
 mctp_phys_binding_text v = (mctp_phys_binding_row v).1

@@ -2,6 +2,6 @@
 use Rattle.std.specs.Prelude.{ℕ, List}
 use Rattle.link_message_types.specs.declared.record_buffer.RecordBuffer.{RecordBuffer}
 
--- the bytes that a buffer holds
+-- The bytes that a buffer holds.
 abbrev pub record_bytes : {R : Type 0} {n : ℕ} → RecordBuffer R n → List ℕ
 record_bytes b = b.bytes

@@ -5,24 +5,24 @@ ghost use Rattle.link_message_grammar.specs.LinkMessage.{family_of};
 ghost use Rattle.link_message_types.specs.AddressFamilies.{table_family};
 ghost use Rattle.link_message_types.specs.AddressFamilies.{address_family_number, address_family_of};
 
-/// The family of addresses in the header of a link message, `AF_*` of `linux/socket.h`. On the wire
-/// 1 byte.
+/// The address family in the header of a link message, `AF_*` of `linux/socket.h`. On the wire 1
+/// byte.
 #[derive(Debug, PartialEq, Eq, Clone, Copy, Default)]
 pub enum AddressFamily {
-    /// None: `AF_UNSPEC`, 0.
+    /// No family: `AF_UNSPEC`, 0.
     #[default]
     Unspec,
-    /// Sockets of one machine: `AF_UNIX`, 1.
+    /// Local sockets of one machine: `AF_UNIX`, 1.
     Unix,
-    /// The Internet protocol, version 4: `AF_INET`, 2.
+    /// IPv4: `AF_INET`, 2.
     Inet,
     /// Bridges: `AF_BRIDGE`, 7.
     Bridge,
-    /// The Internet protocol, version 6: `AF_INET6`, 10.
+    /// IPv6: `AF_INET6`, 10.
     Inet6,
     /// Netlink: `AF_NETLINK`, 16.
     Netlink,
-    /// Packets as the device has them: `AF_PACKET`, 17.
+    /// Packets at the level of the device: `AF_PACKET`, 17.
     Packet,
     /// The management component transport protocol: `AF_MCTP`, 45.
     Mctp,

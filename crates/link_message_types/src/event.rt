@@ -1,4 +1,4 @@
-//! What happened to a link.
+//! Events of links.
 
 ghost use Rattle.std.specs.Prelude.{◌≡◌};
 ghost use Rattle.std.specs.Prelude.{◌↔◌, ⊤, false, length, IsOk, IfOk, IfErr};
@@ -8,24 +8,23 @@ ghost use Rattle.link_message_types.specs.Events.{link_event_number, link_event_
 
 use netlink_packet_core::{DecodeError, Emitable, fill_u32, parse_u32};
 
-/// How many bytes an event has.
+/// The size of an event in bytes.
 const LINK_EVENT_LEN: usize = 4;
 
-/// What happened to a link, `IFLA_EVENT_*` of `linux/if_link.h`. On the wire 4 bytes in native
-/// order.
+/// An event of a link, `IFLA_EVENT_*` of `linux/if_link.h`. On the wire 4 bytes in native order.
 #[derive(Debug, PartialEq, Eq, Clone, Copy)]
 pub enum LinkEvent {
-    /// Nothing that is named: `IFLA_EVENT_NONE`, 0.
+    /// No event: `IFLA_EVENT_NONE`, 0.
     None,
-    /// It was reset: `IFLA_EVENT_REBOOT`, 1.
+    /// The device was reset: `IFLA_EVENT_REBOOT`, 1.
     Reboot,
-    /// Its features changed: `IFLA_EVENT_FEATURES`, 2.
+    /// The device's features changed: `IFLA_EVENT_FEATURES`, 2.
     Features,
     /// Another port of a bond became the active one: `IFLA_EVENT_BONDING_FAILOVER`, 3.
     BondingFailover,
-    /// Its neighbours are to be told: `IFLA_EVENT_NOTIFY_PEERS`, 4.
+    /// Neighbours are to be notified of the link's addresses: `IFLA_EVENT_NOTIFY_PEERS`, 4.
     NotifyPeers,
-    /// Memberships of groups are to be told again: `IFLA_EVENT_IGMP_RESEND`, 5.
+    /// Reports of multicast group memberships are to be sent again: `IFLA_EVENT_IGMP_RESEND`, 5.
     IgmpResend,
     /// The options of a bond changed: `IFLA_EVENT_BONDING_OPTIONS`, 6.
     BondingOptions,
@@ -88,7 +87,11 @@ impl Emitable for LinkEvent {
 }
 
 impl LinkEvent {
-    /// Reads exactly 4 bytes, the lowest first.
+    /// Reads an event from 4 little-endian bytes.
+    ///
+    /// # Errors
+    ///
+    /// A refusal if there aren't exactly 4 bytes. Allocates nothing.
     pub fn parse(bytes: &[u8]) -> Result<Self, DecodeError>
         ensures size { IsOk result ↔ (length bytes.now ≡ 4) }
         ensures text { IfOk result (λ v. link_event_bytes v ≡ bytes.now) }

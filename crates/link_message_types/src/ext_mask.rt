@@ -1,4 +1,4 @@
-//! Which parts of a link a request asks for.
+//! Masks of the parts of a link that a request asks for.
 
 ghost use Rattle.std.specs.Prelude.{◌≡◌, ◌≢◌, true, IfOk, IfErr};
 ghost use Rattle.netlink_packet_core.specs.Errors.{is_memory};
@@ -8,7 +8,7 @@ ghost use Rattle.link_message_types.specs.ExtentMasks.{link_extent_masks_of, joi
 use netlink_packet_core::DecodeError;
 use std::alloc::{AllocError, Global};
 
-/// Which parts of a link a request asks for beside the usual ones, `RTEXT_FILTER_*` of
+/// A part of a link that a request asks for beside the usual ones, `RTEXT_FILTER_*` of
 /// `linux/rtnetlink.h`. On the wire 4 bytes in native order, the bits of a list joined.
 #[derive(Debug, PartialEq, Eq, Clone, Copy)]
 pub enum LinkExtentMask {
@@ -20,13 +20,13 @@ pub enum LinkExtentMask {
     BrvlanCompressed,
     /// No statistics: `RTEXT_FILTER_SKIP_STATS`, 8.
     SkipStats,
-    /// The media redundancy protocol: `RTEXT_FILTER_MRP`, 16.
+    /// The media redundancy protocol (MRP): `RTEXT_FILTER_MRP`, 16.
     Mrp,
-    /// The configuration of connectivity faults: `RTEXT_FILTER_CFM_CONFIG`, 32.
+    /// The configuration of connectivity fault management (CFM): `RTEXT_FILTER_CFM_CONFIG`, 32.
     CfmConfig,
-    /// The state of connectivity faults: `RTEXT_FILTER_CFM_STATUS`, 64.
+    /// The status of connectivity fault management (CFM): `RTEXT_FILTER_CFM_STATUS`, 64.
     CfmStatus,
-    /// Spanning trees: `RTEXT_FILTER_MST`, 128.
+    /// Multiple spanning trees (MST): `RTEXT_FILTER_MST`, 128.
     Mst,
     /// Every other number.
     Other(u32),
@@ -87,8 +87,13 @@ const LISTED: [LinkExtentMask; 8] = [
 const OTHER_BITS: u32 = 0xffff_ff00;
 
 impl LinkExtentMask {
-    /// The list of a number: each listed mask whose bit is set, in the order of the bits, and then
-    /// all other bits, if any, as one `Other`. No memory is taken for a number without a bit.
+    /// Returns the list of a number: each listed mask whose bit is set, in the order of the bits,
+    /// and then all other bits, if any, as one `Other`. Allocates nothing for a number without a
+    /// bit.
+    ///
+    /// # Errors
+    ///
+    /// Out of memory if an allocation fails.
     #[tactic(auto, using(crate::proofs::Masks::masks))]
     pub fn list(alloc: Global, number: u32) -> Result<Vec<Self>, DecodeError>
         ensures listed { IfOk result (λ v. v.items ≡ link_extent_masks_of number) }
@@ -99,7 +104,7 @@ impl LinkExtentMask {
         Ok(masks_of(alloc, number)?)
     }
 
-    /// The number of a list: the bits of its masks joined.
+    /// Returns the number of a list: the bits of its masks joined.
     pub fn join(masks: &[Self]) -> u32
         ensures { result ≡ joined_extent_masks masks.now }
     {
@@ -111,7 +116,8 @@ impl LinkExtentMask {
     }
 }
 
-/// The listed masks whose bit is set in a number, and its other bits, if any.
+/// Returns the listed masks whose bit is set in a number, and its other bits, if any, as one
+/// `Other`.
 fn masks_of(alloc: Global, number: u32) -> Result<Vec<LinkExtentMask>, AllocError>
     ensures listed { IfOk result (λ v. v.items ≡ link_extent_masks_of number) }
     ensures not_zero { IfErr result (λ _. number ≢ 0) }
@@ -127,7 +133,7 @@ fn masks_of(alloc: Global, number: u32) -> Result<Vec<LinkExtentMask>, AllocErro
     Ok(masks)
 }
 
-/// The masks of some whose bit is set in a number.
+/// Appends those of some masks whose bit is set in a number.
 fn set_masks(
     alloc: Global,
     listed: &[LinkExtentMask],

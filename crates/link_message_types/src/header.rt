@@ -17,29 +17,33 @@ use super::record_buffer::{Record, RecordBuffer};
 use bitflags::Flags;
 use netlink_packet_core::{DecodeError, Emitable, fill_u16, fill_u32, parse_u16, parse_u32};
 
-/// How many bytes a header has.
+/// The size of a header in bytes.
 pub const LINK_HEADER_LEN: usize = 16;
 
 /// The header of a link message, `struct ifinfomsg` of `linux/rtnetlink.h`. On the wire 16 bytes:
-/// the family (1 byte), a byte that is ignored and written 0, the layer type (2 bytes), the index,
-/// the flags and the change mask (4 bytes each), in native order. The default is 16 zeros: no
-/// family, no link, and no flags.
+/// the family (1 byte), a byte that is ignored and written as 0, the layer type (2 bytes), the
+/// index, the flags and the change mask (4 bytes each), in native order. The default is 16 zeros:
+/// no family, no link, and no flags.
 #[derive(Debug, PartialEq, Eq, Clone, Copy, Default)]
 pub struct LinkHeader {
-    /// The family of addresses, by which the attributes are read: `ifi_family`.
+    /// The address family, which determines the table of the attributes: `ifi_family`.
     pub interface_family: AddressFamily,
-    /// What the link carries its packets over: `ifi_type`.
+    /// The type of the layer below the link: `ifi_type`.
     pub link_layer_type: LinkLayerType,
-    /// The number of the link: `ifi_index`.
+    /// The index of the link: `ifi_index`.
     pub index: u32,
     /// The flags: `ifi_flags`.
     pub flags: LinkFlags,
-    /// Which flags a request changes: `ifi_change`.
+    /// The mask of the flags that a request changes: `ifi_change`.
     pub change_mask: LinkFlags,
 }
 
 impl LinkHeader {
-    /// Reads the header that some bytes begin with, of which there have to be at least 16.
+    /// Reads the header at the start of some bytes. Allocates nothing.
+    ///
+    /// # Errors
+    ///
+    /// A refusal if there are fewer than 16 bytes.
     pub fn parse(bytes: &[u8]) -> Result<LinkHeader, DecodeError>
         ensures size { IsOk result ↔ (16 ≤ length bytes.now) }
         ensures text { IfOk result (λ h. link_header_bytes h ≡ header_text bytes.now) }

@@ -1,4 +1,4 @@
-//! Numbers, texts and flags of IPv6.
+//! Numbers, names and flags of IPv6.
 
 ghost use Rattle.std.specs.Prelude.{◌≡◌, Some};
 ghost use Rattle.std.specs.Prelude.{⊤};
@@ -9,17 +9,17 @@ use bitflags::{Flag, Flags};
 use itoa::Buffer;
 use std::fmt;
 
-/// How a link makes its own addresses, `IN6_ADDR_GEN_MODE_*` of `linux/if_link.h`. On the wire 1
-/// byte.
+/// How a link generates its IPv6 addresses, `IN6_ADDR_GEN_MODE_*` of `linux/if_link.h`. On the wire
+/// 1 byte.
 #[derive(Debug, PartialEq, Eq, Clone, Copy)]
 pub enum In6AddrGenMode {
-    /// By its hardware address: `IN6_ADDR_GEN_MODE_EUI64`, 0.
+    /// From its hardware address: `IN6_ADDR_GEN_MODE_EUI64`, 0.
     Eui64,
-    /// It makes none: `IN6_ADDR_GEN_MODE_NONE`, 1.
+    /// None are generated: `IN6_ADDR_GEN_MODE_NONE`, 1.
     None,
-    /// By a secret that is given: `IN6_ADDR_GEN_MODE_STABLE_PRIVACY`, 2.
+    /// From a secret that user space has set: `IN6_ADDR_GEN_MODE_STABLE_PRIVACY`, 2.
     StablePrivacy,
-    /// By a secret that it makes: `IN6_ADDR_GEN_MODE_RANDOM`, 3.
+    /// From a random secret: `IN6_ADDR_GEN_MODE_RANDOM`, 3.
     Random,
     /// Every other number.
     Other(u8),
@@ -72,19 +72,19 @@ impl fmt::Display for In6AddrGenMode {
     }
 }
 
-/// What a link knows of the routers around it, `IF_*` of the kernel's `net/if_inet6.h`. On the wire
-/// 4 bytes in native order; all bits are kept.
+/// The state of IPv6 router discovery on a link, `IF_*` of the kernel's `net/if_inet6.h`. On the
+/// wire 4 bytes in native order; all bits are kept.
 #[derive(Debug, PartialEq, Eq, Clone, Copy)]
 pub struct Inet6IfaceFlags(u32);
 
 impl Inet6IfaceFlags {
-    /// Routers were asked: `IF_RS_SENT`.
+    /// A router solicitation was sent: `IF_RS_SENT`.
     pub const RsSent: Self = Self(0x10);
-    /// A router answered: `IF_RA_RCVD`.
+    /// A router advertisement was received: `IF_RA_RCVD`.
     pub const RaReceived: Self = Self(0x20);
-    /// Addresses are to be had by DHCP: `IF_RA_MANAGED`.
+    /// Addresses are available by DHCPv6: `IF_RA_MANAGED`.
     pub const Managed: Self = Self(0x40);
-    /// Other settings are to be had by DHCP: `IF_RA_OTHERCONF`.
+    /// Other settings are available by DHCPv6: `IF_RA_OTHERCONF`.
     pub const OtherConf: Self = Self(0x80);
     /// The link is ready: `IF_READY`.
     pub const Ready: Self = Self(0x8000_0000);

@@ -9,8 +9,8 @@ use bitflags::{Flag, Flags};
 use std::fmt;
 use std::fmt::Write;
 
-/// What a link is and does, `IFF_*` of `linux/if.h`. On the wire 4 bytes in native order; all bits
-/// are kept.
+/// The flags of a link, `IFF_*` of `linux/if.h`. On the wire 4 bytes in native order; all bits are
+/// kept.
 #[derive(Debug, PartialEq, Eq, Clone, Copy)]
 pub struct LinkFlags(u32);
 
@@ -21,37 +21,37 @@ impl LinkFlags {
     pub const Broadcast: Self = Self(0x2);
     /// Its driver writes messages for debugging: `IFF_DEBUG`.
     pub const Debug: Self = Self(0x4);
-    /// It is a loopback: `IFF_LOOPBACK`.
+    /// It is a loopback device: `IFF_LOOPBACK`.
     pub const Loopback: Self = Self(0x8);
-    /// It has one other end: `IFF_POINTOPOINT`.
+    /// It is point-to-point: `IFF_POINTOPOINT`.
     pub const Pointopoint: Self = Self(0x10);
-    /// It uses no trailers: `IFF_NOTRAILERS`.
+    /// It avoids the use of trailers: `IFF_NOTRAILERS`.
     pub const Notrailers: Self = Self(0x20);
-    /// It can transfer data: `IFF_RUNNING`.
+    /// It is operational: `IFF_RUNNING`.
     pub const Running: Self = Self(0x40);
-    /// It doesn't resolve addresses: `IFF_NOARP`.
+    /// It doesn't use ARP: `IFF_NOARP`.
     pub const Noarp: Self = Self(0x80);
-    /// It receives all packets: `IFF_PROMISC`.
+    /// It receives all packets (promiscuous mode): `IFF_PROMISC`.
     pub const Promisc: Self = Self(0x100);
     /// It receives all multicast packets: `IFF_ALLMULTI`.
     pub const Allmulti: Self = Self(0x200);
-    /// It is several links as one: `IFF_MASTER`.
+    /// It is the controller of several ports, as a bond is: `IFF_MASTER`.
     pub const Controller: Self = Self(0x400);
-    /// It is one of several links: `IFF_SLAVE`.
+    /// It is the port of a controller: `IFF_SLAVE`.
     pub const Port: Self = Self(0x800);
     /// It supports multicast: `IFF_MULTICAST`.
     pub const Multicast: Self = Self(0x1000);
-    /// It can choose the type of its medium: `IFF_PORTSEL`.
+    /// It can select its media type: `IFF_PORTSEL`.
     pub const Portsel: Self = Self(0x2000);
-    /// It chooses the type of its medium by itself: `IFF_AUTOMEDIA`.
+    /// It selects its media type automatically: `IFF_AUTOMEDIA`.
     pub const Automedia: Self = Self(0x4000);
     /// Its addresses are lost when it goes down: `IFF_DYNAMIC`.
     pub const Dynamic: Self = Self(0x8000);
-    /// There is a signal: `IFF_LOWER_UP`.
+    /// The physical layer has a signal: `IFF_LOWER_UP`.
     pub const LowerUp: Self = Self(0x10000);
     /// It is dormant: `IFF_DORMANT`.
     pub const Dormant: Self = Self(0x20000);
-    /// It hears what it sends: `IFF_ECHO`.
+    /// It echoes sent packets: `IFF_ECHO`.
     pub const Echo: Self = Self(0x40000);
 
     const FLAGS: [Flag<LinkFlags>; 19] = [
@@ -164,10 +164,9 @@ impl Default for LinkFlags {
     }
 }
 
-/// The names of the flags that are set, in the order of their bits, and then all bits that have no
-/// name, if any, as one number in hexadecimal, with ` | ` between each two:
-/// `Up | Broadcast | 0x80000`. Nothing is written where no bit is set. The options of a format change
-/// nothing.
+/// Writes the names of the flags that are set, in the order of their bits, and then all bits
+/// without a name, if any, as one hexadecimal number, with ` | ` between each two: `Up | Broadcast
+/// | 0x80000`. Writes nothing if no bit is set. The options of a format are ignored.
 impl fmt::Display for LinkFlags {
     ghost output = { λ v. Some (link_flags_text v) };
 
@@ -193,7 +192,7 @@ impl fmt::Display for LinkFlags {
     }
 }
 
-// A number in hexadecimal. Its digits have room.
+// Returns a number in hexadecimal; the buffer has capacity for all of its digits.
 fn hex_digits(number: u32) -> Result<ArrayString<8>, fmt::Error>
     ensures { IfOk result (λ text. text.bytes ≡ digits 16 false number) }
 {

@@ -6,11 +6,11 @@ ghost use Rattle.link_message_types.specs.LinkLayerTypes.{link_layer_type_number
 
 use std::fmt;
 
-/// What a link carries its packets over, `ARPHRD_*` of `linux/if_arp.h`. On the wire 2 bytes in
-/// native order. A number that isn't listed is `Void`, and written as 65535.
+/// The type of the layer below a link, `ARPHRD_*` of `linux/if_arp.h`. On the wire 2 bytes in
+/// native order. A number that isn't listed is `Void`, and is written as 65535.
 #[derive(Debug, PartialEq, Eq, Clone, Copy, Default)]
 pub enum LinkLayerType {
-    /// An amateur radio network, NET/ROM: `ARPHRD_NETROM`, 0.
+    /// Amateur radio, NET/ROM: `ARPHRD_NETROM`, 0.
     #[default]
     Netrom,
     /// Ethernet: `ARPHRD_ETHER`, 1.
@@ -19,37 +19,37 @@ pub enum LinkLayerType {
     Eether,
     /// Amateur radio, AX.25: `ARPHRD_AX25`, 3.
     Ax25,
-    /// A token ring, PROnet: `ARPHRD_PRONET`, 4.
+    /// Token ring, PROnet: `ARPHRD_PRONET`, 4.
     Pronet,
     /// Chaosnet: `ARPHRD_CHAOS`, 5.
     Chaos,
-    /// Ethernet, token ring or another of IEEE 802.2: `ARPHRD_IEEE802`, 6.
+    /// Ethernet, token ring or another network of IEEE 802.2: `ARPHRD_IEEE802`, 6.
     Ieee802,
     /// ARCnet: `ARPHRD_ARCNET`, 7.
     Arcnet,
     /// AppleTalk: `ARPHRD_APPLETLK`, 8.
     Appletlk,
-    /// Frame relay, one circuit: `ARPHRD_DLCI`, 15.
+    /// A circuit of frame relay: `ARPHRD_DLCI`, 15.
     Dlci,
-    /// The asynchronous transfer mode: `ARPHRD_ATM`, 19.
+    /// Asynchronous transfer mode (ATM): `ARPHRD_ATM`, 19.
     Atm,
     /// Metricom STRIP: `ARPHRD_METRICOM`, 23.
     Metricom,
     /// IEEE 1394 over IPv4: `ARPHRD_IEEE1394`, 24.
     Ieee1394,
-    /// Addresses of 64 bits, EUI-64: `ARPHRD_EUI64`, 27.
+    /// EUI-64, with addresses of 64 bits: `ARPHRD_EUI64`, 27.
     Eui64,
     /// InfiniBand: `ARPHRD_INFINIBAND`, 32.
     Infiniband,
-    /// The serial line protocol, SLIP: `ARPHRD_SLIP`, 256.
+    /// The serial line Internet protocol, SLIP: `ARPHRD_SLIP`, 256.
     Slip,
     /// SLIP with compressed headers: `ARPHRD_CSLIP`, 257.
     Cslip,
-    /// SLIP in 6 bits: `ARPHRD_SLIP6`, 258.
+    /// SLIP with 6-bit encoding: `ARPHRD_SLIP6`, 258.
     Slip6,
-    /// SLIP in 6 bits with compressed headers: `ARPHRD_CSLIP6`, 259.
+    /// SLIP with 6-bit encoding and compressed headers: `ARPHRD_CSLIP6`, 259.
     Cslip6,
-    /// Notional, of KISS: `ARPHRD_RSRVD`, 260.
+    /// The notional type of KISS: `ARPHRD_RSRVD`, 260.
     Rsrvd,
     /// Adaptive SLIP: `ARPHRD_ADAPT`, 264.
     Adapt,
@@ -59,17 +59,17 @@ pub enum LinkLayerType {
     X25,
     /// Boards with X.25 in firmware: `ARPHRD_HWX25`, 272.
     Hwx25,
-    /// A controller area network: `ARPHRD_CAN`, 280.
+    /// Controller area network (CAN): `ARPHRD_CAN`, 280.
     Can,
-    /// The management component transport protocol: `ARPHRD_MCTP`, 290.
+    /// Management component transport protocol (MCTP): `ARPHRD_MCTP`, 290.
     Mctp,
-    /// The point-to-point protocol: `ARPHRD_PPP`, 512.
+    /// Point-to-point protocol (PPP): `ARPHRD_PPP`, 512.
     Ppp,
     /// Cisco HDLC: `ARPHRD_HDLC`, 513.
     Hdlc,
-    /// Link access procedure, balanced: `ARPHRD_LAPB`, 516.
+    /// Link access procedure, balanced (LAPB): `ARPHRD_LAPB`, 516.
     Lapb,
-    /// The DDCMP protocol of DEC: `ARPHRD_DDCMP`, 517.
+    /// DDCMP of DEC: `ARPHRD_DDCMP`, 517.
     Ddcmp,
     /// Raw HDLC: `ARPHRD_RAWHDLC`, 518.
     Rawhdlc,
@@ -87,7 +87,7 @@ pub enum LinkLayerType {
     Loopback,
     /// A LocalTalk device: `ARPHRD_LOCALTLK`, 773.
     Localtlk,
-    /// The fiber distributed data interface: `ARPHRD_FDDI`, 774.
+    /// Fiber distributed data interface (FDDI): `ARPHRD_FDDI`, 774.
     Fddi,
     /// AP1000 BIF: `ARPHRD_BIF`, 775.
     Bif,
@@ -99,7 +99,7 @@ pub enum LinkLayerType {
     Ipgre,
     /// The register interface of PIM: `ARPHRD_PIMREG`, 779.
     Pimreg,
-    /// The high performance parallel interface: `ARPHRD_HIPPI`, 780.
+    /// High performance parallel interface (HIPPI): `ARPHRD_HIPPI`, 780.
     Hippi,
     /// Nexus, 64 Mbit/s: `ARPHRD_ASH`, 781.
     Ash,
@@ -115,15 +115,15 @@ pub enum LinkLayerType {
     Fcpl,
     /// Fibre channel, fabric: `ARPHRD_FCFABRIC`, 787.
     Fcfabric,
-    /// A token ring of IEEE 802.5: `ARPHRD_IEEE802_TR`, 800.
+    /// Token ring, IEEE 802.5: `ARPHRD_IEEE802_TR`, 800.
     Ieee802Tr,
-    /// A wireless network, IEEE 802.11: `ARPHRD_IEEE80211`, 801.
+    /// Wireless LAN, IEEE 802.11: `ARPHRD_IEEE80211`, 801.
     Ieee80211,
     /// IEEE 802.11 with Prism headers: `ARPHRD_IEEE80211_PRISM`, 802.
     Ieee80211Prism,
     /// IEEE 802.11 with radiotap headers: `ARPHRD_IEEE80211_RADIOTAP`, 803.
     Ieee80211Radiotap,
-    /// A personal network, IEEE 802.15.4: `ARPHRD_IEEE802154`, 804.
+    /// Wireless personal area network, IEEE 802.15.4: `ARPHRD_IEEE802154`, 804.
     Ieee802154,
     /// A monitor of IEEE 802.15.4: `ARPHRD_IEEE802154_MONITOR`, 805.
     Ieee802154Monitor,
@@ -141,18 +141,18 @@ pub enum LinkLayerType {
     Sixlowpan,
     /// A monitor of vsock: `ARPHRD_VSOCKMON`, 826.
     Vsockmon,
-    /// There is no header at all: `ARPHRD_NONE`, 65534.
+    /// No header at all: `ARPHRD_NONE`, 65534.
     None,
-    /// Nothing is known, and every number that isn't listed: `ARPHRD_VOID`, 65535.
+    /// Unknown, and every number that isn't listed: `ARPHRD_VOID`, 65535.
     Void,
 }
 
 impl LinkLayerType {
-    /// Cisco HDLC by its other name: `ARPHRD_CISCO`.
+    /// The alias of Cisco HDLC: `ARPHRD_CISCO`.
     pub const Cisco: Self = Self::Hdlc;
 }
 
-/// The types that have a number of their own.
+/// The types in the order of their numbers.
 const LISTED: [LinkLayerType; 67] = [
     LinkLayerType::Netrom,
     LinkLayerType::Ether,
@@ -234,7 +234,8 @@ impl From<u16> for LinkLayerType {
     }
 }
 
-/// The first of some types that has a number; `Void` where none has it.
+/// Returns the first of some types that has a number; `Void` if none has it. The types are a
+/// parameter, since the prover spells out a constant inside a loop in each goal.
 fn numbered(types: &[LinkLayerType], number: u16) -> LinkLayerType
     ensures { result
         ≡ numbered_by link_layer_type_number types.now (λ _. LinkLayerType.Void) number }
@@ -324,7 +325,7 @@ impl From<LinkLayerType> for u16 {
 }
 
 impl LinkLayerType {
-    // The name of the type.
+    // Returns the name of the type.
     fn name(self) -> &'static str
         ensures { result.now ≡ link_layer_type_text self }
     {

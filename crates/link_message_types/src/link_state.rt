@@ -13,7 +13,7 @@ use std::str::FromStr;
 /// The operational state of a link, `IF_OPER_*` of `linux/if.h`. On the wire 1 byte.
 #[derive(Debug, PartialEq, Eq, Clone, Copy)]
 pub enum State {
-    /// It can't be told: `IF_OPER_UNKNOWN`, 0.
+    /// Unknown: `IF_OPER_UNKNOWN`, 0.
     Unknown,
     /// Some part of the device is missing: `IF_OPER_NOTPRESENT`, 1.
     NotPresent,
@@ -23,7 +23,7 @@ pub enum State {
     LowerLayerDown,
     /// It is being tested: `IF_OPER_TESTING`, 4.
     Testing,
-    /// It waits for something outside, as an authentication: `IF_OPER_DORMANT`, 5.
+    /// It waits for an external event, such as authentication: `IF_OPER_DORMANT`, 5.
     Dormant,
     /// It can transfer data: `IF_OPER_UP`, 6.
     Up,

@@ -6,7 +6,7 @@ ghost use Rattle.link_message_types.specs.MctpTypes.{mctp_phys_binding_number, m
 use itoa::Buffer;
 use std::fmt;
 
-/// What the management component transport protocol is carried over, `MCTP_PHYS_BINDING_*` of
+/// The physical binding of the management component transport protocol, `MCTP_PHYS_BINDING_*` of
 /// `linux/if_link.h`. On the wire 1 byte.
 #[derive(Debug, PartialEq, Eq, Clone, Copy)]
 pub enum MctpPhysBinding {
@@ -28,7 +28,7 @@ pub enum MctpPhysBinding {
     Pcc,
     /// Chiplets, UCIe: `MCTP_PHYS_BINDING_UCIE`, 9.
     Ucie,
-    /// What a vendor defines: `MCTP_PHYS_BINDING_VENDOR`, 255.
+    /// A binding that a vendor defines: `MCTP_PHYS_BINDING_VENDOR`, 255.
     Vendor,
     /// Every other number.
     Other(u8),

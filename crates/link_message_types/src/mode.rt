@@ -6,14 +6,14 @@ ghost use Rattle.link_message_types.specs.LinkModes.{link_mode_number, link_mode
 use itoa::Buffer;
 use std::fmt;
 
-/// Which states a link goes through, `IF_LINK_MODE_*` of `linux/if.h`. On the wire 1 byte.
+/// How a link's operational state becomes up, `IF_LINK_MODE_*` of `linux/if.h`. On the wire 1 byte.
 #[derive(Debug, PartialEq, Eq, Clone, Copy)]
 pub enum LinkMode {
-    /// It goes up by itself: `IF_LINK_MODE_DEFAULT`, 0.
+    /// The link becomes up by itself: `IF_LINK_MODE_DEFAULT`, 0.
     Default,
-    /// It is dormant before it goes up: `IF_LINK_MODE_DORMANT`, 1.
+    /// The link is dormant before it becomes up: `IF_LINK_MODE_DORMANT`, 1.
     Dormant,
-    /// It is tested before it goes up: `IF_LINK_MODE_TESTING`, 2.
+    /// The link is tested before it becomes up: `IF_LINK_MODE_TESTING`, 2.
     Testing,
     /// Every other number.
     Other(u8),

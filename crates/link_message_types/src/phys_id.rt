@@ -7,11 +7,11 @@ ghost use Rattle.link_message_types.specs.PhysIds.{link_phys_id_bytes};
 use netlink_packet_core::{ByteVec, DecodeError, Emitable};
 use std::alloc::Global;
 
-/// What a port or a switch is known by, as in `IFLA_PHYS_PORT_ID` and `IFLA_PHYS_SWITCH_ID` of
+/// The identifier of a port or a switch, as in `IFLA_PHYS_PORT_ID` and `IFLA_PHYS_SWITCH_ID` of
 /// `linux/if_link.h`: any number of bytes.
 #[derive(Debug, PartialEq, Eq, Drop)]
 pub struct LinkPhysId {
-    /// The bytes as they are.
+    /// The bytes of the identifier.
     pub bytes: ByteVec,
 }
 
@@ -31,7 +31,11 @@ impl Emitable for LinkPhysId {
 }
 
 impl LinkPhysId {
-    /// Reads any bytes. No memory is taken for none.
+    /// Reads an identifier of any bytes. Allocates nothing for an empty one.
+    ///
+    /// # Errors
+    ///
+    /// Out of memory if an allocation fails.
     pub fn parse(alloc: Global, payload: &[u8]) -> Result<Self, DecodeError>
         ensures ok { IfOk result (λ id. link_phys_id_bytes id ≡ payload.now) }
         ensures err { IfErr result (λ e. is_memory e ≡ true) }

@@ -8,7 +8,7 @@ use std::marker::PhantomData;
 
 /// A value that is always written as `N` bytes.
 pub trait Record<const N: usize>: Emitable {
-    /// The bytes that it is written as.
+    /// Returns the bytes of the value.
     fn to_bytes(&self) -> [u8; N]
         ensures { result ≡ Self.text self.now };
 }
@@ -32,14 +32,14 @@ impl<R: Record<N>, const N: usize> From<&R> for RecordBuffer<R, N> {
 }
 
 impl<R, const N: usize> RecordBuffer<R, N> {
-    /// The bytes.
+    /// Returns the bytes of the buffer.
     pub fn as_bytes(&self) -> &[u8]
         ensures { result.now ≡ record_bytes self.now }
     {
         &self.bytes
     }
 
-    /// The first `N` of some bytes; `None` where there are fewer.
+    /// Returns a buffer of the first `N` of some bytes; `None` if there are fewer.
     pub fn read_front(bytes: &[u8]) -> Option<Self>
         ensures size { IsSome result ↔ (N ≤ length bytes.now) }
         ensures some { IfSome result (λ b. record_bytes b ≡ take N bytes.now) }

@@ -1,17 +1,16 @@
-//! The statistics of a link by their names.
+//! The statistics of a link, by name.
 
 ghost use Rattle.std.specs.Prelude.{◌≡◌, ◌<◌, List, Some, slice_get};
 
-/// The counters of a link by their names, in the order of `struct rtnl_link_stats64` of
-/// `linux/if_link.h`.
+/// The counters of a link by name, in the order of `struct rtnl_link_stats64` of `linux/if_link.h`.
 pub trait LinkStatistics {
-    /// The number that a counter is.
+    /// The number type of a counter.
     type Counter: Copy;
 
     /// The counters.
     ghost counters: { Self → List Self.Counter };
 
-    /// The counter at a place, of which the first is 0.
+    /// Returns the counter at an index, counted from 0.
     fn counter(&self, place: usize) -> Self::Counter
         requires { place < 24 }
         ensures { slice_get (counters self.now) place ≡ Some result };
@@ -58,14 +57,14 @@ pub trait LinkStatistics {
         self.counter(5)
     }
 
-    /// Packets received and not processed, for want of room or of a protocol.
+    /// Packets received but not processed, for lack of resources or of a protocol handler.
     fn rx_dropped(&self) -> Self::Counter
         ensures { slice_get (counters self.now) 6 ≡ Some result }
     {
         self.counter(6)
     }
 
-    /// Packets dropped on their way out, for want of room.
+    /// Packets dropped on their way to transmission, for lack of resources.
     fn tx_dropped(&self) -> Self::Counter
         ensures { slice_get (counters self.now) 7 ≡ Some result }
     {
@@ -86,77 +85,77 @@ pub trait LinkStatistics {
         self.counter(9)
     }
 
-    /// Packets received with a wrong length.
+    /// Packets dropped because of an invalid length.
     fn rx_length_errors(&self) -> Self::Counter
         ensures { slice_get (counters self.now) 10 ≡ Some result }
     {
         self.counter(10)
     }
 
-    /// Packets received past the ring of the receiver.
+    /// Packets dropped because the receiver's ring overflowed.
     fn rx_over_errors(&self) -> Self::Counter
         ensures { slice_get (counters self.now) 11 ≡ Some result }
     {
         self.counter(11)
     }
 
-    /// Packets received with a wrong checksum.
+    /// Packets received with a CRC error.
     fn rx_crc_errors(&self) -> Self::Counter
         ensures { slice_get (counters self.now) 12 ≡ Some result }
     {
         self.counter(12)
     }
 
-    /// Packets received out of alignment.
+    /// Packets received with a frame alignment error.
     fn rx_frame_errors(&self) -> Self::Counter
         ensures { slice_get (counters self.now) 13 ≡ Some result }
     {
         self.counter(13)
     }
 
-    /// Packets lost in the receiver's queue.
+    /// Packets lost by overflow of the receiver's FIFO.
     fn rx_fifo_errors(&self) -> Self::Counter
         ensures { slice_get (counters self.now) 14 ≡ Some result }
     {
         self.counter(14)
     }
 
-    /// Packets that the host missed, for want of room in the device.
+    /// Packets missed by the host, for lack of buffers in the device.
     fn rx_missed_errors(&self) -> Self::Counter
         ensures { slice_get (counters self.now) 15 ≡ Some result }
     {
         self.counter(15)
     }
 
-    /// Packets given up while sending.
+    /// Packets whose transmission was aborted.
     fn tx_aborted_errors(&self) -> Self::Counter
         ensures { slice_get (counters self.now) 16 ≡ Some result }
     {
         self.counter(16)
     }
 
-    /// Packets not sent for want of a carrier.
+    /// Packets not sent because the carrier was lost.
     fn tx_carrier_errors(&self) -> Self::Counter
         ensures { slice_get (counters self.now) 17 ≡ Some result }
     {
         self.counter(17)
     }
 
-    /// Packets lost in the sender's queue.
+    /// Packets lost by underrun of the sender's FIFO.
     fn tx_fifo_errors(&self) -> Self::Counter
         ensures { slice_get (counters self.now) 18 ≡ Some result }
     {
         self.counter(18)
     }
 
-    /// Packets sent without a heartbeat.
+    /// Packets sent with a heartbeat error.
     fn tx_heartbeat_errors(&self) -> Self::Counter
         ensures { slice_get (counters self.now) 19 ≡ Some result }
     {
         self.counter(19)
     }
 
-    /// Packets that collided too late.
+    /// Packets not sent because of late collisions.
     fn tx_window_errors(&self) -> Self::Counter
         ensures { slice_get (counters self.now) 20 ≡ Some result }
     {
@@ -177,7 +176,7 @@ pub trait LinkStatistics {
         self.counter(22)
     }
 
-    /// Packets received on a link that isn't active, and dropped by the kernel.
+    /// Packets received on an inactive link, and dropped by the kernel.
     fn rx_nohandler(&self) -> Self::Counter
         ensures { slice_get (counters self.now) 23 ≡ Some result }
     {

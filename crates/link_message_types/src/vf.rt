@@ -3,15 +3,15 @@
 ghost use Rattle.std.specs.Prelude.{◌≡◌};
 ghost use Rattle.link_message_types.specs.VfTypes.{vf_link_state_number, vf_link_state_of};
 
-/// Whether the link of a virtual function is up, `IFLA_VF_LINK_STATE_*` of `linux/if_link.h`. On
-/// the wire 4 bytes in native order.
+/// The link state of a virtual function, `IFLA_VF_LINK_STATE_*` of `linux/if_link.h`. On the wire 4
+/// bytes in native order.
 #[derive(Debug, PartialEq, Eq, Clone, Copy)]
 pub enum VfLinkState {
-    /// As the link of the device: `IFLA_VF_LINK_STATE_AUTO`, 0.
+    /// The state of the device's link: `IFLA_VF_LINK_STATE_AUTO`, 0.
     Auto,
-    /// Always: `IFLA_VF_LINK_STATE_ENABLE`, 1.
+    /// Always up: `IFLA_VF_LINK_STATE_ENABLE`, 1.
     Enable,
-    /// Never: `IFLA_VF_LINK_STATE_DISABLE`, 2.
+    /// Always down: `IFLA_VF_LINK_STATE_DISABLE`, 2.
     Disable,
     /// Every other number.
     Other(u32),

@@ -1,4 +1,4 @@
-//! Where programs of the express data path are attached.
+//! The hooks to which XDP programs are attached.
 
 ghost use Rattle.std.specs.Prelude.{◌≡◌, Some, IsOk, IfOk};
 ghost use Rattle.std.specs.Result.{result_ok};
@@ -6,18 +6,19 @@ ghost use Rattle.link_message_types.specs.XdpTypes.{xdp_attached_number, xdp_att
 
 use netlink_packet_core::DecodeError;
 
-/// Where a program is attached, `XDP_ATTACHED_*` of `linux/if_link.h`. On the wire 1 byte.
+/// The hook to which an XDP program is attached, `XDP_ATTACHED_*` of `linux/if_link.h`. On the wire
+/// 1 byte.
 #[derive(Debug, PartialEq, Eq, Clone, Copy)]
 pub enum XdpAttached {
-    /// Nowhere: `XDP_ATTACHED_NONE`, 0.
+    /// No program is attached: `XDP_ATTACHED_NONE`, 0.
     None,
-    /// In the driver: `XDP_ATTACHED_DRV`, 1.
+    /// The driver: `XDP_ATTACHED_DRV`, 1.
     Driver,
-    /// On packets that the driver has handed over: `XDP_ATTACHED_SKB`, 2.
+    /// The generic hook, on socket buffers: `XDP_ATTACHED_SKB`, 2.
     SocketBuffer,
-    /// In the device: `XDP_ATTACHED_HW`, 3.
+    /// The device: `XDP_ATTACHED_HW`, 3.
     Hardware,
-    /// In several places: `XDP_ATTACHED_MULTI`, 4.
+    /// Several hooks: `XDP_ATTACHED_MULTI`, 4.
     Multiple,
     /// Every other number.
     Other(u8),
@@ -28,7 +29,7 @@ impl TryFrom<u8> for XdpAttached {
 
     ghost try_from_gives = { λ n r. result_ok r ≡ Some (xdp_attached_of n) };
 
-    /// The attachment of a number: every number is one.
+    /// Returns the hook of a number; every number is one.
     fn try_from(number: u8) -> Result<Self, DecodeError>
         ensures ok { IsOk result }
         ensures named { IfOk result (λ v. v ≡ xdp_attached_of number) }

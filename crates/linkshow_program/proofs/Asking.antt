@@ -1,4 +1,4 @@
--- Words, one after the other.
+-- Arguments, one after the other.
 use Rattle.std.specs.Prelude.{IfSome, IfNone}
 use Rattle.std.proofs.Common.{◌≡◌, ℕ, ◌-◌, ◌≤◌, ◌<◌, ◌↔◌, List, [], ◌∷◌, length, map, take, drop, get_or, Option, Some, None, refl, sym, ap, subst, ◌∙◌, arith}
 use Rattle.std.proofs.lemmas.List.{take_rest}
@@ -10,7 +10,7 @@ use Rattle.linkshow_program.proofs.Typing.{same_types}
 use Rattle.linkshow_program.specs.declared.words.Options.{Options}
 use Rattle.linkshow_program.specs.declared.words.Word.TheVariants.{Kernels, WithoutNumbers, Only, Limit, Input, Name, Wrong}
 
--- what the first words give, the second give
+-- The second arguments ask for all that the first ones do.
 pub record Gone (a : Awaited) (o : Options) (ws : List (List ℕ)) (b : Awaited) (q : Options) (vs : List (List ℕ)) : Type 0 where
   pub gives : (p : Options) → Gives a o ws p ↔ Gives b q vs p
 
@@ -20,7 +20,7 @@ gone a o ws = record { gives = λ p. ((λ g. g), λ g. g) }
 pub gone_on : {a b c : Awaited} {o q r : Options} {us vs ws : List (List ℕ)} → Gone a o us b q vs → Gone b q vs c r ws → Gone a o us c r ws
 gone_on f g = record { gives = λ p. ((λ x. (g.gives p).0 ((f.gives p).0 x)), λ z. (f.gives p).1 ((g.gives p).1 z)) }
 
--- the same of the words that are left, as they are cut
+-- The same statement for the remaining arguments, as they are split.
 pub left_gone : {a b : Awaited} {o q : Options} {ws vs us : List (List ℕ)} → ws ≡ us → Gone a o ws b q vs → Gone a o us b q vs
 left_gone {a} {b} {o} {q} {ws} {vs} {us} d g = subst (λ x. Gone a o x b q vs) d g
 
@@ -28,7 +28,7 @@ pub cut_words : {A : Type 0} (f : A → List ℕ) (ws : List A) (w : A) → 1 �
 cut_words f [] w m e = absurd (omega arith)
 cut_words f (x ∷ rest) w m e = ap (λ z. f z ∷ map f rest) (sym e) ∙ ap (λ t. f w ∷ map f t) (sym (take_rest (x ∷ rest) 1))
 
--- the same of a word in front and those behind it
+-- The same statement for a first argument and those after it.
 pub word_gone : {A : Type 0} (f : A → List ℕ) (ws : List A) (w : A) → {b : Awaited} {o q : Options} {vs : List (List ℕ)} → 1 ≤ length ws → w ≡ get_or ws 0 w → Gone Nothing o (map f ws) b q vs →
     Gone Nothing o (f w ∷ map f (take (length ws - 1) (drop 1 ws))) b q vs
 word_gone f ws w m e g = left_gone (cut_words f ws w m e) g
@@ -64,9 +64,9 @@ pub map_empty : {A : Type 0} (f : A → List ℕ) (ws : List A) → map f ws ≡
 map_empty f [] e = refl
 map_empty f (x ∷ rest) e = let bad : length (map f (x ∷ rest)) ≡ 0 = ap length e in absurd (omega arith)
 
--- these words are the last, where standard input or a file is named
+-- These arguments are the last, if standard input or a file is named.
 module _ {A : Type 0} (f : A → List ℕ) (w : List ℕ) (rest : List A) (o : Options) (b : Awaited) (q : Options) (vs : List (List ℕ)) (g : Gone Nothing o (w ∷ map f rest) b q vs) where
-  -- where nothing behind them and this of the options is all that the words give
+  -- This is all that the arguments ask for, if nothing follows them.
   last_some : (P : Options → Type 0) → ((p : Options) → map f rest ≡ [] → P p → Gives Nothing o (w ∷ map f rest) p) → (options : Options) (r : Option Options) → P options →
       IfSome r (λ p. (rest ≡ []) × (p ≡ options)) → IfSome r (λ p. Gives b q vs p)
   last_some P then options None a h = tt
@@ -91,12 +91,12 @@ module _ {A : Type 0} (f : A → List ℕ) (w : List ℕ) (rest : List A) (o : O
   pub wrong_none : word_of w ≡ Wrong → (p : Options) → Gives b q vs p → ⊥
   wrong_none e p x = (let none : Gives Nothing o (w ∷ map f rest) p → ⊥ = rw (e, Gives) (λ y. y) in none) ((g.gives p).1 x)
 
--- the limit is that of the options
+-- The limit is that of the options.
 pub low_some : (limit : ℕ) (A : Type 0) (options : Options) (r : Option Options) → 16 ≤ limit → options.limit ≡ limit → IfSome r (λ o. A × (o ≡ options)) → IfSome r (λ o. 16 ≤ o.limit)
 low_some limit A options None h e i = tt
 low_some limit A options (Some o) h e i = subst (λ n. 16 ≤ n) (sym (ap (λ x. x.limit) i.1 ∙ e)) h
 
--- one word, and nothing else
+-- A single argument.
 pub one_word : {A : Type 0} (f : A → List ℕ) (ws : List A) (w : A) (text : List ℕ) → 1 ≤ length ws → length ws < 2 → w ≡ get_or ws 0 w → f w ≡ text → map f ws ≡ text ∷ []
 one_word f [] w text m n e h = absurd (omega arith)
 one_word f (x ∷ []) w text m n e h = ap (λ z. f z ∷ []) (sym e) ∙ ap (λ z. z ∷ []) h

@@ -1,4 +1,4 @@
--- What is noted of what a walk over spellings has left.
+-- The notes that remain during a walk over encoding quirks.
 use Rattle.std.proofs.Common.{◌≡◌, ℕ, Bool, List, [], ◌∷◌, ◌++◌, true, false, Option, Some, None, Result, Ok, Err, refl, sym, ap, subst, ◌∙◌}
 use Rattle.link_capture_grammar.specs.declared.fault.CaptureFault.{CaptureFault}
 use Rattle.link_capture_reader.specs.States.{IsTold, SinkState, Tells}
@@ -17,7 +17,7 @@ notes-told [] None = refl
 notes-told [] (Some fault) = refl
 notes-told (x ∷ xs) fault = ap (λ z. note_text x ++ z) (notes-told xs fault)
 
--- The front of a text has come to a sink that didn't fail, and the notes that are left are the rest.
+-- A prefix of a text was written to a sink that didn't fail, and the remaining notes are the rest.
 abbrev pub Noted : SinkState → SinkState → List (Result PlacedSpelling CaptureFault) → List ℕ → Type 0
 Noted before now left text = Come before now (notes_of left) text
 
@@ -27,14 +27,14 @@ noted-none before xs fault text e = subst (Come before before (notes_of (told_th
 one-less : (left more : List (Result PlacedSpelling CaptureFault)) (line : List ℕ) (x : PlacedSpelling) → left ≡ Ok x ∷ more → line ≡ note_text x → notes_of left ≡ line ++ notes_of more
 one-less left more line x e l = ap notes_of e ∙ ap (λ z. z ++ notes_of more) (sym l)
 
--- one more note was written
+-- One more note was written.
 pub noted-more : (before now next : SinkState) (left more : List (Result PlacedSpelling CaptureFault)) (text line : List ℕ) (x : PlacedSpelling) (r : Bool) → Noted before now left text → left ≡ Ok x ∷ more → line ≡ note_text x → r ≡ true → IsTold now next line r → Noted before next more text
 noted-more before now next left more text line x r n e l b i = come_more before now next (notes_of left) line (notes_of more) text r n (one-less left more line x e l) b i
 
--- nothing is left to be noted
+-- No note remains.
 pub noted-all : (before now : SinkState) (left : List (Result PlacedSpelling CaptureFault)) (text : List ℕ) → Noted before now left text → notes_of left ≡ [] → Tells before now text
 noted-all before now left text n e = (true, come_all before now (notes_of left) text n e)
 
--- the sink failed inside a note
+-- The sink failed inside a note.
 pub noted-failed : (before now next : SinkState) (left more : List (Result PlacedSpelling CaptureFault)) (text line : List ℕ) (x : PlacedSpelling) (r : Bool) → Noted before now left text → left ≡ Ok x ∷ more → line ≡ note_text x → r ≡ false → IsTold now next line r → Tells before next text
 noted-failed before now next left more text line x r n e l b i = (false, come_failed before now next (notes_of left) line (notes_of more) text r n (one-less left more line x e l) b i)

@@ -1,4 +1,4 @@
--- What has come to a sink.
+-- The text that was written to a sink.
 use Rattle.std.proofs.Common.{◌≡◌, ◌≤◌, ◌<◌, ℕ, ◌-◌, Bool, List, [], ◌∷◌, ◌++◌, true, false, length, map, take, drop, get_or, Bor, refl, sym, ap, subst, ◌∙◌, append_assoc, append-nil, arith}
 use Rattle.std.proofs.lemmas.List.{take_rest}
 use Rattle.std.proofs.KnownBytes.{Appends-nil, Appends-trans}
@@ -9,7 +9,7 @@ use Rattle.link_capture_refusals.proofs.Words.{cut}
 use Rattle.link_capture_reader.specs.States.{IsTold, SinkState}
 use Rattle.linkshow_program.specs.Telling.{texts_joined}
 
--- The front of a text has come to a sink that didn't fail, and the rest is left.
+-- A prefix of a text was written to a sink that didn't fail, and the rest remains.
 pub record Come (before now : SinkState) (left text : List ℕ) : Type 0 where
   pub front : List ℕ
   pub came : Appends before.holds now.holds front
@@ -19,14 +19,14 @@ pub record Come (before now : SinkState) (left text : List ℕ) : Type 0 where
 pub come_none : (before : SinkState) (text : List ℕ) → Come before before text text
 come_none before text = record { front = []; came = Appends-nil before.holds; same = refl; whole = refl }
 
--- an answer, and a text, that are known by others
+-- The same statement for an equal result and an equal text.
 pub told_by : (before after : SinkState) (text : List ℕ) (a b : Bool) → a ≡ b → IsTold before after text a → IsTold before after text b
 told_by before after text a b e t = subst (λ r. IsTold before after text r) e t
 
 pub retold : (before after : SinkState) (x text : List ℕ) (r : Bool) → x ≡ text → IsTold before after x r → IsTold before after text r
 retold before after x text r e t = subst (λ y. IsTold before after y r) e t
 
--- one more piece has come
+-- One more piece was written.
 pub come_more : (before now next : SinkState) (left piece more text : List ℕ) (r : Bool) → Come before now left text → left ≡ piece ++ more → r ≡ true → IsTold now next piece r → Come before next more text
 come_more before now next left piece more text r c e b i =
     let all = told_by now next piece r true b i in
@@ -37,11 +37,11 @@ come_more before now next left piece more text r c e b i =
       whole = append_assoc c.front piece more ∙ ap (λ z. c.front ++ z) (sym e) ∙ c.whole;
     }
 
--- all of it has come
+-- All of it was written.
 pub come_all : (before now : SinkState) (left text : List ℕ) → Come before now left text → left ≡ [] → IsTold before now text true
 come_all before now left text c e = (subst (Appends before.holds now.holds) (sym (append-nil c.front) ∙ ap (λ z. c.front ++ z) (sym e) ∙ c.whole) c.came, c.same)
 
--- the sink failed inside a piece
+-- The sink failed inside a piece.
 pub come_failed : (before now next : SinkState) (left piece more text : List ℕ) (r : Bool) → Come before now left text → left ≡ piece ++ more → r ≡ false → IsTold now next piece r → IsTold before next text false
 come_failed before now next left piece more text r c e b i =
     let part = told_by now next piece r false b i in
@@ -51,7 +51,7 @@ come_failed before now next left piece more text r c e b i =
     sym c.whole ∙ ap (λ z. c.front ++ z) (e ∙ ap (λ z. z ++ more) part.1.1.1 ∙ append_assoc front rest more) ∙ sym (append_assoc c.front front (rest ++ more)) in
     (subst (λ n. Rises n next.failures) c.same part.0, (c.front ++ front, (rest ++ more, whole), Appends-trans before.holds now.holds next.holds c.front front c.came part.1.2))
 
--- one text has come, and then another; or the first hasn't
+-- One text was written, and then another; or the first failed.
 pub told_then : (before between after : SinkState) (x first second : List ℕ) (a r : Bool) → a ≡ true → x ≡ first → IsTold before between x a → IsTold between after second r → IsTold before after (first ++ second) r
 told_then before between after x first second a true b e f s =
     let all = retold before between x first true e (told_by before between x a true b f) in
@@ -62,9 +62,9 @@ told_then before between after x first second a false b e f s =
 pub told_no_more : (before after : SinkState) (x first second : List ℕ) (a : Bool) → a ≡ false → x ≡ first → IsTold before after x a → IsTold before after (first ++ second) false
 told_no_more before after x first second a b e f = come_failed before before after (first ++ second) first second (first ++ second) a (come_none before (first ++ second)) refl b (retold before after x first a e f)
 
--- ---- texts, one behind the other
+-- ---- texts, one after the other
 
--- These texts are left of others.
+-- These texts remain of others.
 abbrev pub Told : SinkState → SinkState → List (Bor (List ℕ)) → List (Bor (List ℕ)) → Type 0
 Told before now left texts = Come before now (texts_joined left) (texts_joined texts)
 
@@ -75,7 +75,7 @@ texts_cut : (left : List (Bor (List ℕ))) (d : Bor (List ℕ)) → 1 ≤ length
 texts_cut [] d m = absurd (omega arith)
 texts_cut (x ∷ more) d m = ap (λ t. x.now ++ texts_joined t) (sym (take_rest (x ∷ more) 1))
 
--- one more text has come
+-- One more text was written.
 pub told_more : (before now next : SinkState) (left texts : List (Bor (List ℕ))) (d : Bor (List ℕ)) (r : Bool) → 1 ≤ length left → Told before now left texts → r ≡ true → IsTold now next (get_or left 0 d).now r → Told before next (take (length left - 1) (drop 1 left)) texts
 told_more before now next left texts d r m t b i = come_more before now next (texts_joined left) (get_or left 0 d).now _ (texts_joined texts) r t (texts_cut left d m) b i
 
@@ -83,15 +83,15 @@ none_left : (left : List (Bor (List ℕ))) → length left < 1 → texts_joined 
 none_left [] m = refl
 none_left (x ∷ more) m = absurd (omega arith)
 
--- all of them have come
+-- All of them were written.
 pub told_all : (before now : SinkState) (left texts : List (Bor (List ℕ))) → length left < 1 → Told before now left texts → IsTold before now (texts_joined texts) true
 told_all before now left texts m t = come_all before now (texts_joined left) (texts_joined texts) t (none_left left m)
 
--- the sink failed inside a text
+-- The sink failed inside a text.
 pub told_failed : (before now next : SinkState) (left texts : List (Bor (List ℕ))) (d : Bor (List ℕ)) (r : Bool) → 1 ≤ length left → Told before now left texts → r ≡ false → IsTold now next (get_or left 0 d).now r → IsTold before next (texts_joined texts) false
 told_failed before now next left texts d r m t b i = come_failed before now next (texts_joined left) (get_or left 0 d).now _ (texts_joined texts) r t (texts_cut left d m) b i
 
--- ---- names from outside in
+-- ---- names from the outermost to the innermost
 
 abbrev path_left : List (Bor (List ℕ)) → List ℕ
 path_left names = path_text (map (λ n. n.now) names)

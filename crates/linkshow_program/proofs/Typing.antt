@@ -1,4 +1,4 @@
--- Types with commas between.
+-- Types with commas between them.
 use Rattle.std.proofs.Common.{◌≡◌, ℕ, suc, ◌+◌, ◌<◌, ◌≤◌, Bool, true, false, cond, not, List, [], ◌∷◌, ◌++◌, length, take, drop, Option, Some, None, ◌⊎◌, inl, inr, refl, sym, ap, subst, ◌∙◌, append_assoc, length-append, arith}
 use Rattle.std.specs.Prelude.{◌==◌}
 use Rattle.std.specs.List.{position_or_len}
@@ -7,14 +7,14 @@ use Rattle.linkshow_program.specs.Types.{AreTypeWords, IsTypeWord, behind, named
 abbrev pub comma : ℕ → Bool
 comma b = b == 44
 
--- ---- what stands between commas
+-- ---- the parts between commas
 
 none_by : (c : ℕ) (w : List ℕ) (b : Bool) → cond (not b) (1 + position_or_len comma w) 0 ≡ suc (length w) → (position_or_len comma w ≡ length w → parts w ≡ w ∷ []) →
     cond b ([] ∷ parts w) (behind c (parts w)) ≡ (c ∷ w) ∷ []
 none_by c w true e h = absurd (omega (arith, e))
 none_by c w false e h = ap (behind c) (h (omega (arith, e)))
 
--- a word without a comma
+-- A word without a comma.
 pub one_part : (w : List ℕ) → position_or_len comma w ≡ length w → parts w ≡ w ∷ []
 one_part [] e = refl
 one_part (c ∷ w) e = none_by c w (c == 44) e (one_part w)
@@ -33,7 +33,7 @@ some_by c w false l h =
     let n = position_or_len comma w in
     ap (behind c) (h (omega (arith, l))) ∙ ap (λ z. (c ∷ take n w) ∷ parts z) (sym (further n c w)) ∙ ap (λ z. z ∷ parts (drop (1 + n + 1) (c ∷ w))) (sym (taken n c w))
 
--- one with a comma
+-- A word with a comma.
 pub more_parts : (w : List ℕ) → position_or_len comma w < length w → parts w ≡ take (position_or_len comma w) w ∷ parts (drop (position_or_len comma w + 1) w)
 more_parts [] l = absurd (omega arith)
 more_parts (c ∷ w) l = some_by c w (c == 44) l (more_parts w)
@@ -63,7 +63,7 @@ same_types (w ∷ ws) (t ∷ ts) (u ∷ us) h k =
     let rest = same_types ws ts us h.1 k.1 in
     λ i. first i ∷ rest i
 
--- ---- some types are read, and the rest of the word is left
+-- ---- some types have been read, and the rest of the word remains
 
 pub record Going (word left types : List ℕ) : Type 0 where
   pub whole : (ts : List ℕ) → AreTypeWords (parts left) ts → AreTypeWords (parts word) (types ++ ts)
@@ -72,7 +72,7 @@ pub record Going (word left types : List ℕ) : Type 0 where
 pub begun : (word : List ℕ) → Going word word []
 begun word = record { whole = λ ts h. h; only = λ all h. (all, refl, h) }
 
--- the types that a word with this first part has
+-- The types that a word with this first part has.
 first_of : (w : List ℕ) (ws : List (List ℕ)) (ts : List ℕ) → AreTypeWords (w ∷ ws) ts → (t : ℕ) × (us : List ℕ) × (ts ≡ t ∷ us) × IsTypeWord w t × AreTypeWords ws us
 first_of w ws [] h = absurd h
 first_of w ws (t ∷ us) h = (t, us, refl, h.0, h.1)
@@ -87,11 +87,11 @@ gone_on word left part rest types more t g e i m = record {
       (f.1, r.1 ∙ ap (λ z. types ++ z) f.2 ∙ ap (λ u. types ++ u ∷ f.1) same ∙ sym (append_assoc types (t ∷ []) f.1) ∙ ap (λ z. z ++ f.1) (sym m), f.4);
 }
 
--- the last part
+-- The last part.
 pub ended : (word left types all : List ℕ) (t : ℕ) → Going word left types → parts left ≡ left ∷ [] → IsTypeWord left t → all ≡ types ++ t ∷ [] → AreTypeWords (parts word) all
 ended word left types all t g e i a = subst (λ z. AreTypeWords (parts word) z) (sym a) (g.whole (t ∷ []) (subst (λ ps. AreTypeWords ps (t ∷ [])) (sym e) (i, tt)))
 
--- a part that names no type, or for which there is no room
+-- A part that names no type, or for which the list has no capacity.
 pub none_left : (word left part : List ℕ) (ps : List (List ℕ)) (types all : List ℕ) → Going word left types → parts left ≡ part ∷ ps → ((t : ℕ) → IsTypeWord part t → ⊥) ⊎ (length types ≡ 32) → AreTypeWords (parts word) all → length all ≤ 32 → ⊥
 none_left word left part ps types all g e (inl named) h l =
     let r = g.only all h in

@@ -1,25 +1,27 @@
--- What is known of files, and of the devices of a run.
+-- The files and the devices of a run, before and after it.
 use Rattle.std.specs.Prelude.{ℕ, List, Option, None, Some, Result, Ok, Err}
 use Rattle.std.specs.declared.io.ErrorKind.{ErrorKind}
 use Rattle.link_capture_reader.specs.States.{SinkState, SourceState}
 
--- why a file couldn't be opened, where it couldn't
+-- The reason why a file couldn't be opened; None if it was opened.
 abbrev pub refusal_of : {File : Type 0} → Result File ErrorKind → Option ErrorKind
 refusal_of (Ok file) = None
 refusal_of (Err kind) = Some kind
 
--- Files before a call and after it: the bytes of the file of a name, where they are known; how often a file was asked for; and why the last one couldn't be
--- opened, where it couldn't.
+-- Files before and after a call: the bytes of the file with a name, if they are known; the number of calls of `open`;
+-- and the reason why the last file couldn't be opened, if it couldn't.
 pub record Opening : Type 0 where
   pub contents : List ℕ → Option (List ℕ)
   pub asked : ℕ
   pub asks : ℕ
   pub refusal : Option ErrorKind
 
+-- The states of files before and after a call, as the trait `Files` describes them.
 abbrev pub opening : {F : Type 0} → (F → List ℕ → Option (List ℕ)) → (F → ℕ) → (F → Option ErrorKind) → F → F → Opening
 opening contents asked refusal before after = record { contents = contents before; asked = asked before; asks = asked after; refusal = refusal after }
 
--- One capture is shown: the source before and after; the sink of its lines; and that of what is told.
+-- The devices of a run that shows one capture, before and after it: the source, the sink of its lines, and that of
+-- reports.
 pub record Run : Type 0 where
   pub from : SourceState
   pub left : SourceState
@@ -28,6 +30,7 @@ pub record Run : Type 0 where
   pub told : SinkState
   pub tells : SinkState
 
+-- The states of the devices before and after a run, as their traits describe them.
 abbrev pub run_of : {S K E : Type 0} → (S → SourceState) → (K → SinkState) → (E → SinkState) → S → S → K → K → E → E → Run
 run_of source sink errors from left held holds told tells = record {
   from = source from;

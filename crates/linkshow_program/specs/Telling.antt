@@ -1,13 +1,13 @@
--- Texts that come to a sink.
+-- Texts that are written to a sink.
 use Rattle.std.specs.Prelude.{ℕ, List, [], ◌∷◌, ◌++◌}
 use Rattle.std.proofs.Common.{Bor}
 use Rattle.link_capture_reader.specs.States.{SinkState, Tells}
 
--- one text, and then another
+-- One text was written, and then another.
 abbrev pub TellsBoth : SinkState → SinkState → List ℕ → List ℕ → Type 0
 TellsBoth before after first second = (between : SinkState) × Tells before between first × Tells between after second
 
--- texts, one behind the other
+-- Texts, one after the other.
 abbrev pub texts_joined : List (Bor (List ℕ)) → List ℕ
 texts_joined [] = []
 texts_joined (text ∷ more) = text.now ++ texts_joined more

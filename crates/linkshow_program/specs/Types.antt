@@ -1,39 +1,41 @@
--- Types of messages by their words.
+-- Message types by their words.
 use Rattle.std.specs.Prelude.{◌≡◌, ◌==◌, ◌<◌, ◌⊎◌, ℕ, ◌^◌, ⊤, List, [], ◌∷◌, cond, bytes_eq, map, Option, None, Some}
 use Rattle.std.specs.Str.Parse.{IsNumeral, digits_value}
 use Rattle.linkshow_program.specs.declared.types.TheConstants.{TYPE_WORDS}
 
--- the rows of a table in code
+-- The rows that a table in code represents.
 abbrev pub words_of : {B : Type 0} → (B → List ℕ) → List (ℕ × B) → List (ℕ × List ℕ)
 words_of f rows = map (λ r. (r.0, f r.1)) rows
 
--- the type whose word this is, among some
+-- The type with this word, among some.
 abbrev pub named_in : List (ℕ × List ℕ) → List ℕ → Option ℕ
 named_in [] w = None
 named_in (r ∷ rows) w = cond (bytes_eq r.1 w) (Some r.0) (named_in rows w)
 
+-- The type with this word.
 unfoldable pub named_type : List ℕ → Option ℕ
 named_type w = named_in (words_of (λ w. w.now) TYPE_WORDS.now) w
 
--- digits that write the number of a type
+-- Decimal digits of the number of a type.
 pub record IsTypeNumber (w : List ℕ) : Type 0 where
   pub numeral : IsNumeral 10 w
   pub high : digits_value 10 w < 2 ^ 16
 
--- a type by its word, or by its number
+-- A type by its word, or by its number.
 abbrev pub IsTypeWord : List ℕ → ℕ → Type 0
 IsTypeWord w t = (named_type w ≡ Some t) ⊎ ((named_type w ≡ None) × IsTypeNumber w × (t ≡ digits_value 10 w))
 
+-- The parts of a word, given whether it continues after a comma.
 abbrev pub behind : ℕ → List (List ℕ) → List (List ℕ)
 behind c [] = (c ∷ []) ∷ []
 behind c (p ∷ ps) = (c ∷ p) ∷ ps
 
--- what stands between the commas of a word
+-- The parts of a word between its commas.
 abbrev pub parts : List ℕ → List (List ℕ)
 parts [] = [] ∷ []
 parts (c ∷ w) = cond (c == 44) ([] ∷ parts w) (behind c (parts w))
 
--- these words are those of these types, one for each
+-- These words are those of these types, one for each.
 abbrev pub AreTypeWords : List (List ℕ) → List ℕ → Type 0
 AreTypeWords [] [] = ⊤
 AreTypeWords [] (t ∷ ts) = ⊥

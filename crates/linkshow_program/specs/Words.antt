@@ -1,4 +1,4 @@
--- What the program's words ask for.
+-- The meaning of the program's arguments.
 use Rattle.std.specs.Prelude.{◌≡◌, ◌≤◌, ◌==◌, ℕ, true, false, List, [], ◌∷◌, codes, cond, bytes_eq, length, None, Some, option_map}
 use Rattle.std.specs.Str.Parse.{digits_value}
 use Rattle.link_capture_commands.specs.Commands.{IsLimitWord}
@@ -10,50 +10,56 @@ use Rattle.linkshow_program.specs.declared.words.Options.{Options}
 use Rattle.linkshow_program.specs.declared.words.Asked.{Asked}
 use Rattle.linkshow_program.specs.declared.words.Asked.TheVariants.{Help, Version, Show}
 
--- a word that begins with `-` and isn't known, or is empty, is wrong; any other is a name
+-- An argument that begins with `-` and isn't an option, or is empty, is invalid; any other is a name.
 abbrev pub name_of : List ℕ → Word
 name_of [] = Wrong
 name_of (c ∷ more) = cond (c == 45) Wrong Name
 
--- what a word is where no number is awaited
+-- The meaning of an argument where no number is expected.
 abbrev pub word_of : List ℕ → Word
 word_of w =
     cond (bytes_eq w (codes "--kernels")) Kernels (cond (bytes_eq w (codes "--without-numbers")) WithoutNumbers
     (cond (bytes_eq w (codes "--only")) Only (cond (bytes_eq w (codes "--limit")) Limit (cond (bytes_eq w (codes "-")) Input (name_of w)))))
 
+-- Lists of at most 32 message types.
 abbrev pub Types : Type 0
 Types = ArrayVec ℕ
 
--- what is asked for without a word
+-- The options without any argument.
 abbrev pub defaults : Options
 defaults = record { limit = 1048576; kernels = false; without_numbers = false; only = None; file = None }
 
+-- Options with this limit.
 abbrev pub with_limit : ℕ → Options → Options
 with_limit n o = record { limit = n; kernels = o.kernels; without_numbers = o.without_numbers; only = o.only; file = o.file }
 
+-- Options that ask for notes of encoding quirks.
 abbrev pub with_kernels : Options → Options
 with_kernels o = record { limit = o.limit; kernels = true; without_numbers = o.without_numbers; only = o.only; file = o.file }
 
+-- Options that leave out sequence and port numbers.
 abbrev pub leaving_numbers : Options → Options
 leaving_numbers o = record { limit = o.limit; kernels = o.kernels; without_numbers = true; only = o.only; file = o.file }
 
+-- Options that show only these types.
 abbrev pub with_only : Types → Options → Options
 with_only types o = record { limit = o.limit; kernels = o.kernels; without_numbers = o.without_numbers; only = Some types; file = o.file }
 
+-- Options for standard input.
 abbrev pub of_input : Options → Options
 of_input o = record { limit = o.limit; kernels = o.kernels; without_numbers = o.without_numbers; only = o.only; file = None }
 
--- p asks of the file of this name what o asks for
+-- The options p ask for the file of this name what o asks for.
 abbrev pub AreOf : List ℕ → Options → Options → Type 0
 AreOf name o p = (option_map (λ n. n.now) p.file ≡ Some name) × (of_input p ≡ of_input o)
 
--- what is awaited: an option, a file or nothing; the value of an option
+-- What is expected next: an option, a file or nothing; or the value of an option.
 pub data Awaited : Type 0 where
   Nothing : Awaited
   ALimit : Awaited
   SomeTypes : Awaited
 
--- The words ask for p, where this is awaited, and those before asked for o.
+-- The arguments ask for p, if this is expected next and the arguments before them asked for o.
 abbrev pub Gives : Awaited → Options → List (List ℕ) → Options → Type 0
 Gives ALimit o [] p = ⊥
 Gives ALimit o (w ∷ rest) p = IsLimitWord w × Gives Nothing (with_limit (digits_value 10 w) o) rest p
@@ -70,13 +76,13 @@ Gives Nothing o (w ∷ rest) p = elim (word_of w) [
   | Wrong ↦ ⊥
 ]
 
--- the words ask for this
+-- The arguments ask for this.
 abbrev pub Asks : List (List ℕ) → Asked → Type 0
 Asks words Help = words ≡ codes "--help" ∷ []
 Asks words Version = words ≡ codes "--version" ∷ []
 Asks words (Show options) = Gives Nothing defaults words options
 
--- the limit is one that a run can have
+-- The limit is one that a run can have.
 abbrev pub HasLimit : Asked → Type 0
 HasLimit Help = Unit {0}
 HasLimit Version = Unit {0}

@@ -9,23 +9,28 @@ use link_capture_reader::{ReadSource, Source};
 use std::fs::File;
 use std::io::ErrorKind;
 
-/// What opens files by their names.
+/// A device that opens files by their names.
 ///
-/// It counts how often it was asked to: this number is held by it, and stays at `u64::MAX` once it is there.
+/// An implementation counts the calls of `open`: the count stays at `u64::MAX` once it has reached
+/// that.
 pub trait Files {
     /// An open file.
     type File: Source + Drop;
 
-    /// The bytes of the file of a name, where they are known.
+    /// The bytes of the file with a name, if they are known.
     ghost contents: { Self → List ℕ → Option (List ℕ) };
 
-    /// How often it was asked for a file.
+    /// The number of calls of `open`.
     ghost asked: { Self → ℕ };
 
-    /// Why the file that it was asked for last couldn't be opened, where it couldn't.
+    /// The reason why the last file couldn't be opened; None if it was opened.
     ghost refusal: { Self → Option ErrorKind };
 
-    /// Opens a file, to be read from its first byte on. What other files hold stays.
+    /// Opens a file, to be read from its first byte on. The contents of all files stay.
+    ///
+    /// # Errors
+    ///
+    /// The kind of the error, if the file can't be opened.
     fn open(&mut self, name: &str) -> Result<Self::File, ErrorKind>
         ensures bytes { IfOk result (λ file. Self.File.to_come file ≡ contents self.old name.now) }
         ensures asked { asked self.new ≡ risen (asked self.old) }
@@ -33,7 +38,7 @@ pub trait Files {
         ensures contents { contents self.new ≡ contents self.old };
 }
 
-/// The file system of the process. What its files hold isn't known.
+/// The file system of the process. The contents of its files aren't known to the proofs.
 #[derive(Drop)]
 pub(crate) struct HostFiles<'a> {
     rt: &'a HostRuntime,
@@ -42,6 +47,7 @@ pub(crate) struct HostFiles<'a> {
 }
 
 impl<'a> HostFiles<'a> {
+    /// Returns the file system of the process, with no call counted.
     pub fn new(rt: &'a HostRuntime) -> HostFiles<'a> {
         HostFiles {
             rt,

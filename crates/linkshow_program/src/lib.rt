@@ -1,4 +1,5 @@
-//! What the program `linkshow` does: the lines of a netlink link capture, from standard input or a file to standard output.
+//! The program `linkshow`: it writes the lines of a netlink link capture, from standard input or a
+//! file, to standard output.
 #![tactic(auto)]
 
 ghost use Rattle.std.specs.Prelude.{◌≡◌, ◌≤◌, map, option_map, string_bytes, Some};
@@ -33,7 +34,7 @@ use texts::{HELP, USAGE, VERSION};
 pub use types::{TYPE_WORDS, Types};
 pub use words::{Asked, Options, read_words};
 
-/// Tells on the error writer how the program is used. The answer is the program's status.
+/// Writes the usage line to the error writer, and returns the status of a usage error.
 fn answer_usage<E: Sink>(errors: &mut E) -> ExitCode
     ensures { UsageAnswer (sink_state E.holds E.failures errors.old)
         (sink_state E.holds E.failures errors.new) (exit_status result) }
@@ -42,7 +43,8 @@ fn answer_usage<E: Sink>(errors: &mut E) -> ExitCode
     ExitCode::from(3)
 }
 
-/// Writes the lines of a capture, and where it is asked for notes of what kernels tell apart before them.
+/// Writes the lines of a capture, and, if the options ask for them, notes of encoding quirks before
+/// these.
 fn answer_capture<S: Source, K: Sink, E: Sink>(
     alloc: Global,
     source: &mut S,
@@ -64,7 +66,8 @@ fn answer_capture<S: Source, K: Sink, E: Sink>(
     }
 }
 
-/// Opens the file of a name, and writes the lines of its capture in the same way. That it can't be opened is told.
+/// Opens a file by its name, and writes the lines of its capture as `answer_capture` does. If it
+/// can't be opened, this is reported.
 fn answer_file<F: Files, K: Sink, E: Sink>(
     alloc: Global,
     files: &mut F,
@@ -92,9 +95,10 @@ fn answer_file<F: Files, K: Sink, E: Sink>(
     }
 }
 
-/// The program: writes the lines of what a file or the source has, as the words behind its name ask, tells on the error
-/// writer what went wrong, and answers with its status. Where they ask how it is used or for its version, or for nothing
-/// that it knows, no file is opened and nothing is read; and the source isn't read where they name a file.
+/// Runs the program and returns its status: writes the lines of a file or of the source, as the
+/// arguments ask, and reports any error on the error writer. If the arguments ask for help or the
+/// version, or are invalid, no file is opened and nothing is read; if they name a file, the source
+/// isn't read.
 pub fn answer<F: Files, S: Source, K: Sink, E: Sink>(
     alloc: Global,
     words: &[String],
@@ -121,9 +125,11 @@ pub fn answer<F: Files, S: Source, K: Sink, E: Sink>(
     }
 }
 
-/// Runs on standard input, output and error, the process's files and its words. It hands them on, and does nothing else.
+/// Runs the program on standard input, output and error, the process's files and its arguments. It
+/// only passes them on.
 ///
-/// Where a word is no text, or there is no memory for the words, an empty word stands for them, which is wrong.
+/// If an argument isn't UTF-8, or an allocation for the arguments fails, a single empty argument is
+/// passed, which is a usage error.
 pub fn outcome(rt: &HostRuntime) -> ExitCode {
     let wrong = [String::new(rt.alloc())];
     let words = words(rt);

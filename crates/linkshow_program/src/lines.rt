@@ -1,4 +1,4 @@
-//! Lines, and where they are told.
+//! Texts that are written to a sink.
 
 ghost use Rattle.std.specs.Prelude.{◌≡◌, ◌≤◌, ◌++◌, ◌∷◌, [], codes, length};
 ghost use Rattle.link_capture_reader.specs.States.{IsTold, sink_state};
@@ -7,7 +7,7 @@ ghost use Rattle.linkshow_program.specs.Telling.{texts_joined};
 use arrayvec::ArrayString;
 use link_capture_reader::{Sink, tell};
 
-/// A text as the line of a note.
+/// Returns the line of a note with this text.
 pub(crate) fn note(text: &str) -> ArrayString<135>
     requires { length text.now ≤ 128 }
     ensures { result.bytes ≡ codes "note: " ++ (text.now ++ 10 ∷ []) }
@@ -19,7 +19,8 @@ pub(crate) fn note(text: &str) -> ArrayString<135>
     line
 }
 
-/// Writes texts, one behind the other. Whether all of them were written: where the sink fails, the rest isn't.
+/// Writes texts, one after the other. Returns whether all of them were written: after a failure of
+/// the sink the rest isn't.
 pub(crate) fn tell_all<K: Sink>(sink: &mut K, texts: &[&str]) -> bool
     ensures { IsTold (sink_state K.holds K.failures sink.old)
         (sink_state K.holds K.failures sink.new)

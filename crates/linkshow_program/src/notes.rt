@@ -1,4 +1,4 @@
-//! Notes of what kernels tell apart.
+//! Notes of encoding quirks, which some kernels treat differently from the normal text.
 
 ghost use Rattle.std.specs.Prelude.{◌≡◌, ◌≤◌, option_map};
 ghost use Rattle.std.specs.Process.{exit_status};
@@ -16,8 +16,8 @@ use link_lines::{ShowFault, show};
 use std::alloc::Global;
 use std::process::ExitCode;
 
-/// Writes a note for each spelling of a capture that kernels tell apart, up to the first fault. Where the sink fails,
-/// the rest isn't written.
+/// Writes a note for each encoding quirk of a capture, up to the first fault. After a failure of
+/// the sink the rest isn't written.
 fn tell_notes<E: Sink>(errors: &mut E, bytes: &[u8], limit: u32)
     ensures { Tells (sink_state E.holds E.failures errors.old)
         (sink_state E.holds E.failures errors.new)
@@ -34,10 +34,10 @@ fn tell_notes<E: Sink>(errors: &mut E, bytes: &[u8], limit: u32)
     }
 }
 
-/// Reads all that a source has, writes a note for each spelling that kernels tell apart, and then the lines, and tells
-/// what went wrong. The answer is the program's status.
+/// Reads a source to its end, writes a note for each encoding quirk, then the lines, and reports
+/// what went wrong. Returns the program's status.
 ///
-/// A failed read, and want of memory for what is read, is told before any note or line.
+/// If reading fails, or an allocation for what is read, this is reported before any note or line.
 pub fn answer_notes<S: Source, K: Sink, E: Sink>(
     alloc: Global,
     source: &mut S,

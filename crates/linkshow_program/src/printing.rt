@@ -1,4 +1,4 @@
-//! Texts that are asked for.
+//! Texts that the arguments ask for.
 
 ghost use Rattle.std.specs.Prelude.{◌≡◌};
 ghost use Rattle.std.specs.Process.{exit_status};
@@ -10,13 +10,13 @@ use link_capture_grammar::fault::{CaptureFault, FaultKind};
 use link_capture_reader::{Sink, tell};
 use std::process::ExitCode;
 
-/// What is told where a text can't be printed.
+/// The fault that is reported if a text can't be printed.
 const NOT_PRINTED: CaptureFault = CaptureFault {
     kind: FaultKind::Write,
     offset: 0,
 };
 
-/// Prints a text, or tells that it can't be printed. The answer is the program's status.
+/// Prints a text, or reports that it can't be printed. Returns the program's status.
 pub(crate) fn print<K: Sink, E: Sink>(sink: &mut K, errors: &mut E, text: &str) -> ExitCode
     ensures { PrintAnswer (sink_state K.holds K.failures sink.old)
         (sink_state K.holds K.failures sink.new) (sink_state E.holds E.failures errors.old)

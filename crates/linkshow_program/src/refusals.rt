@@ -1,4 +1,4 @@
-//! The words of a fault, and of what of a refused body is refused.
+//! The text of a fault, and of the reason of a refused body.
 
 ghost use Rattle.std.specs.Prelude.{◌≡◌, map};
 ghost use Rattle.link_capture_refusals.specs.RefusalWords.{path_text};
@@ -10,7 +10,8 @@ use link_capture_reader::{Sink, tell};
 use link_capture_refusals::{Refusal, behind_name};
 use link_lines::ShowFault;
 
-/// Tells names from outside in, and a colon where there are any.
+/// Writes names from the outermost to the innermost, followed by a colon if there are any. Returns
+/// whether all was written.
 fn tell_path<E: Sink>(errors: &mut E, path: &[&'static str]) -> bool
     ensures { IsTold (sink_state E.holds E.failures errors.old)
         (sink_state E.holds E.failures errors.new)
@@ -26,7 +27,8 @@ fn tell_path<E: Sink>(errors: &mut E, path: &[&'static str]) -> bool
     true
 }
 
-/// Tells what is refused behind a colon, where something is.
+/// Writes a colon and the reason of a refused body, if there is one. Returns whether all was
+/// written.
 fn tell_refusal<E: Sink>(errors: &mut E, refusal: &Option<Refusal>) -> bool
     ensures { IsTold (sink_state E.holds E.failures errors.old)
         (sink_state E.holds E.failures errors.new) (refusal_words refusal.now) result }
@@ -43,7 +45,8 @@ fn tell_refusal<E: Sink>(errors: &mut E, refusal: &Option<Refusal>) -> bool
     tell(errors, refusal.reason_text().as_str())
 }
 
-/// Tells the words of a fault, its place, and what of a refused body is refused.
+/// Writes the text of a fault with its offset, and the reason of a refused body. Returns whether
+/// all was written.
 pub(crate) fn tell_words<E: Sink>(errors: &mut E, found: &ShowFault) -> bool
     ensures { IsTold (sink_state E.holds E.failures errors.old)
         (sink_state E.holds E.failures errors.new) (fault_words found.now) result }

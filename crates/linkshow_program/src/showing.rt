@@ -1,4 +1,4 @@
-//! The lines of what a source has.
+//! The lines of a source, and reports of what went wrong.
 
 ghost use Rattle.std.specs.Prelude.{◌≡◌, ◌≤◌, ◌++◌, option_map};
 ghost use Rattle.std.specs.Process.{exit_status};
@@ -19,7 +19,7 @@ use std::alloc::Global;
 use std::io::ErrorKind;
 use std::process::ExitCode;
 
-/// Whether the source failed.
+/// Returns whether the source failed.
 fn is_unread(kind: FaultKind) -> bool
     ensures { result ≡ is_unread kind }
 {
@@ -29,7 +29,8 @@ fn is_unread(kind: FaultKind) -> bool
     }
 }
 
-/// Tells the name of a file that couldn't be read, before the words of the fault.
+/// Writes the name of a file that couldn't be read, before the text of the fault. Returns whether
+/// all was written.
 fn tell_name<E: Sink>(errors: &mut E, file: Option<&str>, is_unread: bool) -> bool
     ensures { IsTold (sink_state E.holds E.failures errors.old)
         (sink_state E.holds E.failures errors.new)
@@ -41,8 +42,9 @@ fn tell_name<E: Sink>(errors: &mut E, file: Option<&str>, is_unread: bool) -> bo
     }
 }
 
-/// Tells a fault in a line, of a file that couldn't be read by its name, and behind it what helps where the capture is a
-/// file of another form.
+/// Reports a fault in one line, which begins with the file's name if the file couldn't be read,
+/// followed by a line of advice if the capture is a file of another format. Returns whether all was
+/// written.
 fn tell_fault<E: Sink>(errors: &mut E, file: Option<&str>, first: &[u8], found: &ShowFault) -> bool
     ensures { IsTold (sink_state E.holds E.failures errors.old)
         (sink_state E.holds E.failures errors.new)
@@ -57,7 +59,7 @@ fn tell_fault<E: Sink>(errors: &mut E, file: Option<&str>, first: &[u8], found: 
     tell_all(errors, &["\n", advice(first)])
 }
 
-/// Tells that the file of a name can't be opened, and why.
+/// Reports that a file can't be opened, and why. Returns whether all was written.
 pub(crate) fn tell_unopened<E: Sink>(errors: &mut E, name: &str, kind: ErrorKind) -> bool
     ensures { IsTold (sink_state E.holds E.failures errors.old)
         (sink_state E.holds E.failures errors.new) (unopened name.now kind) result }
@@ -68,7 +70,8 @@ pub(crate) fn tell_unopened<E: Sink>(errors: &mut E, name: &str, kind: ErrorKind
     tell_all(errors, &[cause(kind), "\n"])
 }
 
-/// What is told of a legal capture that begins with these bytes: that it has no messages, where there are none.
+/// Returns the report on a legal capture that begins with these bytes: `no messages` if it is
+/// empty, else nothing.
 fn nothing_read(first: &[u8]) -> &'static str
     ensures { result.now ≡ nothing_read first.now }
 {
@@ -79,7 +82,8 @@ fn nothing_read(first: &[u8]) -> &'static str
     }
 }
 
-/// Tells in one line what went wrong, or that the capture has no messages. The answer is the program's status.
+/// Reports in one line what went wrong, or that the capture has no messages. Returns the program's
+/// status.
 pub(crate) fn report<E: Sink>(
     errors: &mut E,
     file: Option<&str>,
@@ -103,7 +107,7 @@ pub(crate) fn report<E: Sink>(
     }
 }
 
-/// What of a capture is shown.
+/// Returns the choice of what is shown that the options make.
 pub(crate) fn line_options<'a>(options: &'a Options<'_>) -> LineOptions<'a>
     ensures { choice_of result ≡ chosen options.now }
 {
@@ -113,7 +117,8 @@ pub(crate) fn line_options<'a>(options: &'a Options<'_>) -> LineOptions<'a>
     }
 }
 
-/// Writes the lines of all that a source has, and tells what went wrong. The answer is the program's status.
+/// Writes the lines of a source, read to its end, and reports what went wrong. Returns the
+/// program's status.
 pub fn answer_show<S: Source, K: Sink, E: Sink>(
     alloc: Global,
     source: &mut S,

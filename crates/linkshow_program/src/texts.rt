@@ -1,18 +1,18 @@
-//! Texts of the program.
+//! The texts that the program writes.
 
 ghost use Rattle.std.specs.Prelude.{◌≡◌};
 ghost use Rattle.linkshow_program.specs.Texts.{cause, is_pcap, is_pcapng, advice};
 
 use std::io::ErrorKind;
 
-/// What is told of wrong words.
+/// The usage line.
 pub const USAGE: &str =
     "usage: linkshow [--without-numbers] [--only TYPE,..] [--kernels] [--limit N] [FILE]; linkshow --help says more\n";
 
-/// The version of the program, and the number of the form of its lines.
+/// The version of the program, and the format version of its lines.
 pub const VERSION: &str = "linkshow 0.1.0, lines 2\n";
 
-/// How the program is used.
+/// The help.
 pub const HELP: &str =
     "usage: linkshow [--without-numbers] [--only TYPE,..] [--kernels] [--limit N] [FILE]
        linkshow --help
@@ -45,7 +45,7 @@ Example, the links of this network namespace:
   linkshow links.bin
 ";
 
-/// Why a file can't be opened.
+/// Returns the reason why a file can't be opened.
 pub fn cause(kind: ErrorKind) -> &'static str
     ensures { result.now ≡ cause kind }
 {
@@ -61,6 +61,7 @@ pub fn cause(kind: ErrorKind) -> &'static str
     }
 }
 
+/// Returns whether bytes begin with one of the four magic numbers of pcap.
 fn is_pcap(first: &[u8]) -> bool
     ensures { result ≡ is_pcap first.now }
 {
@@ -70,13 +71,15 @@ fn is_pcap(first: &[u8]) -> bool
         || first == b"\x4d\x3c\xb2\xa1".as_slice()
 }
 
+/// Returns whether bytes begin with the magic number of pcapng.
 fn is_pcapng(first: &[u8]) -> bool
     ensures { result ≡ is_pcapng first.now }
 {
     first == b"\n\r\r\n".as_slice()
 }
 
-/// What helps where a capture with a fault begins with these four bytes: a line, or nothing.
+/// Returns the advice for a capture with a fault that begins with these four bytes: a line, or
+/// nothing.
 pub fn advice(first: &[u8]) -> &'static str
     ensures { result.now ≡ advice first.now }
 {

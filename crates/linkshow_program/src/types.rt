@@ -1,4 +1,4 @@
-//! Types of messages by their words.
+//! Message types by their words.
 
 ghost use Rattle.std.specs.Prelude.{◌≡◌, ◌<◌, ◌≤◌, ◌⊎◌, ◌++◌, ◌∷◌, [], ℕ, length, IfSome, IfNone};
 ghost use Rattle.arrayvec.specs.ArrayVec.{ArrayVec as Items};
@@ -7,10 +7,11 @@ ghost use Rattle.linkshow_program.specs.Types.{named_in, words_of, named_type, p
 
 use arrayvec::ArrayVec;
 
-/// Types of messages, 32 at most.
+/// A list of at most 32 message types.
 pub type Types = ArrayVec<u16, 32>;
 
-/// The types that have names, and their words: the names of netlink.h and rtnetlink.h in lower case, without NLMSG or RTM.
+/// The message types that have names, with their words: the names of netlink.h and rtnetlink.h in
+/// lower case, without NLMSG or RTM.
 pub const TYPE_WORDS: &[(u16, &str)] = &[
     (1, "noop"),
     (2, "error"),
@@ -34,7 +35,8 @@ pub const TYPE_WORDS: &[(u16, &str)] = &[
     (34, "getrule"),
 ];
 
-/// The type whose word this is, among some.
+/// Returns the type with this word, among some. The rows are a parameter, since the prover spells
+/// out a constant inside a loop in each goal.
 fn named_in(rows: &[(u16, &str)], word: &str) -> Option<u16>
     ensures { result ≡ named_in (words_of (λ w. w.now) rows.now) word.now }
 {
@@ -46,7 +48,7 @@ fn named_in(rows: &[(u16, &str)], word: &str) -> Option<u16>
     None
 }
 
-/// The type whose word this is.
+/// Returns the type with this word.
 #[tactic(auto, unfolding(crate::specs::Types::named_type))]
 fn named_type(word: &str) -> Option<u16>
     ensures { result ≡ named_type word.now }
@@ -54,7 +56,7 @@ fn named_type(word: &str) -> Option<u16>
     named_in(TYPE_WORDS, word)
 }
 
-/// Reads the number of a type: digits that write a number up to 65535.
+/// Reads the number of a type: decimal digits of a number up to 65535.
 fn read_number(word: &str) -> Option<u16>
     ensures some { IfSome result (λ n. IsTypeNumber word.now × (n ≡ digits_value 10 word.now)) }
     ensures none { IfNone result (IsTypeNumber word.now → ⊥) }
@@ -66,7 +68,7 @@ fn read_number(word: &str) -> Option<u16>
     word.parse::<u16>().ok()
 }
 
-/// Reads a type: its word, or its number.
+/// Reads a type, by its word or its number.
 fn read_type(word: &str) -> Option<u16>
     ensures some { IfSome result (λ t. IsTypeWord word.now t) }
     ensures none { IfNone result ((t : ℕ) → IsTypeWord word.now t → ⊥) }
@@ -77,7 +79,7 @@ fn read_type(word: &str) -> Option<u16>
     }
 }
 
-/// Reads one more type. None where the word is that of no type, or there is no room left.
+/// Reads one more type. Returns None if the word is that of no type, or the list is full.
 fn push_type(types: &mut Types, word: &str) -> Option<()>
     ensures some { IfSome result (λ _. (t : ℕ) × IsTypeWord word.now t
         × (types.new.items ≡ types.old.items ++ t ∷ []) × (length types.old.items < 32)) }
@@ -87,7 +89,7 @@ fn push_type(types: &mut Types, word: &str) -> Option<()>
     types.try_push(read_type(word)?).ok()
 }
 
-/// What stands before the first comma and behind it. None where there is no comma.
+/// Returns the parts before and after the first comma; None if there is no comma.
 fn first_part(word: &str) -> Option<(&str, &str)>
     ensures some { IfSome result (λ r. parts word.now ≡ r.0.now ∷ parts r.1.now) }
     ensures shorter { IfSome result (λ r. length r.1.now < length word.now) }
@@ -96,7 +98,7 @@ fn first_part(word: &str) -> Option<(&str, &str)>
     word.split_once(',')
 }
 
-/// Reads types with commas between.
+/// Reads types with commas between them; None if a part names no type, or there are more than 32.
 pub(crate) fn read_types(word: &str) -> Option<Types>
     ensures some { IfSome result (λ types. AreTypeWords (parts word.now) types.items) }
     ensures few { IfSome result (λ types. length types.items ≤ 32) }

@@ -1,4 +1,4 @@
-//! The words behind the program's name.
+//! The arguments of the program, parsed without allocating.
 
 ghost use Rattle.std.specs.Prelude.{◌≡◌, ◌≤◌, [], map, IfSome, IfNone, string_bytes};
 ghost use Rattle.linkshow_program.specs.Words.{word_of, defaults, Awaited.Nothing, Gives, Asks, HasLimit};
@@ -6,52 +6,52 @@ ghost use Rattle.linkshow_program.specs.Words.{word_of, defaults, Awaited.Nothin
 use crate::types::{Types, read_types};
 use link_capture_commands::{DEFAULT_LIMIT, read_limit};
 
-/// How a capture is to be shown.
+/// What is shown of a capture, and which one.
 #[derive(Clone, Debug, PartialEq, Eq, Drop)]
 pub struct Options<'a> {
     /// The greatest length of a message, in bytes.
     pub limit: u32,
-    /// Whether notes of what kernels tell apart are wanted.
+    /// Whether encoding quirks are noted on standard error.
     pub kernels: bool,
-    /// Whether sequence and port numbers are to be left out.
+    /// Whether sequence and port numbers are left out.
     pub without_numbers: bool,
-    /// The types of the messages to be shown; without it, all are.
+    /// The types of the messages that are shown; None shows all.
     pub only: Option<Types>,
-    /// The name of a file; without one it is standard input.
+    /// The name of the file; None is standard input.
     pub file: Option<&'a str>,
 }
 
-/// What the program is asked to do.
+/// What the arguments ask for.
 #[derive(Clone, Debug, PartialEq, Eq, Drop)]
 pub enum Asked<'a> {
-    /// Tell how it is used.
+    /// The help.
     Help,
-    /// Tell its version.
+    /// The version.
     Version,
-    /// Show a capture.
+    /// The lines of a capture.
     Show(Options<'a>),
 }
 
-/// What a word is where no number and no types are awaited.
+/// The meaning of an argument where neither a number nor types are expected.
 #[derive(Clone, Copy)]
 pub(crate) enum Word {
     /// `--kernels`
     Kernels,
     /// `--without-numbers`
     WithoutNumbers,
-    /// `--only`, behind which stand types
+    /// `--only`, which types follow
     Only,
-    /// `--limit`, behind which stands a number
+    /// `--limit`, which a number follows
     Limit,
     /// `-`: standard input
     Input,
     /// The name of a file.
     Name,
-    /// Nothing that is known.
+    /// No option of the program, or an empty argument.
     Wrong,
 }
 
-/// Tells what a word is.
+/// Returns the meaning of an argument.
 #[tactic(auto, unfolding(crate::specs::Words::word_of))]
 fn word_of(word: &str) -> Word
     ensures { result ≡ word_of word.now }
@@ -73,7 +73,7 @@ fn word_of(word: &str) -> Word
     }
 }
 
-/// These options, where nothing is left behind them.
+/// Returns the options if no argument is left.
 fn when_last<'a>(left: &[String], options: Options<'a>) -> Option<Options<'a>>
     ensures some { IfSome result (λ o. (left.now ≡ []) × (o ≡ options.entry)) }
     ensures none { IfNone result (left.now ≡ [] → ⊥) }
@@ -81,7 +81,8 @@ fn when_last<'a>(left: &[String], options: Options<'a>) -> Option<Options<'a>>
     if left.is_empty() { Some(options) } else { None }
 }
 
-/// Reads options, and behind them the name of a file, `-` or nothing. None where the words are anything else.
+/// Reads options, followed by the name of a file, `-` or nothing. Returns None for any other
+/// arguments.
 fn read_options(words: &[String]) -> Option<Options<'_>>
     ensures some { IfSome result (λ o. Gives Nothing defaults (map string_bytes words.now) o) }
     ensures limit { IfSome result (λ o. 16 ≤ o.limit) }
@@ -128,8 +129,9 @@ fn read_options(words: &[String]) -> Option<Options<'_>>
     }
 }
 
-/// Reads the words: `--help`, `--version`, or options and behind them the name of a file, `-` or nothing. An option may
-/// stand in any place and more than once; the last limit counts. None where they are anything else.
+/// Reads the arguments: `--help`, `--version`, or options, followed by the name of a file, `-` or
+/// nothing. Options may come in any order and more than once; the last of a kind counts. Returns
+/// None for any other arguments.
 pub fn read_words(words: &[String]) -> Option<Asked<'_>>
     ensures some { IfSome result (λ asked. Asks (map string_bytes words.now) asked) }
     ensures limit { IfSome result (λ asked. HasLimit asked) }

@@ -1,4 +1,4 @@
--- what is said without the first bytes
+-- The result without the first bytes.
 use Rattle.link_lines.proofs.engine.show.Goals as goal
 
 pub returns : goal.returns

@@ -1,4 +1,4 @@
--- what was read and written at each exit
+-- The bytes that were read and written at each exit.
 use Rattle.std.proofs.Common.{◌≡◌, ◌∙◌, ◌++◌, ◌-◌, [], length, take, refl, sym, ap, subst, arith, rules}
 use Rattle.std.proofs.lemmas.List.{append-nil, length-take}
 use Rattle.std.proofs.lemmas.Result.{err_from_is_err_and}
@@ -28,7 +28,7 @@ pieces-init g c = record {
   came = ([], nothing_came _ c.lines_are_joined.ensures c.args.limit c.new-reader.result _ _ c.new-reader.ensures.limit c.new-reader.ensures.empty, c.clear.ensures);
 }
 
--- the bytes that are kept are those of the reader
+-- The bytes that are kept are those of the reader.
 kept : (g : Over) (c : After-len g) → c.keep.new.front.items ≡ c.pieces.reader.kept
 kept g c = on_ok c.keep.result (c.keep.new.front.items ≡ c.kept_bytes.result.now) (sym c.if-is_err.ensures.value) c.keep.ensures.kept ∙ c.kept_bytes.ensures.value
 

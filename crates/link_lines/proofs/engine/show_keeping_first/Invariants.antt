@@ -1,4 +1,4 @@
--- what was read was accepted, and its lines are written
+-- All that was read was accepted, and its lines are written.
 use Rattle.std.proofs.Common.{◌≡◌, ◌-◌, ◌^◌, ℕ, List, [], take}
 use Rattle.link_lines.specs.Options.{choice_of}
 use Rattle.link_lines.proofs.Progress.{Came}

@@ -2,7 +2,7 @@ use Rattle.std.proofs.Common.{◌≡◌, length}
 use Rattle.link_lines_texts.specs.Captures.{is_among}
 use Rattle.link_lines.proofs.options.is_among.Given as goal
 
--- the type is among those that are left where it is among all
+-- The type is among the remaining ones if and only if it is among all.
 abbrev pub invariant-types : goal.invariant-types
 invariant-types l = is_among l.left l.message_type ≡ is_among l.fn.types l.message_type
 

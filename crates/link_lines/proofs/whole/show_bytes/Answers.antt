@@ -1,4 +1,4 @@
--- the lines of the texts that were gathered
+-- The lines of the texts that were gathered.
 use Rattle.std.proofs.Common.{◌∙◌, ◌++◌, length, refl, ◌≡◌, ◌<◌, ap, sym, subst}
 use Rattle.std.proofs.lemmas.Result.{IfErr-weaker}
 use Rattle.link_capture_grammar.specs.Captures.{texts}
@@ -17,13 +17,13 @@ gathered c = record {
   memory = c.normalize_bytes-shown.ensures.memory;
 }
 
--- their lines are written
+-- The lines of these texts are written.
 written : (c : Else-is_err) → c.push_all.new.out.items ≡ c.args.out.now.items ++ text_lines (choice_of c.args.options) c.normalize_bytes-shown.new.out.items
 written c =
     on_ok c.push_all.result (c.push_all.new.out.items ≡ c.args.out.now.items ++ text_lines (choice_of c.args.options) c.as_slice.result.now) (sym c.if-is_err.ensures.value) c.push_all.ensures.ok
     ∙ ap (λ x. c.args.out.now.items ++ text_lines (choice_of c.args.options) x) c.as_slice.ensures.value
 
--- or there was no memory for them: the bytes have texts, and nothing is written
+-- An allocation failed for the lines: the bytes have texts, and nothing is written.
 lacking : (c : Then-is_err) → Gathers c.normalize_bytes-shown.result c.args.limit c.args.bytes.now c.new-texts.result.items c.normalize_bytes-shown.new.out.items → (0 < length (texts c.args.limit c.args.bytes.now)) × (c.push_all.new.out.items ≡ c.args.out.now.items)
 lacking c g =
     let z = on_err c.push_all.result ((0 < length c.as_slice.result.now) × (c.push_all.new.out.items ≡ c.args.out.now.items)) (sym c.if-is_err.ensures.value) c.push_all.ensures.err in

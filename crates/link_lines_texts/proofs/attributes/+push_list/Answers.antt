@@ -6,7 +6,7 @@ use Rattle.link_lines_texts.specs.Lists.{list_inside, list_lines, nested_lines, 
 use Rattle.link_lines_texts.proofs.ListSteps.{going, list_shorter}
 use Rattle.link_lines_texts.proofs.attributes.+push_list.Goals as goal
 
--- a list that was found, and where it stands
+-- The list in an attribute, if there is one, with its table.
 abbrev viewed : Option (Place × Bor (List ℕ)) → Option (Place × List ℕ)
 viewed o = option_map (λ f. (f.0, f.1.now)) o
 

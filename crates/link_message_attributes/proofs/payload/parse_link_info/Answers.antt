@@ -1,4 +1,4 @@
--- link info that holds an attribute is a list
+-- Link info that holds an attribute is a list.
 use Rattle.std.proofs.Common.{sym, subst, ◌∙◌, rules}
 use Rattle.std.proofs.lemmas.Result.{IfOk-weaker}
 use Rattle.attribute_tables.specs.Outcomes.{IsRefusedUnless}

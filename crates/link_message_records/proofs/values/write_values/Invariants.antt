@@ -1,4 +1,4 @@
--- The numbers written so far stand in front of what was there.
+-- The numbers written so far are at the start of the buffer, followed by what was there.
 use Rattle.std.proofs.Common.{◌≡◌, ◌++◌, length, take, drop}
 use Rattle.std.specs.List.{flat_map}
 use Rattle.link_message_records.proofs.values.write_values.Given as goal

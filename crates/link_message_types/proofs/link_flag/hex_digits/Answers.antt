@@ -4,7 +4,7 @@ use Rattle.std.specs.Fmt.{WritesText, digits}
 use Rattle.arrayvec.specs.ArrayString.{ArrayString}
 use Rattle.link_message_types.proofs.link_flag.hex_digits.Goals as goal
 
--- what a write into the text does
+-- The effect of a write into the text.
 abbrev appends : ArrayString → List ℕ → ArrayString → Type 0
 appends old bytes new = new.bytes ≡ old.bytes ++ bytes
 

@@ -1,4 +1,4 @@
--- what is told of the first bytes that were read
+-- The report on the first bytes that were read.
 use Rattle.std.proofs.Common.{List, ℕ, subst}
 use Rattle.std.specs.Prelude.{option_map}
 use Rattle.link_capture_reader.specs.Devices.{Rises, TellsItsEnd}

@@ -2,7 +2,7 @@ use Rattle.std.proofs.Common.{◌≡◌, drop}
 use Rattle.linkshow_program.specs.Types.{named_in, words_of}
 use Rattle.linkshow_program.proofs.types.named_in.Given as goal
 
--- the word is sought among the rows that are left
+-- The word is sought among the remaining rows.
 abbrev pub invariant-loop-row : goal.invariant-loop-row
 invariant-loop-row l = record {
   rest : named_in (words_of (λ w. w.now) (drop l.row-index l.rows)) l.word ≡ named_in (words_of (λ w. w.now) l.rows) l.word;

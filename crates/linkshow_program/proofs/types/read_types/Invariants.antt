@@ -4,7 +4,7 @@ use denote.Text.{Utf8}
 use Rattle.linkshow_program.proofs.Typing.{Going}
 use Rattle.linkshow_program.proofs.types.read_types.Given as goal
 
--- some types are read, and the rest of the word is left
+-- Some types have been read, and the rest of the word remains.
 abbrev pub invariant-parts : goal.invariant-parts
 invariant-parts l = record {
   text : shadow (Utf8 l.left);

@@ -4,7 +4,7 @@ use Rattle.linkshow_program.specs.Words.{Awaited.Nothing, defaults}
 use Rattle.linkshow_program.proofs.Asking.{Gone}
 use Rattle.linkshow_program.proofs.words.read_options.Given as goal
 
--- what is left gives what the words give
+-- The remaining arguments ask for what all of them do.
 abbrev pub invariant-words : goal.invariant-words
 invariant-words l = record {
   low : 16 ≤ l.options.limit;

@@ -1,4 +1,4 @@
--- The settings taken in so far are those that are asked for among the first so many.
+-- The settings appended so far are those that are requested among the first i.
 use Rattle.std.proofs.Common.{◌≡◌, ◌≤◌, take}
 use Rattle.link_message_nested.specs.InetSettings.{requested_from, requested_so_far}
 use Rattle.link_message_nested.proofs.inet.Request.new.Given as goal

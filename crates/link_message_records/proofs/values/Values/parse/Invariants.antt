@@ -1,4 +1,4 @@
--- The numbers read so far are the front of the payload, filled up.
+-- The numbers read so far are a prefix of the payload, padded with zeros.
 use Rattle.std.proofs.Common.{◌≡◌, ◌*◌, ◌++◌, length, take, drop}
 use Rattle.std.specs.List.{flat_map}
 use Rattle.netlink_packet_core.specs.Attributes.{zeros}

@@ -66,5 +66,5 @@ old_captures_are_renewed = record {
   under_every_rule = texts_are_renewed;
 }
 
--- what the laws go by
+-- the results from which the laws are proved
 pub ruleset laws = (in_force, sameness_in_force, old_captures_are_renewed, small_frames_fit, unlisted_attributes_are_kept)

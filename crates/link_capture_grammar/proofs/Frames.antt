@@ -33,7 +33,7 @@ tested_by limit size claimed j P short low over cut whole =
     cond_both (ltb limit claimed) _ _ P (λ d. over (ltb-true _ _ d)) (λ d.
     cond_both (ltb size claimed) _ _ P (λ e. cut (ltb-false _ _ a) (ltb-false _ _ b) (ltb-false _ _ d) (ltb-true _ _ e)) (λ e. whole (ltb-false _ _ a) (ltb-false _ _ b) (ltb-false _ _ d) (ltb-false _ _ e)))))
 
--- an accepted body's frame has the length that its header tells
+-- the length of a frame with an accepted body is the one in its header
 judged : (limit : ℕ) (c : List ℕ) (r : Result (List ℕ) Refusal) (frame : ℕ × List ℕ) → judged_text limit c r ≡ Ok frame → frame_length c ≡ frame.0
 judged limit c (Err why) frame h = cc
 judged limit c (Ok body) frame h =
@@ -70,7 +70,7 @@ pub raised_add : (a b n : ℕ) (f : Option CaptureFault) → a + b ≡ n → rai
 raised_add a b n None e = refl
 raised_add a b n (Some f) e = let k : a + (b + f.offset) ≡ n + f.offset = omega arith in ap (λ m. Some (record { kind = f.kind; offset = m })) k
 
--- the place behind a frame in front
+-- the offset of the bytes after the first frame
 abbrev next_place : Judged → (ℕ → ℕ) → ℕ
 next_place (Ok frame) after = suc (after (nla_align frame.0 - 1))
 next_place (Err kind) after = 0
@@ -145,7 +145,7 @@ module _ (r : Rule) where
   unfolding judgement
   judgement_not_cut limit c h = judged_not_cut limit c (body_text_under r (frame_type c) (frame_body c)) h
 
-  -- What is cut is too short for its header, or for the length that this tells.
+  -- A cut frame has fewer bytes than a header, or than the length in its header.
   pub cut_cases : (limit : ℕ) (c : List ℕ) → first_frame_under r limit c ≡ Err Cut → (length c < 16) ⊎ CutInBody limit c
   cut_cases limit c h =
       tested_by limit (length c) (frame_length c) (judgement limit c) (λ o. o ≡ Err Cut → (length c < 16) ⊎ CutInBody limit c) (λ a e. inl a) (λ a e. cc) (λ a e. cc)
@@ -167,7 +167,7 @@ module _ (r : Rule) where
       let claimed : frame_length c ≡ frame_length e = ap (u32_at 0) (sym whole) ∙ u32_at-append e more (omega arith) in
       sym (first_frame_whole limit e more (omega arith) (omega (arith, a.is, claimed))) ∙ ap (first_frame_under r limit) whole ∙ h
 
-  -- the two recursions after so many bytes
+  -- both recursions over the bytes after the first `skip`
   pub texts_skip : (limit skip : ℕ) (c : List ℕ) → texts_after_under r limit skip c ≡ texts_under r limit (drop skip c)
   unfolding texts_after_under
   texts_skip limit zero c = refl
@@ -207,7 +207,7 @@ module _ (r : Rule) where
   unfolding texts_after_under
   texts_nil limit skip = refl
 
-  -- An accepted frame in front: what is left of the string after it has the rest.
+  -- If the first frame is accepted, the frames of the remaining bytes are the remaining frames.
   pub texts_step : (limit : ℕ) (c : List ℕ) (frame : ℕ × List ℕ) → first_frame_under r limit c ≡ Ok frame → texts_under r limit c ≡ frame.1 ++ texts_under r limit (drop (nla_align frame.0) c)
   texts_step limit [] frame h = let a = accepted limit [] frame h in absurd (omega (arith, a.header))
   texts_step limit (b ∷ c) frame h =
@@ -224,7 +224,7 @@ module _ (r : Rule) where
       ∙ raised_add 1 (nla_align frame.0 - 1) (nla_align frame.0) _ (omega arith)
       ∙ ap (λ n. raised (nla_align frame.0) (first_fault_under r limit (drop n (b ∷ c)))) (sym e)
 
-  -- A fault in front.
+  -- The first frame has a fault.
   pub fault_stop : (limit : ℕ) (c : List ℕ) (kind : FaultKind) → 0 < length c → first_frame_under r limit c ≡ Err kind → first_fault_under r limit c ≡ Some (record { kind = kind; offset = 0 })
   fault_stop limit [] kind p h = absurd (omega arith)
   fault_stop limit (b ∷ c) kind p h = stop_fault limit b c kind h
@@ -233,7 +233,8 @@ module _ (r : Rule) where
   texts_stop limit [] kind h = texts_nil limit 0
   texts_stop limit (b ∷ c) kind h = stop_texts limit b c kind h
 
-  -- What holds of a capture that begins with an accepted frame, where it holds of what is behind that, and of each other, holds of all.
+  -- Induction over frames: a property of all captures holds if it holds of the rest whenever it holds of a capture that
+  -- begins with an accepted frame, and of every other capture.
   pub by_frames : (limit : ℕ) (P : List ℕ → Type 0) → ((c : List ℕ) (frame : ℕ × List ℕ) → first_frame_under r limit c ≡ Ok frame → P (drop (nla_align frame.0) c) → P c) →
       ((c : List ℕ) (kind : FaultKind) → first_frame_under r limit c ≡ Err kind → P c) → (c : List ℕ) → P c
   by_frames limit P more stop c = go (length c) c (omega arith)
@@ -250,7 +251,8 @@ module _ (r : Rule) where
             | inr w ↦ stop c w.0 w.1
           ]
 
-  -- How far the whole frames reach, with the padding that the last one is owed: where the first fault stands, or would stand if more came.
+  -- The offset that the whole frames reach, including the full padding of the last one: the first fault is there, or
+  -- would be if more bytes came.
   unfoldable pub place_after : ℕ → ℕ → List ℕ → ℕ
   place_after limit skip [] = skip
   place_after limit (suc skip) (b ∷ c) = suc (place_after limit skip c)
@@ -267,7 +269,7 @@ module _ (r : Rule) where
   unfolding place_after
   stop_place limit b c kind h = ap (λ j. next_place j (λ skip. place_after limit skip c)) h
 
-  -- What holds of bytes behind so many that are passed over, and of their place, goes byte by byte over what is passed over, and else frame by frame.
+  -- Induction over the offset: byte by byte over the bytes to be skipped, and then frame by frame.
   by_place : (limit : ℕ) (P : ℕ → List ℕ → ℕ → Type 0) → ((skip : ℕ) → P skip [] skip) → ((skip b : ℕ) (s : List ℕ) (p : ℕ) → P skip s p → P (suc skip) (b ∷ s) (suc p)) →
       ((b : ℕ) (s : List ℕ) (frame : ℕ × List ℕ) (p : ℕ) → first_frame_under r limit (b ∷ s) ≡ Ok frame → P (nla_align frame.0 - 1) s p → P 0 (b ∷ s) (suc p)) →
       ((b : ℕ) (s : List ℕ) (kind : FaultKind) → first_frame_under r limit (b ∷ s) ≡ Err kind → P 0 (b ∷ s) 0) → (skip : ℕ) (s : List ℕ) → P skip s (place_after limit skip s)
@@ -280,7 +282,7 @@ module _ (r : Rule) where
         | inr w ↦ subst (P 0 (b ∷ s)) (sym (stop_place limit b s w.0 w.1)) (stop b s w.0 w.1)
       ]
 
-  -- a frame in front stays one, whatever follows
+  -- an accepted first frame stays accepted if bytes are appended
   frame-more : (limit b : ℕ) (s p : List ℕ) (frame : ℕ × List ℕ) → first_frame_under r limit (b ∷ s) ≡ Ok frame → first_frame_under r limit (b ∷ (s ++ p)) ≡ Ok frame
   frame-more limit b s p frame h = first_frame-more limit (b ∷ s) p (not_cut (first_frame_under r limit (b ∷ s)) frame h) ∙ h
 
@@ -306,7 +308,7 @@ module _ (r : Rule) where
       (λ b s frame p h more. step_fault limit b (s ++ q) frame (frame-more limit b s q frame h) ∙ ap (raised 1) more ∙ raised_add 1 p (suc p) _ (omega arith))
       (λ b s kind h. sym (raised_zero (first_fault_under r limit (b ∷ (s ++ q))))) skip s
 
-  -- What stands before the place is legal, and has the texts; and whole frames reach at least over what is passed over.
+  -- The bytes before the offset are legal and have these texts, and whole frames reach at least past the skipped bytes.
   pub record Base (limit : ℕ) (q : List ℕ) (skip : ℕ) (s : List ℕ) (p : ℕ) : Type 0 where
     pub low : skip ≤ p
     pub legal : fault_after_under r limit skip (take p (s ++ q)) ≡ None
@@ -331,7 +333,7 @@ module _ (r : Rule) where
       })
       (λ b s kind h. record { low = omega arith; legal = refl; texts = sym (stop_texts limit b s kind h) }) skip s
 
-  -- the place is a multiple of 4, and at most 3 past the end
+  -- the offset is a multiple of 4, and at most 3 past the end
   pub place_fits : (limit : ℕ) (c : List ℕ) → (place limit c % 4 ≡ 0) × (place limit c ≤ length c + 3)
   place_fits limit c =
       let f =
@@ -343,7 +345,7 @@ module _ (r : Rule) where
       let k = more (a + 1) (omega (arith, f.low)) (omega (arith, f.whole)) in (omega (arith, k.0), omega (arith, k.1)))
       (λ b s kind h a z l. (z, omega arith)) 0 c 0 refl (omega arith) in (omega (arith, f.0), f.1)
 
-  -- What stands at the place: nothing more, or a fault.
+  -- At the offset the bytes end, or there is a fault.
   pub record Stuck (limit skip : ℕ) (s : List ℕ) (p : ℕ) (kind : FaultKind) : Type 0 where
     pub inside : p < length s
     pub first_frame_is : first_frame_under r limit (drop p s) ≡ Err kind
@@ -381,7 +383,7 @@ module _ (r : Rule) where
         | inr w ↦ (let f = w.1.fault_is in cc)
       ]
 
-  -- The place is where the first fault stands, or the next multiple of 4.
+  -- The offset is that of the first fault, or the next multiple of 4.
   pub reach_place : (limit : ℕ) (c : List ℕ) → place limit c ≡ reach_under r limit c
   reach_place limit c =
       elim (stops limit 0 c) [
@@ -416,7 +418,7 @@ module _ (r : Rule) where
       ∙ ap (λ t. frame.1 ++ t) (texts_nil limit 0)
       ∙ append-nil frame.1
 
-  -- the first fault stands where the whole frames end
+  -- the first fault is at the end of the whole frames
   pub fault_place : (limit : ℕ) (c : List ℕ) (fault : CaptureFault) → first_fault_under r limit c ≡ Some fault → place limit c ≡ fault.offset
   fault_place limit c fault h =
       elim (stops limit 0 c) [

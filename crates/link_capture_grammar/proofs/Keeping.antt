@@ -12,7 +12,7 @@ use Rattle.link_capture_grammar.proofs.Normal.{ruled, text_body, text_header, te
 use Rattle.link_capture_grammar.proofs.Same.{error_is}
 use Rattle.link_capture_grammar.proofs.SameFrames.{yes, no, link_ruled}
 
--- the text of a frame with nothing behind it
+-- the text of a frame with nothing appended
 unfollowed : (c body : List ℕ) → frame_text c body ++ [] ≡ frame_text c body
 unfollowed c body = append-nil (frame_text c body)
 

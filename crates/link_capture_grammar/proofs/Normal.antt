@@ -85,7 +85,7 @@ pub text_length : (c body r : List ℕ) → 16 + length body < 2 ^ 32 → frame_
 unfolding frame_text
 text_length c body r h = ap (u32_at 0) (append_assoc (le4 (16 + length body)) _ r) ∙ u32_at-le4 (16 + length body) _
 
--- what stands behind the first four bytes
+-- the bytes of a frame's text after its length field
 after_length : (c body r : List ℕ) → drop 4 (frame_text c body ++ r) ≡ take 12 (drop 4 c) ++ (body ++ zeros (nla_align (16 + length body) - (16 + length body)) ++ r)
 unfolding frame_text
 after_length c body r = ap (drop 4) (append_assoc (le4 (16 + length body)) _ r) ∙ drop_at (le4 (16 + length body)) _ 4 (length-le4 (16 + length body)) ∙ simp append_assoc
@@ -154,7 +154,7 @@ module _ (r s : Rule) (renews : Renews r s) where
   unfolding body_text_under
   body_again t b old new h k = body_by (eqb t 1) (eqb t 2) (eqb t 3) (is_link_type t) b old new h k
 
-  -- a frame's old text in front is accepted, and has the new one
+  -- a frame that begins with the old text of a frame is accepted, and its text is the new one
   pub first_frame_again : (limit : ℕ) (c : List ℕ) (old new : ℕ × List ℕ) (more : List ℕ) → limit < 2 ^ 32 → first_frame_under r limit c ≡ Ok old → first_frame_under s limit c ≡ Ok new →
       (n : ℕ) × (first_frame_under s limit (old.1 ++ more) ≡ Ok (n, new.1)) × (drop (nla_align n) (old.1 ++ more) ≡ more)
   unfolding judgement

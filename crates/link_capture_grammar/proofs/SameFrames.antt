@@ -48,7 +48,7 @@ module _ (r : Rule) (limit : ℕ) (a b : List ℕ) (p : LegalFrameUnder r limit 
       let y = accepted r limit b s.1 s.3 in
       (s.4, (n, subst (λ k. SameFramesUnder r limit n (drop (nla_align k) a) (drop (nla_align (frame_length b)) b)) (sym x.is) (subst (λ k. SameFramesUnder r limit n (drop (nla_align s.0.0) a) (drop (nla_align k) b)) (sym y.is) s.5)))
 
--- ---- the frame in front, under a rule that wants headers
+-- ---- the first frame, under a rule that accepts no body without a header
 
 module _ (r : Rule) (headers : WantsHeaders r) where
   link_header : (t : ℕ) (b x : List ℕ) → body_text_under r t b ≡ Ok x → is_link_type t ≡ true → 16 ≤ length b

@@ -29,7 +29,7 @@ module _ (r : Rule) where
   pub frames_stand_alone : FramesStandAlone r
   frames_stand_alone = record { accepted = accepted r; cut = cut_cases r; followed = first_frame-more r }
 
-  -- what stands at the first fault
+  -- the frame at the first fault
   there : (limit : ℕ) (c : List ℕ) (fault : CaptureFault) → first_fault_under r limit c ≡ Some fault → first_frame_under r limit (drop fault.offset c) ≡ Err fault.kind
   there limit c fault h =
       elim (stops r limit 0 c) [

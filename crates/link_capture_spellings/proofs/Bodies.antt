@@ -1,4 +1,4 @@
--- The body of a link, as it is written, has no spelling, and so a peer has none.
+-- The canonical text of a link's body has no encoding quirk, so neither has a peer's.
 use Rattle.std.proofs.Common.{◌≡◌, ℕ, ◌+◌, Bool, true, false, cond, eqb, leb, not, List, [], ◌∷◌, ◌++◌, length, drop, Some, None, refl, ap, ◌∙◌}
 use Rattle.std.specs.Prelude.{◌&&◌, nat_le, slice_index}
 use Rattle.std.proofs.Math.Bool.{and-false}

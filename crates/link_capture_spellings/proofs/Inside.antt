@@ -1,4 +1,4 @@
--- What stands inside an attribute, and lists in which nothing is told.
+-- The lists inside attributes, and lists that have no quirk.
 use Rattle.std.proofs.Common.{◌≡◌, ℕ, zero, suc, ◌+◌, Bool, true, false, cond, eqb, leb, List, [], ◌++◌, length, Option, Some, None, refl, sym, ap, subst, ◌∙◌}
 use Rattle.std.specs.Prelude.{◌&&◌, ◌||◌, slice_index}
 use Rattle.std.proofs.Math.Bool.{and-false}
@@ -53,7 +53,7 @@ written-inside l r e h s =
     let q = r.rule.canonical e.payload in
     subst (λ o. Silent o q) (sym (ap (λ k. inside l k q) (proper_kind-written r e.kind) ∙ without-peer l (proper_kind e.kind) q h)) s
 
--- ---- lists in which no attribute has a spelling of its own
+-- ---- lists whose attributes have no quirk themselves
 
 pub record IsDull (t : Table) : Type 0 where
   pub bit : (k : ℕ) → nested_spelling t k ≡ None
@@ -69,7 +69,7 @@ dull-own l place e d =
     ap (λ z. told_at place z ++ told_at place (payload_spelling l.table (proper_kind e.kind) e.payload)) (both-none (leb 0x8000 e.kind) (nested_spelling l.table (proper_kind e.kind)) (d.bit (proper_kind e.kind)))
     ∙ ap (told_at place) (d.payload (proper_kind e.kind) e.payload)
 
--- and holds none either, nor leaves another list behind
+-- if no attribute has a list inside, and the list kind stays the same
 module _ (l : Listed) (d : IsDull l.table) (inner : (e : Attribute) → inside_of l e ≡ None) (same : (e : Attribute) → list_behind l e ≡ l) where
   next-none : (list : Listed → ℕ → List ℕ → List PlacedSpelling) → ((place : ℕ) (b : List ℕ) → list l place b ≡ []) → (place : ℕ) (o : Option (Attribute × List ℕ)) → next_told list l place o ≡ []
   next-none list h place None = refl

@@ -1,4 +1,4 @@
--- The data of each kind of link, as they are written, have no spelling.
+-- The data of each kind of link, as they are written, have no quirk.
 use Rattle.std.proofs.Common.{◌≡◌, ℕ, ◌+◌, Bool, true, false, cond, eqb, leb, List, [], ◌∷◌, ◌++◌, length, Option, Some, None, refl, sym, ap, subst, ◌∙◌}
 use Rattle.std.specs.Prelude.{◌&&◌, slice_index, bytes_eq, codes, option_map}
 use Rattle.std.proofs.lemmas.Bool.{false≢true, and_parts}
@@ -24,18 +24,18 @@ use Rattle.link_capture_spellings.specs.SpellingLaws.{ListsGoBySteps, IsDataTabl
 use Rattle.link_capture_spellings.proofs.Lists.{HasNone, Silent, rows-none}
 use Rattle.link_capture_spellings.proofs.Inside.{at_kind, either, split, nothing-inside, without-peer, written-inside, IsDull, dull-own, none-at-all}
 
--- what stands inside a peer's payload, where peers are judged
+-- the list inside a peer's payload, if peers are judged
 abbrev pub in_peer : Bool → List ℕ → Option (Listed × ℕ)
 in_peer j q = cond (j && (leb 16 (length q) && true)) (Some (record { table = family_table (slice_index q 0); judged = false }, 16)) None
 
--- a peer as it is written has no spelling
+-- a peer, as it is written, has no quirk
 abbrev pub PeerHasNone : Peer → Bool → Type 0
 PeerHasNone p j = (b : List ℕ) → p.accepted b ≡ true → Silent (in_peer j (p.canonical b)) (p.canonical b)
 
 abbrev pub data_list : Bool → Data → Listed
 data_list j d = record { table = OfKind d; judged = j }
 
--- data in which nothing is told
+-- data that have no quirk
 other-dull : IsDull (OfKind Other)
 other-dull = record { bit = λ k. refl; payload = λ k p. refl }
 

@@ -1,4 +1,4 @@
--- The attributes of a link, as they are written, have no spelling, at any depth.
+-- The attributes of a link, as they are written, have no quirk at any depth.
 use Rattle.std.proofs.Common.{◌≡◌, ℕ, zero, suc, Bool, true, false, cond, eqb, List, Option, Some, None, refl, sym, ap, subst, ◌∙◌, arith}
 use Rattle.std.proofs.lemmas.Bool.{ne_eqb}
 use Rattle.netlink_packet_core_grammar.specs.Attributes.{proper_kind}

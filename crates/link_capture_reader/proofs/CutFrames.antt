@@ -19,7 +19,8 @@ pub two_steps : (old piece one two : List ℕ) (m n : ℕ) → one ≡ old ++ ta
 two_steps old piece one two m n e f =
     f ∙ ap (λ x. x ++ take n (drop m piece)) e ∙ append_assoc old (take m piece) (take n (drop m piece)) ∙ ap (λ x. old ++ x) (sym (take-add m n piece))
 
--- A cut frame of 16 bytes or more, to which a fill nla_align to 16 adds none, tells a length within the limit that it does not reach.
+-- A cut frame of 16 bytes or more, which was filled to exactly 16 at first, has a length in its header that is within
+-- the limit and more than its bytes.
 pub header_exact : NumbersStandAlone → FramesStandAlone link_body → (limit : ℕ) (old new : List ℕ) → first_frame limit old ≡ Err Cut → length new ≤ max 16 (length old) → (more : List ℕ) → new ≡ old ++ more → (length new ≤ 16) ⊎ ((u32_at 0 new ≡ u32_at 0 old) × (16 ≤ u32_at 0 old) × (u32_at 0 old ≤ limit) × (length new < u32_at 0 old))
 header_exact numbers frames limit old new h le more e =
     elim (frames.cut limit old h) [
@@ -60,7 +61,7 @@ filled k p place one two f e l g h =
     ∙ ap (λ x. one ++ (two ++ x)) rest ∙ ap (λ x. one ++ x) (append-nil two) ∙ ap (λ x. x ++ two) g ∙ ap (λ x. take f k ++ x) h
     ∙ sym (joined_front k p f n e)
 
--- a header of 16 bytes stands where its length may be one of a frame, and is refused whatever follows
+-- a whole header with a length that a frame may have isn't refused, whatever follows
 pub header_stands : NumbersStandAlone → (limit : ℕ) (c : List ℕ) → 16 ≤ length c → 16 ≤ frame_length (take 16 c) → frame_length (take 16 c) ≤ limit → HeaderStands limit c
 header_stands numbers limit c l low high =
     let n : frame_length c ≡ frame_length (take 16 c) = ap frame_length (sym (take-append-drop 16 c)) ∙ numbers.four_bytes (take 16 c) (drop 16 c) (omega (arith, length-take 16 c)) in

@@ -3,7 +3,7 @@ use Rattle.std.proofs.Common.{◌≡◌, ℕ, zero, suc, ◌+◌, List, [], ◌�
 use Rattle.std.proofs.lemmas.List.{take_min}
 use Rattle.std.proofs.Math.Seq.{take-append-add}
 
--- bytes are appended as far as there is room
+-- as many bytes are appended as there is capacity for
 pub kept : (first bytes : List ℕ) (room : ℕ) → room + length first ≡ 4 → first ++ take (min room (length bytes)) bytes ≡ take 4 (first ++ bytes)
 kept first bytes room e =
     let size : length first + room ≡ 4 = omega arith in

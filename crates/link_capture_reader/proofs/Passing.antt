@@ -30,7 +30,7 @@ grown old w t {out} {new} {v} d e f = e ∙ ap (λ x. x ++ t) d ∙ append_assoc
 pub passed_none : (limit : ℕ) (c : List ℕ) → Passed limit c 0
 passed_none limit c = record { inside = omega arith; start = refl; legal = fault_nil limit }
 
--- the header of an accepted frame stands, and so does that of a cut one
+-- the header of an accepted frame isn't refused, nor is that of a cut one
 pub accepted_header : FramesStandAlone link_body → (limit : ℕ) (c : List ℕ) (frame : ℕ × List ℕ) → first_frame limit c ≡ Ok frame → HeaderStands limit c
 accepted_header frames limit c frame h = let a = frames.accepted limit c frame h in inr (omega (arith, a.low, a.is), omega (arith, a.high, a.is))
 
@@ -94,7 +94,7 @@ module _ (go : CapturesGoByFrames link_body) where
       let n : length (take m c) ≡ m = length-take m c ∙ omega (arith, w.inside) in
       ap (texts limit) (take-add m at c) ∙ joined_texts limit (take m c) (take at (drop m c)) w.legal (ap (λ k. k % 4) n ∙ w.start)
 
-  -- one accepted frame in front, with its padding
+  -- the capture begins with an accepted frame and its padding
   pub passed_one : (limit : ℕ) (c : List ℕ) (frame : ℕ × List ℕ) → first_frame limit c ≡ Ok frame → nla_align frame.0 ≤ length c → Passed limit c (nla_align frame.0)
   passed_one limit c frame h l = record { inside = l; start = omega arith; legal = go.one_legal limit c frame h }
 
@@ -105,7 +105,7 @@ module _ (go : CapturesGoByFrames link_body) where
   pub only_one_texts : (limit : ℕ) (c : List ℕ) (frame : ℕ × List ℕ) → first_frame limit c ≡ Ok frame → length c ≤ nla_align frame.0 → texts limit c ≡ frame.1
   only_one_texts limit c frame h l = ap (texts limit) (sym (take_all (nla_align frame.0) c l)) ∙ go.one_text limit c frame h
 
-  -- Once as many bytes are there, all before that place is passed.
+  -- Once enough bytes are there, all bytes before that offset are passed.
   pub resume_passed : (limit : ℕ) (s p : List ℕ) → reach limit s ≤ length (s ++ p) → Passed limit (s ++ p) (reach limit s)
   resume_passed limit s p l = record { inside = l; start = go.reach_start limit s; legal = go.reach_legal limit s p }
 
@@ -178,7 +178,7 @@ module _ (go : CapturesGoByFrames link_body) where
   passed_stop_texts limit c at kind w h =
       left_texts limit c at w ∙ ap (λ t. texts limit (take at c) ++ t) (go.front_texts limit (drop at c) kind h) ∙ append-nil (texts limit (take at c))
 
-  -- what stands before the first fault is legal, and has the texts
+  -- the bytes before the first fault are legal, and have these texts
   pub before_fault : (limit : ℕ) (c : List ℕ) (fault : CaptureFault) → first_fault limit c ≡ Some fault → IsLegal limit (take fault.offset c) × (texts limit (take fault.offset c) ≡ texts limit c)
   before_fault limit c fault h =
       let at : reach limit c ≡ fault.offset = ap (reach_by (length c)) h in

@@ -66,7 +66,7 @@ module _ (go : CapturesGoByFrames link_body) where
             ap (λ x. texts limit (s ++ x)) e ∙ ap (texts limit) (append-nil s)
       ]
 
--- What is judged of a longer string: the cut frame's bytes, and what comes behind the padding.
+-- The bytes that are judged if the string gets longer: those of the cut frame, and those after the padding.
 pub record Resumed (limit : ℕ) (s p kept : List ℕ) (owed start : ℕ) : Type 0 where
   pub at : reach limit s ≡ start
   pub left : kept ++ drop owed p ≡ drop (reach limit s) (s ++ p)

@@ -1,4 +1,4 @@
-//! One more piece of a capture: the bytes of the cut frame, and what comes after them.
+//! One more piece of a capture: the bytes of the cut frame, and those that come after them.
 
 ghost use Rattle.std.specs.Prelude.{◌≡◌, ◌≢◌, ◌+◌, ◌-◌, ◌^◌, ◌<◌, ◌≤◌, ◌++◌, ◌⊎◌, ℕ, List, [], length, take, max, IfOk};
 ghost use Rattle.std.specs.Prelude.{IfErr, OnOk, OnErr, Err};

@@ -10,10 +10,11 @@ use link_capture_grammar::laws::faults_stand_at_frames;
 use std::alloc::Global;
 use std::marker::Model;
 
-/// Reads a capture that comes in pieces of any sizes, and writes its normal text as far as its frames have come.
+/// Reads a capture that comes in pieces of any sizes, and writes the normal texts of the frames
+/// that have come.
 ///
-/// A frame that lies whole in a piece is judged and written from the piece itself. Between pieces the reader keeps
-/// nothing but the bytes of the frame that is cut.
+/// A frame that is whole in a piece is judged and written from the piece itself. Between pieces the
+/// reader keeps only the bytes of a frame that is cut.
 #[derive(Drop)]
 pub struct CaptureReader {
     limit: u32,

@@ -1,4 +1,4 @@
--- Nothing is refused of a list exactly where its rule accepts it.
+-- A list has no refusal if and only if its rule accepts it.
 use Rattle.std.proofs.Common.{◌≡◌, ℕ, zero, suc, ◌+◌, ◌≤◌, Bool, true, false, cond, List, [], ◌∷◌, length, drop, Option, Some, None, refl, sym, ap, ◌∙◌, arith, rules}
 use Rattle.std.specs.Prelude.{◌&&◌, nat_le, nat_lt, is_none, option_map, slice_index}
 use Rattle.netlink_packet_core_grammar.specs.Attributes.{Attribute, nla_align, attribute_length, first_attribute, proper_kind}
@@ -60,7 +60,7 @@ module _ (w : FirstIsWithin) (steps : MeasuresGoBySteps) (tells : MeasuresTellRu
   abbrev within : ℕ → ListRefusal
   within n = λ l q d. refusal_within n l q d
 
-  -- in so many steps, of a list that is walked, and of one of its first attribute alone
+  -- within n steps, for the rest of a list, and for a list of which only the first attribute is kept
   record Known (n : ℕ) : Type 0 where
     walked : (judged : Bool) (f : Form) (t : Table) (c : Context) (place : ℕ) (bytes rest : List ℕ) (m : Measure) → IsWalked (form_of f) bytes → length rest ≤ n →
         MeasuredSoFar (form_of f) (grammar_at judged t) bytes m c rest →

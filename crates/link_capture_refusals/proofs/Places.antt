@@ -1,4 +1,4 @@
--- What is refused of a list stands between its place and its end.
+-- The offset of a list's refusal is between the list's start and its end.
 use Rattle.std.proofs.Common.{◌≡◌, ℕ, zero, suc, ◌+◌, ◌<◌, ◌≤◌, Bool, true, false, cond, List, [], ◌∷◌, drop, length, Option, Some, None, refl, sym, subst, arith, length-drop}
 use Rattle.std.specs.Prelude.{nat_lt, option_map, slice_index}
 use Rattle.std.proofs.lemmas.Bool.{ltb-false}
@@ -17,7 +17,7 @@ use Rattle.link_capture_refusals.specs.Refusals.{Found, ListRefusal, attribute_r
 use Rattle.link_capture_refusals.proofs.Going.{goes_shorter}
 use Rattle.link_capture_refusals.proofs.ListSteps.{rest_shorter}
 
--- what is found, if anything is, stands between two places
+-- the offset of a refusal, if there is one, is between two offsets
 abbrev pub Placed : ℕ → ℕ → Option Found → Type 0
 Placed low high None = Unit {0}
 Placed low high (Some f) = IsBetween low high f.place
@@ -42,7 +42,7 @@ placed_if : (low high : ℕ) (b : Bool) (o : Option Found) → Placed low high o
 placed_if low high true o h = tt
 placed_if low high false o h = h
 
--- as far as lists of so many bytes are
+-- for lists of at most n bytes
 abbrev Within : ListRefusal → ℕ → Type 0
 Within f k = (l : Listing) (place : ℕ) (bytes : List ℕ) → length bytes ≤ k → Placed place (place + length bytes) (f l place bytes)
 

@@ -32,7 +32,7 @@ module _ (law : SamenessGoesByFrames link_body) (limit : ℕ) (a b l r : List �
         | inr m ↦ law.right_longer limit a b (omega (arith, m)) n t
       ]
 
-  -- the right one has ended: the answer is whether the left one has
+  -- the right capture has ended: the result is whether the left one has ended too
   pub right_ended : length b ≡ 0 → (answer : Bool) → answer ≡ eqb (length a) 0 → (answer ≡ true) ↔ SameCapture limit l r
   right_ended k answer is = by a refl where
     by : (z : List ℕ) → z ≡ a → (answer ≡ true) ↔ SameCapture limit l r

@@ -1,4 +1,4 @@
-// Captures judged and counted on their bytes.
+// Judges, counts and compares captures on their bytes, without allocating.
 #![tactic(auto)]
 
 mod bodies;

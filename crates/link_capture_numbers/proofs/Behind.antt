@@ -9,7 +9,7 @@ use Rattle.link_capture_numbers.specs.Cleared.{is_frame, front_cleared, numbers_
 use Rattle.link_capture_numbers.proofs.Steps.{length_of, whole}
 use Rattle.link_capture_numbers.proofs.Zeros.{front}
 
--- the bytes behind a place, with others in their place
+-- the bytes after an offset are replaced by others
 pub put_behind : (at : ℕ) (text new : List ℕ) → at ≤ length text → put_mid at (length text - at) text new ≡ take at text ++ new
 put_behind at text new h =
     let size = length-drop at text in

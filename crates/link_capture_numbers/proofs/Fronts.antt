@@ -91,7 +91,7 @@ shape c more l m =
       long = omega (arith, all, reach);
     }
 
--- the fields behind the length
+-- the fields after the length
 pub fields : (c d : List ℕ) → 8 ≤ length c → take 16 d ≡ take 8 c ++ zeros 8 → take 12 (drop 4 d) ≡ take 4 (drop 4 c) ++ zeros 8
 fields c d h e =
     let eight : length (take 8 c) ≡ 8 = length-take-le 8 c h in

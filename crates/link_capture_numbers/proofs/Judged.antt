@@ -22,7 +22,7 @@ judged_cleared (Err kind) = Err kind
 
 -- ---- bodies
 
--- the body of an ERROR of 4 bytes or more is its own text
+-- the body of an ERROR of 4 bytes or more is already canonical
 error_kept : (b : List ℕ) → 4 ≤ length b → body_text 2 b ≡ Ok b
 unfolding body_text_under
 error_kept b h = ap (λ z. cond z (Err refused) (Ok b)) (le-ltb (length b) 4 h)

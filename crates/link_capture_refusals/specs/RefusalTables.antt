@@ -121,7 +121,7 @@ depth judged t =
     cond (nat_lt t LINK_UNSPEC.0) (nested_depth t) (cond (nat_lt t LINK_INFO.0) (cond judged 7 4) (cond (nat_lt t AMT.0) (cond judged 6 3)
     (cond (nat_lt t VLAN.0) (data_depth judged t) 1)))
 
--- of what is inside an attribute
+-- How deeply attributes are nested inside an attribute with this content.
 abbrev pub inside_depth : Bool → Inside → ℕ
 inside_depth judged (I.List f t) = depth judged t.0
 inside_depth judged I.Peer = cond judged 4 0

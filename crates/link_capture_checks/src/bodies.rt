@@ -30,7 +30,7 @@ pub(crate) fn with_code(body: &[u8]) -> &[u8]
     if body.is_empty() { &NO_CODE } else { body }
 }
 
-// Returns the measure of a body that is its own text.
+// Returns the measure of a body that is already canonical.
 fn kept(body: &[u8]) -> MeasuredBody
     ensures text { IsBodyText body.now (Ok body.now) 0 result }
     ensures front { result.front ≡ 0 }

@@ -117,7 +117,6 @@ fn write_frame_text(bytes: &[u8], size: u32, is_own: bool, front: usize, out: &m
 /// The fault of the frame, or `Memory` if an allocation fails, which happens only for an accepted
 /// frame for whose text `out` lacked capacity; `out` is unchanged. All capacity for a text is
 /// allocated at once.
-/// had less room.
 pub fn push_frame(bytes: &[u8], limit: u32, out: &mut Vec<u8>) -> Result<usize, FaultKind>
     ensures ok { IfOk result
         (λ n. (text : List ℕ) × (first_frame limit bytes.now ≡ Ok (n, text))

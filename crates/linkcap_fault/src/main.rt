@@ -1,4 +1,4 @@
-// The program linkcap once more, for a stored run of a capture with a fault behind its first message.
+// The program linkcap again, for a stored run over a capture with a fault after its first message.
 #![tactic(auto)]
 
 use linkcap_program::outcome;

@@ -1,4 +1,5 @@
-// The program linkcap once more, for a stored run with a limit, whose capture has a fault behind its first piece.
+// The program linkcap again, for a stored run with a limit, over a capture with a fault after its
+// first piece.
 #![tactic(auto)]
 
 use linkcap_program::outcome;

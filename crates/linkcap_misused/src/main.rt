@@ -1,4 +1,4 @@
-// The program linkcap once more, for a stored run with one word too many.
+// The program linkcap again, for a stored run with one argument too many.
 #![tactic(auto)]
 
 use linkcap_program::outcome;

@@ -1,4 +1,4 @@
--- What is told of two files that were read.
+-- The result of comparing two files that were read.
 use Rattle.std.proofs.Common.{◌≡◌, ℕ, List, Bool, true, Option, Some, Result, Ok, Err, IfOk, IfErr, OnOk, cond, inl, inr, false, subst}
 use Rattle.std.specs.Prelude.{◌↔◌}
 use Rattle.link_capture_grammar.specs.declared.fault.CaptureFault.{CaptureFault}

@@ -4,7 +4,7 @@ ghost use Rattle.std.specs.Prelude.{◌≡◌, ◌≤◌, ◌++◌, ◌∷◌, [
 
 use arrayvec::ArrayString;
 
-/// A text as a line.
+/// Returns a text as a line.
 pub(crate) fn line(text: &str) -> ArrayString<129>
     requires { length text.now ≤ 128 }
     ensures { result.bytes ≡ text.now ++ 10 ∷ [] }

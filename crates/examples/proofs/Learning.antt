@@ -12,7 +12,7 @@ use Rattle.link_capture.specs.Texts.{GivesMessage}
 use Rattle.examples.specs.declared.interfaces.Interface.{Interface}
 use Rattle.examples.specs.Interfaces.{AreMessages, Interfaces, Learns, LearnsAll}
 
--- whatever is learned of the messages from a place on is learned of all messages
+-- what is learned from the messages from an offset on is learned from all messages
 abbrev pub LearnedTo : ℕ → List ℕ → ℕ → Interfaces → Interfaces → Type 0
 LearnedTo limit c place old now =
     (later : List (NetlinkMessage RouteLink)) (left : ℕ) (then : Interfaces) → AreMessages limit (drop place c) later left → LearnsAll later now then

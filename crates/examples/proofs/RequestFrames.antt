@@ -84,7 +84,7 @@ whole s b h =
     let t = tells_length s b h in
     record { has_header = omega arith; covers_header = omega arith; within = omega arith }
 
--- with no padding, which a body of a multiple of 4 bytes has none of, it is its own text
+-- a body whose size is a multiple of 4 needs no padding, so its frame is already canonical
 own_text : (s : ℕ) (b : List ℕ) → length b % 4 ≡ 0 → frame_text (new_link_text s b) b ≡ new_link_text s b
 unfolding frame_text header_text le4 le2
 own_text s b h =
@@ -128,7 +128,7 @@ request_written m flags s link port payload =
 pub request_size : (p : NetlinkPayload RouteLink) (link : RouteLink) → p ≡ InnerMessage link → 16 + length (payload_entry route_entry p).1 ≡ 16 + length (route_entry link).1
 request_size p link e = ap (λ q. 16 + length (payload_entry route_entry q).1) e
 
--- a size as `buffer_len` tells it, which fits 32 bits or doesn't
+-- a size, as `buffer_len` returns it, which fits 32 bits or doesn't
 pub told_small : (n : ℕ) → as_usize n ≤ 4294967295 → n ≡ as_usize n
 told_small n h =
     elim (cases_lt 18446744073709551615 n) [
@@ -139,7 +139,7 @@ told_small n h =
 pub told_large : (n : ℕ) → 4294967295 < as_usize n → 2 ^ 32 ≤ n
 told_large n h = let m = min-le_left n 18446744073709551615 in omega (arith, m, h)
 
--- ---- what a request answers
+-- ---- the result of a request
 
 -- the texts of requests that are written are legal captures
 pub ok_normal : {A : Type 0} (r : Result A RequestFault) (items : A → List ℕ) (text : List ℕ) (n : ℕ) → IfOk r (λ b. items b ≡ text) → (2 ^ 32 ≤ n → r ≡ Err RequestFault.TooLong) → (n < 2 ^ 32 → (limit : ℕ) → length text ≤ limit → IsNormal limit text) → IfOk r (λ b. (limit : ℕ) → length (items b) ≤ limit → IsNormal limit (items b))
@@ -150,7 +150,7 @@ ok_normal (Ok b) items text n e t f =
       | inr k ↦ absurd (let h = t k in cc)
     ]
 
--- a request that isn't too long wants memory, where it isn't written
+-- a request that isn't too long and isn't written ran out of memory
 pub only_memory : {A : Type 0} (r : Result A RequestFault) → r ≢ Err RequestFault.TooLong → IfErr r (λ fault. (fault ≡ RequestFault.TooLong) ⊎ (fault ≡ RequestFault.Memory)) → IfErr r (λ fault. (fault ≡ RequestFault.Unfit) ⊎ (fault ≡ RequestFault.Memory))
 only_memory (Ok v) short e = tt
 only_memory (Err fault) short (inl k) = absurd (short (ap Err k))
@@ -212,7 +212,7 @@ short_body name vni mtu n =
     let l = short_list name (le4 mtu) (vxlan_info_text vni) n (length-le4 mtu) (length-info vni) in
     omega (arith, l, length-append (zeros 16) (list_text (vxlan_attributes name vni mtu)), length-replicate {A = ℕ} 16 0)
 
--- and as `buffer_len` tells it
+-- the size as `buffer_len` returns it
 pub vxlan_size : (name : List ℕ) (vni mtu : ℕ) (text : List ℕ) → text ≡ vxlan_body name vni mtu → length name ≤ 65530 → as_usize (length text) ≡ length text
 vxlan_size name vni mtu text e h =
     let s = short_body name vni mtu h in

@@ -63,7 +63,6 @@ fn read_side<F: FileSystem>(
 /// The first of these faults, with the file that has it: `Read` at 0 if the file can't be opened;
 /// `Read` or `Memory` at the number of bytes read if reading it or an allocation fails; the first
 /// fault of the first capture, or that of the second if the first is legal.
-/// first is legal.
 pub fn compare<F: FileSystem>(
     alloc: Global,
     files: &mut F,

@@ -1,4 +1,5 @@
-// Worked cases across the crates, as tests. The wanted values come from outside this project's code.
+// Worked cases across the crates, as tests. The expected values come from outside this project's
+// code.
 #![tactic(auto)]
 
 #[cfg(test)]

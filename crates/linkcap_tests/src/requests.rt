@@ -1,4 +1,5 @@
-//! Requests as bytes, written by hand from the kernel's headers, and why a request isn't written.
+//! Requests as bytes, written by hand from the kernel's headers, and the faults of requests that
+//! can't be written.
 
 use super::fault_texts::is_displayed;
 use examples::{RequestFault, new_link_request, request, vxlan_request};
@@ -25,13 +26,13 @@ const LINK: [u8; 40] = *b"\x28\0\0\0\x10\0\x05\x06\x02\0\0\0\0\0\0\0\
 const DUMP: [u8; 32] = *b"\x20\0\0\0\x12\0\x01\x03\x02\x01\0\0\0\0\0\0\
     \0\0\0\0\0\0\0\0\0\0\0\0\0\0\0\0";
 
-/// A message of a header of zeros and these attributes.
+/// Returns a message with a header of zeros and these attributes.
 fn message(attributes: Vec<LinkAttribute>) -> Result<LinkMessage, Fail> {
     let header = LinkHeader::parse(&[0; 16])?;
     Ok(LinkMessage { header, attributes })
 }
 
-/// A name of this many bytes.
+/// Returns a name of `size` bytes.
 pub(crate) fn name_of(alloc: Global, size: usize) -> Result<String, Fail> {
     match String::from_utf8(Vec::from_elem(alloc, b'a', size)?) {
         Ok(name) => Ok(name),

@@ -1,5 +1,5 @@
-// count_messages: reads a capture on standard input in pieces, and prints how many messages of each type it has, and
-// its first fault.
+// count_messages: reads a capture on standard input in pieces, and prints how many messages of each
+// type it has, and its first fault.
 #![tactic(auto)]
 
 use link_capture::{CaptureFault, CaptureReader, DEFAULT_LIMIT, Messages};

@@ -28,7 +28,7 @@ pub record IsOwnText (r : Rule) (b : List ℕ) : Type 0 where
   pub empty_ports : r.empty_ports b ≡ false
   pub canonical : r.canonical b ≡ b
 
--- ---- a list of attributes that are their own
+-- ---- a list of attributes that are already canonical
 
 record OwnAttributes (g : Grammar) (es : List Attribute) : Type 0 where
   accepted : all_accepted g nothing es ≡ true

@@ -1,4 +1,4 @@
--- The frames of requests, and the texts of what they hold.
+-- The frames of requests, and the texts of their contents.
 use Rattle.std.proofs.Common.{◌≡◌, ℕ, ◌+◌, ◌-◌, ◌%◌, ◌≤◌, ◌<◌, ◌^◌, List, [], ◌∷◌, ◌++◌, length, map, take, drop, Result, Ok, Err, Option, None, Some, IfOk, inl, inr, refl, sym, ap, subst, ◌∙◌, arith, append-nil, length-append}
 use Rattle.std.specs.Prelude.{min, Bool, true, false, ◌&&◌, ◌↔◌, ◌⊎◌, ◌≢◌, nat_le, IfErr}
 use Rattle.std.proofs.Math.Nat.{min-eq_left, min-eq_right, min-le_left}
@@ -47,7 +47,7 @@ aligned : (es : List Attribute) → list_size es % 4 ≡ 0
 aligned [] = refl
 aligned (e ∷ es) = let h = aligned es in omega arith
 
--- and so is a link body's
+-- a link body's size is a multiple of 4
 pub body_aligned : TextIsCut → (h : List ℕ) (es : List Attribute) → length h ≡ 16 → length (h ++ list_text es) % 4 ≡ 0
 body_aligned cut h es l =
     let a = aligned es in
@@ -96,7 +96,7 @@ not_raised : (o : Option CaptureFault) → raised 0 o ≡ None → o ≡ None
 not_raised None h = refl
 not_raised (Some fault) h = absurd cc
 
--- it is the one frame of a legal capture
+-- the frame of a request is a legal capture of one frame
 pub normal : FramesAreJudged link_body → CapturesAreCounted link_body → NewLinksAreNormal
 unfolding body_text_under
 normal judged counted s limit b own aligned' small within =
@@ -124,7 +124,7 @@ request_written m flags s link port payload =
     ap (λ p. header_text (record { length = 16 + length (payload_entry route_entry p).1; message_type = (payload_entry route_entry p).0; flags = flags; sequence_number = s; port_number = m.header.port_number }) ++ (payload_entry route_entry p).1) payload
     ∙ ap (λ n. header_text (record { length = 16 + length (route_entry link).1; message_type = (route_entry link).0; flags = flags; sequence_number = s; port_number = n }) ++ (route_entry link).1) port
 
--- its size
+-- the size of the finalized message
 pub request_size : (p : NetlinkPayload RouteLink) (link : RouteLink) → p ≡ InnerMessage link → 16 + length (payload_entry route_entry p).1 ≡ 16 + length (route_entry link).1
 request_size p link e = ap (λ q. 16 + length (payload_entry route_entry q).1) e
 
@@ -182,7 +182,7 @@ name_fits name mtu vni =
       (λ h. e ∙ le-leb (4 + length (name ++ 0 ∷ [])) 65535 (omega (arith, length-append name (0 ∷ [])))),
     )
 
--- ---- how long it is
+-- ---- the size of a vxlan's body
 
 short_attribute : (e : Attribute) → length (attribute_text e) ≤ attribute_length e + 3
 unfolding attribute_text

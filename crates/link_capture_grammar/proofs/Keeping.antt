@@ -1,4 +1,4 @@
--- What the text of a legal frame keeps of it.
+-- What the text of a legal frame keeps of the frame.
 use Rattle.std.proofs.Common.{◌≡◌, ℕ, ◌-◌, eqb, min, true, List, [], ◌++◌, length, take, drop, Ok, inl, inr, sym, ap, ◌∙◌, arith, length-drop}
 use Rattle.std.proofs.lemmas.Bool.{ne_eqb, eqb-true, cases_Bool}
 use Rattle.std.proofs.lemmas.List.{append-nil, length-take}

@@ -1,4 +1,4 @@
--- Captures that mean the same have one normal text, and legal captures with one normal text mean the same.
+-- Captures that mean the same have equal normal texts, and legal captures with equal normal texts mean the same.
 use Rattle.std.proofs.Common.{◌≡◌, ℕ, zero, suc, ◌+◌, ◌-◌, ◌^◌, ◌<◌, ◌≤◌, eqb, true, List, [], ◌++◌, length, take, drop, Ok, refl, sym, ap, subst, ◌∙◌, inl, inr, arith}
 use Rattle.std.specs.Prelude.{bytes_eq}
 use Rattle.std.proofs.lemmas.List.{take-append-drop}
@@ -88,7 +88,7 @@ module _ (r : Rule) (lawful : Lawful r) where
 
   -- ---- first frames
 
-  -- two frames that mean the same have bodies with one text
+  -- two frames that mean the same have bodies with equal texts
   one_body : (limit : ℕ) (a b : List ℕ) (x y : ℕ × List ℕ) (p : Front r limit a x) (q : Front r limit b y) → SameFrameUnder r a b → p.body ≡ q.body
   one_body limit a b x y p q s =
       body_told (frame_type a) (frame_body a) (frame_body b) p.body q.body (ap (λ n. body_text_under r n (frame_body a)) p.type ∙ p.body_is)

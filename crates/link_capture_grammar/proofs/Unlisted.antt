@@ -1,4 +1,4 @@
--- The text of a list holds the attributes that no table lists as the list does.
+-- The text of a list has the attributes that no table lists and that the list has.
 use Rattle.std.proofs.Common.{◌≡◌, inl, inr, ℕ, zero, suc, true, false, List, [], ◌∷◌, ◌++◌, length, Ok, refl, sym, ap, subst, ◌∙◌}
 use Rattle.std.specs.Prelude.{◌&&◌, not, nat_le}
 use Rattle.std.proofs.lemmas.Bool.{and_parts}
@@ -136,7 +136,7 @@ unlisted_again (suc depth) form g bytes e lawful a w =
           (rewrite (row_there g k) outer, n.keeps, inr (p, v.1, ap (λ (r : Row). r.rule) n.row ∙ is, subst (λ b. HoldsUnlisted depth any (without_context (attribute_row_under p (family b))) (attribute_bytes b) e) payload deeper))
     ]
 
--- ---- of frames
+-- ---- attributes of frames
 
 module _ (p : Peer) (lawful : LawfulPeer p) where
   pub of_frames_under : (limit : ℕ) (c : List ℕ) (frame : ℕ × List ℕ) → IsLimit limit → is_link_type (frame_type c) ≡ true → first_frame_under (body_rule p) limit c ≡ Ok frame → KeepsUnlisted (attribute_row_under p) (frame_body c) (frame_body frame.1)
@@ -144,7 +144,7 @@ module _ (p : Peer) (lawful : LawfulPeer p) where
       let k = link (body_rule p) limit c frame l is_link h in
       body_again p lawful depth e (λ f g b x y z. unlisted_again depth f g b e x y z) (frame_body c) (frame_body frame.1) k.0 k.1 w
 
--- the rule in force
+-- under the rule in force
 of_frames : (limit : ℕ) (c : List ℕ) (frame : ℕ × List ℕ) → IsLimit limit → is_link_type (frame_type c) ≡ true → first_frame limit c ≡ Ok frame → KeepsUnlisted attribute_row (frame_body c) (frame_body frame.1)
 of_frames = of_frames_under link_peer link_peer_lawful
 

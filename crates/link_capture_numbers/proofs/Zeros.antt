@@ -30,7 +30,7 @@ drop-zeros place n c p q = ap (drop n) (as_put place c) ∙ drop-put_mid place 8
 pub take-zeros : (place n : ℕ) (c : List ℕ) → n ≤ place → place ≤ length c → take n (zeros_at place c) ≡ take n c
 take-zeros place n c p q = ap (take n) (as_put place c) ∙ take-put_mid_below place 8 c (zeros 8) n p q
 
--- a header that is repeated is there
+-- a repeated header is inside the frame
 pub repeated : (c : List ℕ) → repeats_request c ≡ true → 36 ≤ frame_length c
 repeated c h = leb-true 36 (frame_length c) (and_parts (nat_eq (frame_type c) 2) (nat_le 36 (frame_length c)) h).1
 

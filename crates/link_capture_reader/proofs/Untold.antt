@@ -1,4 +1,4 @@
--- What has come to a sink.
+-- What was written to a sink.
 use Rattle.std.proofs.Common.{◌≡◌, ℕ, List, false, take, drop, sym, ◌∙◌}
 use Rattle.std.proofs.lemmas.List.{take-append-drop}
 use Rattle.std.specs.Io.KnownBytes.{Appends}

@@ -12,8 +12,8 @@ use link_capture_grammar::fault::{CaptureFault, FaultKind};
 use link_capture_grammar::laws::texts_of_a_prefix_stay;
 use std::alloc::Global;
 
-/// Writes all of `bytes` to a sink, of which `written` bytes were written before, and returns how
-/// many are written then; `u64::MAX` means at least that many.
+/// Writes all of `bytes` to a sink to which `written` bytes were written before, and returns how
+/// many were written in all; `u64::MAX` means at least that many.
 ///
 /// # Errors
 ///

@@ -23,7 +23,7 @@ record RefusedFrame (c : List ℕ) : Type 0 where
   frame : IsFrame c
   body : body_text (frame_type c) (frame_body c) ≡ Err refused
 
--- which tests it passed
+-- the tests that it passed
 tests : (a b d e : Bool) (j : Judged) → cond a (Err Cut) (cond b (Err ShortLength) (cond d (Err OverLimit) (cond e (Err Cut) j))) ≡ Err Refused → (a ≡ false) × (b ≡ false) × (e ≡ false) × (j ≡ Err Refused)
 tests false false false false j h = (refl, refl, refl, h)
 tests a b d e j h = absurd cc

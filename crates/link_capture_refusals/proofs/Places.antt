@@ -82,7 +82,7 @@ module _ (f : ListRefusal) (k : ℕ) (i : Within f k) where
       let o = row_refusal f l.judged (row_in l.table l.context (proper_kind e.kind)) place e.payload in
       placed_if place (place + 4 + length e.payload) (is_accepted l e) o (placed_row l.judged (row_in l.table l.context (proper_kind e.kind)) place e.payload h)
 
--- of no bytes nothing is refused
+-- no bytes have no refusal
 module _ (w : FirstIsWithin) (f : ListRefusal) (k : ℕ) (i : Within f k) (none : (l : Listing) (place : ℕ) → f l place [] ≡ None) where
   placed_rest : (l : Listing) (place size high : ℕ) (rest : List ℕ) → length rest ≤ k → (0 < length rest → place + size + length rest ≤ high) → Placed place high (f l (place + size) rest)
   placed_rest l place size high [] h n = subst (Placed place high) (sym (none l (place + size))) tt
@@ -116,6 +116,6 @@ module _ (w : FirstIsWithin) where
   unfolding list_refusal
   placed_list l place bytes = placed_within (length bytes) l place bytes (omega arith)
 
-  -- of a link
+  -- the refusal of a link
   pub link_placed : (judged : Bool) (place : ℕ) (b : List ℕ) → Placed place (place + length b) (link_refusal list_refusal judged place place b)
   link_placed judged place b = placed_link list_refusal (length b) (λ l q d h. placed_list l q d) judged place place b (omega arith) (omega arith)

@@ -203,7 +203,7 @@ programs-bit p k =
     let r = table_row p xdp (proper_kind k) in
     cleared StrayNestedBit r k _ (λ h. at_kind (λ n. IsPlain (table_row p xdp n)) (proper_kind k) 8 (subst (λ n. eqb n 8 ≡ true) (proper_kind-written r k) h) (refl, refl))
 
--- ---- together
+-- ---- all of these
 
 own-none : (l : Listed) (place : ℕ) (r : Row) (e : Attribute) → Untold (bit_spelling l.table (written_kind r e.kind)) → Untold (payload_spelling l.table (proper_kind e.kind) (r.rule.canonical e.payload)) → own_told l place (rewrite r e) ≡ []
 unfolding own_told

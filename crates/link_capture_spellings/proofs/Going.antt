@@ -1,4 +1,4 @@
--- A walk goes on by an attribute of its innermost list.
+-- A walk passes an attribute of its innermost list.
 use Rattle.std.proofs.Common.{◌≡◌, ℕ, ◌+◌, ◌-◌, ◌^◌, ◌≤◌, ◌<◌, List, [], ◌∷◌, ◌++◌, length, Option, Some, None, sym, ap, ◌∙◌, append_assoc, length-append, arith}
 use Rattle.netlink_packet_core_grammar.specs.Attributes.{Attribute, nla_align, attribute_length, proper_kind, first_attribute}
 use Rattle.link_capture_spellings.specs.declared.placed.PlacedSpelling.{PlacedSpelling}
@@ -22,7 +22,7 @@ pub record Next (l m : Level) (e : Attribute) : Type 0 where
   pub deep : depth m.list ≡ depth l.list
   pub place : m.place ≡ l.place + nla_align (attribute_length e)
 
--- and inside it is the list k
+-- and the list k is inside it
 pub record Inner (l k : Level) (e : Attribute) (front : ℕ) : Type 0 where
   pub list : inside_of l.list e ≡ Some (k.list, front)
   pub deep : depth k.list < depth l.list

@@ -31,11 +31,11 @@ split P b x y f h = cond_both b x y P f (λ _. h)
 pub nothing-inside : (l : Listed) (q : List ℕ) (o : Option Table) → o ≡ None → Silent (in_front l o) q
 nothing-inside l q o h = subst (λ x. Silent (in_front l x) q) (sym h) (λ place. refl)
 
--- a list that is all of the payload
+-- a list that is the whole payload
 pub whole-list : (t : Table) (j : Bool) (r : Rule) (b : List ℕ) → HasNone (record { table = t; judged = j }) r → r.accepted b ≡ true → (l : Listed) → l.judged ≡ j → Silent (in_front l (Some t)) (r.canonical b)
 whole-list t j r b h a l e place = ap (λ x. list_told (record { table = t; judged = x }) (place + 0) (r.canonical b)) e ∙ h (place + 0) b a
 
--- ---- where no peer is judged
+-- ---- lists in which no peer is judged
 
 unjudged : (a b c : Bool) → (a && (b && (c && false))) ≡ false
 unjudged a b c = and_right a _ (and_right b _ (and-false c))
@@ -47,7 +47,7 @@ without-peer l k q h =
     ap (λ b. cond (eqb k 1 && (l.judged && (leb 16 (length q) && b))) peer (in_front l (inside_table l.table k))) h
     ∙ ap (λ b. cond b peer (in_front l (inside_table l.table k))) (unjudged (eqb k 1) l.judged (leb 16 (length q)))
 
--- of an attribute as it is written
+-- the list inside an attribute, as its row writes it
 pub written-inside : (l : Listed) (r : Row) (e : Attribute) → has_peer l.table ≡ false → Silent (in_front l (inside_table l.table (proper_kind e.kind))) (r.rule.canonical e.payload) → Silent (inside_of l (rewrite r e)) (r.rule.canonical e.payload)
 written-inside l r e h s =
     let q = r.rule.canonical e.payload in

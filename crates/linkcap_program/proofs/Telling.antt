@@ -1,4 +1,4 @@
--- What has come to a sink.
+-- What was printed and reported.
 use Rattle.std.proofs.Common.{◌≡◌, ℕ, Bool, false, List, [], ◌∷◌, ◌++◌, Result, Ok, sym, ap, subst, ◌∙◌}
 use Rattle.link_capture_grammar.specs.declared.fault.FaultKind.TheVariants.{Write}
 use Rattle.link_capture_grammar.specs.Faults.{fault_text}

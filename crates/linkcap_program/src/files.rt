@@ -41,6 +41,7 @@ pub(crate) struct HostFiles<'a> {
 }
 
 impl<'a> HostFiles<'a> {
+    /// Returns the file system of the process, which wasn't asked to open a file yet.
     pub fn new(rt: &'a HostRuntime) -> HostFiles<'a> {
         HostFiles {
             rt,

@@ -8,9 +8,10 @@ use link_message::{LinkAttribute, LinkHeader, LinkMessage};
 use std::alloc::Global;
 use std::test::Fail;
 
-/// A header: length, `RTM_NEWLINK`, flags 0x605, the sequence number 1, and the kernel's port. 16 zeros. `IFLA_IFNAME`
-/// and `IFLA_MTU`, of 1450 bytes. `IFLA_LINKINFO`: `IFLA_INFO_KIND`, and `IFLA_INFO_DATA`: `IFLA_VXLAN_ID` 42,
-/// `IFLA_VXLAN_LEARNING` 0, and `IFLA_VXLAN_PORT` 4789, big-endian.
+/// A header: length, `RTM_NEWLINK`, flags 0x605, the sequence number 1, and the kernel's port. 16
+/// zeros. `IFLA_IFNAME` and `IFLA_MTU`, of 1450 bytes. `IFLA_LINKINFO`: `IFLA_INFO_KIND`, and
+/// `IFLA_INFO_DATA`: `IFLA_VXLAN_ID` 42, `IFLA_VXLAN_LEARNING` 0, and `IFLA_VXLAN_PORT` 4789,
+/// big-endian.
 const VXLAN: [u8; 96] = *b"\x60\0\0\0\x10\0\x05\x06\x01\0\0\0\0\0\0\0\
     \0\0\0\0\0\0\0\0\0\0\0\0\0\0\0\0\
     \x0b\0\x03\0vxlan7\0\0\x08\0\x04\0\xaa\x05\0\0\

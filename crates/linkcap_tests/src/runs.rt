@@ -10,15 +10,15 @@ use link_capture::{
 use std::alloc::Global;
 use std::test::Fail;
 
-/// A request for the link `lo` whose name has a flag bit and a last padding byte that isn't zero, and a DONE message
-/// without a body.
+/// A request for the link `lo` whose name has a flag bit and a last padding byte that isn't zero,
+/// and a DONE message without a body.
 pub(crate) const CAPTURE: [u8; 64] = [
     48, 0, 0, 0, 18, 0, 1, 3, 52, 14, 249, 90, 0, 0, 0, 0, 0, 0, 0, 0, 0, 0, 0, 0, 0, 0, 0, 0, 0,
     0, 0, 0, 8, 0, 29, 0, 9, 0, 0, 0, 7, 0, 3, 128, 108, 111, 0, 255, 16, 0, 0, 0, 3, 0, 2, 0, 1,
     0, 0, 0, 0, 0, 0, 0,
 ];
 
-/// Its normal text: a clean name, and a code of 0.
+/// The normal text of that capture: a clean name, and a code of 0.
 pub(crate) const TEXT: [u8; 68] = [
     48, 0, 0, 0, 18, 0, 1, 3, 52, 14, 249, 90, 0, 0, 0, 0, 0, 0, 0, 0, 0, 0, 0, 0, 0, 0, 0, 0, 0,
     0, 0, 0, 8, 0, 29, 0, 9, 0, 0, 0, 7, 0, 3, 0, 108, 111, 0, 0, 20, 0, 0, 0, 3, 0, 2, 0, 1, 0, 0,

@@ -13,7 +13,8 @@ const ASKED: [u8; 40] = [
     0, 7, 0, 3, 0, 108, 111, 0, 0,
 ];
 
-/// The same request: its second header byte isn't zero, its name has a flag bit and no NUL, and its padding is missing.
+/// The same request: its second header byte isn't zero, its name has a flag bit and no NUL, and its
+/// padding is missing.
 const ALIKE: [u8; 38] = [
     38, 0, 0, 0, 18, 0, 1, 0, 7, 0, 0, 0, 0, 0, 0, 0, 0, 255, 0, 0, 0, 0, 0, 0, 0, 0, 0, 0, 0, 0,
     0, 0, 6, 0, 3, 128, 108, 111,

@@ -4,6 +4,7 @@ use Rattle.attribute_tables_grammar.specs.Rules.{Rule}
 use Rattle.link_message_grammar.specs.Body.{link_body}
 
 -- Why a body has no text: it isn't accepted, it has ports that keep no entry, or an attribute of its text is too long.
+-- This is a type of its own, so that no proof has to show that a body is never cut.
 pub data Refusal : Type 0 where
   refused empty_ports unfit : Refusal
 

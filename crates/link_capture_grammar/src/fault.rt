@@ -1,4 +1,5 @@
-//! Faults of captures: their kinds, offsets and texts.
+//! Faults of captures: their kinds, offsets and texts. They are code of the grammar, so that no
+//! second set of kinds has to be kept equal to them.
 
 ghost use Rattle.std.specs.Prelude.{◌≡◌, ◌≤◌, ◌<◌, Some, length};
 ghost use Rattle.link_capture_grammar.specs.Faults.{words, fault_text};
@@ -84,7 +85,8 @@ impl CaptureFault {
     }
 }
 
-// Format options change nothing.
+// Format options change nothing: the kit's `write!` guarantees its text only without options, so
+// displays write fixed texts.
 impl fmt::Display for FaultKind {
     ghost output = { λ k. Some (words k) };
 

@@ -15,7 +15,7 @@ pub record IsReadFrom (bytes : List ℕ) (m : LinkMessage) : Type 0 where
   pub names_row : link_message_names_row m
   pub fits : link_message_fits m ≡ link_body.fits bytes
 
--- Two messages are equal by `==`.
+-- Two messages are equal by `==`. Equal vectors may be at different addresses, so to the prover they aren't one value.
 abbrev pub equal_messages : LinkMessage → LinkMessage → Bool
 equal_messages = (link_message_eq.ghosts).eq
 

@@ -26,7 +26,8 @@ pub record PassesLength (limit : ℕ) (s w : List ℕ) (at : ℕ) : Type 0 where
   pub written : w ≡ texts limit (take at s)
 
 -- What holds if s was read, w was written, and a fault of this kind is returned at the offset `at`. The propositions
--- ended, read_failed and write_failed are what the devices reported.
+-- ended, read_failed and write_failed are what the devices reported. For `Memory` nothing is said about capacity, since
+-- reads have sizes that no contract sees.
 abbrev pub OutcomeAt : Type 0 → Type 0 → Type 0 → ℕ → List ℕ → List ℕ → FaultKind → ℕ → Type 0
 OutcomeAt ended read_failed write_failed limit s w Cut at = ended × (first_fault limit s ≡ Some (record { kind = Cut; offset = at })) × (w ≡ texts limit s)
 OutcomeAt ended read_failed write_failed limit s w Memory at = StopsAt limit s at × (w ≡ texts limit (take at s))

@@ -10,7 +10,8 @@ pub struct DeviceFailed;
 
 /// A source of bytes.
 ///
-/// It counts its failures, and how often it reported its end. The device holds both numbers; each
+/// It counts its failures, and how often it reported its end, since no result can say that a device
+/// failed; any error is a failure, an interrupted read too. The device holds both numbers; each
 /// stays at `u64::MAX` once it is there.
 pub trait Source {
     /// The bytes still to come, if they are known.

@@ -14,7 +14,8 @@ use std::marker::Model;
 /// that have come.
 ///
 /// A frame that is whole in a piece is judged and written from the piece itself. Between pieces the
-/// reader keeps only the bytes of a frame that is cut.
+/// reader keeps only the bytes of a frame that is cut. Its contracts quantify over every byte
+/// string that is consistent with the pieces fed, not over a history of calls.
 #[derive(Drop)]
 pub struct CaptureReader {
     limit: u32,

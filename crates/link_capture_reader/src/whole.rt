@@ -59,5 +59,6 @@ pub fn normalize_bytes(bytes: &[u8], limit: u32, out: &mut Vec<u8>) -> Result<()
     texts_are_small();
     joined_captures_are_legal();
     joined_captures_have_joined_texts();
+    // Not by a `CaptureReader`, which would copy a cut frame.
     push_frames(bytes, limit, out)
 }

@@ -1,4 +1,5 @@
-//! The rows of links' tables with their names, table by table.
+//! The rows of links' tables with their names, table by table. They are two constants, as one of
+//! all rows is larger than the checker copies (10,000 expressions).
 
 use crate::named_rows;
 use link_tables::Form::{Any, OfKindOne, Ports};

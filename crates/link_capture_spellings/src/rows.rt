@@ -1,4 +1,5 @@
-//! Which encoding quirk an attribute has, by its list, its kind and its payload.
+//! Which encoding quirk an attribute has, by its list, its kind and its payload. The type and the
+//! flags of the message count only for the second byte of the header.
 
 ghost use Rattle.std.specs.Prelude.{◌≡◌, ◌≤◌, length};
 ghost use Rattle.netlink_packet_core_grammar.specs.Attributes.{proper_kind};

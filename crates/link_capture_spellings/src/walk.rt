@@ -20,7 +20,7 @@ use netlink_packet_core::{NETLINK_HEADER_LEN, NetlinkBuffer, nla_align};
 use std::default::Default;
 
 /// How deeply lists are nested: a link's attributes, its link info, the data, and the same three of
-/// a peer.
+/// a peer. So a walk holds its lists itself, and needs no allocation.
 const DEPTH: usize = 6;
 
 /// The rest of a list, and its offset in bytes from the capture's start.

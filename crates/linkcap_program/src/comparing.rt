@@ -56,7 +56,8 @@ fn read_side<F: FileSystem>(
 }
 
 /// Returns whether the captures in two files mean the same under a limit. Each file is opened once
-/// and read, the first one first, before their captures are judged.
+/// and read, the first one first, before their captures are judged; so a missing file is reported
+/// before a fault of the other capture.
 ///
 /// # Errors
 ///

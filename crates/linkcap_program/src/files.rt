@@ -8,6 +8,9 @@ use std::fs::File;
 
 /// Opens files by their names.
 ///
+/// It is a trait of this crate, so that contracts can state the contents of two files by their
+/// names.
+///
 /// It counts how often it was asked to, and how often that failed. It holds both numbers; each
 /// stays at `u64::MAX` once it is there.
 pub trait FileSystem {

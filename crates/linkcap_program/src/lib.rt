@@ -1,5 +1,6 @@
 //! The program `linkcap`: writes the normal text of a netlink link capture from standard input to
-//! standard output, or reports whether the captures in two files mean the same.
+//! standard output, or reports whether the captures in two files mean the same. It is a library
+//! under five programs, since a crate has one stored run.
 #![tactic(auto)]
 
 ghost use Rattle.std.specs.Prelude.{◌≡◌, map, string_bytes};

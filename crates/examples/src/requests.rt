@@ -109,8 +109,8 @@ fn new_links_are_normal()
 /// # Errors
 ///
 /// [`RequestFault::Unfit`] if and only if the message doesn't fit; [`RequestFault::ReadsOtherwise`]
-/// only if it isn't readable; [`RequestFault::TooLong`] if the length of the frame doesn't fit 32
-/// bits; [`RequestFault::Memory`] if an allocation fails, which may happen for any message that
+/// only if it isn't readable; [`RequestFault::TooLong`] only if the length of the frame doesn't fit
+/// 32 bits; [`RequestFault::Memory`] if an allocation fails, which may happen for any message that
 /// fits.
 pub fn new_link_request(
     alloc: Global,

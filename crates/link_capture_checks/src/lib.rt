@@ -1,4 +1,5 @@
-// Judges, counts and compares captures on their bytes, without allocating.
+// Judges, counts and compares captures on their bytes. Only `push_frame` allocates, for the text
+// that it appends.
 #![tactic(auto)]
 
 mod bodies;

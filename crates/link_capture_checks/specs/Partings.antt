@@ -4,8 +4,8 @@ use Rattle.link_capture_grammar.specs.Captures.{first_fault, raised, IsLegal}
 use Rattle.link_capture_grammar.specs.Laws.{LegalFrame}
 use Rattle.link_capture_grammar.specs.Same.{SameFrame, SameCapture}
 
--- The first frames of a and b mean the same in pairs; after them a has this rest, and b's next frame is at the offset
--- `place`, or the padding of b's last frame ends there.
+-- The first frames of a and b mean the same in pairs; after them a has this rest, and b's next frame is at `place`, or
+-- the padding of b's last frame ends there.
 pub record IsAlike (limit : ℕ) (a b rest : List ℕ) (place : ℕ) : Type 0 where
   pub near : place ≤ length b + 3
   pub legal : IsLegal limit rest

@@ -8,8 +8,8 @@ use Rattle.link_capture_grammar.specs.Captures.{first_fault, first_frame, raised
 use Rattle.link_capture_messages.specs.declared.route.RouteLink.{RouteLink}
 use Rattle.link_capture_messages.specs.Texts.{GivesMessage}
 
--- The state of an iterator over the messages of a capture: those from the offset `place` on remain; after a fault the
--- capture is replaced by an empty one.
+-- The state of an iterator over the messages of a capture: those from `place` on remain; after a fault the capture is
+-- replaced by an empty one.
 pub record MessagesLeft : Type 0 where
   pub limit : ℕ
   pub capture : List ℕ

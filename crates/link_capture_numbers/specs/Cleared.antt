@@ -7,7 +7,7 @@ use Rattle.netlink_packet_core_grammar.specs.Frames.{frame_length, frame_type}
 abbrev pub is_frame : List ℕ → Bool
 is_frame c = nat_le 16 (length c) && (nat_le 16 (frame_length c) && nat_le (frame_length c) (length c))
 
--- The bytes with 8 zeros at the offset `place`.
+-- The bytes with 8 zeros at `place`.
 unfoldable pub zeros_at : ℕ → List ℕ → List ℕ
 zeros_at place c = take place c ++ (zeros 8 ++ drop (place + 8) c)
 

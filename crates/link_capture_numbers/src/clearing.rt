@@ -33,7 +33,7 @@ fn frame_len(bytes: &[u8]) -> Option<usize>
     Some(size)
 }
 
-/// Writes zeros over the 8 bytes at the offset `place`.
+/// Writes zeros over the 8 bytes at `place`.
 fn clear_at(bytes: &mut [u8], place: usize)
     requires { place + 8 ≤ length bytes.old }
     ensures { bytes.new ≡ zeros_at place bytes.old }

@@ -36,8 +36,8 @@ abbrev pub IsBetween : ℕ → ℕ → Option ℕ → Type 0
 IsBetween low high None = ⊥
 IsBetween low high (Some place) = (low ≤ place) × (place ≤ high)
 
--- The offset of the refusal of c's first frame, which is at the offset `place`: for a link it is inside the frame or at
--- its end; for other messages there is none.
+-- The offset of the refusal of c's first frame, which is at `place`: for a link it is inside the frame or at its end;
+-- for other messages there is none.
 abbrev pub StandsIn : ℕ → List ℕ → Found → Type 0
 StandsIn place c f = cond (is_link_type (frame_type c)) (IsBetween place (place + frame_length c) f.place) (f.place ≡ None)
 

@@ -52,7 +52,7 @@ no_attribute b = cond (nat_lt (length b) 4) (R.CutHeader (length b)) (R.WrongLen
 abbrev pub ListRefusal : Type 0
 ListRefusal = Listing → ℕ → List ℕ → Option Found
 
--- The refusal of a list without an attribute, in an attribute at the offset `own`: some list kinds need one.
+-- The refusal of a list without an attribute, in an attribute at `own`: some list kinds need one.
 abbrev pub empty_refusal : Form → ℕ → Option Found
 empty_refusal Any own = None
 empty_refusal NonEmpty own = Some (found_at own R.EmptyList)
@@ -60,12 +60,12 @@ empty_refusal OfKindOne own = None
 empty_refusal Ports own = Some (found_at own R.EmptyList)
 empty_refusal FirstAlone own = Some (found_at (own + 4) (R.CutHeader 0))
 
--- The refusal of a list that is the payload of the attribute at the offset `own`.
+-- The refusal of a list that is the payload of the attribute at `own`.
 abbrev pub whole_refusal : ListRefusal → Listing → ℕ → List ℕ → Option Found
 whole_refusal list l own [] = empty_refusal l.form own
 whole_refusal list l own (b ∷ p) = list l (own + 4) (b ∷ p)
 
--- The refusal of a link's body at the offset `place`: of its header, or of one of its attributes.
+-- The refusal of a link's body at `place`: of its header, or of one of its attributes.
 abbrev pub link_refusal : ListRefusal → Bool → ℕ → ℕ → List ℕ → Option Found
 link_refusal list judged own place b =
     cond (nat_lt (length b) 16) (Some (found_at own (R.CutLink (length b)))) (list (whole Any (family_table (slice_index b 0)) judged) (place + 16) (drop 16 b))
@@ -76,7 +76,7 @@ abbrev pub peer_refusal : ListRefusal → ℕ → List ℕ → Option Found
 peer_refusal list own p =
     or_else (link_refusal list false own (own + 4) p) (Some (found_at own (cond ((body_rule bytes_peer).empty_ports p) R.EmptyPorts R.Unfit)))
 
--- The refusal of a payload that isn't accepted, in the attribute at the offset `own`.
+-- The refusal of a payload that isn't accepted, in the attribute at `own`.
 abbrev pub inside_refusal : ListRefusal → Bool → Inside → ℕ → List ℕ → Option Found
 inside_refusal list judged (I.Value s) own p = Some (found_at own (shape_reason s (length p)))
 inside_refusal list judged (I.List f t) own p = whole_refusal list (whole f t judged) own p
@@ -88,7 +88,7 @@ abbrev pub row_refusal : ListRefusal → Bool → Option (List ℕ × Inside) �
 row_refusal list judged None own p = None
 row_refusal list judged (Some x) own p = option_map (named x.0) (inside_refusal list judged x.1 own p)
 
--- The refusal of an attribute at the offset `place`; an accepted one has none.
+-- The refusal of an attribute at `place`; an accepted one has none.
 abbrev pub attribute_refusal : ListRefusal → Listing → ℕ → Attribute → Option Found
 attribute_refusal list l place e = cond (is_accepted l e) None (row_refusal list l.judged (row_in l.table l.context (proper_kind e.kind)) place e.payload)
 
@@ -121,7 +121,7 @@ list_refusal l place bytes = refusal_within (length bytes) l place bytes
 abbrev pub code_refusal : List ℕ → Found
 code_refusal b = record { path = []; place = None; reason = R.CutCode (length b) }
 
--- The refusal of c's first frame, whose fault is a refused body and which is at the offset `place`.
+-- The refusal of c's first frame, whose fault is a refused body and which is at `place`.
 unfoldable pub frame_refusal : ℕ → List ℕ → Option Found
 frame_refusal place c =
     cond (is_link_type (frame_type c)) (link_refusal list_refusal true (place + 16) (place + 16) (frame_body c)) (Some (code_refusal (frame_body c)))

@@ -33,7 +33,7 @@ fn no_attribute(bytes: &[u8]) -> Reason
     }
 }
 
-/// Returns the refusal of a value in the attribute at the offset `own`.
+/// Returns the refusal of a value in the attribute at `own`.
 fn value_refusal(shape: Shape, own: u64, payload: &[u8]) -> Option<Refusal>
     ensures found { all_found result ≡ cond (accepts (shape_of shape) payload.now) None
         (Some (found_at own (shape_reason shape (length payload.now)))) }
@@ -46,8 +46,7 @@ fn value_refusal(shape: Shape, own: u64, payload: &[u8]) -> Option<Refusal>
     Some(Refusal::at(own, shape_reason(shape, payload.len())))
 }
 
-/// Returns the refusal of a link's body at the offset `place`: of its header, or of one of its
-/// attributes.
+/// Returns the refusal of a link's body at `place`: of its header, or of one of its attributes.
 #[cycle(refusal)]
 pub(crate) fn link_refusal(judged: bool, own: u64, place: u64, body: &[u8]) -> Option<Refusal>
     requires near { place + length body.now < 2 ^ 63 }
@@ -61,7 +60,7 @@ pub(crate) fn link_refusal(judged: bool, own: u64, place: u64, body: &[u8]) -> O
     list_refusal(list, place + 16, &body[LINK_HEADER_LEN..])
 }
 
-/// Returns the refusal of a peer in the attribute at the offset `own`.
+/// Returns the refusal of a peer in the attribute at `own`.
 #[cycle(refusal)]
 fn peer_refusal(judged: bool, own: u64, payload: &[u8]) -> Option<Refusal>
     requires near { own + 4 + length payload.now < 2 ^ 63 }
@@ -84,7 +83,7 @@ fn peer_refusal(judged: bool, own: u64, payload: &[u8]) -> Option<Refusal>
     Some(Refusal::at(own, Reason::Unfit))
 }
 
-/// Returns the refusal of a list in the attribute at the offset `own`.
+/// Returns the refusal of a list in the attribute at `own`.
 #[cycle(refusal)]
 fn whole_refusal(list: Listed<'_>, own: u64, payload: &[u8]) -> Option<Refusal>
     requires near { own + 4 + length payload.now < 2 ^ 63 }
@@ -103,7 +102,7 @@ fn whole_refusal(list: Listed<'_>, own: u64, payload: &[u8]) -> Option<Refusal>
     }
 }
 
-/// Returns the refusal of a payload in the attribute at the offset `own`.
+/// Returns the refusal of a payload in the attribute at `own`.
 #[cycle(refusal)]
 fn inside_refusal(judged: bool, inside: Inside, own: u64, payload: &[u8]) -> Option<Refusal>
     requires near { own + 4 + length payload.now < 2 ^ 63 }
@@ -120,7 +119,7 @@ fn inside_refusal(judged: bool, inside: Inside, own: u64, payload: &[u8]) -> Opt
     }
 }
 
-/// Returns the refusal of an attribute at the offset `place`.
+/// Returns the refusal of an attribute at `place`.
 #[cycle(refusal)]
 fn attribute_refusal(list: Listed<'_>, place: u64, attribute: Attribute<'_>) -> Option<Refusal>
     requires near { place + 4 + length attribute.payload.now < 2 ^ 63 }
@@ -152,7 +151,7 @@ fn goes_on(form: Form, after: &[u8]) -> &[u8]
     }
 }
 
-/// Returns the refusal of a list whose bytes begin at the offset `place`.
+/// Returns the refusal of a list whose bytes begin at `place`.
 #[cycle(refusal)]
 fn list_refusal(list: Listed<'_>, place: u64, bytes: &[u8]) -> Option<Refusal>
     requires near { place + length bytes.now < 2 ^ 63 }

@@ -25,7 +25,7 @@ inside_of l e = inside l (proper_kind e.kind) e.payload
 abbrev pub list_behind : Listed → Attribute → Listed
 list_behind l e = next_list l (proper_kind e.kind) e.payload
 
--- The quirks inside an attribute whose payload is at the offset `place`, by those of lists.
+-- The quirks inside an attribute whose payload is at `place`, by those of lists.
 abbrev pub inside_told : (Listed → ℕ → List ℕ → List PlacedSpelling) → ℕ → Option (Listed × ℕ) → List ℕ → List PlacedSpelling
 inside_told list place None p = []
 inside_told list place (Some x) p = list x.0 (place + x.1) (drop x.1 p)
@@ -42,6 +42,6 @@ unfoldable pub told_within : ℕ → Listed → ℕ → List ℕ → List Placed
 told_within zero l place bytes = []
 told_within (suc n) l place bytes = next_told (λ m p b. told_within n m p b) l place (first_attribute bytes)
 
--- The quirks of a list whose bytes, or the rest of them, begin at the offset `place`.
+-- The quirks of a list whose bytes, or the rest of them, begin at `place`.
 unfoldable pub list_told : Listed → ℕ → List ℕ → List PlacedSpelling
 list_told l place bytes = told_within (length bytes) l place bytes

@@ -15,11 +15,11 @@ use Rattle.link_capture_spellings.specs.SpellingLists.{told_at, list_told}
 abbrev pub body_list : List ℕ → Listed
 body_list b = record { table = family_table (slice_index b 0); judged = true }
 
--- The quirks of a link's body at the offset `place`, in a message of type t.
+-- The quirks of a link's body at `place`, in a message of type t.
 unfoldable pub link_told : ℕ → ℕ → List ℕ → List PlacedSpelling
 link_told place t b = told_at (place + 1) (header_spelling t b) ++ list_told (body_list b) (place + 16) (drop 16 b)
 
--- The quirks of the first frame of c, which is at the offset `place`; messages other than links' have none.
+-- The quirks of the first frame of c, which is at `place`; messages other than links' have none.
 unfoldable pub frame_told : ℕ → List ℕ → List PlacedSpelling
 frame_told place c = cond (is_link_type (frame_type c)) (link_told (place + 16) (frame_type c) (frame_body c)) []
 
@@ -29,8 +29,7 @@ abbrev pub next_spellings : Judged → List PlacedSpelling → (ℕ → List Pla
 next_spellings (Ok frame) here after = here ++ after (nla_align frame.0 - 1)
 next_spellings (Err kind) here after = []
 
--- The quirks of the frames of c after its first `skip` bytes and before the first fault; c begins at the offset
--- `place`.
+-- The quirks of the frames of c after its first `skip` bytes and before the first fault; c begins at `place`.
 unfoldable pub told_after : ℕ → ℕ → ℕ → List ℕ → List PlacedSpelling
 told_after limit place skip [] = []
 told_after limit place (suc skip) (b ∷ c) = told_after limit (place + 1) skip c

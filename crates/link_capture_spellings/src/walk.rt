@@ -87,7 +87,7 @@ impl<'a> Walk<'a> {
         }
     }
 
-    /// Begins the first frame of `bytes`, which are at the offset `place`.
+    /// Begins the first frame of `bytes`, which are at `place`.
     pub(crate) fn enter(&mut self, bytes: &'a [u8], place: usize)
         requires frame { IsFrame bytes.now }
         requires body { is_link_type (frame_type bytes.now) ≡ true → 16 ≤ length (frame_body bytes.now) }

@@ -1,6 +1,6 @@
-// capture_speed: reads a capture on standard input, and prints its numbers or its first fault. On the error output it
-// tells how long one check of it takes, and one comparison with the capture in the file that its word names, or with
-// itself: the least of five rounds, in nanoseconds.
+// capture_speed: reads a capture on standard input, and prints its numbers or its first fault. On
+// standard error it prints how long one check of it takes, and one comparison with the capture in
+// the file that its argument names, or with itself: the least of five rounds, in nanoseconds.
 #![tactic(auto)]
 
 use link_capture::{DEFAULT_LIMIT, ReadSource, check, measure, read_all, same};
@@ -11,17 +11,17 @@ use std::io::{self, ErrorKind, Read};
 use std::process::ExitCode;
 use std::time::{Duration, Instant};
 
-/// How often each call is timed.
+/// How often each call is measured.
 const ROUNDS: usize = 5;
 
-/// How long a call took, and how many of them answered that the capture is well.
+/// The least duration of a call, and how many of the calls returned that the capture is well.
 #[derive(Drop)]
 struct Timed {
     least: Duration,
     well: usize,
 }
 
-/// How long a check of a capture takes.
+/// Measures a check of a capture.
 fn check_time(rt: &HostRuntime, capture: &[u8]) -> io::Result<Timed> {
     let mut least = Duration::MAX;
     let mut well = 0usize;
@@ -34,7 +34,7 @@ fn check_time(rt: &HostRuntime, capture: &[u8]) -> io::Result<Timed> {
     Ok(Timed { least, well })
 }
 
-/// How long a comparison of two captures takes.
+/// Measures a comparison of two captures.
 fn same_time(rt: &HostRuntime, capture: &[u8], other: &[u8]) -> io::Result<Timed> {
     let mut least = Duration::MAX;
     let mut well = 0usize;
@@ -58,13 +58,13 @@ fn print_numbers(rt: &HostRuntime, capture: &[u8]) -> io::Result<()> {
     }
 }
 
-/// Tells how long a call took.
+/// Prints how long a call took.
 fn tell(rt: &HostRuntime, call: &str, timed: Timed) -> io::Result<()> {
     let nanos = timed.least.as_nanos();
     eprintln!(rt; "{call} {nanos} ns, well in {} of {ROUNDS}", timed.well)
 }
 
-/// All that a reader gives.
+/// Returns all bytes of a reader.
 fn read<R: Read + Drop>(alloc: Global, reader: R) -> io::Result<Vec<u8>> {
     match read_all(alloc, &mut ReadSource::new(reader)) {
         Ok(bytes) => Ok(bytes),
@@ -72,7 +72,7 @@ fn read<R: Read + Drop>(alloc: Global, reader: R) -> io::Result<Vec<u8>> {
     }
 }
 
-/// Reads, prints and times.
+/// Reads, prints and measures.
 fn run(rt: &HostRuntime) -> io::Result<()> {
     let capture = read(rt.alloc(), rt.reader())?;
     print_numbers(rt, capture.as_slice())?;

@@ -1,5 +1,5 @@
-// count_messages: reads a capture on standard input in pieces, and prints how many messages of each type it has, and
-// its first fault.
+// count_messages: reads a capture on standard input in pieces, and prints how many messages of each
+// type it has, and its first fault.
 #![tactic(auto)]
 
 use link_capture::{CaptureFault, CaptureReader, DEFAULT_LIMIT, Messages};
@@ -7,10 +7,10 @@ use std::alloc::Global;
 use std::collections::BTreeMap;
 use std::io::{self, ErrorKind, Read};
 
-/// How many messages there are of each type.
+/// The number of messages of each type.
 type Counts = BTreeMap<u16, u64>;
 
-/// Counts the messages of some texts. These are legal, so nothing but memory can be wanting.
+/// Counts the messages of some texts. These are legal, so the only fault is out of memory.
 fn count(alloc: Global, texts: &[u8], counts: &mut Counts) -> io::Result<()> {
     for message in Messages::new(alloc, texts, DEFAULT_LIMIT) {
         let Ok(message) = message else {
@@ -23,7 +23,7 @@ fn count(alloc: Global, texts: &[u8], counts: &mut Counts) -> io::Result<()> {
     Ok(())
 }
 
-/// Reads a capture, and counts its messages up to the first fault, which is the answer inside.
+/// Reads a capture, and counts its messages up to the first fault, which is the inner result.
 fn count_all<R: Read>(
     alloc: Global,
     source: &mut R,

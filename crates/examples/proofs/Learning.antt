@@ -1,4 +1,4 @@
--- What a walk over messages has learned.
+-- What an iterator over messages has learned.
 use Rattle.std.proofs.Common.{◌≡◌, ℕ, ◌+◌, List, [], ◌∷◌, drop, refl, sym, ap, subst, arith}
 use Rattle.std.proofs.lemmas.List.{drop-drop}
 use Rattle.std.specs.Prelude.{option_map, string_bytes}
@@ -12,7 +12,7 @@ use Rattle.link_capture.specs.Texts.{GivesMessage}
 use Rattle.examples.specs.declared.interfaces.Interface.{Interface}
 use Rattle.examples.specs.Interfaces.{AreMessages, Interfaces, Learns, LearnsAll}
 
--- whatever is learned of the messages from a place on is learned of all messages
+-- what is learned from the messages from an offset on is learned from all messages
 abbrev pub LearnedTo : ℕ → List ℕ → ℕ → Interfaces → Interfaces → Type 0
 LearnedTo limit c place old now =
     (later : List (NetlinkMessage RouteLink)) (left : ℕ) (then : Interfaces) → AreMessages limit (drop place c) later left → LearnsAll later now then
@@ -28,11 +28,11 @@ learned_more limit c place n m old now new h g k later left then a l =
     let e : place + (nla_align n + left) ≡ place + nla_align n + left = omega arith in
     (r.0, subst (AreMessages limit c r.0) e r.1, r.2)
 
--- unchanged entries are nothing learned
+-- if no entry changes, nothing is learned
 pub unchanged : (old new : Interfaces) → IsUnchanged old new → LearnsAll [] old new
 unchanged old new e index = ap (λ entries. option_map (λ (i : Interface). (string_bytes i.name, i.flags)) (lookup (is_at (nat_cmp index)) entries)) e
 
--- nothing more is learned than what was
+-- if the messages after the offset change nothing, those before it are all that was learned
 pub learned_all : (limit : ℕ) (c : List ℕ) (place : ℕ) (old now then : Interfaces) → LearnedTo limit c place old now → LearnsAll [] now then → (messages : List (NetlinkMessage RouteLink)) × AreMessages limit c messages place × LearnsAll messages old then
 learned_all limit c place old now then h l =
     let r = h [] 0 then refl l in

@@ -1,4 +1,4 @@
--- What a vxlan is written as is legal, and its own canonical text.
+-- The body of a request to make a vxlan is legal and already canonical.
 use Rattle.std.proofs.Common.{◌≡◌, ℕ, ◌+◌, ◌≤◌, List, [], ◌∷◌, ◌++◌, length, Ok, Some, refl, sym, ap, ◌∙◌, arith, length-append}
 use Rattle.std.specs.Prelude.{true, false, ◌&&◌, ◌||◌, nat_le, codes}
 use Rattle.std.specs.Str.{is_utf8, chars}
@@ -21,14 +21,14 @@ use Rattle.link_capture.specs.Bodies.{body_text_under, ruled_text}
 use Rattle.link_capture.specs.Routes.{reads_route, typed_text}
 use Rattle.examples.specs.Requests.{vxlan_attributes, vxlan_body, vxlan_info, vxlan_info_text, vxlan_settings}
 
--- bytes that a rule accepts, with no list of ports of which nothing is kept, that fit and are their own canonical text
+-- bytes that a rule accepts, that have no list of ports without an entry, that fit and are already canonical
 pub record IsOwnText (r : Rule) (b : List ℕ) : Type 0 where
   pub accepted : r.accepted b ≡ true
   pub fits : r.fits b ≡ true
   pub empty_ports : r.empty_ports b ≡ false
   pub canonical : r.canonical b ≡ b
 
--- ---- a list of attributes that are their own
+-- ---- a list of attributes that are already canonical
 
 record OwnAttributes (g : Grammar) (es : List Attribute) : Type 0 where
   accepted : all_accepted g nothing es ≡ true
@@ -131,11 +131,11 @@ own_body cut name vni mtu utf8 short =
       canonical = ap (λ x. zeros 16 ++ x) own.canonical;
     }
 
--- so it is its own canonical text
+-- so the body is already canonical
 pub own_ruled : (r : Rule) (b : List ℕ) → IsOwnText r b → ruled_text r b ≡ Ok b
 own_ruled r b o = rw (o.accepted, o.empty_ports, o.fits) (ap Ok o.canonical)
 
--- ---- what is read of a body of RTM_NEWLINK that is its own canonical text
+-- ---- reading a body of RTM_NEWLINK that is already canonical
 
 read_as : (b : List ℕ) (x : TypedBody) → ruled_text link_body b ≡ Ok b → reads_route 16 b ≡ Some x → x ≡ (16, b)
 unfolding body_text_under

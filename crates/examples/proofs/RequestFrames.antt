@@ -1,4 +1,4 @@
--- The frames of requests, and the texts of what they hold.
+-- The frames of requests, and the texts of their contents.
 use Rattle.std.proofs.Common.{◌≡◌, ℕ, ◌+◌, ◌-◌, ◌%◌, ◌≤◌, ◌<◌, ◌^◌, List, [], ◌∷◌, ◌++◌, length, map, take, drop, Result, Ok, Err, Option, None, Some, IfOk, inl, inr, refl, sym, ap, subst, ◌∙◌, arith, append-nil, length-append}
 use Rattle.std.specs.Prelude.{min, Bool, true, false, ◌&&◌, ◌↔◌, ◌⊎◌, ◌≢◌, nat_le, IfErr}
 use Rattle.std.proofs.Math.Nat.{min-eq_left, min-eq_right, min-le_left}
@@ -47,7 +47,7 @@ aligned : (es : List Attribute) → list_size es % 4 ≡ 0
 aligned [] = refl
 aligned (e ∷ es) = let h = aligned es in omega arith
 
--- and so is a link body's
+-- a link body's size is a multiple of 4
 pub body_aligned : TextIsCut → (h : List ℕ) (es : List Attribute) → length h ≡ 16 → length (h ++ list_text es) % 4 ≡ 0
 body_aligned cut h es l =
     let a = aligned es in
@@ -84,7 +84,7 @@ whole s b h =
     let t = tells_length s b h in
     record { has_header = omega arith; covers_header = omega arith; within = omega arith }
 
--- with no padding, which a body of a multiple of 4 bytes has none of, it is its own text
+-- a body whose size is a multiple of 4 needs no padding, so its frame is already canonical
 own_text : (s : ℕ) (b : List ℕ) → length b % 4 ≡ 0 → frame_text (new_link_text s b) b ≡ new_link_text s b
 unfolding frame_text header_text le4 le2
 own_text s b h =
@@ -96,7 +96,7 @@ not_raised : (o : Option CaptureFault) → raised 0 o ≡ None → o ≡ None
 not_raised None h = refl
 not_raised (Some fault) h = absurd cc
 
--- it is the one frame of a legal capture
+-- the frame of a request is a legal capture of one frame
 pub normal : FramesAreJudged link_body → CapturesAreCounted link_body → NewLinksAreNormal
 unfolding body_text_under
 normal judged counted s limit b own aligned' small within =
@@ -124,11 +124,11 @@ request_written m flags s link port payload =
     ap (λ p. header_text (record { length = 16 + length (payload_entry route_entry p).1; message_type = (payload_entry route_entry p).0; flags = flags; sequence_number = s; port_number = m.header.port_number }) ++ (payload_entry route_entry p).1) payload
     ∙ ap (λ n. header_text (record { length = 16 + length (route_entry link).1; message_type = (route_entry link).0; flags = flags; sequence_number = s; port_number = n }) ++ (route_entry link).1) port
 
--- its size
+-- the size of the finalized message
 pub request_size : (p : NetlinkPayload RouteLink) (link : RouteLink) → p ≡ InnerMessage link → 16 + length (payload_entry route_entry p).1 ≡ 16 + length (route_entry link).1
 request_size p link e = ap (λ q. 16 + length (payload_entry route_entry q).1) e
 
--- a size as `buffer_len` tells it, which fits 32 bits or doesn't
+-- a size, as `buffer_len` returns it, which fits 32 bits or doesn't
 pub told_small : (n : ℕ) → as_usize n ≤ 4294967295 → n ≡ as_usize n
 told_small n h =
     elim (cases_lt 18446744073709551615 n) [
@@ -139,7 +139,7 @@ told_small n h =
 pub told_large : (n : ℕ) → 4294967295 < as_usize n → 2 ^ 32 ≤ n
 told_large n h = let m = min-le_left n 18446744073709551615 in omega (arith, m, h)
 
--- ---- what a request answers
+-- ---- the result of a request
 
 -- the texts of requests that are written are legal captures
 pub ok_normal : {A : Type 0} (r : Result A RequestFault) (items : A → List ℕ) (text : List ℕ) (n : ℕ) → IfOk r (λ b. items b ≡ text) → (2 ^ 32 ≤ n → r ≡ Err RequestFault.TooLong) → (n < 2 ^ 32 → (limit : ℕ) → length text ≤ limit → IsNormal limit text) → IfOk r (λ b. (limit : ℕ) → length (items b) ≤ limit → IsNormal limit (items b))
@@ -150,7 +150,7 @@ ok_normal (Ok b) items text n e t f =
       | inr k ↦ absurd (let h = t k in cc)
     ]
 
--- a request that isn't too long wants memory, where it isn't written
+-- a request that isn't too long and isn't written ran out of memory
 pub only_memory : {A : Type 0} (r : Result A RequestFault) → r ≢ Err RequestFault.TooLong → IfErr r (λ fault. (fault ≡ RequestFault.TooLong) ⊎ (fault ≡ RequestFault.Memory)) → IfErr r (λ fault. (fault ≡ RequestFault.Unfit) ⊎ (fault ≡ RequestFault.Memory))
 only_memory (Ok v) short e = tt
 only_memory (Err fault) short (inl k) = absurd (short (ap Err k))
@@ -182,7 +182,7 @@ name_fits name mtu vni =
       (λ h. e ∙ le-leb (4 + length (name ++ 0 ∷ [])) 65535 (omega (arith, length-append name (0 ∷ [])))),
     )
 
--- ---- how long it is
+-- ---- the size of a vxlan's body
 
 short_attribute : (e : Attribute) → length (attribute_text e) ≤ attribute_length e + 3
 unfolding attribute_text
@@ -212,7 +212,7 @@ short_body name vni mtu n =
     let l = short_list name (le4 mtu) (vxlan_info_text vni) n (length-le4 mtu) (length-info vni) in
     omega (arith, l, length-append (zeros 16) (list_text (vxlan_attributes name vni mtu)), length-replicate {A = ℕ} 16 0)
 
--- and as `buffer_len` tells it
+-- the size as `buffer_len` returns it
 pub vxlan_size : (name : List ℕ) (vni mtu : ℕ) (text : List ℕ) → text ≡ vxlan_body name vni mtu → length name ≤ 65530 → as_usize (length text) ≡ length text
 vxlan_size name vni mtu text e h =
     let s = short_body name vni mtu h in

@@ -4,7 +4,7 @@ use Rattle.std.specs.Prelude.{Vec, bytes_eq}
 use Rattle.std.specs.Cmp.Lexicographic.{bytes_decides}
 use Rattle.std.specs.Map.{lookup, KeepsOthers}
 
--- other bytes than a key's find what they found before the change at that key
+-- for other bytes than the changed key's, a look-up returns what it returned before
 pub other_text_stays : {Y X : Type 0} (key : Vec ℕ Y) (text : List ℕ) (old new : List (Vec ℕ Y × X))
     → KeepsOthers (λ x y. bytes_eq x.items y.items) (λ y. bytes_eq key.items y.items) old new
     → text ≢ key.items → lookup (λ y. bytes_eq text y.items) new ≡ lookup (λ y. bytes_eq text y.items) old

@@ -1,10 +1,10 @@
--- What is found of a capture that is held against a golden file.
+-- The results of comparing a capture with a golden file.
 use Rattle.std.specs.Prelude.{◌≡◌, ◌≢◌, ℕ, List, Some}
 use Rattle.link_capture.specs.Captures.{first_fault, texts, IsLegal}
 use Rattle.examples.specs.declared.golden.Finding.{Finding}
 use Rattle.examples.specs.declared.golden.Finding.TheVariants.{Golden, Changed, Fault, GoldenFault}
 
--- this is found of a golden file and a capture, under a limit
+-- The result of comparing a capture with a golden file under a limit.
 abbrev pub IsFinding : ℕ → List ℕ → List ℕ → Finding → Type 0
 IsFinding limit golden capture Golden = IsLegal limit golden × IsLegal limit capture × (texts limit golden ≡ texts limit capture)
 IsFinding limit golden capture Changed = IsLegal limit golden × IsLegal limit capture × (texts limit golden ≢ texts limit capture)

@@ -1,4 +1,4 @@
--- What a table of interfaces has, and what it learns from messages.
+-- The contents of a table of interfaces, and how messages change it.
 use Rattle.std.specs.Prelude.{◌≡◌, ◌≢◌, ℕ, ◌+◌, Bool, true, false, List, [], ◌∷◌, drop, option_map, Option, None, Some, string_bytes}
 use Rattle.std.specs.BTreeMap.{get, BTreeMap}
 use Rattle.std.specs.Ordering.{nat_cmp}
@@ -13,31 +13,31 @@ use Rattle.link_capture.specs.Texts.{GivesMessage}
 use Rattle.link_capture.specs.Views.{readable_message}
 use Rattle.examples.specs.declared.interfaces.Interface.{Interface}
 
--- interfaces by their index
+-- Interfaces by their index.
 abbrev pub Interfaces : Type 0
 Interfaces = BTreeMap ℕ Interface
 
--- the name that attributes tell, in bytes: that of the first IFLA_IFNAME, or none
+-- The name in attributes, in bytes: that of the first IFLA_IFNAME, or none.
 abbrev pub name_told : List LinkAttribute → List ℕ
 name_told [] = []
 name_told (LinkAttribute.IfName name ∷ rest) = string_bytes name
 name_told (_ ∷ rest) = name_told rest
 
--- what is known of the interface of an index: its name in bytes, and its flags
+-- What a table knows of the interface with an index: its name in bytes, and its flags.
 abbrev pub known : Interfaces → ℕ → Option (List ℕ × LinkFlags)
 known table index = option_map (λ i. (string_bytes i.name, i.flags)) (get nat_cmp table index)
 
--- this is known of the index in the new table, and of all others what was known in the old one
+-- The new table has this entry for the index, and the old table's entries for all others.
 pub record Sets (index : ℕ) (told : Option (List ℕ × LinkFlags)) (old new : Interfaces) : Type 0 where
   pub it : known new index ≡ told
   pub others : (other : ℕ) → other ≢ index → known new other ≡ known old other
 
--- a message tells of a link that is there
+-- A message reports that a link exists.
 abbrev pub is_new_link : NetlinkPayload RouteLink → Bool
 is_new_link (InnerMessage (RouteLink.NewLink link)) = true
 is_new_link _ = false
 
--- what a table learns from a message
+-- The new table is the old one after a message.
 abbrev pub Learns : NetlinkPayload RouteLink → Interfaces → Interfaces → Type 0
 Learns (InnerMessage (RouteLink.NewLink link)) old new =
     let m = readable_message link in
@@ -45,12 +45,12 @@ Learns (InnerMessage (RouteLink.NewLink link)) old new =
 Learns (InnerMessage (RouteLink.DelLink link)) old new = Sets (readable_message link).header.index None old new
 Learns _ old new = (index : ℕ) → known new index ≡ known old index
 
--- from some messages, in their order
+-- The new table is the old one after some messages, in their order.
 abbrev pub LearnsAll : List (NetlinkMessage RouteLink) → Interfaces → Interfaces → Type 0
 LearnsAll [] old new = (index : ℕ) → known new index ≡ known old index
 LearnsAll (m ∷ messages) old new = (between : Interfaces) × Learns m.payload old between × LearnsAll messages between new
 
--- these are the messages that a capture has before this place
+-- These are the messages that a capture has before this offset.
 abbrev pub AreMessages : ℕ → List ℕ → List (NetlinkMessage RouteLink) → ℕ → Type 0
 AreMessages limit c [] place = place ≡ 0
 AreMessages limit c (m ∷ messages) place =

@@ -1,24 +1,24 @@
-//! Golden files: captures that others are to mean the same as.
+//! Golden files: captures that others are compared with.
 
 ghost use Rattle.examples.specs.Findings.{IsFinding};
 
 use link_capture::{CaptureFault, SideFault, same};
 
-/// What was found of a capture that was held against a golden file.
+/// The result of comparing a capture with a golden file.
 #[derive(Clone, Copy, Debug, PartialEq, Eq, Drop)]
 pub enum Finding {
-    /// It is legal, and has the golden file's normal text.
+    /// The capture is legal, and has the golden file's normal text.
     Golden,
-    /// It is legal, and has another normal text.
+    /// The capture is legal, and has another normal text.
     Changed,
-    /// It isn't legal: its first fault.
+    /// The capture isn't legal: its first fault.
     Fault(CaptureFault),
     /// The golden file isn't legal: its first fault.
     GoldenFault(CaptureFault),
 }
 
-/// Holds a capture against a golden file, which is a capture itself, or its normal text. `limit` is the greatest
-/// length in bytes that a message, read or written, may have. It takes no memory.
+/// Compares a capture with a golden file, which is a capture or a normal text. `limit` is the
+/// greatest length in bytes of a message, as read and as written. Allocates nothing.
 pub fn hold_against(golden: &[u8], capture: &[u8], limit: u32) -> Finding
     ensures finding { IsFinding limit golden.now capture.now result }
 {

@@ -1,4 +1,4 @@
-//! A table of interfaces, kept from the messages of links.
+//! A table of interfaces, which link messages keep up to date.
 
 ghost use Rattle.std.specs.Prelude.{◌≡◌, ◌≢◌, ◌≤◌, ℕ, List, length, true, Some, IfErr, OnOk, OnErr, MatchResult};
 ghost use Rattle.std.specs.BTreeMap.{IsUnchanged};
@@ -11,10 +11,10 @@ use netlink_packet_core::{NetlinkMessage, NetlinkPayload};
 use std::alloc::{AllocError, Global};
 use std::collections::BTreeMap;
 
-/// What is known of an interface.
+/// What the table knows of an interface.
 #[derive(Debug, PartialEq, Eq, Drop)]
 pub struct Interface {
-    /// Its name, IFLA_IFNAME; empty where none was told.
+    /// Its name, IFLA_IFNAME; empty if no message had one.
     pub name: String,
     /// Its flags, `ifi_flags`.
     pub flags: LinkFlags,
@@ -23,7 +23,8 @@ pub struct Interface {
 /// Interfaces by their index, `ifi_index`.
 pub type Interfaces = BTreeMap<u32, Interface>;
 
-/// The name that a link message tells: that of its first IFLA_IFNAME, or none, which is empty.
+/// Returns the name in a link message: that of its first IFLA_IFNAME, or an empty one if it has
+/// none.
 pub fn name(message: &LinkMessage) -> &str
     ensures { result.now ≡ name_told message.now.attributes.items }
 {
@@ -35,8 +36,13 @@ pub fn name(message: &LinkMessage) -> &str
     ""
 }
 
-/// Learns from a message: of a link that is there its name and flags, and of one that is gone to forget it. Other
-/// messages tell nothing. Memory is wanted for a link that is there alone.
+/// Learns from a message: the name and flags of a link that exists, or that a link is gone, which
+/// is then forgotten. Other messages change nothing. Allocates only for a link that exists.
+///
+/// # Errors
+///
+/// [`AllocError`] if an allocation fails, which happens only for a link that exists; the table is
+/// unchanged.
 pub fn learn(
     alloc: Global,
     message: &NetlinkMessage<RouteLink>,
@@ -63,7 +69,7 @@ pub fn learn(
     Ok(())
 }
 
-// Learns from a message that is there for no more.
+// Learns from a message as `learn` does, and drops it.
 fn learn_last(
     alloc: Global,
     message: NetlinkMessage<RouteLink>,
@@ -75,8 +81,13 @@ fn learn_last(
     learn(alloc, &message, interfaces)
 }
 
-/// Learns from the messages of a capture, one after the other, up to its first fault, which is the answer, or want of
-/// memory. `limit` is the greatest length in bytes that a message, read or written, may have.
+/// Learns from the messages of a capture, one after the other, up to its first fault. `limit` is
+/// the greatest length in bytes of a message, as read and as written.
+///
+/// # Errors
+///
+/// The first fault of the capture, or `Memory` at a message if an allocation fails; the messages
+/// before the fault's offset are learned.
 pub fn learn_all(
     alloc: Global,
     capture: &[u8],

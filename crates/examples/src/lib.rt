@@ -1,4 +1,4 @@
-//! Users of the libraries: what each needs of them, with its contract.
+//! Callers of the libraries, with contracts: what each needs of them.
 #![tactic(auto)]
 
 mod golden;

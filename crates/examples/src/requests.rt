@@ -26,10 +26,11 @@ use netlink_packet_core::{
 use std::alloc::{AllocError, Global};
 use thiserror::Error;
 
-/// The UDP port of vxlan (IANA). The kernel takes 8472 where none is told.
+/// The UDP port of vxlan (IANA). The kernel uses 8472 if a request has none.
 const VXLAN_PORT: u16 = 4789;
 
-/// The bytes of the longest name that fits: 65535 less the 4 bytes of the attribute's header and the NUL.
+/// The number of bytes of the longest name that fits: 65535 less the 4 bytes of the attribute's
+/// header and the NUL.
 const LONGEST_NAME: usize = 65530;
 
 /// Why a request isn't written.
@@ -38,23 +39,29 @@ pub enum RequestFault {
     /// A length inside doesn't fit the 2 bytes of its header.
     #[error("attribute over 65535")]
     Unfit,
-    /// What the message is written as is refused, or read as another message.
+    /// The text of the message is refused, or is read as another message.
     #[error("refused or read as another message")]
     ReadsOtherwise,
-    /// The frame has more bytes than the 4 bytes of its length can tell.
+    /// The frame has more bytes than the 4 bytes of its length can hold.
     #[error("frame over 4294967295")]
     TooLong,
-    /// No memory was to be had.
+    /// An allocation failed.
     #[error("no memory")]
     Memory,
 }
 
-/// The flags of a request to make a link that isn't there yet, and to acknowledge it.
+/// The flags of a request to make a link that doesn't exist yet, and to acknowledge it.
 const NEW_LINK: u16 = NLM_F_REQUEST | NLM_F_ACK | NLM_F_EXCL | NLM_F_CREATE;
 
-/// The frame of a message to the kernel (netlink.h, `struct nlmsghdr`): a header of 16 bytes, with the length in bytes,
-/// the type, these flags (`NLM_F_` values joined), this sequence number and the port 0, and the body. Numbers are
-/// little-endian. No padding follows; messages of links need none.
+/// Returns the frame of a message to the kernel (netlink.h, `struct nlmsghdr`): a header of 16
+/// bytes, with the length in bytes, the type, these flags (`NLM_F_` values joined), this sequence
+/// number and the port 0, and the body. Numbers are little-endian. No padding follows; messages of
+/// links need none.
+///
+/// # Errors
+///
+/// [`RequestFault::TooLong`] if and only if the length of the frame doesn't fit 32 bits;
+/// [`RequestFault::Memory`] if an allocation fails.
 pub fn request(
     alloc: Global,
     link: RouteLink,
@@ -84,7 +91,7 @@ pub fn request(
     Ok(bytes)
 }
 
-/// The frame of a request to make a link is a legal capture, and its own normal text.
+/// The frame of a request to make a link is a legal capture, and already canonical.
 fn new_links_are_normal()
     ensures normal { NewLinksAreNormal }
     ensures aligned { (message : LinkMessage) → length (link_message_text message) % 4 ≡ 0 }
@@ -95,12 +102,16 @@ fn new_links_are_normal()
     texts_are_cut_again();
 }
 
-/// The frame of a request to make a link (rtnetlink.h, `RTM_NEWLINK`), which the kernel acknowledges, and refuses where
-/// there is one of that name.
+/// Returns the frame of a request to make a link (rtnetlink.h, `RTM_NEWLINK`), which the kernel
+/// acknowledges, and refuses if a link of that name exists. The frame is a legal capture, and
+/// already canonical under each limit of at least its length.
 ///
-/// What is promised: it is written only of a readable message, and is a legal capture and its own normal text under
-/// each limit that it keeps. `Unfit` is told exactly where the message doesn't fit, and `ReadsOtherwise` only where it
-/// isn't readable. `Memory` may be told of any message that fits.
+/// # Errors
+///
+/// [`RequestFault::Unfit`] if and only if the message doesn't fit; [`RequestFault::ReadsOtherwise`]
+/// only if it isn't readable; [`RequestFault::TooLong`] only if the length of the frame doesn't fit
+/// 32 bits; [`RequestFault::Memory`] if an allocation fails, which may happen for any message that
+/// fits.
 pub fn new_link_request(
     alloc: Global,
     message: LinkMessage,
@@ -125,7 +136,7 @@ pub fn new_link_request(
     }
 }
 
-/// What says that a link is a vxlan of this network: its kind, and its settings.
+/// Returns the link info of a vxlan of this network: its kind, and its settings.
 fn vxlan_info(alloc: Global, vni: u32) -> Result<Vec<LinkInfo>, AllocError>
     ensures text { IfOk result
         (λ info. text_by link_info_entry info.items ≡ vxlan_info_text vni) }
@@ -144,7 +155,7 @@ fn vxlan_info(alloc: Global, vni: u32) -> Result<Vec<LinkInfo>, AllocError>
     Ok(info)
 }
 
-/// The message of a vxlan of this name and network, with packets of at most so many bytes.
+/// Returns the message of a vxlan with this name and network, with packets of at most `mtu` bytes.
 fn vxlan_message(alloc: Global, name: &str, vni: u32, mtu: u32) -> Result<LinkMessage, AllocError>
     ensures text { IfOk result
         (λ message. link_message_text message ≡ vxlan_body name.now vni mtu) }
@@ -168,7 +179,7 @@ fn vxlan_message(alloc: Global, name: &str, vni: u32, mtu: u32) -> Result<LinkMe
     Ok(LinkMessage { header, attributes })
 }
 
-/// What a vxlan is written as, where its name fits, is a legal body, and its own canonical text.
+/// The body of a request to make a vxlan whose name fits is legal and already canonical.
 fn vxlans_are_legal(name: &str, vni: u32, mtu: u32)
     ensures own { length name.now ≤ 65530
         → ruled_text link_body (vxlan_body name.now vni mtu) ≡ Ok (vxlan_body name.now vni mtu) }
@@ -177,7 +188,7 @@ fn vxlans_are_legal(name: &str, vni: u32, mtu: u32)
     texts_are_cut_again();
 }
 
-/// The body of a request to make a vxlan, whose name fits.
+/// Returns the body of a request to make a vxlan whose name fits.
 #[tactic(auto, using(crate::proofs::RequestFrames::vxlan_size))]
 fn write_vxlan(alloc: Global, name: &str, vni: u32, mtu: u32) -> Result<Vec<u8>, AllocError>
     requires { length name.now ≤ 65530 }
@@ -189,13 +200,17 @@ fn write_vxlan(alloc: Global, name: &str, vni: u32, mtu: u32) -> Result<Vec<u8>,
     Ok(body)
 }
 
-/// The frame of a request to make a vxlan, a virtual extensible local network (if_link.h, `IFLA_VXLAN_`): its name, the
-/// number of its network, `vni`, and the greatest size of a packet in bytes, `mtu`. It doesn't learn addresses, and its
-/// UDP port is 4789. Numbers are little-endian, the port big-endian. The kernel takes names of 1 to 15 bytes and
-/// networks below 2^24; that isn't tested here.
+/// Returns the frame of a request to make a vxlan, a virtual extensible local area network
+/// (if_link.h, `IFLA_VXLAN_`): its name, the number of its network, `vni`, and the greatest size of
+/// a packet in bytes, `mtu`. It doesn't learn addresses, and its UDP port is 4789. Numbers are
+/// little-endian, the port is big-endian. The kernel accepts names of 1 to 15 bytes and networks
+/// below 2^24; neither is tested here.
 ///
-/// What is promised beside the bytes: `Unfit` is told exactly of a name over 65530 bytes, and no other fault but want
-/// of memory: what is asked for is legal, and so it is readable.
+/// # Errors
+///
+/// [`RequestFault::Unfit`] if and only if the name has more than 65530 bytes;
+/// [`RequestFault::Memory`] if an allocation fails. There are no others, as the message is always
+/// readable.
 pub fn vxlan_request(
     alloc: Global,
     name: &str,

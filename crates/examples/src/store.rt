@@ -1,4 +1,4 @@
-//! A store of values by captures: those that mean the same have one place.
+//! A store of values by captures: those that mean the same share one value.
 
 ghost use Rattle.std.specs.Prelude.{◌≡◌, ◌≢◌, ◌⊎◌, ℕ, List, length, None, Some, IfOk, IfErr, OnOk, OnErr, option_copied};
 ghost use Rattle.link_capture.specs.Captures.{first_fault, texts, IsLegal, StopsAt};
@@ -11,15 +11,16 @@ use link_capture::{CaptureFault, FaultKind, check, normalize_bytes};
 use std::alloc::Global;
 use std::collections::HashMap;
 
-/// A value that wasn't stored, and why.
+/// A value that wasn't stored, and the reason.
 #[derive(Debug, PartialEq, Eq, Drop)]
 pub struct NotStored<V> {
-    /// The capture's first fault, or want of memory.
+    /// The capture's first fault, or out of memory.
     pub fault: CaptureFault,
     pub value: V,
 }
 
-/// The normal text of a capture; or the first fault of one that isn't legal; or want of memory at a message's place.
+/// Returns the normal text of a capture. Fails with the first fault of one that isn't legal, or
+/// with `Memory` at a message.
 fn normal_text(alloc: Global, capture: &[u8], limit: u32) -> Result<Vec<u8>, CaptureFault>
     ensures text { IfOk result (λ text. text.items ≡ texts limit capture.now) }
     ensures legal { OnOk result (IsLegal limit capture.now) }
@@ -32,7 +33,7 @@ fn normal_text(alloc: Global, capture: &[u8], limit: u32) -> Result<Vec<u8>, Cap
     check(capture, limit)?;
     captures_are_counted();
     let mut text = Vec::new(alloc);
-    // A message has 16 bytes, so under a smaller limit no capture is legal but the empty one.
+    // A message has at least 16 bytes, so under a smaller limit only the empty capture is legal.
     if !capture.is_empty() {
         sameness_goes_by_frames();
         frames_stand_alone();
@@ -41,8 +42,8 @@ fn normal_text(alloc: Global, capture: &[u8], limit: u32) -> Result<Vec<u8>, Cap
     Ok(text)
 }
 
-/// Values stored by captures. Each stands under its capture's normal text, so captures that mean the same have one
-/// place.
+/// Values stored by captures. The key of each is its capture's normal text, so captures that mean
+/// the same share one value.
 #[derive(Drop)]
 pub struct Store<V> {
     limit: u32,
@@ -53,8 +54,9 @@ impl<V> Store<V> {
     ghost use Rattle.link_capture.specs.Same.{SameCapture};
     ghost use Rattle.examples.specs.Stores.{limit_of, stored, HasUnder, SameElsewhere, IsUnchanged};
 
-    /// It holds no value yet. `limit` is the greatest length in bytes that a message of a capture, read or written,
-    /// may have. Under one of less than 16 the empty capture alone is legal.
+    /// Returns a store without a value. `limit` is the greatest length in bytes of a message in a
+    /// capture, as read and as written. Under one of less than 16 only the empty capture is legal.
+    /// Allocates nothing.
     pub fn new(alloc: Global, limit: u32) -> Store<V>
         ensures limit { limit_of result ≡ limit }
         ensures empty { (capture : List ℕ) → stored result capture ≡ None }
@@ -65,10 +67,13 @@ impl<V> Store<V> {
         }
     }
 
-    /// Puts a value under a capture. The answer is the value that was under it before.
+    /// Stores a value for a capture, and returns the value that was stored for it before.
     ///
-    /// A value that isn't stored comes back: with the first fault of a capture that isn't legal, or with want of memory
-    /// at the place of a message, or, for the entry of its text, at the capture's end.
+    /// # Errors
+    ///
+    /// The value that isn't stored, with the first fault of a capture that isn't legal; or with
+    /// `Memory` if an allocation fails, at a message, or at the capture's end for the entry. The
+    /// store is unchanged.
     pub fn insert(
         &mut self,
         alloc: Global,
@@ -77,7 +82,7 @@ impl<V> Store<V> {
     ) -> Result<Option<V>, NotStored<V>>
         ensures legal { OnOk result (IsLegal (limit_of self.old) capture.now) }
         ensures old { IfOk result (λ old. old ≡ stored self.old capture.now) }
-        // Captures of its normal text have the value now, and others what they had.
+        // Captures with its normal text have the value now, and others what they had.
         ensures same { OnOk result (HasUnder self.new capture.now value) }
         ensures others { OnOk result (SameElsewhere self.old self.new capture.now) }
         // So each capture that means the same has the value.
@@ -115,8 +120,12 @@ impl<V> Store<V> {
         }
     }
 
-    /// The value under a capture; or the first fault of one that isn't legal; or want of memory, for the text that is
-    /// looked up, at the place of a message.
+    /// Returns the value for a capture, if there is one. Allocates the text to look up.
+    ///
+    /// # Errors
+    ///
+    /// The first fault of a capture that isn't legal; or `Memory` at a message if an allocation
+    /// fails.
     pub fn get(&self, alloc: Global, capture: &[u8]) -> Result<Option<&V>, CaptureFault>
         ensures legal { OnOk result (IsLegal (limit_of self.now) capture.now) }
         ensures value { IfOk result

@@ -1,4 +1,4 @@
-// Netlink link captures: the normal text of a capture, or its first fault with its place.
+// Netlink link captures: the normal text of a capture, or its first fault with its offset.
 #![tactic(auto)]
 
 pub use link_capture_checks::{Measure, SideFault, check, measure, normal_len, same};

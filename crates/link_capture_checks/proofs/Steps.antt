@@ -1,4 +1,4 @@
--- One frame further in two captures, and their ends.
+-- Two captures after another frame of each, and at their ends.
 use Rattle.std.proofs.Common.{◌≡◌, ℕ, ◌<◌, Bool, true, false, eqb, List, [], ◌∷◌, length, take, drop, inl, inr, refl, sym, ap, subst, ◌∙◌, arith}
 use Rattle.std.specs.Prelude.{◌↔◌, bytes_eq}
 use Rattle.std.proofs.lemmas.Bool.{ne_eqb, cases_lt}
@@ -11,7 +11,7 @@ use Rattle.link_capture_grammar.specs.Laws.{LegalFrame, SamenessGoesByFrames}
 use Rattle.link_capture_grammar.specs.Same.{SameFrame, SameCapture}
 use Rattle.link_capture_checks.specs.Partings.{Part}
 
--- a frame of the bytes of a legal one
+-- a frame with the bytes of a legal frame
 pub of_one_bytes : (law : SamenessGoesByFrames link_body) (limit : ℕ) (a b : List ℕ) (n : ℕ) → LegalFrame limit a → n ≡ frame_length a → bytes_eq (take n a) (take n b) ≡ true → LegalFrame limit b × SameFrame a b
 of_one_bytes law limit a b n p e h = law.equal limit a b p (subst (λ k. take k b ≡ take k a) e (sym ((bytes_eq-Decides _ _).0 h)))
 
@@ -23,7 +23,7 @@ module _ (law : SamenessGoesByFrames link_body) (limit : ℕ) (a b l r : List �
         λ s. subst (λ z. SameCapture limit z y) (sym e) (subst (λ z. SameCapture limit (drop (nla_align (frame_length a)) a) z) (sym f) (more.1 (so_far.1 s))),
       )
 
-  -- both have a frame further on, and these aren't legal and of one meaning
+  -- both captures have another frame, but these aren't both legal and equivalent
   pub frames_differ : IsLegal limit a → IsLegal limit b → Part limit a b → 0 < length b → SameCapture limit l r → ⊥
   frames_differ h k parts n s =
       let t = so_far.1 s in
@@ -32,7 +32,7 @@ module _ (law : SamenessGoesByFrames link_body) (limit : ℕ) (a b l r : List �
         | inr m ↦ law.right_longer limit a b (omega (arith, m)) n t
       ]
 
-  -- the right one has ended: the answer is whether the left one has
+  -- the right capture has ended: the result is whether the left one has ended too
   pub right_ended : length b ≡ 0 → (answer : Bool) → answer ≡ eqb (length a) 0 → (answer ≡ true) ↔ SameCapture limit l r
   right_ended k answer is = by a refl where
     by : (z : List ℕ) → z ≡ a → (answer ≡ true) ↔ SameCapture limit l r

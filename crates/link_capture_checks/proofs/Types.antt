@@ -1,4 +1,4 @@
--- What the bodies of each type are written as.
+-- The texts of the bodies of each type.
 use Rattle.std.proofs.Common.{◌≡◌, ◌≢◌, ℕ, true, false, ◌<◌, ◌≤◌, ◌⊎◌, inl, inr, Result, List, [], length, take, drop, Ok, Err, IfOk, IfErr, refl, sym, ap, subst, ◌∙◌, arith}
 use Rattle.std.specs.Prelude.{bytes_eq}
 use Rattle.std.proofs.lemmas.Bool.{le-leb, lt-leb, ne_eqb}
@@ -14,7 +14,7 @@ use Rattle.link_capture_grammar.specs.Numbers.{body_attributes}
 use Rattle.link_capture_checks.specs.declared.texts.MeasuredBody.{MeasuredBody}
 use Rattle.link_capture_checks.specs.Measures.{IsBodyText}
 
--- what a type makes of a body
+-- the text of a body of a type
 pub record Judges (t : ℕ) (b : List ℕ) (judged : Result (List ℕ) Refusal) (inside : ℕ) : Type 0 where
   pub text : body_text t b ≡ judged
   pub attributes : body_attributes t b ≡ inside
@@ -52,14 +52,14 @@ other t b n m k o = record {
   attributes = rw (outside t o) refl;
 }
 
--- a measure of what is judged is one of the body, and so is a refusal
+-- a measure, or a refusal, of the judged text is one of the body
 pub measured : (t : ℕ) (b : List ℕ) (judged : Result (List ℕ) Refusal) (inside : ℕ) → Judges t b judged inside → (r : Result MeasuredBody FaultKind) → IfOk r (λ m. IsBodyText b judged inside m) → IfOk r (λ m. IsBodyText b (body_text t b) (body_attributes t b) m)
 measured t b judged inside j r h = rw (j.text, j.attributes) h
 
 pub refused : (t : ℕ) (b : List ℕ) (judged : Result (List ℕ) Refusal) (inside : ℕ) → Judges t b judged inside → (r : Result MeasuredBody FaultKind) → IfErr r (λ kind. faulty judged ≡ Err kind) → IfErr r (λ kind. faulty (body_text t b) ≡ Err kind)
 refused t b judged inside j r h = rw j.text h
 
--- what two bodies of a type are compared by
+-- whether two bodies mean the same, type by type
 pub same_noop : (t : ℕ) (a b : List ℕ) → t ≡ 1 → true ≡ same_body t a b
 unfolding same_body_under
 same_noop t a b e = subst (λ t. true ≡ same_body t a b) (sym e) refl
@@ -76,6 +76,6 @@ pub same_other : (t : ℕ) (a b : List ℕ) → t ≢ 1 → t ≢ 3 → (t < 16)
 unfolding same_body_under
 same_other t a b n k o = rw (ne_eqb t 1 n, ne_eqb t 3 k, outside t o) refl
 
--- headers that are the same have one type
+-- equal headers have the same type
 pub one_type : (a b : List ℕ) → 16 ≤ length a → 16 ≤ length b → take 12 (drop 4 a) ≡ take 12 (drop 4 b) → frame_type a ≡ frame_type b
 one_type a b l k h = type_at a l ∙ ap (u16_at 0) h ∙ sym (type_at b k)

@@ -1,4 +1,4 @@
--- What measures in code say.
+-- The meaning of the measures that functions of this crate return.
 use Rattle.std.specs.Prelude.{◌≡◌, ℕ, ◌+◌, ◌≤◌, ◌<◌, true, List, [], length, Result, Ok, Err, Vec, vec_capacity}
 use Rattle.netlink_packet_core_grammar.specs.Attributes.{nla_align}
 use Rattle.netlink_packet_core_grammar.specs.Frames.{IsFrame, frame_type, frame_body, frame_text}
@@ -11,7 +11,7 @@ use Rattle.link_capture_checks.specs.declared.texts.MeasuredBody.{MeasuredBody}
 use Rattle.link_capture_checks.specs.declared.texts.Measure.{Measure}
 use Rattle.link_capture_checks.specs.declared.texts.MeasuredFrame.{MeasuredFrame}
 
--- a body has a text, it is so long, and so many attributes are inside
+-- The measure m is that of a body which has a text: the text's length, and the number of attributes inside.
 pub record IsBodyText (body : List ℕ) (judged : Result (List ℕ) Refusal) (inside : ℕ) (m : MeasuredBody) : Type 0 where
   pub text : List ℕ
   pub is : judged ≡ Ok text
@@ -19,7 +19,7 @@ pub record IsBodyText (body : List ℕ) (judged : Result (List ℕ) Refusal) (in
   pub attributes : m.attributes ≡ inside
   pub own : m.is_own ≡ true → text ≡ body
 
--- the frame in front is accepted, and the numbers are its own
+-- The measure m is that of the first frame of c, which is accepted.
 pub record IsFrameText (limit : ℕ) (c : List ℕ) (m : MeasuredFrame) : Type 0 where
   pub whole : IsFrame c
   pub body : List ℕ
@@ -36,16 +36,16 @@ pub record IsFrameText (limit : ℕ) (c : List ℕ) (m : MeasuredFrame) : Type 0
   pub own : m.is_own ≡ true → body ≡ frame_body c
   pub front : IsBodyFront link_peer (frame_body c) m.front
 
--- the text of a body that has one
+-- The text of a body that has one.
 abbrev pub written : Result (List ℕ) Refusal → List ℕ
 written (Ok text) = text
 written (Err why) = []
 
--- the frame in front is accepted, and there was less room than its text wants
+-- The first frame is accepted, and the vector had less capacity than its text needs.
 abbrev pub LacksRoom : {Z : Type 0} → ℕ → List ℕ → Vec ℕ Z → Type 0
 LacksRoom limit c out = (n : ℕ) × (text : List ℕ) × (first_frame limit c ≡ Ok (n, text)) × (vec_capacity out < length out.items + length text)
 
--- the numbers are those of a capture, up to its first fault
+-- The measure m is that of a capture up to its first fault.
 pub record IsMeasure (limit : ℕ) (c : List ℕ) (m : Measure) : Type 0 where
   pub frames : m.frames ≡ frames limit c
   pub attributes : m.attributes ≡ attributes limit c

@@ -1,4 +1,4 @@
-//! What the bodies of frames are written as, by the types of their messages.
+//! The texts of the bodies of frames, by the types of their messages.
 
 ghost use Rattle.std.specs.Prelude.{◌≡◌, ◌≤◌, ◌+◌, ◌++◌, true, length, is_ok, vec_capacity, IfOk, IfErr, Ok, Err};
 ghost use Rattle.link_message_grammar.specs.Body.{link_body, link_peer};
@@ -17,20 +17,20 @@ use link_interpreter::append;
 use link_message_checks::{walk_body, write_body};
 use netlink_packet_core::{NLMSG_DONE, NLMSG_ERROR, NLMSG_NOOP};
 
-/// The bytes of the code in front of the body of a DONE or an ERROR message.
+/// The size of the code at the start of the body of a DONE or an ERROR message, in bytes.
 const CODE_LEN: usize = 4;
 
-/// The code of a DONE message that has none.
+/// The code of a DONE message with an empty body.
 const NO_CODE: [u8; CODE_LEN] = [0; CODE_LEN];
 
-/// The body of a DONE message, with the code 0 where it has none.
+/// Returns the body of a DONE message, or the code 0 for an empty one.
 pub(crate) fn with_code(body: &[u8]) -> &[u8]
     ensures { result.now ≡ done_body body.now }
 {
     if body.is_empty() { &NO_CODE } else { body }
 }
 
-// A body that is written as it stands.
+// Returns the measure of a body that is already canonical.
 fn kept(body: &[u8]) -> MeasuredBody
     ensures text { IsBodyText body.now (Ok body.now) 0 result }
     ensures front { result.front ≡ 0 }
@@ -43,7 +43,7 @@ fn kept(body: &[u8]) -> MeasuredBody
     }
 }
 
-// The body of an ERROR message: a code and more.
+// Returns the measure of the body of an ERROR message: a code and more.
 fn measure_error(body: &[u8]) -> Result<MeasuredBody, FaultKind>
     ensures ok { IfOk result (λ m. IsBodyText body.now (error_text body.now) 0 m) }
     ensures front { IfOk result (λ m. m.front ≡ 0) }
@@ -56,7 +56,8 @@ fn measure_error(body: &[u8]) -> Result<MeasuredBody, FaultKind>
     }
 }
 
-// The body of a DONE message: a code and more, or nothing, which is the code 0.
+// Returns the measure of the body of a DONE message: a code and more, or nothing, which is the code
+// 0.
 fn measure_done(body: &[u8]) -> Result<MeasuredBody, FaultKind>
     ensures ok { IfOk result (λ m. IsBodyText body.now (done_text body.now) 0 m) }
     ensures front { IfOk result (λ m. m.front ≡ 0) }
@@ -73,7 +74,7 @@ fn measure_done(body: &[u8]) -> Result<MeasuredBody, FaultKind>
     measure_error(body)
 }
 
-// The body of a link message.
+// Returns the measure of the body of a link message.
 fn measure_link(body: &[u8]) -> Result<MeasuredBody, FaultKind>
     ensures ok { IfOk result
         (λ m. IsBodyText body.now (ruled_text link_body body.now) (link_body.attributes body.now) m) }
@@ -98,7 +99,7 @@ fn measure_link(body: &[u8]) -> Result<MeasuredBody, FaultKind>
     })
 }
 
-/// The body of a message of a type.
+/// Returns the measure of the body of a message of a type.
 pub(crate) fn measure_body(message_type: u16, body: &[u8]) -> Result<MeasuredBody, FaultKind>
     ensures ok { IfOk result (λ m. IsBodyText body.now (body_text message_type body.now)
         (body_attributes message_type body.now) m) }
@@ -119,8 +120,8 @@ pub(crate) fn measure_body(message_type: u16, body: &[u8]) -> Result<MeasuredBod
     }
 }
 
-/// Appends the text of a body that has one, of which so many bytes in front are known to be written as they stand where it
-/// is a link message's, for which there has to be room.
+/// Appends the text of a body that has one, for which `out` must have capacity. Of a link message's
+/// body the first `front` bytes are known to be canonical already.
 pub(crate) fn write_frame_body(
     message_type: u16,
     body: &[u8],

@@ -10,8 +10,12 @@ use link_capture_grammar::fault::CaptureFault;
 use link_capture_grammar::laws::{captures_are_counted, captures_go_by_frames, texts_are_small};
 use netlink_packet_core::nla_align;
 
-/// Whether a capture is legal under a limit on the bytes of a frame and of its text, and then its
-/// numbers; else its first fault. It takes no memory.
+/// Returns the numbers of frames, attributes and bytes of text of a legal capture. `limit` is the
+/// greatest length in bytes of a frame and of its text. Allocates nothing.
+///
+/// # Errors
+///
+/// The first fault of the capture, with its offset.
 pub fn measure(bytes: &[u8], limit: u32) -> Result<Measure, CaptureFault>
     ensures legal { IfOk result (λ m. IsLegal limit bytes.now) }
     ensures numbers { IfOk result (λ m. IsMeasure limit bytes.now m) }
@@ -45,7 +49,11 @@ pub fn measure(bytes: &[u8], limit: u32) -> Result<Measure, CaptureFault>
     Ok(measure)
 }
 
-/// Whether a capture is legal under a limit, or its first fault. It takes no memory.
+/// Returns Ok if a capture is legal under a limit. Allocates nothing.
+///
+/// # Errors
+///
+/// The first fault of the capture, with its offset.
 pub fn check(bytes: &[u8], limit: u32) -> Result<(), CaptureFault>
     ensures legal { IfOk result (λ _. IsLegal limit bytes.now) }
     ensures fault { IfErr result (λ fault. first_fault limit bytes.now ≡ Some fault) }
@@ -54,8 +62,11 @@ pub fn check(bytes: &[u8], limit: u32) -> Result<(), CaptureFault>
     Ok(())
 }
 
-/// The length in bytes of a legal capture's normal text, or the capture's first fault. It takes no
-/// memory.
+/// Returns the length in bytes of a legal capture's normal text. Allocates nothing.
+///
+/// # Errors
+///
+/// The first fault of the capture, with its offset.
 pub fn normal_len(bytes: &[u8], limit: u32) -> Result<u128, CaptureFault>
     ensures legal { IfOk result (λ _. IsLegal limit bytes.now) }
     ensures len { IfOk result (λ n. n ≡ length (texts limit bytes.now)) }

@@ -1,4 +1,4 @@
-//! The frame in front of some bytes.
+//! The first frame of some bytes.
 
 ghost use Rattle.std.specs.Prelude.{◌≡◌, ◌≢◌, ◌≤◌, ◌<◌, ◌+◌, ◌^◌, ◌++◌, ℕ, List, true, length};
 ghost use Rattle.std.specs.Prelude.{is_ok, vec_capacity, IfOk, IfErr, OnErr, Ok, Err};
@@ -17,7 +17,11 @@ use link_capture_grammar::laws::frames_are_judged;
 use link_interpreter::{append, append_zeros};
 use netlink_packet_core::{NETLINK_HEADER_LEN, NetlinkBuffer, nla_align};
 
-/// Judges the header of the frame in front of these bytes. The answer is its length.
+/// Judges the header of the first frame, and returns the frame's length.
+///
+/// # Errors
+///
+/// The fault of the header: `Cut`, `ShortLength` or `OverLimit`.
 pub fn frame_len(bytes: &[u8], limit: u32) -> Result<usize, FaultKind>
     ensures ok { IfOk result (λ n. (n ≡ frame_length bytes.now) × (n ≤ limit) × IsFrame bytes.now) }
     ensures err { IfErr result
@@ -41,7 +45,7 @@ pub fn frame_len(bytes: &[u8], limit: u32) -> Result<usize, FaultKind>
     Ok(size as usize)
 }
 
-/// The body of the frame in front.
+/// Returns the body of the first frame.
 pub fn frame_body(bytes: &[u8]) -> &[u8]
     requires { IsFrame bytes.now }
     ensures { result.now ≡ frame_body bytes.now }
@@ -49,7 +53,11 @@ pub fn frame_body(bytes: &[u8]) -> &[u8]
     &bytes[NETLINK_HEADER_LEN..NetlinkBuffer::new(bytes).length() as usize]
 }
 
-/// Judges the frame in front of these bytes, and tells what it is written as.
+/// Judges the first frame, and returns the measure of its text. Allocates nothing.
+///
+/// # Errors
+///
+/// The fault of the frame.
 pub fn measure_frame(bytes: &[u8], limit: u32) -> Result<MeasuredFrame, FaultKind>
     ensures ok { IfOk result (λ m. IsFrameText limit bytes.now m) }
     ensures bounds { IfOk result (λ m. (16 ≤ m.len) × (m.len ≤ length bytes.now)) }
@@ -79,8 +87,8 @@ pub fn measure_frame(bytes: &[u8], limit: u32) -> Result<MeasuredFrame, FaultKin
     })
 }
 
-// Appends the text of the frame in front, whose body has one, with this size in its header, for which there has to be
-// room.
+// Appends the text of the first frame, whose body has one, with this size in its header. `out` must
+// have capacity for it.
 fn write_frame_text(bytes: &[u8], size: u32, is_own: bool, front: usize, out: &mut Vec<u8>)
     requires frame { IsFrame bytes.now }
     requires text { is_ok (body_text (frame_type bytes.now) (frame_body bytes.now)) ≡ true }
@@ -102,10 +110,13 @@ fn write_frame_text(bytes: &[u8], size: u32, is_own: bool, front: usize, out: &m
     append_zeros(nla_align(size) - size, out);
 }
 
-/// Judges the frame in front of these bytes. Its text goes to the end of `out`, and its length is the answer.
+/// Judges the first frame, appends its text to `out`, and returns its length.
 ///
-/// Memory is taken for the text of an accepted frame alone, all of it at once: want of it is answered only where `out`
-/// had less room.
+/// # Errors
+///
+/// The fault of the frame, or `Memory` if an allocation fails, which happens only for an accepted
+/// frame for whose text `out` lacked capacity; `out` is unchanged. All capacity for a text is
+/// allocated at once.
 pub fn push_frame(bytes: &[u8], limit: u32, out: &mut Vec<u8>) -> Result<usize, FaultKind>
     ensures ok { IfOk result
         (λ n. (text : List ℕ) × (first_frame limit bytes.now ≡ Ok (n, text))

@@ -1,4 +1,5 @@
-// Captures judged and counted on their bytes.
+// Judges, counts and compares captures on their bytes. Only `push_frame` allocates, for the text
+// that it appends.
 #![tactic(auto)]
 
 mod bodies;

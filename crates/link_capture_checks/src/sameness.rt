@@ -23,16 +23,17 @@ use link_message_checks::same as same_link;
 use netlink_packet_core::{NETLINK_HEADER_LEN, NLMSG_DONE, NLMSG_NOOP, NetlinkBuffer, nla_align};
 use std::fmt;
 
-/// The first fault of two captures, and whose it is.
+/// The first fault of two captures, and which of them has it.
 #[derive(Clone, Copy, Debug, PartialEq, Eq, Drop)]
 pub struct SideFault {
-    /// Whether it is the second capture's; the first one is legal then.
+    /// Whether it is the fault of the second capture, in which case the first one is legal.
     pub second: bool,
     pub fault: CaptureFault,
 }
 
 impl SideFault {
-    /// `first: ` or `second: `, and then the words of the fault and its place. It takes no memory.
+    /// Returns `first: ` or `second: `, followed by the text of the fault and its offset. Allocates
+    /// nothing.
     pub fn text(self) -> ArrayString<128>
         ensures text { result.bytes ≡ side_text self }
         ensures room { length result.bytes < 128 }
@@ -44,7 +45,7 @@ impl SideFault {
     }
 }
 
-// Whatever options a format gives, the words are the same.
+// Format options change nothing.
 impl fmt::Display for SideFault {
     ghost output = { λ x. Some (side_text x) };
 
@@ -55,7 +56,7 @@ impl fmt::Display for SideFault {
     }
 }
 
-// What stands behind the frame in front and its padding.
+// Returns the bytes after the first frame and its padding.
 fn behind(bytes: &[u8]) -> &[u8]
     requires { IsFrame bytes.now }
     ensures { result.now ≡ drop (nla_align (frame_length bytes.now)) bytes.now }
@@ -64,7 +65,7 @@ fn behind(bytes: &[u8]) -> &[u8]
     &bytes[len.min(bytes.len())..]
 }
 
-// Whether two bodies of messages of a type mean the same.
+// Returns whether two bodies of messages of a type mean the same.
 fn same_body(message_type: u16, left: &[u8], right: &[u8]) -> bool
     requires left { is_link_type message_type ≡ true → 16 ≤ length left.now }
     requires right { is_link_type message_type ≡ true → 16 ≤ length right.now }
@@ -78,7 +79,7 @@ fn same_body(message_type: u16, left: &[u8], right: &[u8]) -> bool
     }
 }
 
-// Whether two legal frames mean the same.
+// Returns whether two legal frames mean the same.
 fn same_frame(left: &[u8], right: &[u8], limit: u32) -> bool
     requires left { LegalFrame limit left.now }
     requires right { LegalFrame limit right.now }
@@ -89,8 +90,8 @@ fn same_frame(left: &[u8], right: &[u8], limit: u32) -> bool
         && same_body(message_type, frame_body(left), frame_body(right))
 }
 
-// Whether the frame in front of some bytes is legal and means the same as this legal one. One of the same bytes isn't
-// judged again.
+// Returns whether the first frame of `right` is legal and means the same as the first frame of
+// `left`, which is legal. A frame with equal bytes isn't judged again.
 fn is_same_frame(left: &[u8], right: &[u8], limit: u32) -> bool
     requires { LegalFrame limit left.now }
     ensures { (result ≡ true) ↔ (LegalFrame limit right.now × SameFrame left.now right.now) }
@@ -106,8 +107,8 @@ fn is_same_frame(left: &[u8], right: &[u8], limit: u32) -> bool
     }
 }
 
-// The frames in front of a capture that are legal and pairwise mean the same as those of a legal one: what the legal
-// one has behind them, and the place behind them in the other.
+// Passes the frames of `right` that are legal and mean the same as those of `left`, in pairs.
+// Returns the rest of `left` after them, and the offset after them in `right`.
 fn parting<'a>(left: &'a [u8], right: &[u8], limit: u32) -> (&'a [u8], usize)
     requires { IsLegal limit left.now }
     ensures alike { IsAlike limit left.now right.now result.0.now result.1 }
@@ -128,7 +129,7 @@ fn parting<'a>(left: &'a [u8], right: &[u8], limit: u32) -> (&'a [u8], usize)
     (rest, at)
 }
 
-// Whether a capture means the same as a legal one, or its first fault.
+// Returns whether a capture means the same as a legal one, or fails with its first fault.
 fn same_as(left: &[u8], right: &[u8], limit: u32) -> Result<bool, CaptureFault>
     requires { IsLegal limit left.now }
     ensures legal { OnOk result (IsLegal limit right.now) }
@@ -151,12 +152,16 @@ fn same_as(left: &[u8], right: &[u8], limit: u32) -> Result<bool, CaptureFault>
     }
 }
 
-/// Whether two captures mean the same: where both are legal under the limit, whether they have as
-/// many frames, and pairwise one type, flags, sequence number and port number, and bodies that mean
-/// the same. Else the first fault of the first capture, or of the second where the first is legal.
-/// It takes no memory, and builds no message.
+/// Returns whether two legal captures mean the same: whether they have equally many frames, and in
+/// pairs equal type, flags, sequence number and port number, and bodies that mean the same.
+/// Allocates nothing, and builds no message.
 ///
-/// The second capture's frames are judged as far as they aren't the first one's in the same order, byte by byte.
+/// The frames of the second capture are judged only from the first one on whose bytes differ from
+/// those of the first capture's frame.
+///
+/// # Errors
+///
+/// The first fault of the first capture, or that of the second if the first is legal.
 pub fn same(left: &[u8], right: &[u8], limit: u32) -> Result<bool, SideFault>
     ensures legal { OnOk result (IsLegal limit left.now × IsLegal limit right.now) }
     ensures same { IfOk result

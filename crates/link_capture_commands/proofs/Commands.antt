@@ -1,4 +1,4 @@
--- The words of the program.
+-- The arguments of the program.
 use Rattle.std.proofs.Common.{◌≡◌, ℕ, ◌-◌, ◌≤◌, List, [], ◌∷◌, length, map, take, drop, get_or, codes, sym, ap, subst, ◌∙◌, arith}
 use Rattle.std.proofs.lemmas.List.{take_rest}
 use Rattle.link_capture_commands.specs.Commands.{IsLimit, IsNorm, IsSame}

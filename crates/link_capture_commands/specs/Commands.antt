@@ -1,48 +1,49 @@
--- The words and the statuses of the program.
+-- The arguments and the exit statuses of the program linkcap.
 use Rattle.std.specs.Prelude.{◌≡◌, ℕ, ◌^◌, ◌<◌, ◌≤◌, ⊤, Bool, true, false, List, [], ◌∷◌, codes, Result, Ok, Err}
 use Rattle.std.specs.Str.Parse.{IsNumeral, digits_value}
 use Rattle.link_capture_checks.specs.declared.sameness.SideFault.{SideFault}
 use Rattle.link_capture_commands.specs.declared.command.Command.{Command}
 use Rattle.link_capture_commands.specs.declared.command.Command.TheVariants.{Norm, Same}
 
--- one digit or more, and nothing else, which write a number from 16 to 4294967295
+-- The argument is one digit or more, which write a number from 16 to 4294967295, and nothing else.
 pub record IsLimitWord (word : List ℕ) : Type 0 where
   pub numeral : IsNumeral 10 word
   pub low : 16 ≤ digits_value 10 word
   pub high : digits_value 10 word < 2 ^ 32
 
--- the last words give this limit: 1 MiB where there are none
+-- The last arguments are this limit: 1 MiB if there are none.
 abbrev pub IsLimit : List (List ℕ) → ℕ → Type 0
 IsLimit [] limit = limit ≡ 1048576
 IsLimit (w ∷ []) limit = IsLimitWord w × (limit ≡ digits_value 10 w)
 IsLimit (w ∷ x ∷ more) limit = ⊥
 
--- the words ask for a normal text under this limit
+-- The arguments ask for a normal text under this limit.
 abbrev pub IsNorm : List (List ℕ) → ℕ → Type 0
 IsNorm [] limit = ⊥
 IsNorm (w ∷ last) limit = (w ≡ codes "norm") × IsLimit last limit
 
--- the words ask whether the files of these names mean the same under this limit
+-- The arguments ask whether the files with these names mean the same under this limit.
 abbrev pub IsSame : List (List ℕ) → List ℕ → List ℕ → ℕ → Type 0
 IsSame (w ∷ a ∷ b ∷ last) first second limit = (w ≡ codes "same") × (first ≡ a) × (second ≡ b) × IsLimit last limit
 IsSame words first second limit = ⊥
 
--- the words ask for this
+-- The arguments ask for this command.
 abbrev pub IsCommand : List (List ℕ) → Command → Type 0
 IsCommand words (Norm limit) = IsNorm words limit
 IsCommand words (Same first second limit) = IsSame words first.now second.now limit
 
--- the status of a run that is done, or met a fault
+-- The exit status of a run of `norm`: 0 if it succeeded, 2 after a fault.
 abbrev pub status_of : {Fault : Type 0} → Result ⊤ Fault → ℕ
 status_of (Ok x) = 0
 status_of (Err fault) = 2
 
+-- The exit status of a run of `same`: 0 if the captures mean the same, 1 if they don't, 2 after a fault.
 abbrev pub status_of_same : Result Bool SideFault → ℕ
 status_of_same (Ok true) = 0
 status_of_same (Ok false) = 1
 status_of_same (Err fault) = 2
 
--- the command's limit is one that a run can have
+-- The command's limit is at least 16, as every run requires.
 abbrev pub HasLimit : Command → Type 0
 HasLimit (Norm limit) = 16 ≤ limit
 HasLimit (Same first second limit) = 16 ≤ limit

@@ -1,4 +1,4 @@
-//! The words and the statuses of the program.
+//! The arguments and the exit statuses of the program linkcap.
 
 ghost use Rattle.std.specs.Prelude.{◌≡◌, ◌≢◌, ◌≤◌, ℕ, ⊤, [], map, IfSome, IfNone, string_bytes};
 ghost use Rattle.std.specs.Str.Parse.{digits_value};
@@ -7,17 +7,19 @@ ghost use Rattle.link_capture_commands.specs.Commands.{IsLimitWord, IsLimit, IsC
 use link_capture_checks::SideFault;
 use link_capture_grammar::fault::CaptureFault;
 
-/// The limit where no word gives one: 1 MiB.
+/// The limit if no argument is one: 1 MiB.
 pub const DEFAULT_LIMIT: u32 = 1048576;
 
-/// What the program is asked to do.
+/// A command of the program.
 #[derive(Clone, Copy, Debug, PartialEq, Eq, Drop)]
 pub enum Command<'a> {
-    /// Write the normal text of standard input to standard output, where no message is longer than so many bytes.
+    /// Write the normal text of standard input to standard output, if no message is longer than
+    /// `limit` bytes.
     Norm {
         limit: u32,
     },
-    /// Tell whether the captures in the files of these two names mean the same, under that limit.
+    /// Report whether the captures in two files, which have these names, mean the same, under that
+    /// limit.
     Same {
         first: &'a str,
         second: &'a str,
@@ -25,7 +27,8 @@ pub enum Command<'a> {
     },
 }
 
-/// Reads a limit: digits that write a number from 16 to 4294967295, without a sign. None of any other word.
+/// Returns the limit that an argument writes: digits of a number from 16 to 4294967295, without a
+/// sign. Returns None for any other argument.
 pub fn read_limit(word: &str) -> Option<u32>
     ensures some { IfSome result (λ n. IsLimitWord word.now × (n ≡ digits_value 10 word.now)) }
     ensures none { IfNone result (IsLimitWord word.now → ⊥) }
@@ -40,7 +43,7 @@ pub fn read_limit(word: &str) -> Option<u32>
     }
 }
 
-/// Reads what stands behind the other words: a limit, or nothing, which is `DEFAULT_LIMIT`.
+/// Returns the limit in the last arguments: the only one, or `DEFAULT_LIMIT` if there is none.
 fn read_last(words: &[String]) -> Option<u32>
     ensures some { IfSome result (λ n. IsLimit (map string_bytes words.now) n) }
     ensures none { IfNone result ((n : ℕ) → IsLimit (map string_bytes words.now) n → ⊥) }
@@ -52,12 +55,13 @@ fn read_last(words: &[String]) -> Option<u32>
     }
 }
 
-/// Reads the words after the program's name: `norm`, or `same` and the names of two files, and behind that a limit or
-/// nothing. None where they are anything else.
+/// Returns the command in the arguments after the program's name: `norm`, or `same` and the names
+/// of two files, followed by a limit or nothing. Returns None for any other arguments. Allocates
+/// nothing.
 pub fn read_words(words: &[String]) -> Option<Command<'_>>
     ensures some { IfSome result (λ command. IsCommand (map string_bytes words.now) command) }
     ensures limit { IfSome result (λ command. HasLimit command) }
-    // Where no word gives a limit, it is this.
+    // The limit if no argument is one.
     ensures default { IsLimit [] DEFAULT_LIMIT }
     ensures none { IfNone result ((command : Command)
         → IsCommand (map string_bytes words.now) command → ⊥) }
@@ -75,7 +79,7 @@ pub fn read_words(words: &[String]) -> Option<Command<'_>>
     }
 }
 
-/// The program's status after a run of `norm`: 0 where it is done, 2 after a fault.
+/// Returns the exit status after a run of `norm`: 0 if it succeeded, 2 after a fault.
 pub fn status_norm(outcome: &Result<(), CaptureFault>) -> u8
     ensures { result ≡ status_of outcome.now }
 {
@@ -85,7 +89,8 @@ pub fn status_norm(outcome: &Result<(), CaptureFault>) -> u8
     }
 }
 
-/// The program's status after a run of `same`: 0 where the captures mean the same, 1 where they don't, 2 after a fault.
+/// Returns the exit status after a run of `same`: 0 if the captures mean the same, 1 if they don't,
+/// 2 after a fault.
 pub fn status_same(outcome: &Result<bool, SideFault>) -> u8
     ensures { result ≡ status_of_same outcome.now }
 {

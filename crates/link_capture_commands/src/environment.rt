@@ -1,10 +1,10 @@
-//! The process's words.
+//! The arguments of the process.
 
 use std::alloc::{Alloc, Global};
 use std::env::{self, FillError};
 use std::rt::Env;
 
-/// The environment of a process, whose arguments begin behind the program's own name.
+/// The environment of a process, with the arguments after the program's name.
 #[derive(Drop)]
 struct BehindName<'a> {
     rt: &'a HostRuntime,
@@ -35,8 +35,8 @@ impl Alloc for BehindName<'_> {
     }
 }
 
-/// The words behind the program's name, which itself need be no text. None where a word is no text, or there is no
-/// memory for them.
+/// Returns the arguments after the program's name, which itself needn't be UTF-8. Returns None if
+/// an argument isn't UTF-8, or if an allocation fails.
 pub fn words(rt: &HostRuntime) -> Option<Vec<String>> {
     env::args(&BehindName { rt }).ok()?.collect(rt.alloc()).ok()
 }

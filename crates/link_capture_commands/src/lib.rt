@@ -1,4 +1,4 @@
-// The words of a process, what they ask the program linkcap for, and the statuses that it ends with.
+// The arguments of a process, the commands of the program linkcap, and its exit statuses.
 #![tactic(auto)]
 
 mod command;

@@ -1,4 +1,4 @@
--- What the type of a frame says of its body.
+-- The text of a body, by the type of its frame.
 use Rattle.std.proofs.Common.{ℕ, eqb, Bool, true, false, cond, List, [], Result, Ok, sym, subst, inl, inr}
 use Rattle.std.specs.Prelude.{bytes_eq}
 use Rattle.std.proofs.lemmas.Bool.{cases_Bool, eqb-true}
@@ -7,7 +7,8 @@ use Rattle.link_capture_grammar.specs.Bodies.{Refusal, error_text, done_text, ru
 use Rattle.link_capture_grammar.specs.Numbers.{body_attributes_under}
 use Rattle.link_capture_grammar.specs.Same.{done_body, same_body_under}
 
--- What holds of the bodies of each type holds of all: of their texts, of when two mean the same, and of how many attributes they have.
+-- What holds of the bodies of each type holds of all bodies: of their texts, of their equivalence, and of the numbers
+-- of their attributes.
 pub by_type : (r : Rule) (P : (List ℕ → Result (List ℕ) Refusal) → (List ℕ → List ℕ → Bool) → (List ℕ → ℕ) → Type 0) →
     P (λ b. Ok []) (λ a b. true) (λ b. 0) →
     P error_text bytes_eq (λ b. 0) →

@@ -59,12 +59,12 @@ in_force = every_rule link_body link_body_lawful
 pub sameness_in_force : SamenessGoesByFrames link_body
 sameness_in_force = in_force.sameness_goes_by_frames link_bodies_want_headers
 
--- what was written while peers were bytes
+-- texts that were written while peers were kept as bytes
 pub old_captures_are_renewed : OldCapturesAreRenewed
 old_captures_are_renewed = record {
   in_force = texts_are_renewed (body_rule bytes_peer) link_body (old_bodies_are_renewed link_peer);
   under_every_rule = texts_are_renewed;
 }
 
--- what the laws go by
+-- the results from which the laws are proved
 pub ruleset laws = (in_force, sameness_in_force, old_captures_are_renewed, small_frames_fit, unlisted_attributes_are_kept)

@@ -14,7 +14,7 @@ use Rattle.link_capture_grammar.specs.declared.fault.CaptureFault.{CaptureFault}
 use Rattle.link_capture_grammar.specs.Bodies.{Refusal, refused, empty_ports, unfit, body_text_under}
 use Rattle.link_capture_grammar.specs.Captures.{Judged, Accepted, CutInBody, first_frame_under, judged_text, tested, next_fault, next_texts, raised, fault_after_under, texts_after_under, first_fault_under, texts_under, reach_by, reach_under, IsLegalUnder, IsOfFrames}
 
--- the chain of tests
+-- the order of the tests
 pub guard : {A : Type 0} (b : Bool) (x y z : A) → cond b x y ≡ z → ((b ≡ true) × (x ≡ z)) ⊎ ((b ≡ false) × (y ≡ z))
 guard b x y z = elim b as (λ v. cond v x y ≡ z → ((v ≡ true) × (x ≡ z)) ⊎ ((v ≡ false) × (y ≡ z))) [ true ↦ (λ h. inl (refl, h)) | false ↦ (λ h. inr (refl, h)) ]
 
@@ -24,7 +24,7 @@ tested_short limit size claimed j h = rw (lt-ltb size 16 h)
 tested_more : (limit size more claimed : ℕ) (j k : Judged) → size ≤ more → (claimed ≤ size → k ≡ j) → tested limit size claimed j ≢ Err Cut → tested limit more claimed k ≡ tested limit size claimed j
 tested_more limit size more claimed j k h e n = grind (arith, nat_tests)
 
--- what holds of the outcome of each test holds of the judgement
+-- what holds of the result of each test holds of the result of all
 pub tested_by : (limit size claimed : ℕ) (j : Judged) (P : Judged → Type 0) → (size < 16 → P (Err Cut)) → (claimed < 16 → P (Err ShortLength)) → (limit < claimed → P (Err OverLimit)) →
     (16 ≤ size → 16 ≤ claimed → claimed ≤ limit → size < claimed → P (Err Cut)) → (16 ≤ size → 16 ≤ claimed → claimed ≤ limit → claimed ≤ size → P j) → P (tested limit size claimed j)
 tested_by limit size claimed j P short low over cut whole =
@@ -33,7 +33,7 @@ tested_by limit size claimed j P short low over cut whole =
     cond_both (ltb limit claimed) _ _ P (λ d. over (ltb-true _ _ d)) (λ d.
     cond_both (ltb size claimed) _ _ P (λ e. cut (ltb-false _ _ a) (ltb-false _ _ b) (ltb-false _ _ d) (ltb-true _ _ e)) (λ e. whole (ltb-false _ _ a) (ltb-false _ _ b) (ltb-false _ _ d) (ltb-false _ _ e)))))
 
--- an accepted body's frame has the length that its header tells
+-- the length of a frame with an accepted body is the one in its header
 judged : (limit : ℕ) (c : List ℕ) (r : Result (List ℕ) Refusal) (frame : ℕ × List ℕ) → judged_text limit c r ≡ Ok frame → frame_length c ≡ frame.0
 judged limit c (Err why) frame h = cc
 judged limit c (Ok body) frame h =
@@ -61,7 +61,7 @@ judged_text-more : (limit : ℕ) (c d : List ℕ) (r : Result (List ℕ) Refusal
 judged_text-more limit c d (Err why) h = refl
 judged_text-more limit c d (Ok body) h = rw (u32_at-append c d (omega arith), frame_text-more c d body h)
 
--- faults further on
+-- faults at a larger offset
 pub raised_zero : (f : Option CaptureFault) → raised 0 f ≡ f
 raised_zero None = refl
 raised_zero (Some f) = ap (λ n. Some (record { kind = f.kind; offset = n })) (zero-add f.offset)
@@ -70,12 +70,12 @@ pub raised_add : (a b n : ℕ) (f : Option CaptureFault) → a + b ≡ n → rai
 raised_add a b n None e = refl
 raised_add a b n (Some f) e = let k : a + (b + f.offset) ≡ n + f.offset = omega arith in ap (λ m. Some (record { kind = f.kind; offset = m })) k
 
--- the place behind a frame in front
+-- the offset of the bytes after the first frame
 abbrev next_place : Judged → (ℕ → ℕ) → ℕ
 next_place (Ok frame) after = suc (after (nla_align frame.0 - 1))
 next_place (Err kind) after = 0
 
--- which way a judgement went
+-- whether a frame is accepted
 pub seen : (j : Judged) → ((frame : ℕ × List ℕ) × (j ≡ Ok frame)) ⊎ ((kind : FaultKind) × (j ≡ Err kind))
 seen (Ok frame) = inl (frame, refl)
 seen (Err kind) = inr (kind, refl)
@@ -105,7 +105,7 @@ judged_kinds limit c (Err unfit) = tt
 judged_kinds limit c (Ok body) = cond_both (ltb limit (16 + length body)) _ _ HasFrameKind (λ a. tt) (λ a. tt)
 
 module _ (r : Rule) where
-  -- what an accepted frame is
+  -- the properties of an accepted frame
   pub accepted : (limit : ℕ) (c : List ℕ) (frame : ℕ × List ℕ) → first_frame_under r limit c ≡ Ok frame → Accepted limit c frame
   unfolding first_frame_under
   accepted limit c frame h =
@@ -114,7 +114,7 @@ module _ (r : Rule) where
       let g = judged limit c (body_text_under r (frame_type c) (frame_body c)) frame e in
       record { header = header; low = omega (arith, g, low); high = omega (arith, g, high); whole = omega (arith, g, whole); is = g }) h
 
-  -- what is judged of the frame, once it is there
+  -- the result for a frame whose bytes are there
   unfoldable pub judgement : ℕ → List ℕ → Judged
   judgement limit c = judged_text limit c (body_text_under r (frame_type c) (frame_body c))
 
@@ -129,7 +129,7 @@ module _ (r : Rule) where
       ∙ ap (λ b. judged_text limit (c ++ d) (body_text_under r (frame_type c) b)) (frame_body-more c d h k)
       ∙ judged_text-more limit c d (body_text_under r (frame_type c) (frame_body c)) h
 
-  -- What is judged of a string, unless it is cut, is judged of it whatever follows.
+  -- The result for a string, unless its frame is cut, is the same with any bytes appended.
   pub first_frame-more : (limit : ℕ) (c d : List ℕ) → first_frame_under r limit c ≢ Err Cut → first_frame_under r limit (c ++ d) ≡ first_frame_under r limit c
   first_frame-more limit c d h =
       elim (cases_lt (length c) 16) [
@@ -145,18 +145,18 @@ module _ (r : Rule) where
   unfolding judgement
   judgement_not_cut limit c h = judged_not_cut limit c (body_text_under r (frame_type c) (frame_body c)) h
 
-  -- What is cut is too short for its header, or for the length that this tells.
+  -- A cut frame has fewer bytes than a header, or than the length in its header.
   pub cut_cases : (limit : ℕ) (c : List ℕ) → first_frame_under r limit c ≡ Err Cut → (length c < 16) ⊎ CutInBody limit c
   cut_cases limit c h =
       tested_by limit (length c) (frame_length c) (judgement limit c) (λ o. o ≡ Err Cut → (length c < 16) ⊎ CutInBody limit c) (λ a e. inl a) (λ a e. cc) (λ a e. cc)
       (λ header low high short e. inr (record { header = header; low = low; high = high; short = short })) (λ a b d e f. absurd (judgement_not_cut limit c f)) (sym (first_frame_is limit c) ∙ h)
 
-  -- What is judged of a whole frame is judged of it whatever follows.
+  -- The result for a whole frame is the same with any bytes appended.
   pub first_frame_whole : (limit : ℕ) (c d : List ℕ) → 16 ≤ length c → frame_length c ≤ length c → first_frame_under r limit (c ++ d) ≡ first_frame_under r limit c
   first_frame_whole limit c d h k =
       first_frame-more limit c d (λ e. elim (cut_cases limit c e) [ inl a ↦ absurd (omega arith) | inr a ↦ absurd (omega (arith, a.short)) ])
 
-  -- An accepted frame is the same where at least its bytes are there.
+  -- An accepted frame is the same in all strings that have its bytes.
   pub first_frame-take : (limit : ℕ) (c : List ℕ) (n : ℕ) (frame : ℕ × List ℕ) → first_frame_under r limit c ≡ Ok frame → frame.0 ≤ n → first_frame_under r limit (take n c) ≡ Ok frame
   first_frame-take limit c n frame h k =
       let a = accepted limit c frame h in
@@ -167,7 +167,7 @@ module _ (r : Rule) where
       let claimed : frame_length c ≡ frame_length e = ap (u32_at 0) (sym whole) ∙ u32_at-append e more (omega arith) in
       sym (first_frame_whole limit e more (omega arith) (omega (arith, a.is, claimed))) ∙ ap (first_frame_under r limit) whole ∙ h
 
-  -- the two recursions after so many bytes
+  -- both recursions over the bytes after the first `skip`
   pub texts_skip : (limit skip : ℕ) (c : List ℕ) → texts_after_under r limit skip c ≡ texts_under r limit (drop skip c)
   unfolding texts_after_under
   texts_skip limit zero c = refl
@@ -181,7 +181,7 @@ module _ (r : Rule) where
   fault_skip limit (suc skip) (b ∷ c) =
       ap (raised 1) (fault_skip limit skip c) ∙ raised_add 1 skip (suc skip) (first_fault_under r limit (drop skip c)) (omega arith)
 
-  -- one step of the two recursions
+  -- one step of both recursions
   step_fault : (limit : ℕ) (b : ℕ) (c : List ℕ) (frame : ℕ × List ℕ) → first_frame_under r limit (b ∷ c) ≡ Ok frame → first_fault_under r limit (b ∷ c) ≡ raised 1 (fault_after_under r limit (nla_align frame.0 - 1) c)
   unfolding fault_after_under
   step_fault limit b c frame h = ap (λ j. next_fault j (λ skip. fault_after_under r limit skip c)) h
@@ -198,7 +198,7 @@ module _ (r : Rule) where
   unfolding texts_after_under
   stop_texts limit b c kind h = ap (λ j. next_texts j (λ skip. texts_after_under r limit skip c)) h
 
-  -- the first fault and the texts of nothing
+  -- an empty capture has no first fault and no texts
   pub fault_nil : (limit skip : ℕ) → fault_after_under r limit skip [] ≡ None
   unfolding fault_after_under
   fault_nil limit skip = refl
@@ -207,7 +207,7 @@ module _ (r : Rule) where
   unfolding texts_after_under
   texts_nil limit skip = refl
 
-  -- An accepted frame in front: what is left of the string after it has the rest.
+  -- If the first frame is accepted, the frames of the remaining bytes are the remaining frames.
   pub texts_step : (limit : ℕ) (c : List ℕ) (frame : ℕ × List ℕ) → first_frame_under r limit c ≡ Ok frame → texts_under r limit c ≡ frame.1 ++ texts_under r limit (drop (nla_align frame.0) c)
   texts_step limit [] frame h = let a = accepted limit [] frame h in absurd (omega (arith, a.header))
   texts_step limit (b ∷ c) frame h =
@@ -224,7 +224,7 @@ module _ (r : Rule) where
       ∙ raised_add 1 (nla_align frame.0 - 1) (nla_align frame.0) _ (omega arith)
       ∙ ap (λ n. raised (nla_align frame.0) (first_fault_under r limit (drop n (b ∷ c)))) (sym e)
 
-  -- A fault in front.
+  -- The first frame has a fault.
   pub fault_stop : (limit : ℕ) (c : List ℕ) (kind : FaultKind) → 0 < length c → first_frame_under r limit c ≡ Err kind → first_fault_under r limit c ≡ Some (record { kind = kind; offset = 0 })
   fault_stop limit [] kind p h = absurd (omega arith)
   fault_stop limit (b ∷ c) kind p h = stop_fault limit b c kind h
@@ -233,7 +233,8 @@ module _ (r : Rule) where
   texts_stop limit [] kind h = texts_nil limit 0
   texts_stop limit (b ∷ c) kind h = stop_texts limit b c kind h
 
-  -- What holds of a capture that begins with an accepted frame, where it holds of what is behind that, and of each other, holds of all.
+  -- Induction over frames: a property of all captures holds if it holds of the rest whenever it holds of a capture that
+  -- begins with an accepted frame, and of every other capture.
   pub by_frames : (limit : ℕ) (P : List ℕ → Type 0) → ((c : List ℕ) (frame : ℕ × List ℕ) → first_frame_under r limit c ≡ Ok frame → P (drop (nla_align frame.0) c) → P c) →
       ((c : List ℕ) (kind : FaultKind) → first_frame_under r limit c ≡ Err kind → P c) → (c : List ℕ) → P c
   by_frames limit P more stop c = go (length c) c (omega arith)
@@ -250,7 +251,8 @@ module _ (r : Rule) where
             | inr w ↦ stop c w.0 w.1
           ]
 
-  -- How far the whole frames reach, with the padding that the last one is owed: where the first fault stands, or would stand if more came.
+  -- The offset that the whole frames reach, including the full padding of the last one: the first fault is there, or
+  -- would be if more bytes came.
   unfoldable pub place_after : ℕ → ℕ → List ℕ → ℕ
   place_after limit skip [] = skip
   place_after limit (suc skip) (b ∷ c) = suc (place_after limit skip c)
@@ -267,7 +269,7 @@ module _ (r : Rule) where
   unfolding place_after
   stop_place limit b c kind h = ap (λ j. next_place j (λ skip. place_after limit skip c)) h
 
-  -- What holds of bytes behind so many that are passed over, and of their place, goes byte by byte over what is passed over, and else frame by frame.
+  -- Induction over the offset: byte by byte over the bytes to be skipped, and then frame by frame.
   by_place : (limit : ℕ) (P : ℕ → List ℕ → ℕ → Type 0) → ((skip : ℕ) → P skip [] skip) → ((skip b : ℕ) (s : List ℕ) (p : ℕ) → P skip s p → P (suc skip) (b ∷ s) (suc p)) →
       ((b : ℕ) (s : List ℕ) (frame : ℕ × List ℕ) (p : ℕ) → first_frame_under r limit (b ∷ s) ≡ Ok frame → P (nla_align frame.0 - 1) s p → P 0 (b ∷ s) (suc p)) →
       ((b : ℕ) (s : List ℕ) (kind : FaultKind) → first_frame_under r limit (b ∷ s) ≡ Err kind → P 0 (b ∷ s) 0) → (skip : ℕ) (s : List ℕ) → P skip s (place_after limit skip s)
@@ -280,11 +282,11 @@ module _ (r : Rule) where
         | inr w ↦ subst (P 0 (b ∷ s)) (sym (stop_place limit b s w.0 w.1)) (stop b s w.0 w.1)
       ]
 
-  -- a frame in front stays one, whatever follows
+  -- an accepted first frame stays accepted if bytes are appended
   frame-more : (limit b : ℕ) (s p : List ℕ) (frame : ℕ × List ℕ) → first_frame_under r limit (b ∷ s) ≡ Ok frame → first_frame_under r limit (b ∷ (s ++ p)) ≡ Ok frame
   frame-more limit b s p frame h = first_frame-more limit (b ∷ s) p (not_cut (first_frame_under r limit (b ∷ s)) frame h) ∙ h
 
-  -- The texts of a longer string: those of its front, and those of what the front's whole frames leave.
+  -- The texts of a longer string: those of its prefix, and those of the bytes after the prefix's whole frames.
   pub texts-append : (limit skip : ℕ) (s p : List ℕ) → texts_after_under r limit skip (s ++ p) ≡ texts_after_under r limit skip s ++ texts_under r limit (drop (place_after limit skip s) (s ++ p))
   unfolding texts_after_under
   texts-append limit skip s q =
@@ -296,7 +298,7 @@ module _ (r : Rule) where
       ∙ ap (λ t. t ++ texts_under r limit (drop p (s ++ q))) (sym (step_texts limit b s frame h)))
       (λ b s kind h. ap (λ t. t ++ texts_under r limit (b ∷ (s ++ q))) (sym (stop_texts limit b s kind h))) skip s
 
-  -- its first fault is that of what the front's whole frames leave
+  -- The first fault of a longer string is that of the bytes after the prefix's whole frames.
   pub fault-append : (limit skip : ℕ) (s p : List ℕ) → fault_after_under r limit skip (s ++ p) ≡ raised (place_after limit skip s) (first_fault_under r limit (drop (place_after limit skip s) (s ++ p)))
   unfolding fault_after_under
   fault-append limit skip s q =
@@ -306,7 +308,7 @@ module _ (r : Rule) where
       (λ b s frame p h more. step_fault limit b (s ++ q) frame (frame-more limit b s q frame h) ∙ ap (raised 1) more ∙ raised_add 1 p (suc p) _ (omega arith))
       (λ b s kind h. sym (raised_zero (first_fault_under r limit (b ∷ (s ++ q))))) skip s
 
-  -- What stands before the place is legal, and has the texts; and whole frames reach at least over what is passed over.
+  -- The bytes before the offset are legal and have these texts, and whole frames reach at least past the skipped bytes.
   pub record Base (limit : ℕ) (q : List ℕ) (skip : ℕ) (s : List ℕ) (p : ℕ) : Type 0 where
     pub low : skip ≤ p
     pub legal : fault_after_under r limit skip (take p (s ++ q)) ≡ None
@@ -331,7 +333,7 @@ module _ (r : Rule) where
       })
       (λ b s kind h. record { low = omega arith; legal = refl; texts = sym (stop_texts limit b s kind h) }) skip s
 
-  -- the place is a multiple of 4, and at most 3 past the end
+  -- the offset is a multiple of 4, and at most 3 past the end
   pub place_fits : (limit : ℕ) (c : List ℕ) → (place limit c % 4 ≡ 0) × (place limit c ≤ length c + 3)
   place_fits limit c =
       let f =
@@ -343,7 +345,7 @@ module _ (r : Rule) where
       let k = more (a + 1) (omega (arith, f.low)) (omega (arith, f.whole)) in (omega (arith, k.0), omega (arith, k.1)))
       (λ b s kind h a z l. (z, omega arith)) 0 c 0 refl (omega arith) in (omega (arith, f.0), f.1)
 
-  -- What stands at the place: nothing more, or a fault.
+  -- At the offset the bytes end, or there is a fault.
   pub record Stuck (limit skip : ℕ) (s : List ℕ) (p : ℕ) (kind : FaultKind) : Type 0 where
     pub inside : p < length s
     pub first_frame_is : first_frame_under r limit (drop p s) ≡ Err kind
@@ -372,7 +374,7 @@ module _ (r : Rule) where
       (λ b s frame p h more. stops_further limit (nla_align frame.0 - 1) 0 b s p (step_fault limit b s frame h) more)
       (λ b s kind h. inr (kind, record { inside = omega arith; first_frame_is = h; fault_is = stop_fault limit b s kind h }))
 
-  -- A legal string reaches up to the next multiple of 4.
+  -- A legal string reaches to the next multiple of 4.
   pub place_legal : (limit : ℕ) (c : List ℕ) → IsLegalUnder r limit c → place limit c ≡ nla_align (length c)
   place_legal limit c h =
       let fits = place_fits limit c in
@@ -381,7 +383,7 @@ module _ (r : Rule) where
         | inr w ↦ (let f = w.1.fault_is in cc)
       ]
 
-  -- The place is where the first fault stands, or the next multiple of 4.
+  -- The offset is that of the first fault, or the next multiple of 4.
   pub reach_place : (limit : ℕ) (c : List ℕ) → place limit c ≡ reach_under r limit c
   reach_place limit c =
       elim (stops limit 0 c) [
@@ -389,7 +391,7 @@ module _ (r : Rule) where
         | inr w ↦ ap (reach_by (length c)) (sym w.1.fault_is)
       ]
 
-  -- What follows a legal string of a multiple of 4 bytes is judged by itself.
+  -- Bytes that follow a legal string of a multiple of 4 bytes are judged independently.
   pub joined_texts : (limit : ℕ) (a b : List ℕ) → IsLegalUnder r limit a → length a % 4 ≡ 0 → texts_under r limit (a ++ b) ≡ texts_under r limit a ++ texts_under r limit b
   joined_texts limit a b h m =
       let e : place limit a ≡ length a = place_legal limit a h ∙ omega arith in
@@ -400,7 +402,7 @@ module _ (r : Rule) where
       let e : place limit a ≡ length a = place_legal limit a h ∙ omega arith in
       fault-append limit 0 a b ∙ ap (λ n. raised n (first_fault_under r limit (drop n (a ++ b)))) e ∙ ap (λ c. raised (length a) (first_fault_under r limit c)) (drop_at a b (length a) refl)
 
-  -- one accepted frame with its padding, or as much of that as is there
+  -- an accepted frame with its padding, or a part of that, and nothing else
   pub one_fault : (limit : ℕ) (c : List ℕ) (frame : ℕ × List ℕ) → first_frame_under r limit c ≡ Ok frame → first_fault_under r limit (take (nla_align frame.0) c) ≡ None
   one_fault limit c frame h =
       let n : ℕ = nla_align frame.0 in
@@ -416,7 +418,7 @@ module _ (r : Rule) where
       ∙ ap (λ t. frame.1 ++ t) (texts_nil limit 0)
       ∙ append-nil frame.1
 
-  -- the first fault stands where the whole frames end
+  -- the first fault is at the end of the whole frames
   pub fault_place : (limit : ℕ) (c : List ℕ) (fault : CaptureFault) → first_fault_under r limit c ≡ Some fault → place limit c ≡ fault.offset
   fault_place limit c fault h =
       elim (stops limit 0 c) [
@@ -445,7 +447,7 @@ module _ (r : Rule) where
         | inr w ↦ (let f = w.1.fault_is in let e : w.0 ≡ fault.kind = cc in subst IsOfFrames e (first_frame_kinds limit _ w.0 w.1.first_frame_is))
       ]
 
-  -- a fault of a front, unless it is cut
+  -- a fault of a prefix, other than a cut frame, is that of the whole
   pub fault_more : (limit : ℕ) (a b : List ℕ) (fault : CaptureFault) → first_fault_under r limit a ≡ Some fault → fault.kind ≢ Cut → first_fault_under r limit (a ++ b) ≡ Some fault
   fault_more limit a b fault h n =
       elim (stops limit 0 a) [

@@ -1,4 +1,4 @@
--- What the text of a legal frame keeps of it.
+-- What the text of a legal frame keeps of the frame.
 use Rattle.std.proofs.Common.{◌≡◌, ℕ, ◌-◌, eqb, min, true, List, [], ◌++◌, length, take, drop, Ok, inl, inr, sym, ap, ◌∙◌, arith, length-drop}
 use Rattle.std.proofs.lemmas.Bool.{ne_eqb, eqb-true, cases_Bool}
 use Rattle.std.proofs.lemmas.List.{append-nil, length-take}
@@ -12,7 +12,7 @@ use Rattle.link_capture_grammar.proofs.Normal.{ruled, text_body, text_header, te
 use Rattle.link_capture_grammar.proofs.Same.{error_is}
 use Rattle.link_capture_grammar.proofs.SameFrames.{yes, no, link_ruled}
 
--- the text of a frame with nothing behind it
+-- the text of a frame with nothing appended
 unfollowed : (c body : List ℕ) → frame_text c body ++ [] ≡ frame_text c body
 unfollowed c body = append-nil (frame_text c body)
 

@@ -1,4 +1,4 @@
--- Captures that mean the same have one normal text, and legal captures with one normal text mean the same.
+-- Captures that mean the same have equal normal texts, and legal captures with equal normal texts mean the same.
 use Rattle.std.proofs.Common.{◌≡◌, ℕ, zero, suc, ◌+◌, ◌-◌, ◌^◌, ◌<◌, ◌≤◌, eqb, true, List, [], ◌++◌, length, take, drop, Ok, refl, sym, ap, subst, ◌∙◌, inl, inr, arith}
 use Rattle.std.specs.Prelude.{bytes_eq}
 use Rattle.std.proofs.lemmas.List.{take-append-drop}
@@ -17,7 +17,7 @@ use Rattle.link_capture_grammar.proofs.Frames.{accepted, guard, texts_step}
 use Rattle.link_capture_grammar.proofs.Normal.{header_size, ruled, texted}
 use Rattle.link_capture_grammar.proofs.Same.{equal_bytes, error_is, texts_mean_the_same}
 
--- ---- bodies and frames in front
+-- ---- bodies and first frames
 
 bytes_from : (a b : List ℕ) → bytes_eq a b ≡ true → a ≡ b
 bytes_from a b h = (bytes_eq-Decides a b).0 h
@@ -56,7 +56,7 @@ module _ (r : Rule) where
   not_nil limit c frame e h = let a = accepted r limit c frame h in let l = ap length e in omega (arith, a.header, l)
 
 module _ (r : Rule) (lawful : Lawful r) where
-  -- ---- the texts of two bodies tell whether they mean the same
+  -- ---- the texts of two bodies determine whether the bodies mean the same
 
   ruled_told : (a b x y : List ℕ) → ruled_text r a ≡ Ok x → ruled_text r b ≡ Ok y → r.same a b ≡ true → x ≡ y
   ruled_told a b x y h g s =
@@ -86,9 +86,9 @@ module _ (r : Rule) (lawful : Lawful r) where
       ruled_tells
       (λ a b x y h g e. equal_bytes a b cc)
 
-  -- ---- frames in front
+  -- ---- first frames
 
-  -- two frames that mean the same have bodies with one text
+  -- two frames that mean the same have bodies with equal texts
   one_body : (limit : ℕ) (a b : List ℕ) (x y : ℕ × List ℕ) (p : Front r limit a x) (q : Front r limit b y) → SameFrameUnder r a b → p.body ≡ q.body
   one_body limit a b x y p q s =
       body_told (frame_type a) (frame_body a) (frame_body b) p.body q.body (ap (λ n. body_text_under r n (frame_body a)) p.type ∙ p.body_is)

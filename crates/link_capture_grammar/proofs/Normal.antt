@@ -1,4 +1,4 @@
--- The normal text is legal, and its own normal text, and what an older rule wrote becomes what the rule writes.
+-- A normal text is legal and already canonical; the text of an older rule is migrated to that of the rule.
 use Rattle.std.proofs.Common.{◌≡◌, ℕ, zero, suc, Bool, ◌+◌, ◌-◌, ◌^◌, ◌<◌, ◌≤◌, ltb, eqb, true, false, cond, Result, List, [], ◌∷◌, ◌++◌, length, take, drop, Ok, Err, refl, sym, ap, subst, ◌∙◌, inl, inr, arith, length-append, length-drop, append_assoc}
 use Rattle.std.proofs.lemmas.List.{take_at, drop_at, length-take, length-replicate, drop-drop, take-append-drop}
 use Rattle.std.proofs.lemmas.Bool.{le-ltb, ltb-false}
@@ -13,7 +13,7 @@ use Rattle.link_capture_grammar.specs.Bodies.{Refusal, error_text, done_text, ru
 use Rattle.link_capture_grammar.specs.Captures.{Judged, first_frame_under, judged_text, tested, raised, texts_after_under, first_fault_under, texts_under, IsLegalUnder}
 use Rattle.link_capture_grammar.proofs.Frames.{accepted, first_frame_is, judgement, seen, step_texts, stop_texts, fault_step, texts_step, fault_nil, texts_nil, place_after, step_place, stop_place, guard}
 
--- ---- a body's text is its own
+-- ---- the text of a body is already canonical
 
 error_again : (bytes text : List ℕ) → error_text bytes ≡ Ok text → error_text text ≡ Ok text
 error_again bytes text h =
@@ -33,7 +33,7 @@ done_again bytes text h =
           ]
     ]
 
--- what an accepted body is
+-- the properties of an accepted body
 pub record Ruled (r : Rule) (b text : List ℕ) : Type 0 where
   pub accepted : r.accepted b ≡ true
   pub empty_ports : r.empty_ports b ≡ false
@@ -75,7 +75,7 @@ judged_texted limit c (Ok body) frame h =
 pub tested_ok : (limit size claimed : ℕ) (j : Judged) → 16 ≤ size → claimed ≤ size → 16 ≤ claimed → claimed ≤ limit → tested limit size claimed j ≡ j
 tested_ok limit size claimed j a b c d = rw (le-ltb size 16 a, le-ltb size claimed b, le-ltb claimed 16 c, le-ltb limit claimed d)
 
--- a frame's text: how long it is, and what its parts are
+-- a frame's text: its length and its parts
 pub frame_text_size : (c body : List ℕ) → 16 ≤ length c → length (frame_text c body) ≡ nla_align (16 + length body)
 unfolding frame_text
 frame_text_size c body h =
@@ -85,7 +85,7 @@ pub text_length : (c body r : List ℕ) → 16 + length body < 2 ^ 32 → frame_
 unfolding frame_text
 text_length c body r h = ap (u32_at 0) (append_assoc (le4 (16 + length body)) _ r) ∙ u32_at-le4 (16 + length body) _
 
--- what stands behind the first four bytes
+-- the bytes of a frame's text after its length field
 after_length : (c body r : List ℕ) → drop 4 (frame_text c body ++ r) ≡ take 12 (drop 4 c) ++ (body ++ zeros (nla_align (16 + length body) - (16 + length body)) ++ r)
 unfolding frame_text
 after_length c body r = ap (drop 4) (append_assoc (le4 (16 + length body)) _ r) ∙ drop_at (le4 (16 + length body)) _ 4 (length-le4 (16 + length body)) ∙ simp append_assoc
@@ -135,10 +135,10 @@ module _ (r : Rule) where
       let q = judged_texted limit c (body_text_under r (frame_type c) (frame_body c)) frame t in
       record { body = q.0; body_is = q.1; text_is = q.2; fits = q.3 }
 
--- ---- what was written under r, under a rule s that renews it
+-- ---- texts that were written under r, under a rule s that migrates it
 
 module _ (r s : Rule) (renews : Renews r s) where
-  -- by what is known of the type
+  -- by the type of the body
   body_by : (noop error done link : Bool) (b old new : List ℕ)
       → cond noop (Ok []) (cond error (error_text b) (cond done (done_text b) (cond link (ruled_text r b) (Ok b)))) ≡ Ok old
       → cond noop (Ok []) (cond error (error_text b) (cond done (done_text b) (cond link (ruled_text s b) (Ok b)))) ≡ Ok new
@@ -149,12 +149,12 @@ module _ (r s : Rule) (renews : Renews r s) where
   body_by false false false true b old new h k = ruled_again r s renews b old new h k
   body_by false false false false b old new h k = sym h ∙ k
 
-  -- a body's old text has its new one
+  -- the old text of a body has the new text of the body
   pub body_again : (t : ℕ) (b old new : List ℕ) → body_text_under r t b ≡ Ok old → body_text_under s t b ≡ Ok new → body_text_under s t old ≡ Ok new
   unfolding body_text_under
   body_again t b old new h k = body_by (eqb t 1) (eqb t 2) (eqb t 3) (is_link_type t) b old new h k
 
-  -- a frame's old text in front is accepted, and has the new one
+  -- a frame that begins with the old text of a frame is accepted, and its text is the new one
   pub first_frame_again : (limit : ℕ) (c : List ℕ) (old new : ℕ × List ℕ) (more : List ℕ) → limit < 2 ^ 32 → first_frame_under r limit c ≡ Ok old → first_frame_under s limit c ≡ Ok new →
       (n : ℕ) × (first_frame_under s limit (old.1 ++ more) ≡ Ok (n, new.1)) × (drop (nla_align n) (old.1 ++ more) ≡ more)
   unfolding judgement
@@ -185,7 +185,7 @@ module _ (r s : Rule) (renews : Renews r s) where
         subst (λ (y : List ℕ). drop (nla_align n) (y ++ more) ≡ more) (sym e) (drop_at (frame_text c t.body) more (nla_align n) size),
       )
 
-  -- the old texts are legal, and have the new ones
+  -- the old texts are legal, and have the new texts
   abbrev Again : ℕ → ℕ → List ℕ → Type 0
   Again limit skip c = IsLegalUnder s limit (texts_after_under r limit skip c) × (texts_under s limit (texts_after_under r limit skip c) ≡ texts_after_under s limit skip c)
 
@@ -206,7 +206,7 @@ module _ (r s : Rule) (renews : Renews r s) where
             ∙ sym (step_texts s limit b c new k),
       )
 
-  -- they are so where whole frames reach equally far under both
+  -- this holds if whole frames reach the same offset under both rules
   pub texts_again : (limit skip : ℕ) (c : List ℕ) → limit < 2 ^ 32 → place_after r limit skip c ≡ place_after s limit skip c → Again limit skip c
   unfolding place_after texts_after_under
   texts_again limit skip [] l e = (fault_nil s limit 0, texts_nil s limit 0)

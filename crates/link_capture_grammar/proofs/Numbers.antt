@@ -1,4 +1,4 @@
--- The numbers of a capture go frame by frame.
+-- The numbers of a capture, frame by frame.
 use Rattle.std.proofs.Common.{◌≡◌, ℕ, zero, suc, ◌+◌, ◌-◌, ◌*◌, ◌≤◌, List, [], ◌∷◌, length, drop, Ok, Err, refl, sym, ap, ◌∙◌, arith, length-drop}
 use Rattle.std.proofs.lemmas.List.{length-take}
 use Rattle.netlink_packet_core_grammar.specs.Attributes.{nla_align}
@@ -29,7 +29,7 @@ module _ (r : Rule) where
   unfolding sum_after_under
   sum_nil number limit = refl
 
-  -- An accepted frame in front: what is left after it has the rest.
+  -- If the first frame is accepted, the sum over the rest is that over the bytes after it.
   pub sum_step : (number : List ℕ → ℕ) (limit : ℕ) (c : List ℕ) (frame : ℕ × List ℕ) → first_frame_under r limit c ≡ Ok frame → sum_after_under r number limit 0 c ≡ number c + sum_after_under r number limit 0 (drop (nla_align frame.0) c)
   sum_step number limit [] frame h = let a = accepted r limit [] frame h in absurd (omega (arith, a.header))
   sum_step number limit (b ∷ c) frame h =

@@ -1,4 +1,4 @@
--- Captures that differ in the padding behind an accepted frame have the same answers.
+-- Captures that differ only in the padding after an accepted frame have the same results.
 use Rattle.std.proofs.Common.{◌≡◌, ℕ, ◌+◌, ◌≤◌, min, List, ◌++◌, length, take, drop, Ok, refl, sym, ap, ◌∙◌, arith}
 use Rattle.std.proofs.lemmas.List.{length-take, take-append-drop}
 use Rattle.netlink_packet_core_grammar.specs.Attributes.{nla_align}
@@ -13,7 +13,7 @@ use Rattle.link_capture_grammar.proofs.Frames.{accepted, frame_type-more, frame_
 use Rattle.link_capture_grammar.proofs.Numbers.{sum_step}
 
 module _ (r : Rule) where
-  -- a frame in front has the attributes of its own bytes
+  -- the attributes of the first frame are those of the frame's bytes
   alone_attributes : (limit : ℕ) (c : List ℕ) (frame : ℕ × List ℕ) → first_frame_under r limit c ≡ Ok frame → frame_attributes_under r c ≡ frame_attributes_under r (take frame.0 c)
   alone_attributes limit c frame h =
       let a = accepted r limit c frame h in
@@ -34,7 +34,7 @@ module _ (r : Rule) where
       ∙ first_frame-more r limit (take frame.0 d) (drop frame.0 d) (not_cut (first_frame_under r limit (take frame.0 d)) frame alone)
       ∙ alone
 
-  -- a number of each frame that the bytes in front tell
+  -- a number that the frame's bytes determine, summed over the frames
   same_sum : (number : List ℕ → ℕ) (limit : ℕ) (c d : List ℕ) (frame : ℕ × List ℕ) → first_frame_under r limit c ≡ Ok frame → DifferInPadding frame.0 c d → number d ≡ number c →
       sum_after_under r number limit 0 d ≡ sum_after_under r number limit 0 c
   same_sum number limit c d frame h p n =

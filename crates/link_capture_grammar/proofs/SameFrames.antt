@@ -1,4 +1,4 @@
--- Legal captures mean the same frame by frame.
+-- Legal captures mean the same if their frames do.
 use Rattle.std.proofs.Common.{◌≡◌, ℕ, zero, suc, ◌<◌, ◌≤◌, eqb, Bool, true, false, cond, List, [], ◌∷◌, ◌++◌, length, take, drop, Ok, inl, inr, refl, sym, ap, subst, ◌∙◌, arith}
 use Rattle.std.specs.Prelude.{nat_le}
 use Rattle.std.proofs.lemmas.Bool.{ne_eqb, leb-true, and_parts}
@@ -15,7 +15,7 @@ use Rattle.link_capture_grammar.proofs.Meanings.{body_tells}
 use Rattle.link_capture_grammar.proofs.Normal.{ruled, texted}
 use Rattle.link_capture_grammar.proofs.Same.{not_raised}
 
--- a test that was decided
+-- a test whose result is known
 pub yes : {A : Type 0} (b : Bool) (x y z : A) → b ≡ true → cond b x y ≡ z → x ≡ z
 yes b x y z k h = subst (λ c. cond c x y ≡ z) k h
 
@@ -48,7 +48,7 @@ module _ (r : Rule) (limit : ℕ) (a b : List ℕ) (p : LegalFrameUnder r limit 
       let y = accepted r limit b s.1 s.3 in
       (s.4, (n, subst (λ k. SameFramesUnder r limit n (drop (nla_align k) a) (drop (nla_align (frame_length b)) b)) (sym x.is) (subst (λ k. SameFramesUnder r limit n (drop (nla_align s.0.0) a) (drop (nla_align k) b)) (sym y.is) s.5)))
 
--- ---- the frame in front, under a rule that wants headers
+-- ---- the first frame, under a rule that accepts no body without a header
 
 module _ (r : Rule) (headers : WantsHeaders r) where
   link_header : (t : ℕ) (b x : List ℕ) → body_text_under r t b ≡ Ok x → is_link_type t ≡ true → 16 ≤ length b
@@ -72,7 +72,7 @@ module _ (r : Rule) (headers : WantsHeaders r) where
         | inr w ↦ (let e = sym (fault_stop r limit c w.0 l w.1) ∙ h in absurd cc)
       ]
 
--- what two frames have whose bytes are the same
+-- two frames with equal bytes
 module _ (r : Rule) (limit : ℕ) (a b : List ℕ) (p : LegalFrameUnder r limit a) (e : take (frame_length a) b ≡ take (frame_length a) a) where
   abbrev frame : List ℕ
   frame = take (frame_length a) a

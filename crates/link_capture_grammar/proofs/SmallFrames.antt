@@ -14,7 +14,7 @@ use Rattle.link_capture_grammar.specs.Laws.{SmallFramesFit}
 use Rattle.link_capture_grammar.proofs.Bodies.{by_type}
 use Rattle.link_capture_grammar.proofs.Frames.{tested_by}
 
--- ---- bodies of at most 867 bytes, which stand in frames of at most 883
+-- ---- bodies of at most 867 bytes, as frames of at most 883 have them
 
 -- such a body fits, and its text has at most 16 + 77 * 851 bytes
 IsShort : Result (List ℕ) Refusal → Type 0

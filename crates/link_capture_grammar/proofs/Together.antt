@@ -1,4 +1,4 @@
--- The laws that want more than one lemma.
+-- The laws that need more than one lemma.
 use Rattle.std.proofs.Common.{◌≡◌, ℕ, ◌%◌, Some, None, Err, List, ◌++◌, take, drop, refl, sym, ap, subst, ◌∙◌, length, inl, inr}
 use Rattle.attribute_tables_grammar.specs.Rules.{Rule, Lawful, Renews}
 use Rattle.attribute_tables_grammar.proofs.Attributes.{renews_itself}
@@ -29,7 +29,7 @@ module _ (r : Rule) where
   pub frames_stand_alone : FramesStandAlone r
   frames_stand_alone = record { accepted = accepted r; cut = cut_cases r; followed = first_frame-more r }
 
-  -- what stands at the first fault
+  -- the frame at the first fault
   there : (limit : ℕ) (c : List ℕ) (fault : CaptureFault) → first_fault_under r limit c ≡ Some fault → first_frame_under r limit (drop fault.offset c) ≡ Err fault.kind
   there limit c fault h =
       elim (stops r limit 0 c) [
@@ -51,7 +51,7 @@ module _ (r : Rule) where
     rest_texts = λ limit c more. subst (λ n. texts_under r limit (c ++ more) ≡ texts_under r limit c ++ texts_under r limit (drop n (c ++ more))) (reach_place r limit c) (texts-append r limit 0 c more);
   }
 
--- what was written under r, under a rule s that renews it
+-- texts that were written under r, under a rule s that migrates it
 pub texts_are_renewed : (r s : Rule) → Renews r s → TextsAreRenewed r s
 texts_are_renewed r s renews limit c l h k = texts_again r s renews limit 0 c l (place_legal r limit c h ∙ sym (place_legal s limit c k))
 

@@ -1,4 +1,4 @@
--- The text of a list holds the attributes that no table lists as the list does.
+-- The text of a list has the attributes that no table lists and that the list has.
 use Rattle.std.proofs.Common.{◌≡◌, inl, inr, ℕ, zero, suc, true, false, List, [], ◌∷◌, ◌++◌, length, Ok, refl, sym, ap, subst, ◌∙◌}
 use Rattle.std.specs.Prelude.{◌&&◌, not, nat_le}
 use Rattle.std.proofs.lemmas.Bool.{and_parts}
@@ -22,7 +22,7 @@ use Rattle.link_capture_grammar.specs.Laws.{IsLimit, UnlistedAttributesAreKept}
 use Rattle.link_capture_grammar.specs.Unlisted.{Keeps, row_there, HoldsUnlisted, KeepsUnlisted}
 use Rattle.link_capture_grammar.proofs.Keeping.{link}
 
--- what becomes of an attribute that stands behind some and before others
+-- what the rule of a list writes for an attribute between others
 record Rewritten (g : Grammar) (c : Context) (before after : List Attribute) (x : Attribute) : Type 0 where
   pub accepted : (row_of g (context_after g c before) x).rule.accepted x.payload ≡ true
   pub is : rewritten g c (before ++ x ∷ after) ≡ rewritten g c before ++ rewrite (row_of g (context_after g c before) x) x ∷ rewritten g (g.next (context_after g c before) x) after
@@ -46,7 +46,7 @@ not_empty_ports ports [] after x = refl
 not_empty_ports ports (e ∷ before) after x = refl
 not_empty_ports form before after x = refl
 
--- what is kept of a list stands in its text, rewritten, under the row that it has
+-- a kept attribute of a list is in the list's text, rewritten by its row
 record Again (form : ListForm) (g : Grammar) (bytes : List ℕ) (x : Attribute) (k : Keeps form bytes x) : Type 0 where
   pub accepted : (row_there g k).rule.accepted x.payload ≡ true
   pub keeps : Keeps form ((list_rule form g).canonical bytes) (rewrite (row_there g k) x)
@@ -70,11 +70,11 @@ again form g bytes x k lawful a =
       row = ap (λ d. g.row d (proper_kind (written_kind (row_there g k) x.kind))) r.context ∙ ap (g.row (context_after g nothing k.before)) (proper_kind-written (row_there g k) x.kind);
     }
 
--- what holds of the text of each list holds of each attribute so many lists inside
+-- what holds of the text of each list holds of each attribute that is `depth` lists further inside
 abbrev StandsAgain : ℕ → Attribute → Type 0
 StandsAgain depth e = (form : ListForm) (g : Grammar) (bytes : List ℕ) → LawfulGrammar g → (list_rule form g).accepted bytes ≡ true → HoldsUnlisted depth form g bytes e → HoldsUnlisted depth form g ((list_rule form g).canonical bytes) e
 
--- ---- in front of the attributes a header
+-- ---- lists that follow a header
 
 module _ (p : Peer) (lawful : LawfulPeer p) (depth : ℕ) (e : Attribute) (stands : StandsAgain depth e) where
   abbrev Holds : Family → List ℕ → Type 0
@@ -100,7 +100,7 @@ module _ (p : Peer) (lawful : LawfulPeer p) (depth : ℕ) (e : Attribute) (stand
       let s = and_parts (nat_le 16 (length b)) ((list_rule_of p (family b)).accepted (attribute_bytes b)) a in
       family_again b ((list_rule_of p (family b)).canonical (attribute_bytes b)) (written_header b s.0)
 
-  -- a peer, which is told by its own first byte
+  -- a peer, whose first byte determines its rows
   peer_again : (b : List ℕ) → (link_peer_under p).accepted b ≡ true → Holds (family b) (attribute_bytes b) →
       Holds (family ((link_peer_under p).canonical b)) (attribute_bytes ((link_peer_under p).canonical b))
   peer_again b a w =
@@ -136,7 +136,7 @@ unlisted_again (suc depth) form g bytes e lawful a w =
           (rewrite (row_there g k) outer, n.keeps, inr (p, v.1, ap (λ (r : Row). r.rule) n.row ∙ is, subst (λ b. HoldsUnlisted depth any (without_context (attribute_row_under p (family b))) (attribute_bytes b) e) payload deeper))
     ]
 
--- ---- of frames
+-- ---- attributes of frames
 
 module _ (p : Peer) (lawful : LawfulPeer p) where
   pub of_frames_under : (limit : ℕ) (c : List ℕ) (frame : ℕ × List ℕ) → IsLimit limit → is_link_type (frame_type c) ≡ true → first_frame_under (body_rule p) limit c ≡ Ok frame → KeepsUnlisted (attribute_row_under p) (frame_body c) (frame_body frame.1)
@@ -144,7 +144,7 @@ module _ (p : Peer) (lawful : LawfulPeer p) where
       let k = link (body_rule p) limit c frame l is_link h in
       body_again p lawful depth e (λ f g b x y z. unlisted_again depth f g b e x y z) (frame_body c) (frame_body frame.1) k.0 k.1 w
 
--- the rule in force
+-- under the rule in force
 of_frames : (limit : ℕ) (c : List ℕ) (frame : ℕ × List ℕ) → IsLimit limit → is_link_type (frame_type c) ≡ true → first_frame limit c ≡ Ok frame → KeepsUnlisted attribute_row (frame_body c) (frame_body frame.1)
 of_frames = of_frames_under link_peer link_peer_lawful
 

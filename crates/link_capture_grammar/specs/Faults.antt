@@ -1,10 +1,11 @@
--- The words of faults.
+-- The texts of faults, as programs print them.
 use Rattle.std.specs.Prelude.{ℕ, List, ◌++◌, codes}
 use Rattle.std.specs.Fmt.{decimal}
 use Rattle.link_capture_grammar.specs.declared.fault.FaultKind.{FaultKind}
 use Rattle.link_capture_grammar.specs.declared.fault.FaultKind.TheVariants.{Cut, ShortLength, OverLimit, Refused, EmptyPorts, Unfit, TextOverLimit, Memory, Read, Write, TooLong, Failed}
 use Rattle.link_capture_grammar.specs.declared.fault.CaptureFault.{CaptureFault}
 
+-- The text of each kind of fault.
 abbrev pub words : FaultKind → List ℕ
 words Cut = codes "cut frame"
 words ShortLength = codes "length under 16"
@@ -19,6 +20,6 @@ words Write = codes "write failed"
 words TooLong = codes "capture too long"
 words Failed = codes "failed before"
 
--- the words, and the place in decimal
+-- The text of a fault: that of its kind, ` at `, and the offset in decimal.
 abbrev pub fault_text : CaptureFault → List ℕ
 fault_text x = words x.kind ++ (codes " at " ++ decimal x.offset)

@@ -15,175 +15,182 @@ use Rattle.link_capture_grammar.specs.Numbers.{frame_attributes_under, frames_un
 use Rattle.link_capture_grammar.specs.Same.{same_body_under, SameFrameUnder, SameCaptureUnder}
 use Rattle.link_capture_grammar.specs.Unlisted.{HoldsUnlisted, KeepsUnlisted}
 
--- a limit is a number of 32 bits
+-- A limit is a number of 32 bits.
 abbrev pub IsLimit : ℕ → Type 0
 IsLimit limit = limit < 2 ^ 32
 
--- the texts of any bytes are legal under the same limit
+-- The texts of any bytes are legal under the same limit.
 abbrev pub TextsAreLegal : Rule → Type 0
 TextsAreLegal r = (limit : ℕ) (c : List ℕ) → IsLimit limit → IsLegalUnder r limit (texts_under r limit c)
 
--- and are their own normal text
+-- The texts of any bytes are already canonical.
 abbrev pub TextsAreNormal : Rule → Type 0
 TextsAreNormal r = (limit : ℕ) (c : List ℕ) → IsLimit limit → texts_under r limit (texts_under r limit c) ≡ texts_under r limit c
 
--- where a capture is legal under an old rule and a new one, its old normal text is legal under the new one, and has the capture's new normal text
+-- If a capture is legal under an old rule and a new one, its text under the old rule is legal under the new one, and
+-- the text of that under the new rule is the capture's text under the new rule.
 abbrev pub TextsAreRenewed : Rule → Rule → Type 0
 TextsAreRenewed old new = (limit : ℕ) (c : List ℕ) → IsLimit limit → IsLegalUnder old limit c → IsLegalUnder new limit c →
     IsLegalUnder new limit (texts_under old limit c) × (texts_under new limit (texts_under old limit c) ≡ texts_under new limit c)
 
--- what follows a legal capture whose size is a multiple of 4 is judged by itself
+-- The first fault of a legal capture whose size is a multiple of 4, followed by b, is that of b, its offset increased
+-- by that size.
 abbrev pub JoinedFaults : Rule → Type 0
 JoinedFaults r = (limit : ℕ) (a b : List ℕ) → IsLegalUnder r limit a → length a % 4 ≡ 0 → first_fault_under r limit (a ++ b) ≡ raised (length a) (first_fault_under r limit b)
 
+-- A legal capture whose size is a multiple of 4, followed by b, is legal if and only if b is.
 abbrev pub JoinedLegal : Rule → Type 0
 JoinedLegal r = (limit : ℕ) (a b : List ℕ) → IsLegalUnder r limit a → length a % 4 ≡ 0 → IsLegalUnder r limit (a ++ b) ↔ IsLegalUnder r limit b
 
--- and is written by itself
+-- The texts of a legal capture whose size is a multiple of 4, followed by b, are the texts of both joined.
 abbrev pub JoinedTexts : Rule → Type 0
 JoinedTexts r = (limit : ℕ) (a b : List ℕ) → IsLegalUnder r limit a → length a % 4 ≡ 0 → texts_under r limit (a ++ b) ≡ texts_under r limit a ++ texts_under r limit b
 
--- a first fault of a prefix, other than a cut frame, is that of the whole
+-- A first fault of a prefix, other than a cut frame, is that of the whole.
 abbrev pub PrefixFaults : Rule → Type 0
 PrefixFaults r = (limit : ℕ) (a b : List ℕ) (fault : CaptureFault) → first_fault_under r limit a ≡ Some fault → fault.kind ≢ Cut → first_fault_under r limit (a ++ b) ≡ Some fault
 
--- the texts of a prefix begin the texts of the whole
+-- The texts of a prefix are a prefix of the texts of the whole.
 abbrev pub PrefixTexts : Rule → Type 0
 PrefixTexts r = (limit : ℕ) (a b : List ℕ) → (rest : List ℕ) × (texts_under r limit (a ++ b) ≡ texts_under r limit a ++ rest)
 
--- texts are at most 77 times as long
+-- Texts are at most 77 times as long as the capture.
 abbrev pub TextsAreSmall : Rule → Type 0
 TextsAreSmall r = (limit : ℕ) (c : List ℕ) → length (texts_under r limit c) ≤ 77 * length c
 
--- a fault stands at the start of a frame, inside the capture, and is one that a frame can have
+-- A first fault is inside the capture, at a multiple of 4, and is of a kind that a frame can have.
 abbrev pub FaultsStand : Rule → Type 0
 FaultsStand r = (limit : ℕ) (c : List ℕ) (fault : CaptureFault) → first_fault_under r limit c ≡ Some fault → (fault.offset < length c) × (fault.offset % 4 ≡ 0) × IsOfFrames fault.kind
 
--- a body's text is its own text
+-- The text of a body is already canonical.
 abbrev pub BodiesAreNormal : Rule → Type 0
 BodiesAreNormal r = (t : ℕ) (b text : List ℕ) → body_text_under r t b ≡ Ok text → body_text_under r t text ≡ Ok text
 
--- a legal capture and its normal text mean the same
+-- A legal capture and its normal text mean the same.
 abbrev pub TextsMeanTheSame : Rule → Type 0
 TextsMeanTheSame r = (limit : ℕ) (c : List ℕ) → IsLimit limit → IsLegalUnder r limit c → SameCaptureUnder r limit c (texts_under r limit c)
 
--- captures mean the same exactly where they are legal and have one normal text
+-- Captures mean the same if and only if they are legal and their normal texts are equal.
 pub record TextsTellMeanings (r : Rule) : Type 0 where
   pub one_text : (limit : ℕ) (a b : List ℕ) → SameCaptureUnder r limit a b → texts_under r limit a ≡ texts_under r limit b
   pub one_meaning : (limit : ℕ) (a b : List ℕ) → IsLimit limit → IsLegalUnder r limit a → IsLegalUnder r limit b → texts_under r limit a ≡ texts_under r limit b → SameCaptureUnder r limit a b
-  -- so a legal capture means what it means itself, and meaning the same goes both ways and on
+  -- so equivalence is reflexive on legal captures, symmetric and transitive
   pub itself : (limit : ℕ) (a : List ℕ) → IsLimit limit → IsLegalUnder r limit a → SameCaptureUnder r limit a a
   pub turned : (limit : ℕ) (a b : List ℕ) → SameCaptureUnder r limit a b → SameCaptureUnder r limit b a
   pub followed : (limit : ℕ) (a b c : List ℕ) → SameCaptureUnder r limit a b → SameCaptureUnder r limit b c → SameCaptureUnder r limit a c
 
--- two bodies of a type that have texts mean the same exactly where they have one text
+-- Two bodies of a type that have texts mean the same if and only if these texts are equal.
 abbrev pub BodiesTellMeanings : Rule → Type 0
 BodiesTellMeanings r = (t : ℕ) (a b x y : List ℕ) → body_text_under r t a ≡ Ok x → body_text_under r t b ≡ Ok y → (same_body_under r t a b ≡ true) ↔ (x ≡ y)
 
--- captures that mean the same are legal
+-- Captures that mean the same are legal.
 abbrev pub SameAreLegal : Rule → Type 0
 SameAreLegal r = (limit : ℕ) (a b : List ℕ) → SameCaptureUnder r limit a b → IsLegalUnder r limit a × IsLegalUnder r limit b
 
--- The frame in front of some bytes is legal: it is whole, its body has a text, and it has a header where it is a link's.
+-- The first frame of c is legal: it is whole, its body has a text, and if it is a link's, the body has a header.
 pub record LegalFrameUnder (r : Rule) (limit : ℕ) (c : List ℕ) : Type 0 where
   pub text : List ℕ
   pub is : first_frame_under r limit c ≡ Ok (frame_length c, text)
   pub frame : IsFrame c
   pub body : is_link_type (frame_type c) ≡ true → 16 ≤ length (frame_body c)
 
--- under the rule in force
+-- `LegalFrameUnder` under the rule of link bodies in force.
 abbrev pub LegalFrame : ℕ → List ℕ → Type 0
 LegalFrame = LegalFrameUnder link_body
 
--- a rule that accepts nothing without a header of 16 bytes
+-- The rule accepts nothing without a header of 16 bytes.
 abbrev pub WantsHeaders : Rule → Type 0
 WantsHeaders r = (b : List ℕ) → r.accepted b ≡ true → 16 ≤ length b
 
--- whether captures mean the same is found frame by frame
+-- Equivalence of captures is decided frame by frame.
 pub record SamenessGoesByFrames (r : Rule) : Type 0 where
-  -- a frame that is judged so is legal
+  -- an accepted frame is legal
   pub judged : (limit : ℕ) (c : List ℕ) (frame : ℕ × List ℕ) → first_frame_under r limit c ≡ Ok frame → LegalFrameUnder r limit c
-  -- in front of a legal capture's bytes stands a legal frame, and behind it a legal capture
+  -- a legal capture that isn't empty begins with a legal frame, and the bytes after that are a legal capture
   pub front : (limit : ℕ) (c : List ℕ) → IsLegalUnder r limit c → 0 < length c → LegalFrameUnder r limit c
   pub behind : (limit : ℕ) (c : List ℕ) → IsLegalUnder r limit c → LegalFrameUnder r limit c → IsLegalUnder r limit (drop (nla_align (frame_length c)) c)
   pub more : (limit : ℕ) (a b : List ℕ) → LegalFrameUnder r limit a → LegalFrameUnder r limit b → SameFrameUnder r a b →
       SameCaptureUnder r limit (drop (nla_align (frame_length a)) a) (drop (nla_align (frame_length b)) b) ↔ SameCaptureUnder r limit a b
-  -- a frame of the bytes of a legal one is legal, and means the same
+  -- a frame with the bytes of a legal frame is legal, and means the same
   pub equal : (limit : ℕ) (a b : List ℕ) → LegalFrameUnder r limit a → take (frame_length a) b ≡ take (frame_length a) a → LegalFrameUnder r limit b × SameFrameUnder r a b
   pub differs : (limit : ℕ) (a b : List ℕ) → LegalFrameUnder r limit a → LegalFrameUnder r limit b → SameCaptureUnder r limit a b → SameFrameUnder r a b
   pub ended : (limit : ℕ) (a b : List ℕ) → length a ≡ 0 → length b ≡ 0 → SameCaptureUnder r limit a b
   pub left_longer : (limit : ℕ) (a b : List ℕ) → 0 < length a → length b ≡ 0 → SameCaptureUnder r limit a b → ⊥
   pub right_longer : (limit : ℕ) (a b : List ℕ) → length a ≡ 0 → 0 < length b → SameCaptureUnder r limit a b → ⊥
 
--- a body that is its own text as long as it is legal: not a NOOP's, nor of a DONE without a code, nor a link's
+-- The text of such a body, if it has one, is the body: it isn't a NOOP's, nor that of a DONE without a code, nor a
+-- link's.
 pub record IsBodyKept (t : ℕ) (b : List ℕ) : Type 0 where
   pub no_noop : t ≢ 1
   pub has_code : t ≡ 3 → 0 < length b
   pub no_link : is_link_type t ≡ false
 
--- what the text of a legal frame keeps of it
+-- What the text of a legal frame keeps of the frame.
 pub record TextsKeepFrames (r : Rule) : Type 0 where
   -- its type, flags, sequence number and port number, the bytes 4 to 16
   pub header : (limit : ℕ) (c : List ℕ) (frame : ℕ × List ℕ) → first_frame_under r limit c ≡ Ok frame → take 12 (drop 4 frame.1) ≡ take 12 (drop 4 c)
-  -- and with such a body its length and its body
+  -- its length and its body, if `IsBodyKept`
   pub length : (limit : ℕ) (c : List ℕ) (frame : ℕ × List ℕ) → IsLimit limit → IsBodyKept (frame_type c) (frame_body c) → first_frame_under r limit c ≡ Ok frame → frame_length frame.1 ≡ frame_length c
   pub body : (limit : ℕ) (c : List ℕ) (frame : ℕ × List ℕ) → IsLimit limit → IsBodyKept (frame_type c) (frame_body c) → first_frame_under r limit c ≡ Ok frame → frame_body frame.1 ≡ frame_body c
-  -- and of a link's, which the rule accepts, what the rule writes for its body
+  -- for a link the rule accepts the body, and the text has the canonical text of the body
   pub link : (limit : ℕ) (c : List ℕ) (frame : ℕ × List ℕ) → IsLimit limit → is_link_type (frame_type c) ≡ true → first_frame_under r limit c ≡ Ok frame → (r.accepted (frame_body c) ≡ true) × (frame_body frame.1 ≡ r.canonical (frame_body c))
 
--- No frame of at most 883 bytes, whatever its type, is refused for the lengths that it would be written with: those inside its text fit, and the text is within a limit of at least 65559.
--- 883 is two headers of 16 bytes, the frame's and a link body's, and 851 bytes of attributes; 65559 is the same headers and 65527 bytes, 77 times as many, which a length of 2 bytes still tells.
+-- A frame of at most 883 bytes, of any type, is never refused because of the lengths in its text: those inside fit, and
+-- the text is within a limit of 65559 or more. 883 is the sum of two headers of 16 bytes, the frame's and a link
+-- body's, and 851 bytes of attributes. 65559 is the sum of the same headers and 65527 bytes, 77 times as many, which a
+-- length of 2 bytes can hold.
 abbrev pub SmallFramesFit : Type 0
 SmallFramesFit = (p : Peer) → LawfulPeer p → (limit : ℕ) (c : List ℕ) → 65559 ≤ limit → frame_length c ≤ 883 → (first_frame_under (body_rule p) limit c ≢ Err Unfit) × (first_frame_under (body_rule p) limit c ≢ Err TextOverLimit)
 
--- normal texts are renewed
+-- Normal texts of older versions are migrated.
 pub record OldCapturesAreRenewed : Type 0 where
-  -- those that were written while peers were bytes, under the rule in force
+  -- those that were written while peers were kept as bytes, under the rule in force
   pub in_force : TextsAreRenewed (body_rule bytes_peer) link_body
-  -- and those of every rule, under one that renews it
+  -- those of any rule, under one that migrates it
   pub under_every_rule : (old new : Rule) → Renews old new → TextsAreRenewed old new
 
--- what no table lists is kept as it is, with its kind, flag bits and payload
+-- An attribute that no table lists is kept with its kind, flag bits and payload.
 pub record UnlistedAttributesAreKept : Type 0 where
   -- in the text of an accepted list
   pub of_lists : (depth : ℕ) (form : ListForm) (g : Grammar) (bytes : List ℕ) (e : Attribute) → LawfulGrammar g → (list_rule form g).accepted bytes ≡ true →
       HoldsUnlisted depth form g bytes e → HoldsUnlisted depth form g ((list_rule form g).canonical bytes) e
-  -- and of a link's frame
+  -- in the text of a link's frame
   pub of_frames : (limit : ℕ) (c : List ℕ) (frame : ℕ × List ℕ) → IsLimit limit → is_link_type (frame_type c) ≡ true → first_frame limit c ≡ Ok frame →
       KeepsUnlisted attribute_row (frame_body c) (frame_body frame.1)
   -- the same under every lawful rule of peers, by its rows
   pub of_frames_under : (p : Peer) → LawfulPeer p → (limit : ℕ) (c : List ℕ) (frame : ℕ × List ℕ) → IsLimit limit → is_link_type (frame_type c) ≡ true → first_frame_under (body_rule p) limit c ≡ Ok frame →
       KeepsUnlisted (attribute_row_under p) (frame_body c) (frame_body frame.1)
 
--- a frame is judged by its own bytes
+-- The result for a frame depends only on the frame's bytes.
 pub record FramesStandAlone (r : Rule) : Type 0 where
-  -- an accepted frame has the length that its header tells
+  -- an accepted frame has the length in its header
   pub accepted : (limit : ℕ) (c : List ℕ) (frame : ℕ × List ℕ) → first_frame_under r limit c ≡ Ok frame → Accepted limit c frame
-  -- a cut one has no header, or less than the length that its header tells
+  -- a cut frame has no whole header, or fewer bytes than the length in its header
   pub cut : (limit : ℕ) (c : List ℕ) → first_frame_under r limit c ≡ Err Cut → (length c < 16) ⊎ CutInBody limit c
-  -- and one that isn't cut is judged so whatever follows
+  -- if a frame isn't cut, appended bytes don't change its result
   pub followed : (limit : ℕ) (c more : List ℕ) → first_frame_under r limit c ≢ Err Cut → first_frame_under r limit (c ++ more) ≡ first_frame_under r limit c
 
--- a capture is judged and written frame by frame
+-- A capture is judged and written frame by frame.
 pub record CapturesGoByFrames (r : Rule) : Type 0 where
-  -- an accepted frame alone, with its padding or as much of that as is there, is legal, and has its text
+  -- an accepted frame with nothing after it but its padding, or a part of that, is legal, and the capture has the
+  -- frame's text
   pub one_legal : (limit : ℕ) (c : List ℕ) (frame : ℕ × List ℕ) → first_frame_under r limit c ≡ Ok frame → IsLegalUnder r limit (take (nla_align frame.0) c)
   pub one_text : (limit : ℕ) (c : List ℕ) (frame : ℕ × List ℕ) → first_frame_under r limit c ≡ Ok frame → texts_under r limit (take (nla_align frame.0) c) ≡ frame.1
-  -- a fault of the frame in front is the first, and no text stands before it
+  -- a fault of the first frame is the first fault, and there is no text before it
   pub front_fault : (limit : ℕ) (c : List ℕ) (kind : FaultKind) → 0 < length c → first_frame_under r limit c ≡ Err kind → first_fault_under r limit c ≡ Some (record { kind = kind; offset = 0 })
   pub front_texts : (limit : ℕ) (c : List ℕ) (kind : FaultKind) → first_frame_under r limit c ≡ Err kind → texts_under r limit c ≡ []
-  -- the frame at the place of the first fault has that fault
+  -- the frame at the offset of the first fault has that fault
   pub fault_there : (limit : ℕ) (c : List ℕ) (fault : CaptureFault) → first_fault_under r limit c ≡ Some fault → first_frame_under r limit (drop fault.offset c) ≡ Err fault.kind
   -- whole frames reach to a multiple of 4
   pub reach_start : (limit : ℕ) (c : List ℕ) → reach_under r limit c % 4 ≡ 0
-  -- all before that place is legal, and has the texts, whatever follows
+  -- the bytes before that offset are legal and have these texts, whatever follows
   pub reach_legal : (limit : ℕ) (c more : List ℕ) → IsLegalUnder r limit (take (reach_under r limit c) (c ++ more))
   pub reach_texts : (limit : ℕ) (c more : List ℕ) → texts_under r limit (take (reach_under r limit c) (c ++ more)) ≡ texts_under r limit c
-  -- and all behind it is judged and written by itself
+  -- the bytes after that offset are judged and written independently
   pub rest_fault : (limit : ℕ) (c more : List ℕ) → first_fault_under r limit (c ++ more) ≡ raised (reach_under r limit c) (first_fault_under r limit (drop (reach_under r limit c) (c ++ more)))
   pub rest_texts : (limit : ℕ) (c more : List ℕ) → texts_under r limit (c ++ more) ≡ texts_under r limit c ++ texts_under r limit (drop (reach_under r limit c) (c ++ more))
 
--- the frame in front is judged by its header, then by its body, then by the size of its text
+-- The first frame is judged by its header, then by its body, then by the size of its text.
 pub record FramesAreJudged (r : Rule) : Type 0 where
   pub header : (limit : ℕ) (c : List ℕ) (kind : FaultKind) → ((judged : Judged) → tested limit (length c) (frame_length c) judged ≡ Err kind) → first_frame_under r limit c ≡ Err kind
   pub body : (limit : ℕ) (c : List ℕ) (kind : FaultKind) → IsFrame c → frame_length c ≤ limit → faulty (body_text_under r (frame_type c) (frame_body c)) ≡ Err kind → first_frame_under r limit c ≡ Err kind
@@ -192,28 +199,29 @@ pub record FramesAreJudged (r : Rule) : Type 0 where
   -- the text of a frame is its header, the body's text, and padding
   pub size : (c text : List ℕ) → 16 ≤ length c → length (frame_text c text) ≡ nla_align (16 + length text)
 
--- a capture is counted frame by frame
+-- Frames, attributes and texts of a capture are counted frame by frame.
 pub record CapturesAreCounted (r : Rule) : Type 0 where
-  -- behind an accepted frame and its padding, or the end
+  -- after an accepted frame and its padding, or at the end
   pub next_fault : (limit start : ℕ) (c : List ℕ) (frame : ℕ × List ℕ) → first_frame_under r limit c ≡ Ok frame → raised start (first_fault_under r limit c) ≡ raised (start + nla_align frame.0) (first_fault_under r limit (drop (nla_align frame.0) c))
   pub next_text : (limit : ℕ) (c : List ℕ) (frame : ℕ × List ℕ) → first_frame_under r limit c ≡ Ok frame → texts_under r limit c ≡ frame.1 ++ texts_under r limit (drop (nla_align frame.0) c)
   pub next_frames : (limit : ℕ) (c : List ℕ) (frame : ℕ × List ℕ) → first_frame_under r limit c ≡ Ok frame → frames_under r limit c ≡ 1 + frames_under r limit (drop (nla_align frame.0) c)
   pub next_attributes : (limit : ℕ) (c : List ℕ) (frame : ℕ × List ℕ) → first_frame_under r limit c ≡ Ok frame → attributes_under r limit c ≡ frame_attributes_under r c + attributes_under r limit (drop (nla_align frame.0) c)
-  -- of nothing
+  -- an empty capture
   pub no_fault : (limit : ℕ) → first_fault_under r limit [] ≡ None
   pub no_text : (limit : ℕ) → texts_under r limit [] ≡ []
   pub no_frames : (limit : ℕ) → frames_under r limit [] ≡ 0
   pub no_attributes : (limit : ℕ) → attributes_under r limit [] ≡ 0
-  -- an attribute takes 4 bytes or more
+  -- an attribute has at least 4 bytes
   pub frame_counted : (limit : ℕ) (c : List ℕ) (frame : ℕ × List ℕ) → first_frame_under r limit c ≡ Ok frame → 4 * frame_attributes_under r c ≤ frame.0
   pub counted : (limit : ℕ) (c : List ℕ) → 4 * attributes_under r limit c ≤ length c
 
--- two captures have the same n bytes in front, and the same behind the padding of these: they may differ in that padding, of which some may be missing at the end
+-- Two captures have the same first n bytes, and the same bytes after the padding of these: they may differ in that
+-- padding, of which some may be missing at the end.
 pub record DifferInPadding (n : ℕ) (c d : List ℕ) : Type 0 where
   pub front : take n c ≡ take n d
   pub behind : drop (nla_align n) c ≡ drop (nla_align n) d
 
--- the padding behind an accepted frame changes no answer
+-- The padding after an accepted frame changes no result.
 pub record PaddingIsPassed (r : Rule) : Type 0 where
   pub frame : (limit : ℕ) (c d : List ℕ) (frame : ℕ × List ℕ) → first_frame_under r limit c ≡ Ok frame → DifferInPadding frame.0 c d → first_frame_under r limit d ≡ Ok frame
   pub fault : (limit : ℕ) (c d : List ℕ) (frame : ℕ × List ℕ) → first_frame_under r limit c ≡ Ok frame → DifferInPadding frame.0 c d → first_fault_under r limit d ≡ first_fault_under r limit c
@@ -221,7 +229,8 @@ pub record PaddingIsPassed (r : Rule) : Type 0 where
   pub frames : (limit : ℕ) (c d : List ℕ) (frame : ℕ × List ℕ) → first_frame_under r limit c ≡ Ok frame → DifferInPadding frame.0 c d → frames_under r limit d ≡ frames_under r limit c
   pub attributes : (limit : ℕ) (c d : List ℕ) (frame : ℕ × List ℕ) → first_frame_under r limit c ≡ Ok frame → DifferInPadding frame.0 c d → attributes_under r limit d ≡ attributes_under r limit c
 
--- these laws under one rule of link bodies, but for that of old captures, which speaks of two, and those of unlisted attributes and of small frames, which speak of tables
+-- The laws under one rule of link bodies. That of old captures isn't among them, as it is about two rules, nor are
+-- those of unlisted attributes and small frames, which are about tables.
 pub record CaptureLaws (r : Rule) : Type 0 where
   pub texts_are_legal : TextsAreLegal r
   pub texts_are_normal : TextsAreNormal r
@@ -243,9 +252,9 @@ pub record CaptureLaws (r : Rule) : Type 0 where
   pub frames_are_judged : FramesAreJudged r
   pub captures_are_counted : CapturesAreCounted r
   pub padding_is_passed : PaddingIsPassed r
-  -- where an accepted body has a header
+  -- if the rule accepts no body without a header
   pub sameness_goes_by_frames : WantsHeaders r → SamenessGoesByFrames r
 
--- they hold under every lawful rule
+-- The laws of captures hold under every lawful rule of link bodies.
 abbrev pub CapturesStandUnderEveryRule : Type 0
 CapturesStandUnderEveryRule = (r : Rule) → Lawful r → CaptureLaws r

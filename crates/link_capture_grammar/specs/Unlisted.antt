@@ -1,4 +1,4 @@
--- Attributes that no table lists, at any depth of a list, also inside peers that are judged.
+-- Attributes that no table lists, at any depth of a list, including those inside peers that are judged.
 use Rattle.std.specs.Prelude.{◌≡◌, ℕ, zero, suc, List, ◌∷◌, ◌++◌, Some, ◌⊎◌}
 use Rattle.netlink_packet_core_grammar.specs.Attributes.{Attribute}
 use Rattle.attribute_tables_grammar.specs.Lists.{nothing, Row, raw_row, Grammar, LawfulGrammar, row_of, context_after, ListForm, any, read_as, kept, list_rule, without_context}
@@ -6,7 +6,7 @@ use Rattle.attribute_tables_grammar.specs.Peers.{Peer, LawfulPeer, peer_rule}
 use Rattle.link_message_grammar.specs.Body.{attribute_bytes, attribute_row_under, family, link_peer_under}
 use Rattle.link_message_grammar.specs.LinkMessage.{Family}
 
--- among the attributes that a list keeps, this one stands behind some and before others
+-- The list with these bytes keeps the attribute e, after the attributes `before` and before the attributes `after`.
 pub record Keeps (form : ListForm) (bytes : List ℕ) (e : Attribute) : Type 0 where
   pub read : List Attribute
   pub is_read : read_as form bytes ≡ Some read
@@ -14,12 +14,12 @@ pub record Keeps (form : ListForm) (bytes : List ℕ) (e : Attribute) : Type 0 w
   pub after : List Attribute
   pub is_kept : kept form read ≡ before ++ e ∷ after
 
--- the row of such an attribute, in the context that those before it leave
+-- The row of an attribute that a list keeps, in the context that the attributes before it determine.
 abbrev pub row_there : {form : ListForm} {bytes : List ℕ} {e : Attribute} → Grammar → Keeps form bytes e → Row
 row_there {e = e} g k = row_of g (context_after g nothing k.before) e
 
--- An attribute that no table lists is kept by a list, or by one that is so many lists further inside: in the payload of an attribute, or behind the
--- header of a peer that is judged as a link's body.
+-- The list has an attribute e that no table lists, and keeps it. With a depth over 0, e is in a list that is `depth`
+-- levels further inside: in the payload of an attribute, or after the header of a peer that is judged as a link's body.
 abbrev pub HoldsUnlisted : ℕ → ListForm → Grammar → List ℕ → Attribute → Type 0
 HoldsUnlisted zero form g bytes e = (k : Keeps form bytes e) × (row_there g k ≡ raw_row)
 HoldsUnlisted (suc depth) form g bytes e =
@@ -28,7 +28,8 @@ HoldsUnlisted (suc depth) form g bytes e =
     ⊎ ((p : Peer) × LawfulPeer p × ((row_there g k).rule ≡ peer_rule (link_peer_under p))
     × HoldsUnlisted depth any (without_context (attribute_row_under p (family outer.payload))) (attribute_bytes outer.payload) e))
 
--- under such rows of each family, a text of a link's body holds the attributes that no table lists and that the body holds
+-- Under these rows of each family, the text of a link's body has all attributes that no table lists and that the body
+-- has.
 abbrev pub KeepsUnlisted : (Family → ℕ → Row) → List ℕ → List ℕ → Type 0
 KeepsUnlisted row b text = (depth : ℕ) (e : Attribute) → HoldsUnlisted depth any (without_context (row (family b))) (attribute_bytes b) e →
     HoldsUnlisted depth any (without_context (row (family b))) (attribute_bytes text) e

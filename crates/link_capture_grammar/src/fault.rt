@@ -1,4 +1,5 @@
-//! Faults of captures: their kinds, their places and their words.
+//! Faults of captures: their kinds, offsets and texts. They are code of the grammar, so that no
+//! second set of kinds has to be kept equal to them.
 
 ghost use Rattle.std.specs.Prelude.{◌≡◌, ◌≤◌, ◌<◌, Some, length};
 ghost use Rattle.link_capture_grammar.specs.Faults.{words, fault_text};
@@ -7,17 +8,17 @@ use arrayvec::ArrayString;
 use itoa::Buffer;
 use std::fmt;
 
-/// What is wrong with a capture, or with a run over one. The kinds that a frame itself can have stand in the
-/// order in which a frame is judged.
+/// What is wrong with a capture, or with a run over one. The kinds that a frame itself can have
+/// come first, in the order in which a frame is judged.
 #[derive(Clone, Copy, Debug, PartialEq, Eq, Drop)]
 pub enum FaultKind {
     /// Fewer bytes are left than a header has, or than the header's length.
     Cut,
-    /// The header's length is under 16.
+    /// The length in the header is under 16.
     ShortLength,
-    /// The header's length is over the limit.
+    /// The length in the header is over the limit.
     OverLimit,
-    /// The body of this type is refused.
+    /// The body isn't accepted for its type.
     Refused,
     /// An accepted IFLA_VF_PORTS keeps no entry.
     EmptyPorts,
@@ -25,29 +26,29 @@ pub enum FaultKind {
     Unfit,
     /// The length of the frame's normal text would be over the limit.
     TextOverLimit,
-    /// No memory.
+    /// An allocation failed.
     Memory,
     /// The source failed.
     Read,
     /// The sink failed.
     Write,
-    /// The capture has more bytes than can be counted.
+    /// The capture has more bytes than 64 bits can count.
     TooLong,
-    /// A fault came before.
+    /// The reader returned a fault before.
     Failed,
 }
 
-/// A fault and its place: the start of the faulty frame in bytes from the capture's start; for faults of devices
-/// the bytes read or taken.
+/// A fault with its offset: the start of the faulty frame in bytes from the capture's start, or,
+/// for faults of devices, the number of bytes read or written.
 #[derive(Clone, Copy, Debug, PartialEq, Eq, Drop)]
 pub struct CaptureFault {
     pub kind: FaultKind,
-    /// In bytes.
+    /// In bytes; what it counts depends on `kind`.
     pub offset: u64,
 }
 
 impl FaultKind {
-    /// What is told of it, in ASCII.
+    /// Returns the text of this kind, in ASCII.
     pub fn words(self) -> &'static str
         ensures words { result.now ≡ words self }
         ensures short { length result.now ≤ 40 }
@@ -70,7 +71,7 @@ impl FaultKind {
 }
 
 impl CaptureFault {
-    /// The words of its kind, ` at `, and the place in decimal. It takes no memory.
+    /// Returns the text of the kind, ` at `, and the offset in decimal. Allocates nothing.
     pub fn text(self) -> ArrayString<96>
         ensures text { result.bytes ≡ fault_text self }
         ensures room { length result.bytes < 96 }
@@ -84,7 +85,8 @@ impl CaptureFault {
     }
 }
 
-// Whatever options a format gives, the words are the same.
+// Format options change nothing: the kit's `write!` guarantees its text only without options, so
+// displays write fixed texts.
 impl fmt::Display for FaultKind {
     ghost output = { λ k. Some (words k) };
 

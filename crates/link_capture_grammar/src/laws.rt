@@ -1,4 +1,5 @@
-//! Facts of the definitions, under the rule of link bodies in force. No function here makes a call.
+//! Laws of the definitions, under the rule of link bodies in force. No function here calls
+//! anything.
 #![tactic(auto, using(crate::proofs::EveryRule::laws))]
 
 ghost use Rattle.link_message_grammar.specs.Body.{link_body};
@@ -16,22 +17,26 @@ pub fn texts_are_legal()
     ensures { TextsAreLegal link_body }
 {}
 
-/// The texts of any bytes are their own normal text.
+/// The texts of any bytes are already canonical: normalising them again changes nothing.
 pub fn texts_are_normal()
     ensures { TextsAreNormal link_body }
 {}
 
-/// The first fault of what follows a legal capture, whose size is a multiple of 4, is found as if it stood alone.
+/// Let a capture be legal, with a size that is a multiple of 4. The first fault of that capture
+/// followed by another is the first fault of the other, its offset increased by the size of the
+/// first.
 pub fn joined_captures_have_the_faults_of_the_second()
     ensures { JoinedFaults link_body }
 {}
 
-/// A legal capture, whose size is a multiple of 4, followed by another is legal exactly where the other is.
+/// Let a capture be legal, with a size that is a multiple of 4. That capture followed by another is
+/// legal if and only if the other is.
 pub fn joined_captures_are_legal()
     ensures { JoinedLegal link_body }
 {}
 
-/// Their texts are the two joined.
+/// The texts of two joined captures, of which the first is legal and has a size that is a multiple
+/// of 4, are their texts joined.
 pub fn joined_captures_have_joined_texts()
     ensures { JoinedTexts link_body }
 {}
@@ -41,7 +46,7 @@ pub fn faults_of_a_prefix_stay()
     ensures { PrefixFaults link_body }
 {}
 
-/// The texts of a prefix begin the texts of the whole.
+/// The texts of a prefix are a prefix of the texts of the whole.
 pub fn texts_of_a_prefix_stay()
     ensures { PrefixTexts link_body }
 {}
@@ -51,19 +56,20 @@ pub fn texts_are_small()
     ensures { TextsAreSmall link_body }
 {}
 
-/// A first fault stands inside the capture, at a multiple of 4, and is of a kind that a frame can have.
+/// A first fault is inside the capture, at a multiple of 4, and is of a kind that a frame can have.
 pub fn faults_stand_at_frames()
     ensures { FaultsStand link_body }
 {}
 
-/// The text of a body is its own text.
+/// The text of a body is already canonical.
 pub fn bodies_are_normal()
     ensures { BodiesAreNormal link_body }
 {}
 
-/// Where a capture is legal by the rule that kept peers as bytes and by the one in force, the normal text that it had by
-/// the old rule is legal by the one in force, and has the normal text that the capture has now. The same holds of any two
-/// rules of link bodies of which one renews the other.
+/// If a capture is legal under the rule that kept peers as bytes and under the rule in force, its
+/// text under the old rule is legal under the rule in force, and the normal text of that is the
+/// normal text of the capture. The same holds for any two rules of link bodies of which one
+/// migrates the other.
 pub fn old_captures_are_renewed()
     ensures { OldCapturesAreRenewed }
 {}
@@ -78,75 +84,83 @@ pub fn same_captures_are_legal()
     ensures { SameAreLegal link_body }
 {}
 
-/// Captures mean the same exactly where they are legal and have one normal text. A legal capture means what it means
-/// itself, and meaning the same goes both ways and on.
+/// Captures mean the same if and only if they are legal and their normal texts are equal. So
+/// equivalence is reflexive on legal captures, symmetric and transitive.
 pub fn texts_tell_meanings()
     ensures { TextsTellMeanings link_body }
 {}
 
-/// Two bodies of messages of one type that have texts mean the same exactly where these are equal.
+/// Two bodies of messages of one type that have texts mean the same if and only if these texts are
+/// equal.
 pub fn same_bodies_have_one_text()
     ensures { BodiesTellMeanings link_body }
 {}
 
-/// The text of a legal frame keeps its type, flags, sequence number and port number; its length and its body, too, but
-/// for a NOOP, a DONE without a code, and the messages of links, whose bodies are written by their rule.
+/// The text of a legal frame keeps its type, flags, sequence number and port number. It keeps its
+/// length and its body too, except for a NOOP, a DONE without a code, and messages of links, whose
+/// bodies are written by their rule.
 pub fn texts_keep_frames()
     ensures { TextsKeepFrames link_body }
 {}
 
-/// No frame of at most 883 bytes is refused for the lengths that it would be written with, under every lawful rule of
-/// peers, where the limit is at least 65559: each length inside its text fits, and the text is within the limit.
+/// Under every lawful rule of peers, a frame of at most 883 bytes is never refused because of the
+/// lengths in its text, if the limit is at least 65559: each length inside its text fits, and the
+/// text is within the limit.
 pub fn small_frames_fit()
     ensures { SmallFramesFit }
 {}
 
-/// An attribute that no table lists is kept with its kind, flag bits and payload, at any depth: one that a list keeps,
-/// or a list or a judged peer inside that is kept, stands in the text of the list, and of a link's frame, as it does in
-/// its bytes, under every lawful rule of peers.
+/// An attribute that no table lists is kept with its kind, flag bits and payload, at any depth: if
+/// a list keeps it, or keeps a list or a judged peer that has it inside, then it is in the text of
+/// the list, and in the text of a link's frame. This holds under every lawful rule of peers.
 pub fn unlisted_attributes_are_kept()
     ensures { UnlistedAttributesAreKept }
 {}
 
-/// A frame is judged by its own bytes: one that isn't cut is judged so whatever follows, and one that is has no
-/// header, or less than the length that its header tells.
+/// The result for a frame depends only on the frame's bytes: if a frame isn't cut, appended bytes
+/// don't change its result; a cut frame has fewer bytes than a header, or than the length in its
+/// header.
 pub fn frames_stand_alone()
     ensures { FramesStandAlone link_body }
 {}
 
-/// A capture is judged and written frame by frame: what stands before the place to which the whole frames of its
-/// first bytes reach is legal and written, whatever follows, and what stands behind it is judged by itself.
+/// A capture is judged and written frame by frame: the bytes up to the end of the whole frames are
+/// legal and have these texts, whatever follows, and the bytes after them are judged independently.
 pub fn captures_go_by_frames()
     ensures { CapturesGoByFrames link_body }
 {}
 
-/// The frame in front is judged by its header, then by its body, then by the size of its text, which is the header's,
-/// the body's, and padding.
+/// The first frame is judged by its header, then by its body, then by the size of its text, which
+/// is the sum of the sizes of the header, the body's text and the padding.
 pub fn frames_are_judged()
     ensures { FramesAreJudged link_body }
 {}
 
-/// A capture is counted frame by frame: its frames, their attributes and its text. Four times the attributes are at
-/// most its length.
+/// Frames, attributes and texts of a capture are counted frame by frame. Four times the number of
+/// attributes is at most the length of the capture.
 pub fn captures_are_counted()
     ensures { CapturesAreCounted link_body }
 {}
 
-/// The padding behind an accepted frame changes no answer: whatever bytes it has, and where some of it is missing at
-/// the end, the frame is the same, and so are the first fault, the texts, the frames and the attributes.
+/// The padding after an accepted frame changes no result: whatever its bytes are, and if some is
+/// missing at the end, the frame is the same, and so are the first fault, the texts, and the
+/// numbers of frames and attributes.
 pub fn padding_is_passed()
     ensures { PaddingIsPassed link_body }
 {}
 
-/// Whether captures mean the same is found frame by frame: they do as far as the frames in front are legal and do, and
-/// what is behind these; where one ends, both end. Frames of the same bytes do where one is legal.
+/// Equivalence of captures is decided frame by frame: two captures that aren't empty mean the same
+/// if and only if their first frames are legal and mean the same, and the bytes after these mean
+/// the same; an empty capture means the same as an empty one only. Two frames with equal bytes mean
+/// the same if one is legal.
 pub fn sameness_goes_by_frames()
     ensures { SamenessGoesByFrames link_body }
 {}
 
-/// These laws hold under every lawful rule of link bodies, that of `sameness_goes_by_frames` where the rule accepts
-/// nothing without a header. Those of unlisted attributes and of small frames speak of tables, and hold under every
-/// lawful rule of peers; that of old captures speaks of two rules.
+/// All these laws hold under every lawful rule of link bodies. `sameness_goes_by_frames` also needs
+/// a rule that accepts nothing without a header; the laws of unlisted attributes and small frames
+/// are about tables, and hold under every lawful rule of peers; the law of old captures is about
+/// two rules.
 pub fn captures_stand_under_every_rule()
     ensures { CapturesStandUnderEveryRule }
 {}

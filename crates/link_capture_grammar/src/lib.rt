@@ -1,4 +1,4 @@
-// The grammar of captures: frames, faults, normal texts, and its laws.
+// The grammar of captures: frames, faults and normal texts, and its laws.
 #![tactic(auto)]
 
 pub mod fault;

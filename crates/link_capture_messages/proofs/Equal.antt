@@ -25,7 +25,7 @@ stable : (b : Bool) → (b ≡ false → ⊥) → b ≡ true
 stable true h = refl
 stable false h = absurd (h refl)
 
--- two readable messages of one text are equal
+-- two readable messages with the same text are equal
 pub one_text : (m k : LinkMessage) → IsReadable m → IsReadable k → link_message_text m ≡ link_message_text k → equal_messages m k ≡ true
 one_text m k p q e =
     stable (equal_messages m k) (λ f. not_there p.again (λ x. not_there q.again (λ y.

@@ -15,7 +15,7 @@ use Rattle.link_capture_messages.proofs.ReadAgain.{own}
 pub one_message : EqualTextsMeanEqualMessages → (t : List ℕ) (m n : LinkMessage) → IsReadFrom t m → IsReadFrom t n → equal_messages m n ≡ true
 one_message law t m n r s = law m n (r.family ∙ sym s.family) r.names_row s.names_row (r.text ∙ sym s.text)
 
--- what the one says, the other says
+-- if one message that is read from these bytes is equal to m, so is every other
 alike : EqualTextsMeanEqualMessages → (t : List ℕ) (m n k : LinkMessage) → IsReadFrom t n → IsReadFrom t k → says_the_same m k ≡ true → says_the_same m n ≡ true
 alike law t m n k r s h =
     let a = and_parts (equal_messages k m) (link_message_fits k && bytes_eq (link_message_text k) (link_message_text m)) h in

@@ -1,4 +1,4 @@
--- What is known of the bodies of other messages, which are kept.
+-- The bodies of other messages, which are kept.
 use Rattle.link_capture_messages.specs.RoundTrips.{other_text, other_wants}
 
 pub ruleset others = (other_text, other_wants)

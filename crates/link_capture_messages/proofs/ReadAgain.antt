@@ -1,4 +1,4 @@
--- A message that was read fits or doesn't, and is read again from what it is written as.
+-- A message that was read fits or doesn't, and is read back equal from what it is written as.
 use Rattle.std.proofs.Common.{◌≡◌, ℕ, ◌≤◌, List, [], ◌∷◌, ◌++◌, Ok, Err, Bool, true, false, cond, refl, sym, ap, subst, ◌∙◌, arith}
 use Rattle.std.specs.Prelude.{◌&&◌, bytes_eq, slice_index, length}
 use Rattle.std.proofs.lemmas.Bool.{and_parts, and_from, leb-true}
@@ -28,7 +28,7 @@ ruled_empty b a p = rw (a, p) refl
 pub ruled_unfit : (b : List ℕ) → link_body.accepted b ≡ true → link_body.empty_ports b ≡ false → link_body.fits b ≡ false → ruled_text link_body b ≡ Err unfit
 ruled_unfit b a p f = rw (a, p, f) refl
 
--- a text that is its own
+-- a text that is already canonical
 pub record Own (t : List ℕ) : Type 0 where
   pub accepted : link_body.accepted t ≡ true
   pub canonical : link_body.canonical t ≡ t
@@ -85,9 +85,9 @@ readable_from law parts b m r ports s f =
       );
     }
 
--- ---- a message that is read again
+-- ---- a message that is read back
 
--- what a reader says of some bytes, of the bytes that they are
+-- the contract of a reader, for the bytes of a slice
 pub read_from : (b t : List ℕ) (n : LinkMessage) → b ≡ t → link_body.accepted b ≡ true → n.header.interface_family ≡ address_family_of (slice_index b 0) → link_message_text n ≡ link_body.canonical b → link_message_names_row n → link_message_fits n ≡ link_body.fits b → IsReadFrom t n
 read_from b t n e a f x r s = subst (λ (y : List ℕ). IsReadFrom y n) e (record { accepted = a; family = f; text = x; names_row = r; fits = s })
 

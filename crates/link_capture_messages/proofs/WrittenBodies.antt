@@ -1,4 +1,4 @@
--- The body that the core writes of a frame that was read, and that a frame whose body has a text is read.
+-- The core writes the canonical body of a frame that was read, and a frame whose body has a text is read.
 use Rattle.std.proofs.Common.{◌≡◌, ℕ, ltb, eqb, Bool, true, false, cond, List, length, Ok, Option, None, Some, refl, sym, ap, ◌∙◌, inl, inr}
 use Rattle.std.specs.Prelude.{◌⊎◌, ◌≢◌, option_map}
 use Rattle.std.specs.Option.{is_some}
@@ -18,7 +18,7 @@ use Rattle.link_capture_messages.specs.Routes.{reads_route, typed_text}
 use Rattle.link_capture_grammar.proofs.Frames.{guard}
 use Rattle.link_capture_grammar.proofs.Same.{error_is}
 
--- OVERRUN is none of the types of links
+-- OVERRUN isn't a type of links
 overrun : (t : ℕ) → eqb t 4 ≡ true → is_link_type t ≡ false
 overrun t h = rw (eqb-true t 4 h) refl
 
@@ -32,7 +32,7 @@ last_written t b text h =
       | inr k ↦ rw k refl
     ]
 
--- the body that the core writes is the canonical one
+-- the body that the core writes is canonical
 pub body_written : (t : ℕ) (b text : List ℕ) → body_text t b ≡ Ok text → written_body text t b ≡ text
 unfolding body_text_under
 body_written t b text h =
@@ -50,7 +50,7 @@ body_written t b text h =
       ])
     ]
 
--- ---- what has a text is read
+-- ---- a body that has a text is read
 
 mapped : {A B : Type 0} (f : A → B) (o : Option A) → is_some o ≡ true → is_some (option_map f o) ≡ true
 mapped f None h = h

@@ -4,12 +4,13 @@ use Rattle.link_capture_messages.specs.declared.route.RouteLink.{RouteLink}
 use Rattle.link_capture_messages.specs.contracts.route.RouteLinkPartialEq.TheImpl as equality
 use Rattle.link_capture_messages.specs.Routes.{route_entry, reads_route}
 
--- two messages of one type whose bodies are the same bytes are equal, by `==`
+-- Two messages of one type whose bodies have the same bytes are equal by `==`.
 abbrev pub EqualEntriesMeanEqualRoutes : Type 0
 EqualEntriesMeanEqualRoutes =
     (x y : RouteLink) → route_entry x ≡ route_entry y → (equality.ghosts).eq x y ≡ true
 
--- what a message's own type and body are read as is equal to the message, by `==`
+-- If the type and body of a message are read as a message with the same type and body, that is equal to the message by
+-- `==`.
 abbrev pub RoutesReadBackEqual : Type 0
 RoutesReadBackEqual =
     (x y : RouteLink) → reads_route (route_entry x).0 (route_entry x).1 ≡ Some (route_entry y) →

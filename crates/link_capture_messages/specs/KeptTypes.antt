@@ -1,7 +1,7 @@
 -- The types of messages whose bodies are kept as they are.
 use Rattle.std.specs.Prelude.{ℕ, ◌≤◌}
 
--- a type outside 1 to 4, the control messages, and 16 to 19, the messages of links
+-- A type outside 1 to 4, the control messages, and 16 to 19, the link messages.
 pub record IsKeptType (t : ℕ) : Type 0 where
   pub no_control : 1 ≤ t → 5 ≤ t
   pub no_link : 16 ≤ t → 20 ≤ t

@@ -1,4 +1,4 @@
--- The messages of a capture, one after the other.
+-- The messages of a capture, as an iterator yields them.
 use Rattle.std.specs.Prelude.{◌≡◌, ◌≢◌, ℕ, ◌+◌, ◌≤◌, ◌<◌, List, [], length, drop, Option, None, Some, Result, Ok, Err}
 use Rattle.netlink_packet_core_grammar.specs.Attributes.{nla_align}
 use Rattle.netlink_packet_core.specs.NetlinkMessage.{NetlinkMessage}
@@ -8,24 +8,25 @@ use Rattle.link_capture_grammar.specs.Captures.{first_fault, first_frame, raised
 use Rattle.link_capture_messages.specs.declared.route.RouteLink.{RouteLink}
 use Rattle.link_capture_messages.specs.Texts.{GivesMessage}
 
--- what a walk over the messages of a capture has left: those from a place on; after a fault nothing of nothing
+-- The state of an iterator over the messages of a capture: those from `place` on remain; after a fault the capture is
+-- replaced by an empty one.
 pub record MessagesLeft : Type 0 where
   pub limit : ℕ
   pub capture : List ℕ
   pub place : ℕ
 
--- what stands before the place is legal: the first fault is that of the rest
+-- The invariant of the iterator: the bytes before the offset are legal, so the first fault is that of the rest.
 pub record AreLeft (s : MessagesLeft) : Type 0 where
   pub near : s.place ≤ length s.capture + 3
   pub fault : first_fault s.limit s.capture ≡ raised s.place (first_fault s.limit (drop s.place s.capture))
 
--- the fault is the capture's first one, or it is want of memory at an accepted frame
+-- The fault is the capture's first one, or an allocation failed at an accepted frame.
 pub record GivesFault (s : MessagesLeft) (fault : CaptureFault) : Type 0 where
   pub place : fault.offset ≡ s.place
   pub first : fault.kind ≢ FaultKind.Memory → first_fault s.limit s.capture ≡ Some fault
   pub memory : fault.kind ≡ FaultKind.Memory → (n : ℕ) × (text : List ℕ) × (first_frame s.limit (drop s.place s.capture) ≡ Ok (n, text))
 
--- the next message, or the fault, or the end of a legal capture
+-- A step of the iterator yields the next message, the fault, or the end of a legal capture.
 abbrev pub IsNext : MessagesLeft → Option (Result (NetlinkMessage RouteLink) CaptureFault) → MessagesLeft → Type 0
 IsNext s None t = (length s.capture ≤ s.place) × IsLegal s.limit s.capture × (t ≡ s)
 IsNext s (Some (Ok message)) t =

@@ -1,4 +1,4 @@
--- Messages of links that are read back as they are written.
+-- Link messages that are read back equal from the bytes that they are written as.
 use Rattle.std.specs.Prelude.{◌≡◌, ◌⊎◌, ℕ, ◌&&◌, Bool, true, false, List, Ok, bytes_eq, slice_index}
 use Rattle.link_capture_grammar.specs.Bodies.{ruled_text}
 use Rattle.link_message_grammar.specs.Body.{link_body}
@@ -7,7 +7,7 @@ use Rattle.link_message.specs.declared.message.LinkMessage.{LinkMessage}
 use Rattle.link_message.specs.LinkMessages.{link_message_text, link_message_fits, link_message_names_row}
 use Rattle.link_message.specs.contracts.message.LinkMessagePartialEq.TheImpl as link_message_eq
 
--- what is known of the message that a body is read as
+-- What is known of a message that is read from a body with these bytes.
 pub record IsReadFrom (bytes : List ℕ) (m : LinkMessage) : Type 0 where
   pub accepted : link_body.accepted bytes ≡ true
   pub family : m.header.interface_family ≡ address_family_of (slice_index bytes 0)
@@ -15,21 +15,22 @@ pub record IsReadFrom (bytes : List ℕ) (m : LinkMessage) : Type 0 where
   pub names_row : link_message_names_row m
   pub fits : link_message_fits m ≡ link_body.fits bytes
 
--- two messages are equal, by `==`
+-- Two messages are equal by `==`. Equal vectors may be at different addresses, so to the prover they aren't one value.
 abbrev pub equal_messages : LinkMessage → LinkMessage → Bool
 equal_messages = (link_message_eq.ghosts).eq
 
--- the second says what the first does: it is equal, fits, and is written as the same bytes
+-- The message n is equal to m, fits, and is written as the same bytes.
 abbrev pub says_the_same : LinkMessage → LinkMessage → Bool
 says_the_same m n = equal_messages n m && (link_message_fits n && bytes_eq (link_message_text n) (link_message_text m))
 
--- it fits, and what it is written as is legal and is read as a message that says the same
+-- The message fits, and the bytes that it is written as are legal, and are read as an equal message that is written as
+-- the same bytes.
 pub record IsReadable (m : LinkMessage) : Type 0 where
   pub fits : link_message_fits m ≡ true
   pub text : ruled_text link_body (link_message_text m) ≡ Ok (link_message_text m)
   pub again : ∥ ((n : LinkMessage) × IsReadFrom (link_message_text m) n × (says_the_same m n ≡ true)) ∥₁
 
--- what it is written as is refused, has ports of which nothing is kept, or is read as a message that says something else
+-- The bytes that a message is written as are refused, have ports that keep no entry, or are read as another message.
 abbrev pub ReadsAsAnother : LinkMessage → Type 0
 ReadsAsAnother m =
     (link_body.accepted (link_message_text m) ≡ false)

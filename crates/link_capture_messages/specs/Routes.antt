@@ -1,4 +1,4 @@
--- Messages of captures: types and bodies, what is read, and why a body is refused.
+-- Messages of captures: their types and bodies, how these are read, and why a body is refused.
 use Rattle.std.specs.Prelude.{◌≡◌, ◌&&◌, ◌||◌, nat_lt, ℕ, List, length, Bool, true, false, Option, Some, None, Result, Ok, Err, is_ok}
 use Rattle.netlink_packet_core.specs.TypedBodies.{TypedBody}
 use Rattle.link_capture_grammar.specs.Bodies.{Refusal, refused, empty_ports, unfit, body_text, is_link_type}
@@ -6,25 +6,27 @@ use Rattle.link_capture_messages.specs.declared.fault.RouteFault.{RouteFault}
 use Rattle.link_capture_messages.specs.declared.route.RouteLink.{RouteLink}
 use Rattle.link_capture_messages.specs.Views.{other_type, other_bytes, readable_text}
 
--- what a refusal, other than want of memory, says of a body's text
+-- The error, unless it is out of memory, is the reason why the body has no text.
 abbrev pub TellsOf : RouteFault → Result (List ℕ) Refusal → Type 0
 TellsOf RouteFault.Refused outcome = outcome ≡ Err refused
 TellsOf RouteFault.EmptyPorts outcome = outcome ≡ Err empty_ports
 TellsOf RouteFault.Unfit outcome = outcome ≡ Err unfit
 TellsOf RouteFault.Memory outcome = Unit {0}
 
+-- The error, unless it is out of memory, is the reason why the body of type t has no text.
 abbrev pub route_tells : RouteFault → ℕ → List ℕ → Type 0
 route_tells fault t b = TellsOf fault (body_text t b)
 
+-- The error is out of memory.
 abbrev pub route_wants_memory : RouteFault → Bool
 route_wants_memory RouteFault.Memory = true
 route_wants_memory _ = false
 
--- reading a body may want memory where it has a text; one that is kept, where it has bytes
+-- Reading a body of type t may run out of memory: it has a text, and is a link's or has bytes.
 abbrev pub route_may_want_memory : ℕ → List ℕ → Bool
 route_may_want_memory t b = is_ok (body_text t b) && (is_link_type t || nat_lt 0 (length b))
 
--- the type of a message, and the bytes of its body
+-- The type of a message, and the bytes of its body.
 abbrev pub route_entry : RouteLink → TypedBody
 route_entry (RouteLink.NewLink link) = (16, readable_text link)
 route_entry (RouteLink.DelLink link) = (17, readable_text link)
@@ -32,11 +34,11 @@ route_entry (RouteLink.GetLink link) = (18, readable_text link)
 route_entry (RouteLink.SetLink link) = (19, readable_text link)
 route_entry (RouteLink.Other message) = (other_type message, other_bytes message)
 
--- the type with the text
+-- The type with the text, if there is one.
 abbrev pub typed_text : ℕ → Result (List ℕ) Refusal → Option TypedBody
 typed_text t (Ok text) = Some (t, text)
 typed_text t (Err why) = None
 
--- a body is read as a message that is written as its type and its canonical text
+-- The type and canonical text of the message that a body of type t is read as.
 abbrev pub reads_route : ℕ → List ℕ → Option TypedBody
 reads_route t b = typed_text t (body_text t b)

@@ -1,4 +1,4 @@
--- The messages of frames.
+-- The messages that frames are read as.
 use Rattle.std.specs.Prelude.{◌≡◌, ℕ, List, Ok, Some}
 use Rattle.netlink_packet_core.specs.Frames.{frame_type, frame_body, frame_text}
 use Rattle.netlink_packet_core.specs.Messages.{message_text, message_value, read_message, finalized, unpadded_text}
@@ -8,8 +8,8 @@ use Rattle.link_capture_grammar.specs.Captures.{first_frame}
 use Rattle.link_capture_messages.specs.declared.route.RouteLink.{RouteLink}
 use Rattle.link_capture_messages.specs.Routes.{route_entry, reads_route}
 
--- The frame in front is accepted, n is its length, and m its message: what the core reads of the bytes, and, once it is
--- finalized, written as the frame's text without its padding.
+-- The first frame is accepted, n is its length, and m is its message: m is what the core reads from the bytes, and once
+-- m is finalized, it is written as the frame's text without its padding.
 pub record GivesMessage (limit : ℕ) (c : List ℕ) (n : ℕ) (m : NetlinkMessage RouteLink) : Type 0 where
   pub body : List ℕ
   pub judged : body_text (frame_type c) (frame_body c) ≡ Ok body

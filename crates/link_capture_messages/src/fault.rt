@@ -2,19 +2,20 @@
 
 use thiserror::Error;
 
-/// Why the body of a message is refused; the first that holds, in this order, but for want of memory.
+/// Why the body of a message is refused: the first that applies, in this order; but an allocation
+/// may fail for any body that has a text.
 #[derive(Clone, Copy, Debug, PartialEq, Eq, Drop, Error)]
 pub enum RouteFault {
-    /// It isn't accepted.
+    /// The body isn't accepted.
     #[error("refused body")]
     Refused,
-    /// It holds a list of ports of which nothing is kept.
+    /// The body has a list of ports that keeps no entry.
     #[error("ports with foreign entries alone")]
     EmptyPorts,
     /// An attribute of its canonical text is over 65535 bytes.
     #[error("attribute over 65535")]
     Unfit,
-    /// No memory was to be had.
+    /// An allocation failed.
     #[error("no memory")]
     Memory,
 }

@@ -14,11 +14,14 @@ use netlink_packet_core::NetlinkMessage;
 use netlink_packet_core::laws::read_frames_keep_their_header;
 use std::alloc::Global;
 
-/// Reads the frame in front of these bytes: its length in bytes, without padding, and its message. `limit` is the
-/// greatest length in bytes that a message, read or written, may have.
+/// Reads the first frame of `bytes`: returns its length in bytes, without padding, and its message.
+/// `limit` is the greatest length in bytes of a message, as read and as written. Allocates the
+/// message.
 ///
-/// The frame is judged on its bytes first, as `push_frame` judges it, so want of memory is answered of an accepted
-/// frame alone, and never of one of which nothing is kept, as a NOOP.
+/// # Errors
+///
+/// The fault of the frame, as `push_frame` returns it; or `Memory` if an allocation fails, which
+/// happens only for an accepted frame, and never for one of which nothing is kept, such as a NOOP.
 pub fn read_message(
     alloc: Global,
     bytes: &[u8],
@@ -45,7 +48,8 @@ pub fn read_message(
     }
 }
 
-/// The same, as a walk over a capture needs it: what is kept of a message isn't told.
+/// Reads the first frame as `read_message` does; its contract leaves out which frames need memory,
+/// since an iterator over a capture doesn't use that.
 pub(super) fn read_front(
     alloc: Global,
     bytes: &[u8],

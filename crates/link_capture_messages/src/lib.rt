@@ -1,5 +1,5 @@
-// The messages of captures: those of links, which are read back as they are written, and others, which
-// are kept as they are. And those of a capture, one after the other.
+// The messages of captures: link messages, which are read back as they are written, and others,
+// whose bodies are kept as they are; and an iterator over the messages of a capture.
 #![tactic(auto)]
 
 mod fault;

@@ -1,4 +1,4 @@
-//! The messages of a capture, one after the other.
+//! An iterator over the messages of a capture.
 
 ghost use Rattle.std.specs.Prelude.{◌≡◌, ◌≤◌, ◌+◌, ◌-◌, length};
 ghost use Rattle.std.specs.Iterator.{at_most};
@@ -12,8 +12,8 @@ use netlink_packet_core::{NetlinkMessage, nla_align};
 use std::alloc::Global;
 use std::marker::Model;
 
-/// The messages of a capture in order, then its first fault where it isn't legal, or want of memory; then `None` for
-/// good.
+/// Yields the messages of a capture in order, each as an Ok; then, if the capture isn't legal or an
+/// allocation fails, the fault as an Err; then `None` for ever.
 #[derive(Drop)]
 pub struct Messages<'a> {
     alloc: Global,
@@ -35,7 +35,8 @@ impl<'a> Model for Messages<'a> {
 }
 
 impl<'a> Messages<'a> {
-    /// The messages of a capture. `limit` is the greatest length in bytes that a message, read or written, may have.
+    /// Returns an iterator over the messages of a capture. `limit` is the greatest length in bytes
+    /// of a message, as read and as written. Allocates nothing until `next` is called.
     pub fn new(alloc: Global, bytes: &'a [u8], limit: u32) -> Self
         ensures limit { result.limit ≡ limit }
         ensures capture { result.capture ≡ bytes.now }
@@ -49,8 +50,8 @@ impl<'a> Messages<'a> {
         }
     }
 
-    /// The place of the next message in bytes from the capture's start, which is its size, or up to 3 bytes more,
-    /// behind the last; 0 after a fault.
+    /// Returns the offset of the next message in bytes from the capture's start. After the last
+    /// message it is the capture's size, or up to 3 bytes more; after a fault it is 0.
     pub fn place(&self) -> usize
         ensures place { result ≡ self.now.place }
         ensures near { result ≤ length self.now.capture + 3 }

@@ -10,15 +10,16 @@ use netlink_packet_core::{ByteVec, NLMSG_NOOP, NLMSG_OVERRUN};
 use std::alloc::{AllocError, Global};
 
 impl OtherMessage {
-    /// Whether the bodies of messages of a type are kept as they are: the type is outside 1 to 4
-    /// and 16 to 19.
+    /// Returns whether the bodies of messages of a type are kept as they are: the type is outside 1
+    /// to 4 and 16 to 19.
     pub fn is_kept_type(message_type: u16) -> bool
         ensures { IsTrue result ↔ IsKeptType message_type }
     {
         !matches!(message_type, NLMSG_NOOP..=NLMSG_OVERRUN | RTM_NEWLINK..=RTM_SETLINK)
     }
 
-    /// A message of a type, see `is_kept_type`, and the bytes of its body.
+    /// Returns a message of a type, see `is_kept_type`, with the bytes of its body. Allocates
+    /// nothing.
     pub fn new(message_type: u16, bytes: Vec<u8>) -> Self
         requires { IsKeptType message_type }
         ensures message_type { other_type result ≡ message_type }
@@ -30,7 +31,8 @@ impl OtherMessage {
         }
     }
 
-    /// A message of a type, see `is_kept_type`, with a copy of the bytes of its body. No memory is taken for none.
+    /// Returns a message of a type, see `is_kept_type`, with a copy of the bytes of its body.
+    /// Allocates nothing for an empty body.
     pub(crate) fn from_slice(
         alloc: Global,
         message_type: u16,
@@ -47,7 +49,7 @@ impl OtherMessage {
         })
     }
 
-    /// The type of the message.
+    /// Returns the type of the message.
     pub fn message_type(&self) -> u16
         ensures same_type { result ≡ other_type self.now }
         ensures kept { IsKeptType result }
@@ -55,14 +57,14 @@ impl OtherMessage {
         self.message_type
     }
 
-    /// The bytes of its body.
+    /// Returns the bytes of its body.
     pub fn bytes(&self) -> &[u8]
         ensures { result.now ≡ other_bytes self.now }
     {
         self.bytes.as_slice()
     }
 
-    /// The bytes of its body, as a vector.
+    /// Returns the bytes of its body, as a vector.
     pub fn into_bytes(self) -> Vec<u8>
         ensures { result.items ≡ other_bytes self }
     {

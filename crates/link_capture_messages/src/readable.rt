@@ -1,4 +1,4 @@
-//! Messages of links that are read back as they are written.
+//! Link messages that are read back equal from the bytes that they are written as.
 
 ghost use Rattle.std.specs.Prelude.{◌≡◌, ◌≢◌, ◌↔◌, Ok, true, false, is_ok, IfOk, IfErr, OnOk};
 ghost use Rattle.link_capture_grammar.specs.Bodies.{ruled_text};
@@ -33,15 +33,15 @@ pub enum NotReadable {
 }
 
 impl ReadableLink {
-    /// Returns the message as a readable one: it fits, and its text is legal and is read back as an
-    /// equal message with the same text.
+    /// Returns the message as a readable one, if it fits, and its text is legal and is read back as
+    /// an equal message with the same text. Allocates the text and the message that is read back.
     ///
     /// # Errors
     ///
-    /// Each error gives the message back unchanged. `Unfit` is returned if and only if the message
-    /// doesn't fit. Of messages that fit, a readable one gives `Ok` and any other `ReadsOtherwise`,
-    /// unless an allocation fails: then either may give `Memory`, as the message is written and read
-    /// back to find out.
+    /// Each error returns the message unchanged. `Unfit` if and only if the message doesn't fit.
+    /// `ReadsOtherwise` if the message fits but isn't readable. `Memory` if an allocation fails,
+    /// which may happen for any message that fits, as the message is written and read back to find
+    /// out.
     pub fn new(
         alloc: Global,
         message: LinkMessage,
@@ -63,7 +63,7 @@ impl ReadableLink {
         }
     }
 
-    /// Reads the body of a message of links.
+    /// Reads the body of a link message.
     #[tactic(auto, using(crate::proofs::ReadAgain::readable))]
     pub(crate) fn read(alloc: Global, bytes: &[u8]) -> Result<ReadableLink, RouteFault>
         ensures ok { IfOk result (λ r. ruled_text link_body bytes.now ≡ Ok (readable_text r)) }
@@ -87,7 +87,7 @@ impl ReadableLink {
         Ok(ReadableLink { message })
     }
 
-    /// The message.
+    /// Returns the message.
     pub fn message(&self) -> &LinkMessage
         ensures message { result.now ≡ readable_message self.now }
         ensures readable { IsReadable result.now }
@@ -95,7 +95,7 @@ impl ReadableLink {
         &self.message
     }
 
-    /// The message, by value.
+    /// Returns the message, by value.
     pub fn into_message(self) -> LinkMessage
         ensures message { result ≡ readable_message self }
         ensures readable { IsReadable result }
@@ -105,7 +105,8 @@ impl ReadableLink {
     }
 }
 
-// Why a body isn't read that `LinkMessage::parse` gave no message of: it has no text, or memory was wanting.
+// Returns the reason why `LinkMessage::parse` returned no message for a body: it has no text, or an
+// allocation failed.
 fn fault_of_unread(bytes: &[u8]) -> RouteFault
     ensures tells { TellsOf result (ruled_text link_body bytes.now) }
     ensures memory { result ≡ RouteFault.Memory → is_ok (ruled_text link_body bytes.now) ≡ true }
@@ -118,7 +119,7 @@ fn fault_of_unread(bytes: &[u8]) -> RouteFault
     }
 }
 
-/// What a message is written as.
+/// Returns the bytes that a message is written as.
 fn write_message(alloc: Global, message: &LinkMessage) -> Result<Vec<u8>, NotReadable>
     requires { link_message_fits message.now ≡ true }
     ensures ok { IfOk result (λ text. text.items ≡ link_message_text message.now) }
@@ -135,7 +136,8 @@ fn write_message(alloc: Global, message: &LinkMessage) -> Result<Vec<u8>, NotRea
     Ok(text)
 }
 
-/// Whether the second message says what the first does, which is written as `text`.
+/// Returns whether the second message is equal to the first one, which is written as `text`, and is
+/// written as the same bytes.
 fn says_the_same(
     alloc: Global,
     text: &[u8],
@@ -152,7 +154,7 @@ fn says_the_same(
     Ok(write_message(alloc, again)?.as_slice() == text)
 }
 
-/// Whether a message is read back as it is written.
+/// Returns Ok if a message is read back equal from the bytes that it is written as.
 #[tactic(auto, using(crate::proofs::ReadAgain::reads_back))]
 fn reads_back(alloc: Global, message: &LinkMessage) -> Result<(), NotReadable>
     ensures ok { OnOk result (IsReadable message.now) }

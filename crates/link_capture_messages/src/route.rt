@@ -13,18 +13,19 @@ use netlink_packet_core::{
 };
 use std::alloc::Global;
 
-/// A message of a capture: of links, or of any other type. Control messages are `NetlinkPayload`'s own.
+/// A message of a capture: of links, or of any other type. `NetlinkPayload` has the control
+/// messages.
 #[derive(Debug, PartialEq, Eq, Drop)]
 pub enum RouteLink {
-    /// `RTM_NEWLINK`, 16: a link is there, or is to be made.
+    /// `RTM_NEWLINK`, 16: a link exists, or is to be made.
     NewLink(ReadableLink),
     /// `RTM_DELLINK`, 17: a link is gone, or is to be deleted.
     DelLink(ReadableLink),
-    /// `RTM_GETLINK`, 18: links are asked for.
+    /// `RTM_GETLINK`, 18: a request for links.
     GetLink(ReadableLink),
     /// `RTM_SETLINK`, 19: a link is to be changed.
     SetLink(ReadableLink),
-    /// A message of another type, kept as it is.
+    /// A message of another type, whose body is kept as it is.
     Other(OtherMessage),
 }
 

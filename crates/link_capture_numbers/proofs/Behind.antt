@@ -9,7 +9,7 @@ use Rattle.link_capture_numbers.specs.Cleared.{is_frame, front_cleared, numbers_
 use Rattle.link_capture_numbers.proofs.Steps.{length_of, whole}
 use Rattle.link_capture_numbers.proofs.Zeros.{front}
 
--- the bytes behind a place, with others in their place
+-- the bytes after an offset are replaced by others
 pub put_behind : (at : ℕ) (text new : List ℕ) → at ≤ length text → put_mid at (length text - at) text new ≡ take at text ++ new
 put_behind at text new h =
     let size = length-drop at text in
@@ -19,7 +19,7 @@ put_behind at text new h =
 pub mid_behind : (at : ℕ) (text : List ℕ) → at ≤ length text → mid_of at (length text - at) text ≡ drop at text
 mid_behind at text h = take_all (length text - at) (drop at text) (omega (arith, length-drop at text))
 
--- one frame more is done
+-- one more frame is cleared
 pub stepped : (at n m : ℕ) (text whole' : List ℕ) → at ≤ length text → is_frame (drop at text) ≡ true → n ≡ nla_align (frame_length (drop at text)) → m ≡ min n (length text - at)
     → take at text ++ numbers_cleared (drop at text) ≡ whole'
     → take (at + m) (take at text ++ front_cleared (drop at text)) ++ numbers_cleared (drop (at + m) (take at text ++ front_cleared (drop at text))) ≡ whole'
@@ -43,7 +43,7 @@ stepped at n m text whole' h f e i w =
     ∙ sym (ap (λ z. take at text ++ z) (whole rest f))
     ∙ w
 
--- the bytes stay as many
+-- the number of bytes stays the same
 pub kept_size : (at : ℕ) (text : List ℕ) → at ≤ length text → is_frame (drop at text) ≡ true → length (take at text ++ front_cleared (drop at text)) ≡ length text
 kept_size at text h f =
     let rest : List ℕ = drop at text in

@@ -17,7 +17,7 @@ use Rattle.link_capture_numbers.proofs.Judged.{judged, judged_cleared}
 use Rattle.link_capture_numbers.proofs.ClearedTexts.{front_of_text}
 use Rattle.link_capture_grammar.proofs.Frames.{accepted, by_frames, fault_step, fault_stop, texts_step, texts_stop}
 
--- what stands behind the front of a cleared capture
+-- the bytes after the start of a cleared capture
 behind_by : (c : List ℕ) (n : ℕ) (f rest : List ℕ) (b : Bool) → length f ≡ length c → nat_lt (length c) n ≡ b → (drop n c ≡ [] → rest ≡ []) → drop n (take n f ++ rest) ≡ rest
 behind_by c n f rest false e l h =
     let k = ltb-false (length c) n l in
@@ -33,7 +33,7 @@ nothing : (c : List ℕ) → c ≡ [] → numbers_cleared c ≡ []
 unfolding numbers_cleared cleared_after
 nothing c e = subst (λ z. numbers_cleared z ≡ []) (sym e) refl
 
--- what stands behind the frame in front of a cleared capture
+-- the bytes after the first frame of a cleared capture
 pub behind : (c : List ℕ) → is_frame c ≡ true → drop (nla_align (frame_length c)) (numbers_cleared c) ≡ numbers_cleared (drop (nla_align (frame_length c)) c)
 behind c f =
     let n = nla_align (frame_length c) in
@@ -52,7 +52,7 @@ frame_is limit c frame a =
     (and_from (nat_le 16 (frame_length c)) (nat_le (frame_length c) (length c)) (le-leb 16 (frame_length c) (omega (arith, low, is))) (le-leb (frame_length c) (length c) (omega (arith, inside, is))))
 
 module _ (limit : ℕ) (small : limit < 2 ^ 32) where
-  -- the frame in front of a cleared capture
+  -- the first frame of a cleared capture
   first_cleared : (c : List ℕ) → is_frame c ≡ true → first_frame limit (numbers_cleared c) ≡ judged_cleared (first_frame limit c)
   first_cleared c f =
       let bounds = length_of c f in

@@ -1,4 +1,4 @@
--- The text of an accepted frame, in front of others.
+-- The text of an accepted frame, followed by others.
 use Rattle.std.proofs.Common.{◌≡◌, ℕ, ◌+◌, ◌^◌, ◌<◌, ◌≤◌, Bool, true, false, cond, List, [], ◌++◌, length, take, drop, Ok, refl, sym, ap, ◌∙◌, append-nil, arith}
 use Rattle.std.proofs.lemmas.Bool.{and_from, le-leb}
 use Rattle.std.proofs.lemmas.List.{length-append, take_at, drop_at}
@@ -15,7 +15,7 @@ use Rattle.link_capture_numbers.proofs.Judged.{error_is, body_size}
 use Rattle.link_capture_grammar.proofs.Frames.{accepted}
 use Rattle.link_capture_grammar.proofs.Normal.{Texted, texted, frame_text_size, text_length}
 
--- ---- the text in front of other bytes
+-- ---- the text followed by other bytes
 
 front_joined_by : (t more : List ℕ) (b : Bool) → 16 ≤ length t → (b ≡ true → 36 ≤ length t) → cond b (zeros_at 28 (zeros_at 8 (t ++ more))) (zeros_at 8 (t ++ more)) ≡ cond b (zeros_at 28 (zeros_at 8 t)) (zeros_at 8 t) ++ more
 front_joined_by t more false h q = zeros_before 8 t more (omega (arith, h))

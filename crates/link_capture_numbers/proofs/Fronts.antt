@@ -1,4 +1,4 @@
--- The front of a capture whose numbers are cleared, beside that of the capture.
+-- The start of a capture whose numbers are cleared, compared with that of the capture.
 use Rattle.std.proofs.Common.{◌≡◌, ℕ, ◌+◌, ◌-◌, ◌<◌, ◌≤◌, Bool, true, false, cond, List, ◌++◌, length, take, drop, min, refl, sym, ap, ◌∙◌, arith}
 use Rattle.std.specs.Prelude.{get_or}
 use Rattle.std.proofs.lemmas.List.{length-append, length-take, length-take-le, length-drop, take-append-le, drop-append-le, drop-take, take-take, take_at, take-append-drop, get_or-take}
@@ -34,7 +34,7 @@ header_by c true e l m =
     let size = length-zeros 8 c (omega (arith, l, m)) in
     take-zeros 28 16 (zeros_at 8 c) (omega arith) (omega (arith, size, long, m)) ∙ header_zeros c (omega (arith, l, m))
 
--- the body, of which the numbers of a repeated header are cleared
+-- the body, with the numbers of a repeated header cleared
 abbrev pub body_cleared : List ℕ → List ℕ
 body_cleared c = cond (repeats_request c) (zeros_at 12 (frame_body c)) (frame_body c)
 
@@ -58,7 +58,7 @@ body_by c true e l m =
     let size = length-zeros 8 c (omega (arith, l, m)) in
     zeros_in_body (frame_length c) (zeros_at 8 c) long (omega (arith, size, m)) ∙ ap (λ z. zeros_at 12 (take (frame_length c - 16) z)) (drop-zeros 8 16 c (omega arith) (omega (arith, l, m)))
 
--- what the front of a cleared capture has of that of the capture
+-- how the start of a cleared capture relates to that of the capture
 pub record Shape (c d : List ℕ) : Type 0 where
   pub size : frame_length d ≡ frame_length c
   pub kind : frame_type d ≡ frame_type c
@@ -91,7 +91,7 @@ shape c more l m =
       long = omega (arith, all, reach);
     }
 
--- the fields behind the length
+-- the fields after the length
 pub fields : (c d : List ℕ) → 8 ≤ length c → take 16 d ≡ take 8 c ++ zeros 8 → take 12 (drop 4 d) ≡ take 4 (drop 4 c) ++ zeros 8
 fields c d h e =
     let eight : length (take 8 c) ≡ 8 = length-take-le 8 c h in

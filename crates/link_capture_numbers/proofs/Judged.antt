@@ -1,4 +1,4 @@
--- How a capture whose numbers are cleared is judged.
+-- The result for a frame of a capture whose numbers are cleared.
 use Rattle.std.proofs.Common.{◌≡◌, ℕ, ◌+◌, ◌-◌, ◌^◌, ◌<◌, ◌≤◌, Bool, true, false, cond, List, length, drop, Result, Ok, Err, refl, sym, ap, ◌∙◌, arith}
 use Rattle.std.specs.Prelude.{nat_eq, nat_le, nat_lt}
 use Rattle.std.proofs.lemmas.Bool.{and_parts, eqb-true, le-ltb, ltb-false, ltb-true}
@@ -22,7 +22,7 @@ judged_cleared (Err kind) = Err kind
 
 -- ---- bodies
 
--- the body of an ERROR of 4 bytes or more is its own text
+-- the body of an ERROR of 4 bytes or more is already canonical
 error_kept : (b : List ℕ) → 4 ≤ length b → body_text 2 b ≡ Ok b
 unfolding body_text_under
 error_kept b h = ap (λ z. cond z (Err refused) (Ok b)) (le-ltb (length b) 4 h)
@@ -61,7 +61,7 @@ body_told c d l m s = ap (λ t. body_text t (frame_body d)) s.kind ∙ ap (body_
 over_limit : (limit size n : ℕ) → 16 ≤ size → 16 ≤ n → nat_lt limit n ≡ true → (judged : Judged) → tested limit size n judged ≡ Err OverLimit
 over_limit limit size n h l e judged = rw (le-ltb size 16 h, le-ltb n 16 l, e) refl
 
--- by parts
+-- the law about the result for the first frame, whose fields are used below
 j : FramesAreJudged link_body
 j = in_force.frames_are_judged
 

@@ -12,7 +12,7 @@ passed zero c = refl
 passed (suc k) [] = refl
 passed (suc k) (b ∷ c) = passed k c
 
--- a whole frame has a length of at least 16, which its bytes reach
+-- a whole frame has a length of at least 16 and of at most its bytes
 pub length_of : (c : List ℕ) → is_frame c ≡ true → (16 ≤ frame_length c) × (frame_length c ≤ length c)
 length_of c h =
     let p = and_parts (nat_le 16 (length c)) (nat_le 16 (frame_length c) && nat_le (frame_length c) (length c)) h in

@@ -34,7 +34,7 @@ header_cleared c d text h e =
     ∙ ap (λ z. l ++ z) (zeros_before 4 (take 12 (drop 4 c)) (text ++ padding text) (omega (arith, size)))
     ∙ ap (λ z. l ++ (z ++ (text ++ padding text))) (fields_cleared c h ∙ sym e)
 
--- ---- and those of a header that is repeated
+-- ---- the numbers of a repeated header
 
 pub request_cleared : (d text : List ℕ) → length (take 12 (drop 4 d)) ≡ 12 → 20 ≤ length text → zeros_at 28 (frame_text d text) ≡ frame_text d (zeros_at 12 text)
 unfolding frame_text
@@ -47,7 +47,7 @@ request_cleared d text e h =
     ∙ ap (λ z. l ++ (m ++ z)) (zeros_before 12 text (padding text) (omega (arith, h)))
     ∙ ap (λ n. le4 (16 + n) ++ (m ++ (zeros_at 12 text ++ zeros (nla_align (16 + n) - (16 + n))))) (sym same)
 
--- ---- whether a text repeats one
+-- ---- whether a text repeats a header
 
 type_byte : (x y : List ℕ) (i : ℕ) → i < 12 → take 12 (drop 4 x) ≡ take 12 (drop 4 y) → get_or x (4 + i) 0 ≡ get_or y (4 + i) 0
 type_byte x y i l e =
@@ -67,7 +67,7 @@ text_repeats c text more h l q =
     ∙ ap (λ n. nat_eq (frame_type c) 2 && nat_le 36 n) (text_length c text more l)
     ∙ repeats_by c (16 + length text) (nat_eq (frame_type c) 2) refl q
 
--- ---- both
+-- ---- the numbers of both headers
 
 -- a body's text with the numbers of the header that it repeats cleared
 abbrev pub text_cleared : Bool → List ℕ → List ℕ

@@ -30,11 +30,12 @@ drop-zeros place n c p q = ap (drop n) (as_put place c) ∙ drop-put_mid place 8
 pub take-zeros : (place n : ℕ) (c : List ℕ) → n ≤ place → place ≤ length c → take n (zeros_at place c) ≡ take n c
 take-zeros place n c p q = ap (take n) (as_put place c) ∙ take-put_mid_below place 8 c (zeros 8) n p q
 
--- a header that is repeated is there
+-- a repeated header is inside the frame
 pub repeated : (c : List ℕ) → repeats_request c ≡ true → 36 ≤ frame_length c
 repeated c h = leb-true 36 (frame_length c) (and_parts (nat_eq (frame_type c) 2) (nat_le 36 (frame_length c)) h).1
 
--- the front of some bytes that begin with a whole frame: as long as before, and the same behind the frame and before the numbers
+-- Bytes that begin with a whole frame, before and after clearing: as long as before, and the same after the frame and
+-- before the numbers.
 pub record Front (c d : List ℕ) : Type 0 where
   pub size : length d ≡ length c
   pub behind : (n : ℕ) → frame_length c ≤ n → drop n d ≡ drop n c
@@ -59,7 +60,7 @@ pub front : (c : List ℕ) → 16 ≤ frame_length c → frame_length c ≤ leng
 unfolding front_cleared
 front c l m = front_by c (repeats_request c) refl l m
 
--- ---- zeros behind and in front of other bytes
+-- ---- zeros after and before other bytes
 
 pub zeros_behind : (place n : ℕ) (front' c : List ℕ) → length front' ≡ n → zeros_at (n + place) (front' ++ c) ≡ front' ++ zeros_at place c
 unfolding zeros_at

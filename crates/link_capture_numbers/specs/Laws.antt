@@ -5,12 +5,12 @@ use Rattle.netlink_packet_core_grammar.specs.Frames.{frame_length}
 use Rattle.link_capture_grammar.specs.Captures.{first_fault, texts}
 use Rattle.link_capture_numbers.specs.Cleared.{is_frame, front_cleared, numbers_cleared}
 
--- frame by frame
+-- Numbers are cleared frame by frame.
 pub record NumbersAreClearedByFrames : Type 0 where
   pub frame : (c : List ℕ) → is_frame c ≡ true → numbers_cleared c ≡ take (nla_align (frame_length c)) (front_cleared c) ++ numbers_cleared (drop (nla_align (frame_length c)) c)
   pub none : (c : List ℕ) → is_frame c ≡ false → numbers_cleared c ≡ c
 
--- a capture whose numbers are cleared has its first fault, and the cleared texts of the capture
+-- A capture whose numbers are cleared has the first fault of the capture, and the cleared texts of the capture.
 pub record ClearedCapturesHaveClearedTexts : Type 0 where
   pub fault : (limit : ℕ) (c : List ℕ) → limit < 2 ^ 32 → first_fault limit (numbers_cleared c) ≡ first_fault limit c
   pub texts_cleared : (limit : ℕ) (c : List ℕ) → limit < 2 ^ 32 → texts limit (numbers_cleared c) ≡ numbers_cleared (texts limit c)

@@ -1,4 +1,4 @@
-//! Zeros over the sequence and port numbers of messages.
+//! Clears the sequence and port numbers of messages.
 
 ghost use Rattle.std.specs.Prelude.{◌≡◌, ◌+◌, ◌<◌, ◌≤◌, ◌^◌, ◌++◌, true, false, length, take, drop, IfSome, IfNone};
 ghost use Rattle.netlink_packet_core_grammar.specs.Frames.{frame_length};
@@ -7,16 +7,17 @@ ghost use Rattle.link_capture_numbers.specs.Cleared.{is_frame, zeros_at, repeats
 use super::laws::numbers_are_cleared_by_frames;
 use netlink_packet_core::{NETLINK_HEADER_LEN, NLMSG_ERROR, NetlinkBuffer, nla_align};
 
-/// Where a message has its sequence number, behind which stands its port number: 4 bytes each.
+/// The offset of the sequence number in a message; the port number follows. Both have 4 bytes.
 const NUMBERS: usize = 8;
 
-/// Where an NLMSG_ERROR has the numbers of the request's header, which it repeats behind its own header and a code.
+/// The offset of the numbers in the request's header that an NLMSG_ERROR repeats after its own
+/// header and a code.
 const REQUEST_NUMBERS: usize = 28;
 
 /// The least length of an NLMSG_ERROR that repeats a request's header.
 const REPEATED_LEN: usize = 36;
 
-/// The length of the frame in front of some bytes, where they hold a whole one.
+/// Returns the length of the first frame, if it is whole.
 fn frame_len(bytes: &[u8]) -> Option<usize>
     ensures some { IfSome result (λ n. (is_frame bytes.now ≡ true) × (n ≡ frame_length bytes.now)) }
     ensures none { IfNone result (is_frame bytes.now ≡ false) }
@@ -32,7 +33,7 @@ fn frame_len(bytes: &[u8]) -> Option<usize>
     Some(size)
 }
 
-/// Writes zeros over 8 bytes.
+/// Writes zeros over the 8 bytes at `place`.
 fn clear_at(bytes: &mut [u8], place: usize)
     requires { place + 8 ≤ length bytes.old }
     ensures { bytes.new ≡ zeros_at place bytes.old }
@@ -40,7 +41,8 @@ fn clear_at(bytes: &mut [u8], place: usize)
     bytes[place..place + 8].copy_from_slice(&[0; 8]);
 }
 
-/// Whether the frame in front of some bytes, of this length, is an NLMSG_ERROR that repeats a request's header.
+/// Returns whether the first frame, of this length, is an NLMSG_ERROR that repeats a request's
+/// header.
 fn repeats(bytes: &[u8], size: usize) -> bool
     requires header { 16 ≤ length bytes.now }
     requires size { size ≡ frame_length bytes.now }
@@ -49,7 +51,7 @@ fn repeats(bytes: &[u8], size: usize) -> bool
     NetlinkBuffer::new(bytes).message_type() == NLMSG_ERROR && size >= REPEATED_LEN
 }
 
-/// Writes zeros over the numbers of the frame in front of some bytes, of this length.
+/// Writes zeros over the numbers of the first frame, of this length.
 fn clear_front(bytes: &mut [u8], size: usize)
     requires low { 16 ≤ size }
     requires whole { size ≤ length bytes.old }
@@ -63,11 +65,12 @@ fn clear_front(bytes: &mut [u8], size: usize)
     }
 }
 
-/// Writes zeros over the sequence and port number of each message, and over those of the request's header that an
-/// NLMSG_ERROR repeats behind its code, up to where no whole message stands.
+/// Writes zeros over the sequence and port number of each message, and over those of the request's
+/// header that an NLMSG_ERROR repeats after its code, up to the first offset without a whole
+/// message.
 ///
-/// The bytes are read as a capture: each message at a multiple of 4, with a header of 16 bytes (netlink.h, struct
-/// nlmsghdr), whose numbers stand in the bytes 8 to 16.
+/// The bytes are read as a capture: each message is at a multiple of 4, and has a header of 16
+/// bytes (netlink.h, struct nlmsghdr), with the numbers in the bytes 8 to 16.
 pub fn clear_numbers(text: &mut [u8])
     ensures { text.new ≡ numbers_cleared text.old }
 {

@@ -1,4 +1,4 @@
--- The cut frame's bytes, once more have come.
+-- The bytes of the cut frame, after more bytes have come.
 use Rattle.std.proofs.Common.{◌≡◌, ◌≢◌, ℕ, ◌+◌, ◌-◌, ◌<◌, ◌≤◌, ◌⊎◌, inl, inr, Ok, Err, List, [], ◌++◌, length, take, drop, min, max, sym, ap, ◌∙◌, arith, length-append, append_assoc}
 use Rattle.std.proofs.lemmas.Bool.{cases_lt}
 use Rattle.std.proofs.lemmas.List.{append-nil, drop_all, drop-drop, length-drop, length-take, take-append-drop, take-append-le, take_all, take_at}
@@ -14,12 +14,13 @@ use Rattle.netlink_packet_core_grammar.specs.Frames.{frame_length}
 use Rattle.link_capture_grammar.specs.Captures.{first_frame, HeaderStands}
 use Rattle.link_capture_grammar.specs.Laws.{FramesStandAlone}
 
--- bytes come in two steps
+-- two appended strings, as one
 pub two_steps : (old piece one two : List ℕ) (m n : ℕ) → one ≡ old ++ take m piece → two ≡ one ++ take n (drop m piece) → two ≡ old ++ take (m + n) piece
 two_steps old piece one two m n e f =
     f ∙ ap (λ x. x ++ take n (drop m piece)) e ∙ append_assoc old (take m piece) (take n (drop m piece)) ∙ ap (λ x. old ++ x) (sym (take-add m n piece))
 
--- A cut frame of 16 bytes or more, to which a fill nla_align to 16 adds none, tells a length within the limit that it does not reach.
+-- A cut frame of 16 bytes or more, which was filled to exactly 16 at first, has a length in its header that is within
+-- the limit and more than its bytes.
 pub header_exact : NumbersStandAlone → FramesStandAlone link_body → (limit : ℕ) (old new : List ℕ) → first_frame limit old ≡ Err Cut → length new ≤ max 16 (length old) → (more : List ℕ) → new ≡ old ++ more → (length new ≤ 16) ⊎ ((u32_at 0 new ≡ u32_at 0 old) × (16 ≤ u32_at 0 old) × (u32_at 0 old ≤ limit) × (length new < u32_at 0 old))
 header_exact numbers frames limit old new h le more e =
     elim (frames.cut limit old h) [
@@ -37,7 +38,7 @@ not_cut_short frames limit c h w e =
       | inr a ↦ elim w [ inl b ↦ omega (arith, a.low) | inr b ↦ elim b [ inl d ↦ omega (arith, a.high) | inr d ↦ omega (arith, a.short) ] ]
     ]
 
--- the first bytes of two strings, filled into a place of as many
+-- the first n bytes of two joined strings are the first of the one, and as many of the other as are missing
 joined_front : (k p : List ℕ) (f n : ℕ) → f ≡ min (length k) n → take n (k ++ p) ≡ take f k ++ take (n - f) p
 joined_front k p f n e =
     elim (cases_lt n (length k)) [
@@ -60,7 +61,7 @@ filled k p place one two f e l g h =
     ∙ ap (λ x. one ++ (two ++ x)) rest ∙ ap (λ x. one ++ x) (append-nil two) ∙ ap (λ x. x ++ two) g ∙ ap (λ x. take f k ++ x) h
     ∙ sym (joined_front k p f n e)
 
--- a header of 16 bytes stands where its length may be one of a frame, and is refused whatever follows
+-- a whole header with a length that a frame may have isn't refused, whatever follows
 pub header_stands : NumbersStandAlone → (limit : ℕ) (c : List ℕ) → 16 ≤ length c → 16 ≤ frame_length (take 16 c) → frame_length (take 16 c) ≤ limit → HeaderStands limit c
 header_stands numbers limit c l low high =
     let n : frame_length c ≡ frame_length (take 16 c) = ap frame_length (sym (take-append-drop 16 c)) ∙ numbers.four_bytes (take 16 c) (drop 16 c) (omega (arith, length-take 16 c)) in
@@ -77,12 +78,12 @@ pub header_refused : FramesStandAlone link_body → (limit : ℕ) (c : List ℕ)
 header_refused frames limit c kind n h =
     ap (first_frame limit) (sym (take-append-drop 16 c)) ∙ frames.followed limit (take 16 c) (drop 16 c) (λ e. n cc) ∙ h
 
--- what was moved and what was not
+-- the bytes that were moved, and those that weren't
 pub whole : (old piece new : List ℕ) (m : ℕ) → new ≡ old ++ take m piece → old ++ piece ≡ new ++ drop m piece
 whole old piece new m e =
     ap (λ x. old ++ x) (sym (take-append-drop m piece)) ∙ sym (append_assoc old (take m piece) (drop m piece)) ∙ ap (λ x. x ++ drop m piece) (sym e)
 
--- the frame that is complete now
+-- the frame that is whole now
 pub record Completed (limit : ℕ) (old piece new : List ℕ) (m claimed : ℕ) (text : List ℕ) : Type 0 where
   pub front_is : first_frame limit (old ++ piece) ≡ Ok (claimed, text)
   pub size : length new ≡ claimed

@@ -1,20 +1,20 @@
--- The first bytes of what is read.
+-- The first bytes of what was read.
 use Rattle.std.proofs.Common.{◌≡◌, ℕ, zero, suc, ◌+◌, List, [], ◌∷◌, ◌++◌, length, take, min, refl, sym, ap, ◌∙◌, arith}
 use Rattle.std.proofs.lemmas.List.{take_min}
 use Rattle.std.proofs.Math.Seq.{take-append-add}
 
--- bytes are appended as far as there is room
+-- as many bytes are appended as there is capacity for
 pub kept : (first bytes : List ℕ) (room : ℕ) → room + length first ≡ 4 → first ++ take (min room (length bytes)) bytes ≡ take 4 (first ++ bytes)
 kept first bytes room e =
     let size : length first + room ≡ 4 = omega arith in
     ap (λ t. first ++ t) (take_min room bytes) ∙ sym (take-append-add first bytes room) ∙ ap (λ n. take n (first ++ bytes)) size
 
--- what comes after the first n elements of a list goes on after the list
+-- the first n elements stay the same if the first list is cut to n elements before the second is appended
 take_twice : (n : ℕ) (xs ys : List ℕ) → take n (take n xs ++ ys) ≡ take n (xs ++ ys)
 take_twice zero xs ys = refl
 take_twice (suc n) [] ys = refl
 take_twice (suc n) (x ∷ xs) ys = ap (λ l. x ∷ l) (take_twice n xs ys)
 
--- the first bytes are those of what was read, and one more piece comes
+-- the first bytes remain those of what was read when another piece comes
 pub kept_more : (before after s piece : List ℕ) → before ≡ take 4 s → after ≡ take 4 (before ++ piece) → after ≡ take 4 (s ++ piece)
 kept_more before after s piece b a = a ∙ ap (λ x. take 4 (x ++ piece)) b ∙ take_twice 4 s piece

@@ -5,7 +5,7 @@ use Rattle.std.proofs.Math.Seq.{take-add}
 use Rattle.std.proofs.KnownBytes.{Appends-trans}
 use Rattle.std.specs.Io.KnownBytes.{Appends}
 
--- some bytes more of a slice
+-- more bytes of a slice are read
 pub Appends-slice : (a b c : Option (List ℕ)) (bytes : List ℕ) (m n : ℕ) → Appends a b (take m bytes) → Appends b c (take n (take (length bytes - m) (drop m bytes))) → Appends a c (take (m + n) bytes)
 Appends-slice a b c bytes m n h k =
     subst (Appends a c) (sym (take-add m n bytes)) (Appends-trans a b c (take m bytes) (take n (drop m bytes)) h (subst (λ x. Appends b c (take n x)) (take_rest bytes m) k))

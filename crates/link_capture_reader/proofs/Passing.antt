@@ -1,4 +1,4 @@
--- What a walk has passed, and what is left of it.
+-- What a walk has passed, and what remains.
 use Rattle.std.proofs.Common.{◌≡◌, ℕ, ◌+◌, ◌%◌, ◌<◌, ◌≤◌, inl, inr, Option, None, Some, Ok, Err, List, [], ◌++◌, length, take, drop, sym, ap, subst, ◌∙◌, refl, arith, append_assoc}
 use Rattle.std.proofs.lemmas.List.{length-take, length-drop, append-nil, drop_at, drop-drop, take_all, take-append-drop}
 use Rattle.std.proofs.Math.Seq.{take-add}
@@ -13,7 +13,7 @@ use Rattle.link_capture_grammar.proofs.Frames.{raised_add}
 use Rattle.link_capture_reader.specs.Readers.{Resumes}
 use Rattle.link_capture_reader.specs.Walks.{Goes, Faults, Lacks, Passed}
 
--- nothing has no fault and no texts
+-- an empty capture has no fault and no texts
 pub fault_nil : (limit : ℕ) → first_fault limit [] ≡ None
 unfolding fault_after_under
 fault_nil limit = refl
@@ -22,15 +22,15 @@ pub texts_nil : (limit : ℕ) → texts limit [] ≡ []
 unfolding texts_after_under
 texts_nil limit = refl
 
--- what is written grows by t
+-- t is appended to what is written
 pub grown : (old w t : List ℕ) {out new v : List ℕ} → out ≡ old ++ w → new ≡ out ++ t → v ≡ w ++ t → new ≡ old ++ v
 grown old w t {out} {new} {v} d e f = e ∙ ap (λ x. x ++ t) d ∙ append_assoc old w t ∙ ap (λ x. old ++ x) (sym f)
 
--- nothing is passed
+-- no byte is passed
 pub passed_none : (limit : ℕ) (c : List ℕ) → Passed limit c 0
 passed_none limit c = record { inside = omega arith; start = refl; legal = fault_nil limit }
 
--- the header of an accepted frame stands, and so does that of a cut one
+-- the header of an accepted frame isn't refused, nor is that of a cut one
 pub accepted_header : FramesStandAlone link_body → (limit : ℕ) (c : List ℕ) (frame : ℕ × List ℕ) → first_frame limit c ≡ Ok frame → HeaderStands limit c
 accepted_header frames limit c frame h = let a = frames.accepted limit c frame h in inr (omega (arith, a.low, a.is), omega (arith, a.high, a.is))
 
@@ -43,13 +43,13 @@ stop_zero limit c h stands = record { inside = h; start = refl; header = stands;
 pub no_texts : (limit : ℕ) (old : List ℕ) → old ≡ old ++ texts limit []
 no_texts limit old = rw (texts_nil limit) (sym (append-nil old))
 
--- what is left resumes as the whole does
+-- the rest resumes as the whole does
 left_resumes : (c : List ℕ) (m : ℕ) (kept : List ℕ) (owed : ℕ) (f : Option CaptureFault) → m ≤ length c → m % 4 ≡ 0 → Resumes f (drop m c) kept owed → Resumes (raised m f) c kept owed
 left_resumes c m kept owed None l h r = (r.0, r.1 ∙ (let n = length-drop m c in omega (arith, n)))
 left_resumes c m kept owed (Some fault) l h r = (r.0, r.1 ∙ drop-drop fault.offset m c, r.2)
 
 module _ (go : CapturesGoByFrames link_body) where
-  -- what follows legal frames is judged and written by itself
+  -- bytes that follow legal frames are judged and written independently
   legal_reach : (limit : ℕ) (a : List ℕ) → IsLegal limit a → length a % 4 ≡ 0 → reach limit a ≡ length a
   legal_reach limit a h m = ap (reach_by (length a)) h ∙ omega arith
 
@@ -63,7 +63,7 @@ module _ (go : CapturesGoByFrames link_body) where
       go.rest_texts limit a b ∙ ap (λ n. texts limit a ++ texts limit (drop n (a ++ b))) (legal_reach limit a h m)
       ∙ ap (λ c. texts limit a ++ texts limit c) (drop_at a b (length a) refl)
 
-  -- a walk's fault and texts are those of what is left of the string
+  -- the fault and the texts of a walk are those of the rest of the string
   pub left_fault : (limit : ℕ) (c : List ℕ) (m : ℕ) → Passed limit c m → first_fault limit c ≡ raised m (first_fault limit (drop m c))
   left_fault limit c m w =
       let n : length (take m c) ≡ m = length-take m c ∙ omega (arith, w.inside) in
@@ -94,25 +94,25 @@ module _ (go : CapturesGoByFrames link_body) where
       let n : length (take m c) ≡ m = length-take m c ∙ omega (arith, w.inside) in
       ap (texts limit) (take-add m at c) ∙ joined_texts limit (take m c) (take at (drop m c)) w.legal (ap (λ k. k % 4) n ∙ w.start)
 
-  -- one accepted frame in front, with its padding
+  -- the capture begins with an accepted frame and its padding
   pub passed_one : (limit : ℕ) (c : List ℕ) (frame : ℕ × List ℕ) → first_frame limit c ≡ Ok frame → nla_align frame.0 ≤ length c → Passed limit c (nla_align frame.0)
   passed_one limit c frame h l = record { inside = l; start = omega arith; legal = go.one_legal limit c frame h }
 
-  -- no more than that
+  -- the string ends with that frame, or inside its padding
   pub only_one_fault : (limit : ℕ) (c : List ℕ) (frame : ℕ × List ℕ) → first_frame limit c ≡ Ok frame → length c ≤ nla_align frame.0 → first_fault limit c ≡ None
   only_one_fault limit c frame h l = ap (first_fault limit) (sym (take_all (nla_align frame.0) c l)) ∙ go.one_legal limit c frame h
 
   pub only_one_texts : (limit : ℕ) (c : List ℕ) (frame : ℕ × List ℕ) → first_frame limit c ≡ Ok frame → length c ≤ nla_align frame.0 → texts limit c ≡ frame.1
   only_one_texts limit c frame h l = ap (texts limit) (sym (take_all (nla_align frame.0) c l)) ∙ go.one_text limit c frame h
 
-  -- Once as many bytes are there, all before that place is passed.
+  -- Once enough bytes are there, all bytes before that offset are passed.
   pub resume_passed : (limit : ℕ) (s p : List ℕ) → reach limit s ≤ length (s ++ p) → Passed limit (s ++ p) (reach limit s)
   resume_passed limit s p l = record { inside = l; start = go.reach_start limit s; legal = go.reach_legal limit s p }
 
   pub resume_texts : (limit : ℕ) (s p : List ℕ) → texts limit (take (reach limit s) (s ++ p)) ≡ texts limit s
   resume_texts limit s p = go.reach_texts limit s p
 
-  -- The texts so far, and those of what is left.
+  -- The texts so far, and those of the rest.
   pub then_texts : (limit : ℕ) (c : List ℕ) (m : ℕ) (left t old : List ℕ) {out new : List ℕ} → Passed limit c m → left ≡ drop m c → texts limit (take m c) ≡ t → out ≡ old ++ t → new ≡ out ++ texts limit left → new ≡ old ++ texts limit c
   then_texts limit c m left t old w l e o n =
       n ∙ ap (λ x. x ++ texts limit left) o ∙ append_assoc old t (texts limit left)
@@ -145,7 +145,7 @@ module _ (go : CapturesGoByFrames link_body) where
   pub start_texts : (limit : ℕ) (c old : List ℕ) (kind : FaultKind) → first_frame limit c ≡ Err kind → old ≡ old ++ texts limit c
   start_texts limit c old kind h = sym (append-nil old) ∙ ap (λ x. old ++ x) (sym (go.front_texts limit c kind h))
 
-  -- What is said of what is left, said of the whole.
+  -- What holds of the rest, as a statement about the whole.
   pub then_goes : (limit : ℕ) (c : List ℕ) (m : ℕ) (left t old out new kept : List ℕ) (owed : ℕ) → Passed limit c m → left ≡ drop m c → texts limit (take m c) ≡ t → out ≡ old ++ t → Goes limit left out new kept owed → Goes limit c old new kept owed
   then_goes limit c m left t old out new kept owed w l e o h =
       (then_resumes limit c m left kept owed w l h.0, then_texts limit c m left t old w l e o h.1)
@@ -170,7 +170,7 @@ module _ (go : CapturesGoByFrames link_body) where
   passed_texts limit c at frame w h =
       left_stop_texts limit c at (nla_align frame.0) w ∙ ap (λ t. texts limit (take at c) ++ t) (go.one_text limit (drop at c) frame h)
 
-  -- a fault there
+  -- the rest has a fault at its start
   pub passed_stop_fault : (limit : ℕ) (c : List ℕ) (at : ℕ) (kind : FaultKind) → Passed limit c at → at < length c → first_frame limit (drop at c) ≡ Err kind → first_fault limit c ≡ Some (record { kind = kind; offset = at })
   passed_stop_fault limit c at kind w l h = left_fault limit c at w ∙ start_fault limit at (drop at c) kind (omega (arith, length-drop at c)) h
 
@@ -178,7 +178,7 @@ module _ (go : CapturesGoByFrames link_body) where
   passed_stop_texts limit c at kind w h =
       left_texts limit c at w ∙ ap (λ t. texts limit (take at c) ++ t) (go.front_texts limit (drop at c) kind h) ∙ append-nil (texts limit (take at c))
 
-  -- what stands before the first fault is legal, and has the texts
+  -- the bytes before the first fault are legal, and have these texts
   pub before_fault : (limit : ℕ) (c : List ℕ) (fault : CaptureFault) → first_fault limit c ≡ Some fault → IsLegal limit (take fault.offset c) × (texts limit (take fault.offset c) ≡ texts limit c)
   before_fault limit c fault h =
       let at : reach limit c ≡ fault.offset = ap (reach_by (length c)) h in

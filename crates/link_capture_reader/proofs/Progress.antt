@@ -1,4 +1,4 @@
--- How far the engine has come.
+-- The progress of the engine.
 use Rattle.std.proofs.Common.{◌≡◌, ℕ, ◌+◌, ◌-◌, ◌^◌, ◌<◌, ◌≤◌, min, Option, None, Some, Result, Ok, Err, IfErr, OnOk, List, [], ◌++◌, length, take, drop, sym, ap, subst, ◌∙◌, arith, append_assoc, length-append}
 use Rattle.std.proofs.lemmas.List.{take_at, append-nil, take-append-drop, length-take}
 use Rattle.std.specs.Io.KnownBytes.{Appends, Consumes}
@@ -37,7 +37,7 @@ open_from (Some fault) s kept owed r = r.0
 all_is : (limit : ℕ) (s t out : List ℕ) → Gains limit s t [] out → texts limit s ++ out ≡ texts limit t
 all_is limit s t out g = ap (λ x. texts limit s ++ x) g.2 ∙ sym g.1
 
--- What `feed` adds to nothing, together with what was written, is a front of the texts.
+-- What was written, followed by what `feed` appends to an empty vector, is a prefix of the texts.
 front_is : (limit : ℕ) (s t out : List ℕ) (whole : List ℕ) → Gains limit s t [] out → IsPrefix (texts limit t) whole → IsPrefix (texts limit s ++ out) whole
 front_is limit s t out whole g p = subst (λ x. IsPrefix x whole) (g.1 ∙ ap (λ x. texts limit s ++ x) (sym g.2)) p
 
@@ -47,7 +47,7 @@ nothing_more limit s out whole e p = subst (λ x. IsPrefix x whole) (sym (append
 whole_is : (limit : ℕ) (c : List ℕ) → IsPrefix (texts limit c) (texts limit c)
 whole_is limit c = ([], sym (append-nil (texts limit c)))
 
--- a front of a capture has a front of its texts
+-- the texts of a prefix of a capture are a prefix of its texts
 prefix_take : PrefixTexts link_body → (limit n : ℕ) (c : List ℕ) → IsPrefix (texts limit (take n c)) (texts limit c)
 prefix_take stay limit n c = subst (λ x. IsPrefix (texts limit (take n c)) (texts limit x)) (take-append-drop n c) (stay limit (take n c) (drop n c))
 
@@ -60,7 +60,7 @@ fed_front_at stay limit s p out TooLong at h = nothing_more limit s out (texts l
 fed_front_at stay limit s p out Failed at h = absurd h
 fed_front_at stay limit s p out kind at h = front_is limit s (s ++ p) out (texts limit (s ++ p)) h.2 (whole_is limit (s ++ p))
 
--- what `feed` says, at a reader that stands for s
+-- the contract of `feed` for a reader that is consistent with s
 abbrev pub FeedOk : ReaderState → ReaderState → List ℕ → List ℕ → List ℕ → Type 0
 FeedOk reader then p old out = (s : List ℕ) → StandsFor reader s → (length s + length p < 2 ^ 64) × StandsFor then (s ++ p) × Gains reader.limit s (s ++ p) old out
 
@@ -75,20 +75,20 @@ fed_front stay limit reader then s p old out (Err fault) l e h a b =
     subst (λ n. IsPrefix (texts n s ++ out) (texts n (s ++ p))) l
     (fed_front_at stay reader.limit s p out fault.kind fault.offset (subst (λ o. FeedFault reader.limit s p o out fault.kind fault.offset) e (b s h)))
 
--- a front of it
+-- a prefix of what `feed` appended
 pub part_front : (a out whole : List ℕ) (n : ℕ) → IsPrefix (a ++ out) whole → IsPrefix (a ++ take n out) whole
 part_front a out whole n h = (
   drop n out ++ h.0,
   h.1 ∙ ap (λ x. (a ++ x) ++ h.0) (sym (take-append-drop n out)) ∙ simp append_assoc,
 )
 
--- A failed write: a front of what was to be written has been.
+-- A write failed: a prefix of the bytes was written.
 pub failed_write : (E R W : Type 0) (limit : ℕ) (s a out : List ℕ) (written n : ℕ) (fault : CaptureFault) → W → IsPrefix (a ++ out) (texts limit s) → n ≤ length out → written ≡ min (length a) (2 ^ 64 - 1) → fault.kind ≡ Write → fault.offset ≡ min (written + n) (2 ^ 64 - 1) → OutcomeAt E R W limit s (a ++ take n out) fault.kind fault.offset
 failed_write E R W limit s a out written n fault w p l c k o =
     let size : length (a ++ take n out) ≡ length a + n = length-append a (take n out) ∙ omega (arith, length-take n out) in
     subst (λ x. OutcomeAt E R W limit s (a ++ take n out) x fault.offset) (sym k) (w, omega (arith, size), part_front a out (texts limit s) n p)
 
--- a fault of `feed` is the engine's, once what it added is written
+-- a fault of `feed` is the fault of the engine, once what `feed` appended is written
 pub fed_fault : (E R W : Type 0) (limit : ℕ) (s p out : List ℕ) (kind : FaultKind) (at : ℕ) → length p ≤ 65536 → IsOpen (first_fault limit s) → FeedFault limit s p [] out kind at → OutcomeAt E R W limit (s ++ p) (texts limit s ++ out) kind at
 fed_fault E R W limit s p out Cut at z o h = absurd h
 fed_fault E R W limit s p out Memory at z o h = (h.1, all_is limit s (take at (s ++ p)) out h.2)

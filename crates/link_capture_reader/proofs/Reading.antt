@@ -1,4 +1,4 @@
--- What a reader stands for, one piece further.
+-- The strings that a reader is consistent with, after another piece.
 use Rattle.std.proofs.Common.{◌≡◌, ◌≢◌, ℕ, ◌+◌, ◌-◌, ◌^◌, ◌<◌, ◌≤◌, ◌⊎◌, inl, inr, Option, None, Some, Result, IfErr, Ok, Err, List, [], ◌++◌, length, take, drop, sym, ap, subst, ◌∙◌, refl, arith, length-append}
 use Rattle.std.proofs.lemmas.List.{length-drop, append-nil, drop_all, drop-append-le, nil_from_length}
 use Rattle.std.proofs.Math.Seq.{drop-append-add}
@@ -13,7 +13,7 @@ use Rattle.link_capture_reader.proofs.Passing.{fault_nil, texts_nil, left_fault,
 use Rattle.link_capture_reader.specs.Readers.{IsReader, StandsFor, Resumes, Gains, FeedFault}
 use Rattle.link_capture_reader.specs.Walks.{Goes, Faults, Lacks, Passed}
 
--- no frame is there where no bytes are
+-- an empty string has no frame
 cut_nil : (limit : ℕ) → first_frame limit [] ≡ Err Cut
 unfolding first_frame_under
 cut_nil limit = refl
@@ -23,14 +23,14 @@ judged : (fault : Option CaptureFault) → (fault ≡ None) ⊎ ((f : CaptureFau
 judged None = inl refl
 judged (Some f) = inr (f, refl)
 
--- a reader of nothing
+-- a reader that has read nothing
 pub new_reader : (limit : ℕ) → 16 ≤ limit → IsReader (record { limit = limit; accepted = 0; kept = []; owed = 0; failed = None })
 new_reader limit h = record { limit = h; cut = cut_nil limit; small = omega arith; inside = omega arith; owed = inl refl; padding = omega arith; failed = tt }
 
 pub new_stands : (limit : ℕ) → StandsFor (record { limit = limit; accepted = 0; kept = []; owed = 0; failed = None }) []
 new_stands limit = record { going = refl; accepted = refl; rest = subst (λ f. Resumes f [] [] 0) (sym (fault_nil limit)) (refl, refl) }
 
--- a piece of padding alone
+-- a piece that has only padding
 module _ (go : CapturesGoByFrames link_body) where
   pub padding_resumes : (limit : ℕ) (s p kept : List ℕ) (owed : ℕ) → length p ≤ owed → Resumes (first_fault limit s) s kept owed → Resumes (first_fault limit (s ++ p)) (s ++ p) kept (owed - length p)
   padding_resumes limit s p kept owed l r =
@@ -66,7 +66,7 @@ module _ (go : CapturesGoByFrames link_body) where
             ap (λ x. texts limit (s ++ x)) e ∙ ap (texts limit) (append-nil s)
       ]
 
--- What is judged of a longer string: the cut frame's bytes, and what comes behind the padding.
+-- The bytes that are judged if the string gets longer: those of the cut frame, and those after the padding.
 pub record Resumed (limit : ℕ) (s p kept : List ℕ) (owed start : ℕ) : Type 0 where
   pub at : reach limit s ≡ start
   pub left : kept ++ drop owed p ≡ drop (reach limit s) (s ++ p)
@@ -145,7 +145,7 @@ faults_on go stand limit s p kept owed start old new fault l w h k =
           feed_fault limit s p old new fault.kind fault.offset q.0 (stand limit (s ++ p) fault f).2 l f (texts limit d, gained go limit s p kept owed start w, q.2)
     ]
 
--- what a string resumes at makes a reader
+-- what is kept and owed after a string is the state of a reader
 pub resumes_reader : CapturesGoByFrames link_body → FramesStandAlone link_body → (limit accepted : ℕ) (c kept : List ℕ) (owed : ℕ) → 16 ≤ limit → length c ≤ accepted → Resumes (first_fault limit c) c kept owed → IsReader (record { limit = limit; accepted = accepted; kept = kept; owed = owed; failed = None })
 resumes_reader go alone limit accepted c kept owed h l r =
     elim (judged (first_fault limit c)) [
@@ -176,7 +176,7 @@ resumes_reader go alone limit accepted c kept owed h l r =
           }
     ]
 
--- two clauses on one `Err`
+-- two clauses about one `Err`
 pub IfErr-both : {T E : Type 0} (r : Result T E) (P Q R : E → Type 0) → ((e : E) → P e → Q e → R e) → IfErr r P → IfErr r Q → IfErr r R
 IfErr-both (Ok x) P Q R f p q = tt
 IfErr-both (Err e) P Q R f p q = f e p q
@@ -185,7 +185,7 @@ IfErr-both (Err e) P Q R f p q = f e p q
 pub failed_reader : (limit accepted offset : ℕ) → 16 ≤ limit → IsReader (record { limit = limit; accepted = accepted; kept = []; owed = 0; failed = Some offset })
 failed_reader limit accepted offset h = record { limit = h; cut = cut_nil limit; small = omega arith; inside = omega arith; owed = inl refl; padding = omega arith; failed = refl }
 
--- no frame is cut where no bytes of it are there
+-- no frame is cut if none of its bytes is there
 pub nothing_cut : FaultsStand link_body → (limit : ℕ) (s : List ℕ) (owed : ℕ) → Resumes (first_fault limit s) s [] owed → first_fault limit s ≡ None
 nothing_cut stand limit s owed r =
     elim (judged (first_fault limit s)) [

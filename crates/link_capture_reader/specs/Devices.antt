@@ -3,32 +3,33 @@ use Rattle.std.specs.Prelude.{◌≡◌, ℕ, ◌+◌, ◌-◌, ◌^◌, ◌&&�
 use Rattle.std.specs.Io.KnownBytes.{IsAtEnd}
 use Rattle.link_capture_reader.specs.declared.devices.DeviceFailed.{DeviceFailed}
 
--- a count that has risen by one; the greatest stays
+-- A count increased by one; the greatest number of 64 bits stays.
 abbrev pub risen : ℕ → ℕ
 risen n = min (n + 1) (2 ^ 64 - 1)
 
+-- A count, increased by one if the condition holds.
 abbrev pub counted : Bool → ℕ → ℕ
 counted b n = cond b (risen n) n
 
--- a read of nothing where there was room
+-- The result of a read reports the end: nothing was read, although the buffer had capacity.
 abbrev pub is_end : Result ℕ DeviceFailed → ℕ → Bool
 is_end (Ok n) room = nat_eq n 0 && nat_lt 0 room
 is_end (Err e) room = false
 
--- a source failed where it said so
+-- A source failed: it returned an error.
 abbrev pub read_failed : Result ℕ DeviceFailed → Bool
 read_failed (Ok n) = false
 read_failed (Err e) = true
 
--- a sink failed where it said so, or took nothing of some bytes
+-- A sink failed: it returned an error, or took nothing of some bytes.
 abbrev pub write_failed : Result ℕ DeviceFailed → ℕ → Bool
 write_failed (Ok n) size = nat_eq n 0 && nat_lt 0 size
 write_failed (Err e) size = true
 
--- a count rose, as that of the failures of a device that failed
+-- A count was increased by one, such as that of the failures of a device that failed.
 abbrev pub Rises : ℕ → ℕ → Type 0
 Rises old new = new ≡ risen old
 
--- the source told its end, and where its bytes are known none is still to come
+-- The source reported its end, and if the bytes to come are known, there are none.
 abbrev pub TellsItsEnd : ℕ → ℕ → Option (List ℕ) → Type 0
 TellsItsEnd old new to_come = Rises old new × IsAtEnd to_come

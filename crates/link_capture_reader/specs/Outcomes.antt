@@ -1,4 +1,4 @@
--- What an answer of the engine says of the bytes that were read and of those that were written.
+-- How each result of the engine relates to the bytes that were read and those that were written.
 use Rattle.std.specs.Prelude.{◌<◌, ◌≡◌, ℕ, ◌+◌, ◌-◌, ◌^◌, ◌≤◌, min, List, ◌++◌, length, take, Option, None, Some, Result, Ok, Err}
 use Rattle.std.specs.Io.KnownBytes.{Consumes, Appends}
 use Rattle.link_capture_grammar.specs.declared.fault.FaultKind.{FaultKind}
@@ -7,16 +7,17 @@ use Rattle.link_capture_grammar.specs.declared.fault.CaptureFault.{CaptureFault}
 use Rattle.link_capture_grammar.specs.Captures.{first_fault, texts, StopsAt, IsLegal}
 use Rattle.link_capture_reader.specs.Devices.{Rises}
 
--- no fault, or a cut frame, which more bytes may complete
+-- The bytes so far have no fault, or a cut frame, which more bytes may complete.
 abbrev pub IsOpen : Option CaptureFault → Type 0
 IsOpen None = Unit {0}
 IsOpen (Some fault) = fault.kind ≡ Cut
 
+-- One string of bytes is a prefix of another.
 abbrev pub IsPrefix : List ℕ → List ℕ → Type 0
 IsPrefix front whole = (rest : List ℕ) × (whole ≡ front ++ rest)
 
--- More bytes were read than can be counted. All but the last piece, of at most 65,536 bytes, were accepted, and their
--- texts are written.
+-- More bytes than 64 bits can count were read: s. All but the last piece, of at most 65,536 bytes, were accepted, and
+-- their texts w are written.
 pub record PassesLength (limit : ℕ) (s w : List ℕ) (at : ℕ) : Type 0 where
   pub long : 2 ^ 64 ≤ length s
   pub inside : at ≤ length s
@@ -24,8 +25,9 @@ pub record PassesLength (limit : ℕ) (s w : List ℕ) (at : ℕ) : Type 0 where
   pub going : IsOpen (first_fault limit (take at s))
   pub written : w ≡ texts limit (take at s)
 
--- s was read, w was written, and a fault of this kind is answered at this place. What the devices told is given by
--- ended, read_failed and write_failed.
+-- What holds if s was read, w was written, and a fault of this kind is returned at the offset `at`. The propositions
+-- ended, read_failed and write_failed are what the devices reported. For `Memory` nothing is said about capacity, since
+-- reads have sizes that no contract sees.
 abbrev pub OutcomeAt : Type 0 → Type 0 → Type 0 → ℕ → List ℕ → List ℕ → FaultKind → ℕ → Type 0
 OutcomeAt ended read_failed write_failed limit s w Cut at = ended × (first_fault limit s ≡ Some (record { kind = Cut; offset = at })) × (w ≡ texts limit s)
 OutcomeAt ended read_failed write_failed limit s w Memory at = StopsAt limit s at × (w ≡ texts limit (take at s))
@@ -35,19 +37,19 @@ OutcomeAt ended read_failed write_failed limit s w TooLong at = PassesLength lim
 OutcomeAt ended read_failed write_failed limit s w Failed at = ⊥
 OutcomeAt ended read_failed write_failed limit s w kind at = (first_fault limit s ≡ Some (record { kind = kind; offset = at })) × (w ≡ texts limit s)
 
--- s was read, w was written, and this is answered
+-- What holds if s was read, w was written, and this result is returned.
 abbrev pub Outcome : Type 0 → Type 0 → Type 0 → ℕ → List ℕ → List ℕ → Result (Unit {0}) CaptureFault → Type 0
 Outcome ended read_failed write_failed limit s w (Ok x) = ended × IsLegal limit s × (w ≡ texts limit s)
 Outcome ended read_failed write_failed limit s w (Err fault) = OutcomeAt ended read_failed write_failed limit s w fault.kind fault.offset
 
--- What was read has left the source, which had the first bytes and has the second. What was written has come to the
--- sink, which held the third and holds the fourth.
+-- The source had the bytes `from` to come and has `left` then; the sink held `held` and holds `holds` then. The
+-- difference is what was read and what was written, for which the outcome holds.
 abbrev pub Normalizes : Option (List ℕ) → Option (List ℕ) → Option (List ℕ) → Option (List ℕ)
     → Type 0 → Type 0 → Type 0 → ℕ → Result (Unit {0}) CaptureFault → Type 0
 Normalizes from left held holds ended read_failed write_failed limit result =
     (s w : List ℕ) × Consumes from left s × Appends held holds w × Outcome ended read_failed write_failed limit s w result
 
--- s was read to the fault, of this kind, that `read_all` answers, while the source's failures went from one number to the other
+-- The fault of `read_all` has this kind, after it has read s; the source's count of failures was `old` and is `new`.
 abbrev pub ReadFault : ℕ → ℕ → List ℕ → FaultKind → Type 0
 ReadFault old new s Read = Rises old new
 ReadFault old new s Memory = (new ≡ old) × (0 < length s)

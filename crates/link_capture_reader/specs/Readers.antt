@@ -1,4 +1,4 @@
--- What a reader of a capture stands for, and what its calls add.
+-- The strings that a reader of a capture is consistent with, and what its calls append.
 use Rattle.std.specs.Prelude.{◌≡◌, ℕ, ◌+◌, ◌-◌, ◌^◌, ◌%◌, ◌<◌, ◌≤◌, List, [], ◌++◌, length, take, drop, Option, None, Some, IfSome, ◌⊎◌, Ok, Err, Vec, vec_capacity}
 use Rattle.link_capture_grammar.specs.declared.fault.FaultKind.{FaultKind}
 use Rattle.link_capture_grammar.specs.declared.fault.FaultKind.TheVariants.{Cut, Memory, Read, Write, TooLong, Failed}
@@ -6,8 +6,8 @@ use Rattle.link_capture_grammar.specs.declared.fault.CaptureFault.{CaptureFault}
 use Rattle.netlink_packet_core_grammar.specs.Attributes.{nla_align}
 use Rattle.link_capture_grammar.specs.Captures.{first_frame, first_fault, texts, StopsAt}
 
--- a reader: its limit, how many bytes it has accepted, the bytes of the cut frame, the padding still owed, and the
--- place of the first fault
+-- The state of a reader: its limit, how many bytes it has accepted, the bytes of the cut frame, how many bytes of
+-- padding are owed, and the offset of the first fault.
 pub record ReaderState : Type 0 where
   pub limit : ℕ
   pub accepted : ℕ
@@ -15,8 +15,8 @@ pub record ReaderState : Type 0 where
   pub owed : ℕ
   pub failed : Option ℕ
 
--- What is true of every reader: between pieces it keeps the first bytes of a frame that is cut, fewer than the limit,
--- or none, as where padding is owed and after a fault.
+-- The invariant of readers: between pieces a reader keeps the bytes of a cut frame, fewer than the limit; it keeps none
+-- if no frame is cut, if padding is owed, or after a fault.
 pub record IsReader (r : ReaderState) : Type 0 where
   pub limit : 16 ≤ r.limit
   pub cut : first_frame r.limit r.kept ≡ Err Cut
@@ -26,28 +26,27 @@ pub record IsReader (r : ReaderState) : Type 0 where
   pub padding : r.owed < 4
   pub failed : IfSome r.failed (λ _. r.kept ≡ [])
 
--- Where the first fault of s is this one, kept are the bytes of the cut frame, and owed is what the padding of the last
--- frame lacks.
+-- A reader that has read s, whose first fault is this one, keeps the bytes of the cut frame; `owed` is how many bytes
+-- of the last frame's padding are missing.
 abbrev pub Resumes : Option CaptureFault → List ℕ → List ℕ → ℕ → Type 0
 Resumes None s kept owed = (kept ≡ []) × (owed ≡ nla_align (length s) - length s)
 Resumes (Some fault) s kept owed = (fault.kind ≡ Cut) × (kept ≡ drop fault.offset s) × (owed ≡ 0)
 
--- a reader that met no fault
+-- The state of a reader without a fault.
 abbrev pub going : ℕ → ℕ → List ℕ → ℕ → ReaderState
 going limit accepted kept owed = record { limit = limit; accepted = accepted; kept = kept; owed = owed; failed = None }
 
--- The reader stands for the string s: no fault came, and its bytes are those that s leaves.
+-- The reader is consistent with the string s: it has met no fault, and it has accepted and kept what a reader of s has.
 pub record StandsFor (r : ReaderState) (s : List ℕ) : Type 0 where
   pub going : r.failed ≡ None
   pub accepted : r.accepted ≡ length s
   pub rest : Resumes (first_fault r.limit s) s r.kept r.owed
 
--- new is old, and behind it what the texts of t have after those of s
+-- The bytes `new` are `old`, followed by what the texts of t have after those of s.
 abbrev pub Gains : ℕ → List ℕ → List ℕ → List ℕ → List ℕ → Type 0
 Gains limit s t old new = (more : List ℕ) × (texts limit t ≡ texts limit s ++ more) × (new ≡ old ++ more)
 
--- What a fault of `feed` says, by its kind: s was accepted before, this piece was given, and the fault stands at this
--- place.
+-- What holds if `feed` returns a fault of this kind at the offset `at`: s was accepted before, and this piece was fed.
 abbrev pub FeedFault : ℕ → List ℕ → List ℕ → List ℕ → List ℕ → FaultKind → ℕ → Type 0
 FeedFault limit s piece old new Memory at = (length s + length piece < 2 ^ 64) × StopsAt limit (s ++ piece) at × Gains limit s (take at (s ++ piece)) old new
 FeedFault limit s piece old new TooLong at = (2 ^ 64 ≤ length s + length piece) × (at ≡ length s) × (new ≡ old)
@@ -58,23 +57,25 @@ FeedFault limit s piece old new Failed at = ⊥
 FeedFault limit s piece old new kind at =
     (length s + length piece < 2 ^ 64) × (first_fault limit (s ++ piece) ≡ Some (record { kind = kind; offset = at })) × Gains limit s (s ++ piece) old new
 
--- a place of c at which a frame can start
+-- At the offset `at` of c a frame can start.
 abbrev pub IsPlaceOf : List ℕ → ℕ → Type 0
 IsPlaceOf c at = (at < length c) × (at % 4 ≡ 0)
 
--- the frame at this place is accepted, and there was less room than its text and the texts before it want
+-- The frame at the offset `at` is accepted, and the vector had less capacity than the frame's text and the texts before
+-- it need.
 abbrev pub LacksRoomAt : {Z : Type 0} → ℕ → List ℕ → ℕ → Vec ℕ Z → Type 0
 LacksRoomAt limit c at old =
     (n : ℕ) × (text : List ℕ) × (first_frame limit (drop at c) ≡ Ok (n, text)) × (vec_capacity old < length old.items + (length (texts limit (take at c)) + length text))
 
--- why memory was wanting at this place: there was less room, or the frame is cut, and its bytes had to be kept
+-- Why an allocation failed at the offset `at`: the vector lacked capacity, or the frame is cut, and its bytes had to be
+-- kept.
 abbrev pub WantsMemory : {Z : Type 0} → ℕ → List ℕ → ℕ → Vec ℕ Z → Type 0
 WantsMemory limit c at old = LacksRoomAt limit c at old ⊎ (first_frame limit (drop at c) ≡ Err Cut)
 
--- c stands at start, and its fault is of this kind only for such a want of memory
+-- The fault, whose offset counts from `start` bytes before c, has the kind `Memory` only for such a reason.
 abbrev pub TellsWant : {Z : Type 0} → ℕ → ℕ → List ℕ → CaptureFault → Vec ℕ Z → Type 0
 TellsWant limit start c fault old = fault.kind ≡ Memory → (at : ℕ) × (fault.offset ≡ start + at) × WantsMemory limit c at old
 
--- the texts of c, up to its first fault, stand behind what was there
+-- The vector has gained the texts of c up to its first fault.
 abbrev pub GainsTexts : {Y Z : Type 0} → ℕ → List ℕ → Vec ℕ Y → Vec ℕ Z → Type 0
 GainsTexts limit c old new = new.items ≡ old.items ++ texts limit c

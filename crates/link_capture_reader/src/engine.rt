@@ -1,4 +1,4 @@
-//! From a source to a sink.
+//! The engine: from a source to a sink.
 
 ghost use Rattle.std.specs.Prelude.{◌≡◌, ◌+◌, ◌-◌, ◌^◌, ◌≤◌, ℕ, List, length, take, min, IfOk, IfErr, MatchResult};
 ghost use Rattle.std.specs.Io.KnownBytes.{Consumes, Appends};
@@ -12,8 +12,13 @@ use link_capture_grammar::fault::{CaptureFault, FaultKind};
 use link_capture_grammar::laws::texts_of_a_prefix_stay;
 use std::alloc::Global;
 
-/// Writes all of these bytes, after so many. The answer is how many were written then; `u64::MAX` stands for more. A
-/// failed write is told at the number of bytes taken, those before counted.
+/// Writes all of `bytes` to a sink to which `written` bytes were written before, and returns how
+/// many were written in all; `u64::MAX` means at least that many.
+///
+/// # Errors
+///
+/// A fault of kind `Write` if the sink fails; its offset is the number of bytes taken, including
+/// `written`. The sink holds these bytes.
 pub fn write_all<K: Sink>(sink: &mut K, bytes: &[u8], written: u64) -> Result<u64, CaptureFault>
     ensures ok { IfOk result (λ total. (total ≡ min (written + length bytes.now) (2 ^ 64 - 1))
         × Appends (K.holds sink.old) (K.holds sink.new) bytes.now
@@ -38,12 +43,15 @@ pub fn write_all<K: Sink>(sink: &mut K, bytes: &[u8], written: u64) -> Result<u6
     Ok(written.saturating_add(at as u64))
 }
 
-/// Reads a capture to its end, in pieces of at most 65,536 bytes, and writes its normal text as the frames come.
+/// Reads a capture to its end, in pieces of at most 65,536 bytes, and writes its normal text as the
+/// frames come. Returns Ok if the source reported its end and the capture is legal. `limit` is the
+/// greatest length in bytes of a message, as read and as written.
 ///
-/// `limit` is the greatest length in bytes that a message, read or written, may have. It is done where the source
-/// told its end and the capture is legal. Otherwise the answer is the capture's first fault with its place; a failed
-/// read at the number of bytes read; a failed write at the number of bytes taken; want of memory at a frame; or
-/// `TooLong` at the number of bytes accepted. Before any fault but a failed write, the texts of the frames before it
+/// # Errors
+///
+/// The capture's first fault, with its offset; `Read` at the number of bytes read; `Write` at the
+/// number of bytes taken; `Memory` at the start of a frame, if an allocation fails; `TooLong` at
+/// the number of bytes accepted. Before any fault but `Write`, the texts of the frames before it
 /// are written.
 pub fn normalize<S: Source, K: Sink>(
     alloc: Global,
@@ -80,10 +88,14 @@ pub fn normalize<S: Source, K: Sink>(
     }
 }
 
-/// All bytes of a source. A failed read and want of memory are told at the number of bytes read; want of memory, of no
-/// source that failed.
+/// Returns all bytes of a source. Allocates the returned value.
+///
+/// # Errors
+///
+/// At the number of bytes read: `Read` if the source fails, `Memory` if an allocation fails, which
+/// is never at 0 and leaves the source's failures unchanged.
 pub fn read_all<S: Source>(alloc: Global, source: &mut S) -> Result<Vec<u8>, CaptureFault>
-    // s was read.
+    // `s` is what was read.
     ensures { (s : List ℕ) × Consumes (S.to_come source.old) (S.to_come source.new) s
         × MatchResult result
         (λ bytes. (bytes.items ≡ s) × (S.failures source.new ≡ S.failures source.old)
@@ -94,13 +106,17 @@ pub fn read_all<S: Source>(alloc: Global, source: &mut S) -> Result<Vec<u8>, Cap
     read_all_keeping_first(alloc, source, &mut FirstBytes::new())
 }
 
-/// Reads as `read_all` does, and keeps the first bytes, whether it succeeds or fails.
+/// Reads as `read_all` does, and stores the first bytes in `first`, also if it fails.
+///
+/// # Errors
+///
+/// As `read_all`.
 pub fn read_all_keeping_first<S: Source>(
     alloc: Global,
     source: &mut S,
     first: &mut FirstBytes,
 ) -> Result<Vec<u8>, CaptureFault>
-    // s was read.
+    // `s` is what was read.
     ensures { (s : List ℕ) × Consumes (S.to_come source.old) (S.to_come source.new) s
         × MatchResult result
         (λ bytes. (bytes.items ≡ s) × (S.failures source.new ≡ S.failures source.old)

@@ -1,4 +1,4 @@
-//! The first bytes of a capture, by which a file of another format is recognised.
+//! The first bytes of a capture, which identify files of another format.
 
 ghost use Rattle.std.specs.Prelude.{◌≡◌, ◌++◌, take};
 
@@ -7,7 +7,7 @@ use arrayvec::ArrayVec;
 /// The first four bytes of a capture, or all bytes of a shorter one.
 pub type FirstBytes = ArrayVec<u8, 4>;
 
-/// Appends bytes to the first ones, as long as there are fewer than four.
+/// Appends bytes to the first ones, up to four in all.
 pub fn keep_first(first: &mut FirstBytes, bytes: &[u8])
     ensures { first.new.items ≡ take 4 (first.old.items ++ bytes.now) }
 {

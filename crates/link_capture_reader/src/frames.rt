@@ -9,8 +9,8 @@ use link_capture_grammar::fault::{CaptureFault, FaultKind};
 use link_capture_grammar::laws::{captures_go_by_frames, frames_stand_alone};
 use netlink_packet_core::nla_align;
 
-/// Writes the texts of these bytes at the end of `out`. Where they aren't legal, the answer is their first fault,
-/// and a cut frame is one; or want of memory at a frame.
+/// Appends the texts of these bytes to `out`. Fails with their first fault if they aren't legal,
+/// where a cut frame is a fault, or with `Memory` at a frame if an allocation fails.
 pub(crate) fn push_frames(bytes: &[u8], limit: u32, out: &mut Vec<u8>) -> Result<(), CaptureFault>
     requires { 16 ≤ limit }
     ensures legal { OnOk result (IsLegal limit bytes.now × GainsTexts limit bytes.now out.old out.new) }

@@ -1,5 +1,5 @@
-// Link captures that come in pieces: a reader, the normal text of a whole capture by it, and the engine, which reads a
-// capture from a source and writes its normal text to a sink.
+// Captures that come in pieces: a reader, which also normalises whole captures, and the engine,
+// which reads a capture from a source and writes its normal text to a sink.
 #![tactic(auto)]
 
 mod devices;

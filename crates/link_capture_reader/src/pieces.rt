@@ -1,4 +1,4 @@
-//! One more piece of a capture: the bytes of the cut frame, and what comes after them.
+//! One more piece of a capture: the bytes of the cut frame, and those that come after them.
 
 ghost use Rattle.std.specs.Prelude.{◌≡◌, ◌≢◌, ◌+◌, ◌-◌, ◌^◌, ◌<◌, ◌≤◌, ◌++◌, ◌⊎◌, ℕ, List, [], length, take, max, IfOk};
 ghost use Rattle.std.specs.Prelude.{IfErr, OnOk, OnErr, Err};
@@ -18,7 +18,7 @@ use netlink_packet_core::{NETLINK_HEADER_LEN, NetlinkBuffer, nla_align};
 use netlink_packet_core_grammar::laws::numbers_stand_alone;
 use std::alloc::AllocError;
 
-/// The zeros behind a frame of this length, up to a multiple of 4.
+/// Returns the number of zeros after a frame of this length, up to a multiple of 4.
 fn padding(length: usize) -> usize
     requires { length ≤ 18446744073709551611 }
     ensures { result ≡ nla_align length - length }
@@ -26,7 +26,7 @@ fn padding(length: usize) -> usize
     nla_align(length) - length
 }
 
-/// The length that a header gives.
+/// Returns the length in a header.
 fn claimed_length(header: &[u8]) -> u32
     requires { 4 ≤ length header.now }
     ensures { result ≡ frame_length header.now }
@@ -34,7 +34,8 @@ fn claimed_length(header: &[u8]) -> u32
     NetlinkBuffer::new(header).length()
 }
 
-/// Moves bytes from the piece's front until `kept` has this size, or the piece is used up. The answer is how many.
+/// Moves bytes from the start of the piece until `kept` has this size, or the piece is used up.
+/// Returns how many.
 fn fill(kept: &mut Vec<u8>, piece: &[u8], size: usize) -> Result<usize, AllocError>
     ensures within { IfOk result (λ n. n ≤ length piece.now) }
     ensures moved { IfOk result (λ n. kept.new.items ≡ kept.old.items ++ take n piece.now) }
@@ -46,7 +47,7 @@ fn fill(kept: &mut Vec<u8>, piece: &[u8], size: usize) -> Result<usize, AllocErr
     Ok(count)
 }
 
-/// The header of a frame that begins with the bytes kept and goes on with the piece.
+/// Returns the header of a frame that begins with the kept bytes and continues with the piece.
 fn joined_header(kept: &[u8], piece: &[u8]) -> [u8; NETLINK_HEADER_LEN]
     requires { 16 ≤ length kept.now + length piece.now }
     ensures { result ≡ take 16 (kept.now ++ piece.now) }
@@ -58,8 +59,8 @@ fn joined_header(kept: &[u8], piece: &[u8]) -> [u8; NETLINK_HEADER_LEN]
     header
 }
 
-/// Judges, without memory, the header of a frame that begins with the bytes kept and goes on with the piece: refused is
-/// one that is whole and tells a length which no frame may have.
+/// Judges the header of a frame that begins with the kept bytes and continues with the piece. Fails
+/// if the header is whole and its length is one that no frame may have. Allocates nothing.
 fn judge_header(kept: &[u8], piece: &[u8], limit: u32) -> Result<(), FaultKind>
     ensures ok { OnOk result (HeaderStands limit (kept.now ++ piece.now)) }
     ensures err { IfErr result
@@ -85,7 +86,8 @@ fn judge_header(kept: &[u8], piece: &[u8], limit: u32) -> Result<(), FaultKind>
     }
 }
 
-/// Moves bytes from the piece's front until the cut frame can be judged, or the piece is used up.
+/// Moves bytes from the start of the piece until the cut frame can be judged, or the piece is used
+/// up. Returns how many.
 fn complete_frame(kept: &mut Vec<u8>, piece: &[u8], limit: u32) -> Result<usize, AllocError>
     requires { first_frame limit kept.old.items ≡ Err FaultKind.Cut }
     ensures within { IfOk result (λ n. n ≤ length piece.now) }
@@ -105,8 +107,8 @@ fn complete_frame(kept: &mut Vec<u8>, piece: &[u8], limit: u32) -> Result<usize,
     Ok(header + more)
 }
 
-/// Goes on over bytes that stand at `start` of the capture: the texts of their whole frames go to `out`, and the bytes
-/// of a cut one to `kept`. The answer is the padding that is owed then.
+/// Reads bytes at the offset `start` of the capture: appends the texts of their whole frames to
+/// `out`, and the bytes of a cut one to `kept`. Returns how many bytes of padding are owed then.
 fn read_frames(
     start: u64,
     kept: &mut Vec<u8>,
@@ -147,7 +149,8 @@ fn read_frames(
     }
 }
 
-/// Goes on with the bytes of a cut frame, which stand at `start` of the capture, and those that come after them.
+/// Continues with the bytes of a cut frame, at the offset `start` of the capture, and those that
+/// come after them.
 fn resume_frame(
     start: u64,
     kept: &mut Vec<u8>,
@@ -206,8 +209,8 @@ fn resume_frame(
     }
 }
 
-/// Takes a piece after so many bytes, where `kept` has the bytes of the cut frame and so much padding is owed. The
-/// answer is the padding that is owed then.
+/// Accepts a piece after `accepted` bytes, of which `kept` has those of the cut frame; `owed` bytes
+/// of padding are owed. Returns how many bytes of padding are owed then.
 pub(crate) fn accept_piece(
     accepted: u64,
     kept: &mut Vec<u8>,

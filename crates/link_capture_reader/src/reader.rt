@@ -10,10 +10,12 @@ use link_capture_grammar::laws::faults_stand_at_frames;
 use std::alloc::Global;
 use std::marker::Model;
 
-/// Reads a capture that comes in pieces of any sizes, and writes its normal text as far as its frames have come.
+/// Reads a capture that comes in pieces of any sizes, and writes the normal texts of the frames
+/// that have come.
 ///
-/// A frame that lies whole in a piece is judged and written from the piece itself. Between pieces the reader keeps
-/// nothing but the bytes of the frame that is cut.
+/// A frame that is whole in a piece is judged and written from the piece itself. Between pieces the
+/// reader keeps only the bytes of a frame that is cut. Its contracts quantify over every byte
+/// string that is consistent with the pieces fed, not over a history of calls.
 #[derive(Drop)]
 pub struct CaptureReader {
     limit: u32,
@@ -44,7 +46,8 @@ impl Model for CaptureReader {
 }
 
 impl CaptureReader {
-    /// A reader of nothing yet. `limit` is the greatest length in bytes that a message, read or written, may have.
+    /// Returns a reader without any bytes yet. `limit` is the greatest length in bytes of a
+    /// message, as read and as written.
     pub fn new(alloc: Global, limit: u32) -> CaptureReader
         requires { 16 ≤ limit }
         ensures empty { StandsFor result [] }
@@ -60,28 +63,31 @@ impl CaptureReader {
         }
     }
 
-    /// Takes the next piece of the capture. The text of each frame that is whole now, its padding with it, goes to the
-    /// end of `out`.
+    /// Takes the next piece of the capture, and appends the text of each frame that is now whole,
+    /// with its padding, to `out`.
     ///
-    /// The answer is the first fault of the capture so far, other than a cut frame; want of memory at a frame; or
-    /// `TooLong`, at the number of bytes before the piece, where that and the piece together pass `u64::MAX`. After
-    /// any fault each later call answers `Failed`, at the place of the first fault, and leaves `out` alone.
+    /// # Errors
+    ///
+    /// The first fault of the capture so far, other than a cut frame; `Memory` at a frame, if an
+    /// allocation fails; or `TooLong`, at the number of bytes before the piece, if these and the
+    /// piece together are more than `u64::MAX`. A fault is final: each later call returns `Failed`
+    /// at its offset, and leaves `out` unchanged.
     pub fn feed(&mut self, piece: &[u8], out: &mut Vec<u8>) -> Result<(), CaptureFault>
-        // The capture goes on by the piece, and `out` by the texts that it gains.
+        // The capture is continued by the piece, and `out` by the texts that it gains.
         ensures ok { OnOk result ((s : List ℕ) → StandsFor self.old s
             → (length s + length piece.now < 2 ^ 64) × StandsFor self.new (s ++ piece.now)
             × Gains self.old.limit s (s ++ piece.now) out.old.items out.new.items) }
-        // A fault is that of the capture with the piece, and the texts before it are in `out`.
+        // The fault is that of the capture with the piece, and the texts before it are in `out`.
         ensures fault { IfErr result (λ fault. (s : List ℕ) → StandsFor self.old s
             → FeedFault self.old.limit s piece.now out.old.items out.new.items
             fault.kind fault.offset) }
-        // Where no bytes were kept and no padding is owed, memory is wanting only for a text for which there was less
-        // room, or to keep the bytes of a cut frame.
+        // If no bytes were kept and no padding is owed, an allocation fails only for a text for
+        // which `out` lacked capacity, or for the bytes of a cut frame.
         ensures room { IfErr result (λ fault. self.old.kept ≡ [] → self.old.owed ≡ 0
             → TellsWant self.old.limit self.old.accepted piece.now fault out.old) }
-        // A fault is one for good.
+        // A fault is final.
         ensures failed { IfErr result (λ fault. self.new.failed ≡ Some fault.offset) }
-        // Nothing of a piece with a fault is counted, nor any piece after it.
+        // Neither a piece with a fault nor any later piece is counted.
         ensures accepted { OnErr result (self.new.accepted ≡ self.old.accepted) }
         ensures again { IfSome self.old.failed (λ offset.
             (result ≡ Err (record { kind = FaultKind.Failed; offset = offset }))
@@ -110,8 +116,12 @@ impl CaptureReader {
         }
     }
 
-    /// The capture ends here. The answer is `Cut`, at its place, where a frame is cut; after a fault `Failed`, at the
-    /// place of that.
+    /// Ends the capture. Returns Ok if it is legal.
+    ///
+    /// # Errors
+    ///
+    /// `Cut`, at its offset, if the last frame isn't whole; `Failed`, at the offset of the fault,
+    /// if a call of `feed` has failed.
     pub fn finish(self) -> Result<(), CaptureFault>
         ensures ok { OnOk result
             ((s : List ℕ) → StandsFor self s → first_fault self.limit s ≡ None) }
@@ -136,14 +146,15 @@ impl CaptureReader {
         })
     }
 
-    /// How many bytes were accepted: those of all pieces, or of the pieces before that with a fault.
+    /// Returns how many bytes were accepted: those of all pieces, or of the pieces before the one
+    /// with a fault.
     pub fn accepted(&self) -> u64
         ensures { result ≡ self.now.accepted }
     {
         self.accepted
     }
 
-    /// How many bytes of the cut frame have come: 0 where none is cut, and after a fault.
+    /// Returns how many bytes of the cut frame have come: 0 if no frame is cut, and after a fault.
     pub fn kept(&self) -> usize
         ensures value { result ≡ length self.now.kept }
         ensures bound { result < self.now.limit }
@@ -152,7 +163,8 @@ impl CaptureReader {
         self.kept.len()
     }
 
-    /// The bytes of the cut frame that have come: none where none is cut, and after a fault.
+    /// Returns the bytes of the cut frame that have come: none if no frame is cut, and after a
+    /// fault.
     pub fn kept_bytes(&self) -> &[u8]
         ensures value { result.now ≡ self.now.kept }
         ensures failed { IfSome self.now.failed (λ _. result.now ≡ []) }

@@ -9,7 +9,7 @@ use super::devices::{DeviceFailed, Sink};
 use std::alloc::Global;
 use std::io::Write;
 
-/// The bytes that were written. It fails only where memory for them was refused.
+/// A sink that holds what was written, in memory. It fails only if an allocation fails.
 #[derive(Drop)]
 pub struct VecSink {
     bytes: Vec<u8>,
@@ -17,7 +17,7 @@ pub struct VecSink {
 }
 
 impl VecSink {
-    /// It holds no bytes yet, and no failure is counted.
+    /// Returns a sink that holds no bytes and has counted no failure. Allocates nothing.
     pub fn new(alloc: Global) -> VecSink
         ensures holds { sink_bytes result ≡ [] }
         ensures failures { growths_refused result ≡ 0 }
@@ -28,7 +28,7 @@ impl VecSink {
         }
     }
 
-    /// The bytes that it holds.
+    /// Returns the bytes that it holds.
     pub fn bytes(&self) -> &[u8]
         ensures { result.now ≡ sink_bytes self.now }
     {
@@ -41,7 +41,7 @@ impl Sink for VecSink {
 
     ghost failures = { λ s. s.failures };
 
-    /// Takes all of the bytes, or fails where there was less room than they want.
+    /// Takes all of the bytes, or fails if an allocation for bytes beyond its capacity fails.
     fn write(&mut self, bytes: &[u8]) -> Result<usize, DeviceFailed>
         ensures within { IfOk result (λ n. n ≤ length bytes.now) }
         ensures bytes { WriteAppends (Some (sink_bytes self.old)) (Some (sink_bytes self.new))
@@ -62,7 +62,8 @@ impl Sink for VecSink {
     }
 }
 
-/// What a writer takes. The bytes that it holds are known where the writer tells its contents.
+/// A sink that passes bytes to a writer. The bytes that it holds are known if the writer's contents
+/// are.
 #[derive(Drop)]
 pub struct WriteSink<W> {
     writer: W,
@@ -70,7 +71,7 @@ pub struct WriteSink<W> {
 }
 
 impl<W: Write> WriteSink<W> {
-    /// It holds what this writer holds, and no failure is counted.
+    /// Returns a sink that passes bytes to `writer` and has counted no failure.
     pub fn new(writer: W) -> WriteSink<W>
         ensures writer { sink_writer result ≡ writer }
         ensures failures { sink_failures result ≡ 0 }

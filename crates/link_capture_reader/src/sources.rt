@@ -1,4 +1,4 @@
-//! Sources: the bytes of a slice, and those behind a reader.
+//! Sources: the bytes of a slice, and those of a reader.
 
 ghost use Rattle.std.specs.Prelude.{◌≡◌, Some};
 ghost use Rattle.link_capture_reader.specs.Known.{slice_rest, slice_ends_told, source_reader, source_failures, source_ends_told};
@@ -6,7 +6,7 @@ ghost use Rattle.link_capture_reader.specs.Known.{slice_rest, slice_ends_told, s
 use super::devices::{DeviceFailed, Source};
 use std::io::Read;
 
-/// The bytes of a slice. It never fails.
+/// A source of the bytes of a slice. It never fails.
 #[derive(Drop)]
 pub struct SliceSource<'a> {
     rest: &'a [u8],
@@ -14,7 +14,7 @@ pub struct SliceSource<'a> {
 }
 
 impl<'a> SliceSource<'a> {
-    /// All bytes of this slice are to come, and no end is counted.
+    /// Returns a source of all bytes of a slice, which has counted no end.
     pub fn new(bytes: &'a [u8]) -> SliceSource<'a>
         ensures rest { slice_rest result ≡ bytes.now }
         ensures ends { slice_ends_told result ≡ 0 }
@@ -45,7 +45,7 @@ impl Source for SliceSource<'_> {
     }
 }
 
-/// The bytes behind a reader. They are known where the reader tells what remains.
+/// A source of the bytes of a reader. They are known if the reader's remaining bytes are.
 #[derive(Drop)]
 pub struct ReadSource<R> {
     reader: R,
@@ -54,7 +54,8 @@ pub struct ReadSource<R> {
 }
 
 impl<R: Read> ReadSource<R> {
-    /// All bytes that remain in this reader are to come, and no failure or end is counted.
+    /// Returns a source of the bytes that remain in `reader`, which has counted no failure and no
+    /// end.
     pub fn new(reader: R) -> ReadSource<R>
         ensures reader { source_reader result ≡ reader }
         ensures failures { source_failures result ≡ 0 }

@@ -1,4 +1,4 @@
-//! Texts that are told on a sink.
+//! Texts that are written to a sink.
 
 ghost use Rattle.std.specs.Prelude.{◌≡◌, ◌≤◌};
 ghost use Rattle.link_capture_reader.specs.States.{IsTold, sink_state};
@@ -6,7 +6,8 @@ ghost use Rattle.link_capture_reader.specs.States.{IsTold, sink_state};
 use super::devices::Sink;
 use super::engine::write_all;
 
-/// Writes a text. Whether all of it was written: where the sink fails, the rest of it isn't.
+/// Writes a text. Returns whether all of it was written; if not, the sink failed after a prefix of
+/// it.
 pub fn tell<K: Sink>(sink: &mut K, text: &str) -> bool
     ensures { IsTold (sink_state K.holds K.failures sink.old)
         (sink_state K.holds K.failures sink.new) text.now result }

@@ -13,38 +13,43 @@ use link_capture_grammar::laws::{
     texts_are_normal, texts_are_small, texts_mean_the_same,
 };
 
-/// Writes the normal text of a capture at the end of `out`.
+/// Appends the normal text of a capture to `out`.
 ///
-/// `bytes` is any byte string, read as netlink messages of which each starts at a multiple of 4. `limit` is the
-/// greatest length in bytes that a message, read or written, may have. Where the capture is legal, `out` gains its
-/// normal text. Otherwise the answer is the first fault with its place, and `out` gains the texts of the messages
-/// before it; for want of memory the place is that of some message, and what stands before it is legal.
+/// `bytes` is any byte string, read as netlink messages of which each starts at a multiple of 4.
+/// `limit` is the greatest length in bytes of a message, as read and as written.
+///
+/// # Errors
+///
+/// The first fault of the capture, with its offset; `out` has gained the texts of the messages
+/// before it. `Memory` if `out` has to grow and an allocation fails: at a message before which the
+/// capture is legal, whose texts `out` has gained.
 pub fn normalize_bytes(bytes: &[u8], limit: u32, out: &mut Vec<u8>) -> Result<(), CaptureFault>
     requires { 16 ≤ limit }
-    // It succeeds on legal captures alone, and writes their normal text.
+    // It succeeds only on legal captures, and writes their normal text.
     ensures legal { OnOk result (IsLegal limit bytes.now × GainsTexts limit bytes.now out.old out.new) }
-    // Else it answers the first fault, unless memory ran out, and writes the texts before it.
+    // Else it returns the first fault, unless memory ran out, and writes the texts before it.
     ensures fault { IfErr result
         (λ fault. fault.kind ≢ FaultKind.Memory → (first_fault limit bytes.now ≡ Some fault)
         × GainsTexts limit bytes.now out.old out.new) }
-    // A fault stands at a frame's start.
+    // A fault is at the start of a frame.
     ensures place { IfErr result (λ fault. IsPlaceOf bytes.now fault.offset) }
-    // A normal text is legal, and its own normal text.
+    // A normal text is legal, and already canonical.
     ensures normal { IsLegal limit (texts limit bytes.now)
         × (texts limit (texts limit bytes.now) ≡ texts limit bytes.now) }
-    // Where memory ran out, what stands before the place is legal, and has been written.
+    // If memory ran out, the bytes before the offset are legal, and their texts are written.
     ensures memory { IfErr result
         (λ fault. fault.kind ≡ FaultKind.Memory → StopsAt limit bytes.now fault.offset
         × GainsTexts limit (take fault.offset bytes.now) out.old out.new) }
-    // Memory is wanting only for the text of an accepted frame, where `out` had less room than it and the texts before
-    // it want.
+    // Memory runs out only for the text of an accepted frame, if `out` had less capacity than that
+    // and the texts before it need.
     ensures room { IfErr result
         (λ fault. fault.kind ≡ FaultKind.Memory → LacksRoomAt limit bytes.now fault.offset out.old) }
     // A legal capture and its normal text mean the same.
     ensures same { IsLegal limit bytes.now → SameCapture limit bytes.now (texts limit bytes.now) }
     // A normal text is at most 77 times as long.
     ensures small { length (texts limit bytes.now) ≤ 77 * length bytes.now }
-    // What follows a legal capture whose size is a multiple of 4 is judged and written by itself.
+    // Bytes that follow a legal capture whose size is a multiple of 4 are judged and written
+    // independently.
     ensures joined { IsLegal limit bytes.now → length bytes.now % 4 ≡ 0
         → IsJoined limit bytes.now }
 {
@@ -54,5 +59,6 @@ pub fn normalize_bytes(bytes: &[u8], limit: u32, out: &mut Vec<u8>) -> Result<()
     texts_are_small();
     joined_captures_are_legal();
     joined_captures_have_joined_texts();
+    // Not by a `CaptureReader`, which would copy a cut frame.
     push_frames(bytes, limit, out)
 }

@@ -1,4 +1,4 @@
--- Nothing is refused of a list exactly where its rule accepts it.
+-- A list has no refusal if and only if its rule accepts it.
 use Rattle.std.proofs.Common.{◌≡◌, ℕ, zero, suc, ◌+◌, ◌≤◌, Bool, true, false, cond, List, [], ◌∷◌, length, drop, Option, Some, None, refl, sym, ap, ◌∙◌, arith, rules}
 use Rattle.std.specs.Prelude.{◌&&◌, nat_le, nat_lt, is_none, option_map, slice_index}
 use Rattle.netlink_packet_core_grammar.specs.Attributes.{Attribute, nla_align, attribute_length, first_attribute, proper_kind}
@@ -23,7 +23,7 @@ use Rattle.link_capture_refusals.specs.RefusalLaws.{LinksAreAccepted, ListsAreAc
 use Rattle.std.proofs.lemmas.Bool.{ltb-true, ltb-false, le-leb, lt-leb}
 use Rattle.link_capture_refusals.proofs.ListSteps.{rest_shorter}
 
--- ---- of what is found
+-- ---- refusals
 
 none_else : (o : Option Found) (f : Found) → is_none (or_else o (Some f)) ≡ false
 none_else None f = refl
@@ -60,7 +60,7 @@ module _ (w : FirstIsWithin) (steps : MeasuresGoBySteps) (tells : MeasuresTellRu
   abbrev within : ℕ → ListRefusal
   within n = λ l q d. refusal_within n l q d
 
-  -- in so many steps, of a list that is walked, and of one of its first attribute alone
+  -- within n steps, for the rest of a list, and for a list of which only the first attribute is kept
   record Known (n : ℕ) : Type 0 where
     walked : (judged : Bool) (f : Form) (t : Table) (c : Context) (place : ℕ) (bytes rest : List ℕ) (m : Measure) → IsWalked (form_of f) bytes → length rest ≤ n →
         MeasuredSoFar (form_of f) (grammar_at judged t) bytes m c rest →
@@ -123,7 +123,7 @@ module _ (w : FirstIsWithin) (steps : MeasuresGoBySteps) (tells : MeasuresTellRu
       nothing_here : (f : Form) (c : Context) (place : ℕ) (e : Attribute) (after : Option Found) → is_accepted (at f c) e ≡ true → or_else (attribute_refusal (within n) (at f c) place e) after ≡ after
       nothing_here f c place e after h = ap (λ b. or_else (cond b None (row_refusal (within n) judged (row_in t c (proper_kind e.kind)) place e.payload)) after) h
 
-      -- one more attribute of a list that is walked
+      -- one more attribute of a list
       walked_more : (f : Form) (c : Context) (place : ℕ) (bytes rest : List ℕ) (m : Measure) (e : Attribute) (after : List ℕ) → IsWalked (form_of f) bytes → first_attribute rest ≡ Some (e, after) → length rest ≤ suc n →
           MeasuredSoFar (form_of f) g bytes m c rest → (kept a : Bool) → is_kept (form_of f) e ≡ kept → (here c e).accepted e.payload ≡ a →
           (list_rule (form_of f) g).accepted bytes ≡ is_none (or_else (attribute_refusal (within n) (at f c) place e) (refusal_within n (behind (at f c) e) (place + nla_align (attribute_length e)) (goes_on f after)))
@@ -158,7 +158,7 @@ module _ (w : FirstIsWithin) (steps : MeasuresGoBySteps) (tells : MeasuresTellRu
       walked_suc f c place bytes [] m v l s = done (form_of f) g bytes c m v s
       walked_suc f c place bytes (b ∷ rest) m v l s = walked_next f c place bytes b rest m v l s (first_attribute (b ∷ rest)) refl
 
-      -- of one of its first attribute alone
+      -- a list of which only the first attribute is kept
       first_more : (place : ℕ) (bytes : List ℕ) (e : Attribute) (after : List ℕ) → first_attribute bytes ≡ Some (e, after) → length bytes ≤ suc n → (a : Bool) → (here nothing e).accepted e.payload ≡ a →
           (list_rule first_alone g).accepted bytes ≡ is_none (or_else (attribute_refusal (within n) (whole FirstAlone t judged) place e) (refusal_within n (behind (whole FirstAlone t judged) e) (place + nla_align (attribute_length e)) []))
       first_more place bytes e after h l true j =

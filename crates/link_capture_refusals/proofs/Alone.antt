@@ -1,4 +1,4 @@
--- What is refused of a frame hangs on its own bytes.
+-- The refusal of a frame depends only on the frame's bytes.
 use Rattle.std.proofs.Common.{◌≡◌, ℕ, ◌+◌, ◌-◌, true, cond, List, [], ◌∷◌, ◌++◌, drop, take, Some, ap, ◌∙◌, arith, length-drop}
 use Rattle.std.specs.Prelude.{slice_index}
 use Rattle.std.specs.Int.{w16, from_le_bytes}

@@ -32,7 +32,7 @@ use Rattle.link_capture_refusals.specs.RefusalTables as R
 use Rattle.link_capture_refusals.specs.RefusalTables.{NamedRow, find, info_inside, inside_of, row_in, table_rows}
 use Rattle.link_capture_refusals.specs.RowRules.{LinksAreTables, RowsAreTheTables, grammar_at, inside_rule, peer_of, row_rule}
 
--- ---- kinds and what their payloads hold
+-- ---- kinds and the contents of their payloads
 
 abbrev Pairs : Type 0
 Pairs = List (ℕ × Payload)
@@ -66,7 +66,7 @@ by_rows : (rs : List NamedRow) (k : ℕ) → row_payload (find k rs) ≡ at k (p
 by_rows [] k = refl
 by_rows (r ∷ rs) k = elim (k == r.0) as (λ b. row_payload (cond b (Some r) (find k rs)) ≡ cond b (Some (held r.2)) (at k (paired_rows rs))) [ true ↦ refl | false ↦ by_rows rs k ]
 
--- one table after another
+-- tables one after another
 paired_at : (ls : List (List NamedRow)) (ts : List Rows) (n : ℕ) → map paired_rows ls ≡ map paired ts → paired_rows (get_or ls n []) ≡ paired (get_or ts n end)
 paired_at ls ts n e = sym (get_or-map paired_rows ls n []) ∙ ap (λ ps. get_or ps n []) e ∙ get_or-map paired ts n end
 

@@ -1,4 +1,4 @@
--- Something is refused of a capture exactly where its first fault is a refused body.
+-- A capture has a refusal if and only if its first fault is a refused body.
 use Rattle.std.proofs.Common.{◌≡◌, ℕ, ◌+◌, ◌-◌, Bool, true, false, cond, List, [], drop, take, length, Option, Some, None, Ok, Err, Result, refl, sym, ap, subst, ◌∙◌, arith}
 use Rattle.std.specs.Prelude.{min, IsSome, is_none, nat_eq, nat_le, nat_lt}
 use Rattle.std.proofs.lemmas.Bool.{and_parts, cond_both, leb-true, ltb-false, ne_eqb}
@@ -23,7 +23,7 @@ record RefusedFrame (c : List ℕ) : Type 0 where
   frame : IsFrame c
   body : body_text (frame_type c) (frame_body c) ≡ Err refused
 
--- which tests it passed
+-- the tests that it passed
 tests : (a b d e : Bool) (j : Judged) → cond a (Err Cut) (cond b (Err ShortLength) (cond d (Err OverLimit) (cond e (Err Cut) j))) ≡ Err Refused → (a ≡ false) × (b ≡ false) × (e ≡ false) × (j ≡ Err Refused)
 tests false false false false j h = (refl, refl, refl, h)
 tests a b d e j h = absurd cc
@@ -65,7 +65,7 @@ link_refused t b l h =
     in
     ruled_refused link_body b (link_body.accepted b) (link_body.empty_ports b) (link_body.fits b) refl ruled
 
--- ---- what is told of it
+-- ---- a refused body has a refusal
 
 some_of : (o : Option Found) → is_none o ≡ false → IsSome o
 some_of None h = absurd cc
@@ -84,7 +84,7 @@ module _ (law : CapturesGoByFrames link_body) (w : FirstIsWithin) (links : Links
       let r = frame_refused limit (drop place c) (law.fault_there limit c (record { kind = Refused; offset = place }) h) in
       subst (λ o. IsSome (told_refusal c o)) (sym h) (told_frame place (drop place c) (is_link_type (frame_type (drop place c))) refl r.body)
 
-  -- ---- where it stands
+  -- ---- the offset of a refusal
 
   in_frame : (place : ℕ) (c : List ℕ) (f : Found) (l : Bool) → IsFrame c → is_link_type (frame_type c) ≡ l →
       cond l (link_refusal list_refusal true (place + 16) (place + 16) (frame_body c)) (Some (code_refusal (frame_body c))) ≡ Some f → cond l (IsBetween place (place + frame_length c) f.place) (f.place ≡ None)

@@ -1,4 +1,4 @@
--- A walk goes on behind an attribute of which nothing is refused.
+-- A walk continues after an attribute without a refusal.
 use Rattle.std.proofs.Common.{◌≡◌, ℕ, ◌+◌, ◌<◌, ◌≤◌, true, false, List, [], ◌∷◌, length, Option, Some, None, refl, sym, ap, ◌∙◌, arith}
 use Rattle.std.specs.Prelude.{is_some}
 use Rattle.netlink_packet_core_grammar.specs.Attributes.{Attribute, attribute_length, first_attribute, nla_align}
@@ -15,7 +15,7 @@ going : ListsGoBySteps → (l : Listing) (place : ℕ) (rest : List ℕ) → 0 <
 going s l place [] h = absurd (omega (arith, h))
 going s l place (b ∷ rest) h = s.next l place b rest
 
--- no attribute is there
+-- no attribute follows
 pub stopped : ListsGoBySteps → (l : Listing) (place : ℕ) (rest : List ℕ) → 0 < length rest → first_attribute rest ≡ None → list_refusal l place rest ≡ Some (found_at place (no_attribute rest))
 stopped s l place rest h n = going s l place rest h ∙ ap (next_refusal list_refusal l place rest) n
 
@@ -35,7 +35,7 @@ module _ (s : ListsGoBySteps) (l : Listing) (place : ℕ) (rest : List ℕ) (e :
   by_first : list_refusal l place rest ≡ or_else (all_found o) more
   by_first = going s l place rest h ∙ ap (next_refusal list_refusal l place rest) f ∙ ap (λ z. or_else z more) (sym a)
 
-  -- something of it is refused, or nothing
+  -- the attribute has a refusal, or none
   pub here : is_some o ≡ true → all_found o ≡ list_refusal l place rest
   here i = sym (some_taken o more i) ∙ sym by_first
 

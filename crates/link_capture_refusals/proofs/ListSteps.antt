@@ -1,4 +1,4 @@
--- What is refused of a list goes by its attributes, however many steps are allowed.
+-- The refusal of a list, attribute by attribute: a larger number of steps yields the same refusal.
 use Rattle.std.proofs.Common.{◌≡◌, ℕ, zero, suc, ◌+◌, ◌≤◌, Bool, false, cond, List, [], ◌∷◌, drop, length, Option, Some, None, refl, ap, ◌∙◌, arith, length-drop}
 use Rattle.std.specs.Prelude.{nat_lt, option_map, slice_index}
 use Rattle.netlink_packet_core_grammar.specs.Attributes.{Attribute, nla_align, attribute_length, first_attribute, proper_kind}
@@ -16,7 +16,7 @@ use Rattle.link_capture_refusals.specs.Refusals.{ListRefusal, attribute_refusal,
 use Rattle.link_capture_refusals.specs.RefusalLaws.{ListsGoBySteps}
 use Rattle.link_capture_refusals.proofs.Going.{goes_shorter}
 
--- two ways agree on lists of so many bytes
+-- two functions agree on lists of at most n bytes
 abbrev Same : ListRefusal → ListRefusal → ℕ → Type 0
 Same f g k = (l : Listing) (place : ℕ) (bytes : List ℕ) → length bytes ≤ k → f l place bytes ≡ g l place bytes
 

@@ -1,4 +1,4 @@
--- Rows in code, and what they say.
+-- Rows in code, and their values.
 use Rattle.std.proofs.Common.{◌≡◌, ℕ, zero, suc, ◌+◌, ◌-◌, ◌<◌, ◌≤◌, ◌++◌, length, Bool, true, false, cond, List, [], ◌∷◌, get_or, Bor, Option, Some, None, refl, sym, ap, ◌∙◌, subst, zero-add, arith}
 use Rattle.std.specs.Prelude.{◌==◌, ◌&&◌, nat_lt, not, option_map}
 use Rattle.std.specs.List.{list_all}
@@ -29,7 +29,7 @@ use Rattle.link_capture_refusals.specs.declared.tables.Inside.TheVariants as I
 use Rattle.link_capture_refusals.specs.RowRules.{behind, grammar_at, grammar_of, peer_of}
 use Rattle.link_capture_refusals.specs.RefusalTables.{IsLower, Listing, NamedRow, data_rows, depth, find, info_inside, inside_depth, inside_of, is_name, message_rows, said, table_rows}
 
--- a row in code, and what it says
+-- a row in code, and its value
 abbrev pub Row : Type 0
 Row = ℕ × Bor (List ℕ) × Held
 
@@ -46,9 +46,9 @@ ascii (b ∷ n) h = let a = and_parts (nat_lt b 128) (is_name n) h in IsAscii-co
 pub text : (n : List ℕ) → is_name n ≡ true → IsUtf8 n
 text n h = IsUtf8-from_ascii n (ascii n h)
 
--- ---- what holds of each row holds of the one that is found
+-- ---- a property of each row is one of the row that is found
 
--- a list is of a table that has rows
+-- the table of a list has rows
 abbrev pub has_rows : Held → Bool
 has_rows (H.List f t) = not (is_link_info t)
 has_rows held = true
@@ -110,7 +110,7 @@ of_table t k r e =
     let a = and_parts (is_name r.1) _ (found (passes t) k (get_or table_rows t []) r (each_passes t) e) in
     record { name = a.0; lower = lower_by t (inside_of r.2) (and_parts (row_has_rows r) _ a.1).1 }
 
--- what is found in code
+-- a refusal in code
 pub row_found : (k : ℕ) (o : Option Row) (rs : List Row) (us : List NamedRow) → option_map row o ≡ find k (rows rs) → rows rs ≡ us → find k us ≡ option_map row o
 row_found k o rs us h e = ap (find k) (sym e) ∙ sym h
 
@@ -139,7 +139,7 @@ statistics_lower : (k : ℕ) (o : Option (List ℕ)) → IsLower LINK_INFO.0 (in
 statistics_lower k None = refused_lower k
 statistics_lower k (Some n) = some_lower k (H.Plain Raw) refl
 
--- whatever is in force
+-- for all kinds in force
 pub info_lower : (c : Context) (k : ℕ) → IsLower LINK_INFO.0 (info_inside k (held_in_force c k))
 info_lower c zero = some_lower 0 (H.Plain Raw) refl
 info_lower c (suc zero) = some_lower 1 (H.Plain Text) refl

@@ -1,4 +1,4 @@
--- What is refused of a list stands between its place and its end.
+-- The offset of a list's refusal is between the list's start and its end.
 use Rattle.std.proofs.Common.{◌≡◌, ℕ, zero, suc, ◌+◌, ◌<◌, ◌≤◌, Bool, true, false, cond, List, [], ◌∷◌, drop, length, Option, Some, None, refl, sym, subst, arith, length-drop}
 use Rattle.std.specs.Prelude.{nat_lt, option_map, slice_index}
 use Rattle.std.proofs.lemmas.Bool.{ltb-false}
@@ -17,7 +17,7 @@ use Rattle.link_capture_refusals.specs.Refusals.{Found, ListRefusal, attribute_r
 use Rattle.link_capture_refusals.proofs.Going.{goes_shorter}
 use Rattle.link_capture_refusals.proofs.ListSteps.{rest_shorter}
 
--- what is found, if anything is, stands between two places
+-- the offset of a refusal, if there is one, is between two offsets
 abbrev pub Placed : ℕ → ℕ → Option Found → Type 0
 Placed low high None = Unit {0}
 Placed low high (Some f) = IsBetween low high f.place
@@ -42,7 +42,7 @@ placed_if : (low high : ℕ) (b : Bool) (o : Option Found) → Placed low high o
 placed_if low high true o h = tt
 placed_if low high false o h = h
 
--- as far as lists of so many bytes are
+-- for lists of at most n bytes
 abbrev Within : ListRefusal → ℕ → Type 0
 Within f k = (l : Listing) (place : ℕ) (bytes : List ℕ) → length bytes ≤ k → Placed place (place + length bytes) (f l place bytes)
 
@@ -82,7 +82,7 @@ module _ (f : ListRefusal) (k : ℕ) (i : Within f k) where
       let o = row_refusal f l.judged (row_in l.table l.context (proper_kind e.kind)) place e.payload in
       placed_if place (place + 4 + length e.payload) (is_accepted l e) o (placed_row l.judged (row_in l.table l.context (proper_kind e.kind)) place e.payload h)
 
--- of no bytes nothing is refused
+-- no bytes have no refusal
 module _ (w : FirstIsWithin) (f : ListRefusal) (k : ℕ) (i : Within f k) (none : (l : Listing) (place : ℕ) → f l place [] ≡ None) where
   placed_rest : (l : Listing) (place size high : ℕ) (rest : List ℕ) → length rest ≤ k → (0 < length rest → place + size + length rest ≤ high) → Placed place high (f l (place + size) rest)
   placed_rest l place size high [] h n = subst (Placed place high) (sym (none l (place + size))) tt
@@ -116,6 +116,6 @@ module _ (w : FirstIsWithin) where
   unfolding list_refusal
   placed_list l place bytes = placed_within (length bytes) l place bytes (omega arith)
 
-  -- of a link
+  -- the refusal of a link
   pub link_placed : (judged : Bool) (place : ℕ) (b : List ℕ) → Placed place (place + length b) (link_refusal list_refusal judged place place b)
   link_placed judged place b = placed_link list_refusal (length b) (λ l q d h. placed_list l q d) judged place place b (omega arith) (omega arith)

@@ -1,4 +1,4 @@
--- The words of what is refused, and why a value is.
+-- The texts of reasons, and the reason why a shape refuses a value.
 use Rattle.std.specs.Prelude.{ℕ, List, ◌++◌, codes}
 use Rattle.std.specs.Fmt.{decimal}
 use Rattle.link_tables.specs.declared.rows.Shape.{Shape}
@@ -6,10 +6,11 @@ use Rattle.link_tables.specs.declared.rows.Shape.TheVariants.{Text, Never}
 use Rattle.link_capture_refusals.specs.declared.reason.Reason.{Reason}
 use Rattle.link_capture_refusals.specs.declared.reason.Reason.TheVariants.{PayloadSize, NotUtf8, EmptyList, NoKind, NoPortKind, NoPayload, CutHeader, WrongLength, CutLink, EmptyPorts, Unfit, CutCode}
 
--- a number in decimal between two texts
+-- A number in decimal between two texts.
 abbrev pub counted : List ℕ → ℕ → List ℕ → List ℕ
 counted before n behind = before ++ (decimal n ++ behind)
 
+-- The text of each reason.
 abbrev pub words : Reason → List ℕ
 words (PayloadSize n) = counted (codes "a payload of ") n (codes " bytes")
 words NotUtf8 = codes "a text that isn't UTF-8"
@@ -24,7 +25,7 @@ words EmptyPorts = codes "ports of which nothing is kept"
 words Unfit = codes "an attribute of the text is over 65535 bytes"
 words (CutCode n) = counted (codes "a body of ") n (codes " bytes")
 
--- why a payload of this size is refused by a shape
+-- The reason why a payload of n bytes is refused by a shape.
 abbrev pub shape_reason : Shape → ℕ → Reason
 shape_reason Text n = NotUtf8
 shape_reason Never n = NoPayload

@@ -1,4 +1,4 @@
--- The lists of links, and what their attributes are called and hold.
+-- The lists of links: the names of their attributes, and what these contain.
 use Rattle.std.specs.Prelude.{ℕ, zero, suc, ◌==◌, ◌<◌, ◌||◌, nat_le, nat_lt, Bool, cond, List, [], ◌∷◌, ◌++◌, codes, get_or, map, Option, Some, None, option_map}
 use Rattle.std.specs.List.{list_all}
 use Rattle.attribute_tables_grammar.specs.Lists.{Context, nothing}
@@ -18,51 +18,54 @@ use Rattle.link_capture_refusals.specs.declared.tables.Listed.{Listed}
 
 -- ---- rows
 
--- a kind, its name, and what its payload holds
+-- A row: a kind, its name, and the content of its payload.
 abbrev pub NamedRow : Type 0
 NamedRow = ℕ × List ℕ × Held
 
--- the rows in code
+-- The rows of a table in code, as the specification has them.
 abbrev pub said : {N : Type 0} → (N → List ℕ) → List (ℕ × N × Held) → List NamedRow
 said f rs = map (λ r. (r.0, f r.1, r.2)) rs
 
--- those of tables that stand one after another
+-- The rows of tables in code, table by table.
 abbrev pub all_said : {B N : Type 0} → (B → List (ℕ × N × Held)) → (N → List ℕ) → List B → List (List NamedRow)
 all_said g f bs = map (λ b. said f (g b)) bs
 
--- of link messages, and of data
+-- The rows of the tables of link messages.
 unfoldable pub message_rows : List (List NamedRow)
 message_rows = all_said (λ b. b.now) (λ n. n.now) MESSAGE_ROWS
 
+-- The rows of the tables of data.
 unfoldable pub data_rows : List (List NamedRow)
 data_rows = all_said (λ b. b.now) (λ n. n.now) DATA_ROWS
 
--- by the index of their tables
+-- The rows of all tables, by the index of the table.
 unfoldable pub table_rows : List (List NamedRow)
 table_rows = message_rows ++ data_rows
 
--- the row of a kind
+-- The row of a kind.
 abbrev pub find : ℕ → List NamedRow → Option NamedRow
 find k [] = None
 find k (r ∷ rs) = cond (k == r.0) (Some r) (find k rs)
 
--- a name is ASCII
+-- A name is ASCII.
 abbrev pub is_name : List ℕ → Bool
 is_name n = list_all (λ b. nat_lt b 128) n
 
--- ---- what attributes hold
+-- ---- the contents of attributes
 
+-- The content of a payload, by its row.
 abbrev pub inside_of : Held → Inside
 inside_of (H.Plain s) = I.Value s
 inside_of H.Peer = I.Peer
 inside_of (H.List f t) = I.List f t
 inside_of H.LinkInfo = I.List NonEmpty LINK_INFO
 
--- what an attribute of link info holds, and why it is refused if no kind is in force that it depends on
+-- The content of an attribute of link info; if no kind that it depends on is in force, the reason why it is refused.
 abbrev pub info_inside : ℕ → Option Held → Inside
 info_inside k (Some held) = inside_of held
 info_inside k None = I.Refused (cond (k == 5) NoPortKind NoKind)
 
+-- The name of a kind in link info.
 abbrev pub info_name : ℕ → Option (List ℕ)
 info_name zero = None
 info_name (suc zero) = Some (codes "IFLA_INFO_KIND")
@@ -72,56 +75,58 @@ info_name (suc (suc (suc (suc zero)))) = Some (codes "IFLA_INFO_SLAVE_KIND")
 info_name (suc (suc (suc (suc (suc zero))))) = Some (codes "IFLA_INFO_SLAVE_DATA")
 info_name k = None
 
--- the name of a kind in link info, and what its payload holds under the kinds in force
+-- The name of a kind in link info, and the content of its payload under the kinds in force.
 abbrev pub info_row : Context → ℕ → Option (List ℕ × Inside)
 info_row c k = option_map (λ n. (n, info_inside k (held_in_force c k))) (info_name k)
 
--- the same in any other table
+-- The name of a row in any other table, and the content of its payload.
 abbrev pub table_row : Option NamedRow → Option (List ℕ × Inside)
 table_row o = option_map (λ r. (r.1, inside_of r.2)) o
 
--- the same of a kind without its flag bits in a table
+-- The name of a kind without flag bits in a table, and the content of its payload.
 unfoldable pub row_in : Table → Context → ℕ → Option (List ℕ × Inside)
 row_in t c k = cond (is_link_info t) (info_row c k) (table_row (find k (get_or table_rows t.0 [])))
 
 -- ---- lists
 
--- a list of the attributes of a table from one on: its form, what is in force there, and whether peers inside are judged
+-- The rest of a list of the attributes of a table: its list kind, the kinds in force there, and whether peers inside
+-- are judged.
 pub record Listing : Type 0 where
   pub form : Form
   pub table : Table
   pub context : Context
   pub judged : Bool
 
--- in code
+-- The value of a list in code.
 abbrev pub listing : Listed → Listing
 listing l = record { form = l.form; table = l.table; context = in_force l.force; judged = l.judged }
 
--- a list from its first attribute on
+-- A list from its first attribute on.
 abbrev pub whole : Form → Table → Bool → Listing
 whole f t judged = record { form = f; table = t; context = nothing; judged = judged }
 
--- ---- how deep attributes may be inside one another, by the index of a table
+-- ---- how deeply attributes are nested, by the index of a table
 
--- in a nested table of link messages, and in one of raw attributes
+-- How deeply attributes are nested in a nested table of link messages, and in one of raw attributes.
 abbrev pub nested_depth : ℕ → ℕ
 nested_depth t = cond (t == VF_INFOS.0) 3 (cond (t == VF.0 || (t == SPECIFIC.0 || t == VF_PORTS.0)) 2 1)
 
--- in a table of data
+-- How deeply attributes are nested in a table of data.
 abbrev pub data_depth : Bool → ℕ → ℕ
 data_depth judged t = cond (t == MACVLAN_ADDRESS.0) 1 (cond judged 5 2)
 
+-- How deeply attributes are nested in a table.
 abbrev pub depth : Bool → ℕ → ℕ
 depth judged t =
     cond (nat_lt t LINK_UNSPEC.0) (nested_depth t) (cond (nat_lt t LINK_INFO.0) (cond judged 7 4) (cond (nat_lt t AMT.0) (cond judged 6 3)
     (cond (nat_lt t VLAN.0) (data_depth judged t) 1)))
 
--- of what is inside an attribute
+-- How deeply attributes are nested inside an attribute with this content.
 abbrev pub inside_depth : Bool → Inside → ℕ
 inside_depth judged (I.List f t) = depth judged t.0
 inside_depth judged I.Peer = cond judged 4 0
 inside_depth judged _ = 0
 
--- less than in the table that the attribute is of
+-- This content is nested less deeply than the table t, which has the attribute.
 abbrev pub IsLower : ℕ → Inside → Type 0
 IsLower t inside = (judged : Bool) → inside_depth judged inside < depth judged t

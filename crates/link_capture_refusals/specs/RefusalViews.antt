@@ -1,10 +1,12 @@
--- What is found in code.
+-- The values of refusals in code.
 use Rattle.std.specs.Prelude.{Option, map, option_map}
 use Rattle.link_capture_refusals.specs.Refusals.{Found}
 use Rattle.link_capture_refusals.specs.declared.refusal.Refusal.{Refusal}
 
+-- The value of a refusal in code.
 abbrev pub found : Refusal → Found
 found r = record { path = map (λ n. n.now) r.path.items; place = r.place; reason = r.reason }
 
+-- The value of an optional refusal in code.
 abbrev pub all_found : Option Refusal → Option Found
 all_found o = option_map found o

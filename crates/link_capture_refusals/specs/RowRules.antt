@@ -16,38 +16,41 @@ use Rattle.link_capture_refusals.specs.declared.tables.Inside.{Inside}
 use Rattle.link_capture_refusals.specs.declared.tables.Inside.TheVariants as I
 use Rattle.link_capture_refusals.specs.RefusalTables.{Listing, row_in}
 
--- peers are links' bodies, inside which peers are bytes
+-- The rule of peers: links' bodies, inside which peers are bytes; or only bytes.
 abbrev pub peer_of : Bool → Peer
 peer_of judged = cond judged link_peer bytes_peer
 
--- the rows of a table, and what each attribute leaves in force
+-- The rows of a table, and the context after each attribute.
 unfoldable pub grammar_at : Bool → Table → Grammar
 grammar_at judged t = cond (is_link_info t) (info_grammar_under (peer_of judged)) (rows_of (peer_of judged) (table_of t.0))
 
+-- The rows of the table of a list, and the context after each attribute.
 abbrev pub grammar_of : Listing → Grammar
 grammar_of l = grammar_at l.judged l.table
 
--- the attribute in front of such a list is dropped by its form, or accepted by its row
+-- The first attribute of a list is dropped by the list kind, or accepted by its row.
 abbrev pub is_accepted : Listing → Attribute → Bool
 is_accepted l e = cond (is_kept (form_of l.form) e) ((row_of (grammar_of l) l.context e).rule.accepted e.payload) true
 
--- the list behind it
+-- The rest of a list after an attribute.
 abbrev pub behind : Listing → Attribute → Listing
 behind l e = record { form = l.form; table = l.table; context = cond (is_kept (form_of l.form) e) ((grammar_of l).next l.context e) l.context; judged = l.judged }
 
--- ---- what an attribute holds, by these rules
+-- ---- the rules of contents
 
+-- The rule of a content.
 abbrev pub inside_rule : Bool → Inside → Rule
 inside_rule judged (I.Value s) = shape_rule (shape_of s)
 inside_rule judged (I.List f t) = list_rule (form_of f) (grammar_at judged t)
 inside_rule judged I.Peer = peer_rule (peer_of judged)
 inside_rule judged (I.Refused r) = shape_rule never
 
+-- The rule of a row.
 abbrev pub row_rule : Bool → Option (List ℕ × Inside) → Rule
 row_rule judged None = raw_rule
 row_rule judged (Some x) = inside_rule judged x.1
 
--- What the rows say that an attribute holds is what its row in the grammar's table holds, and what they have no row for is kept as it is.
+-- The content of each row is that of the row in the grammar's table; a kind without a row is kept as it is.
 abbrev pub RowsAreTheTables : Type 0
 RowsAreTheTables = (judged : Bool) (t : Table) (c : Context) (k : ℕ) → ((grammar_at judged t).row c k).rule ≡ row_rule judged (row_in t c k)
 

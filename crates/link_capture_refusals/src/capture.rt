@@ -1,4 +1,4 @@
-//! What of a capture is refused.
+//! Why the body of a capture's first faulty frame is refused.
 
 ghost use Rattle.std.specs.Prelude.{◌≡◌, ◌≤◌, ◌<◌, ◌+◌, ◌^◌, drop, length};
 ghost use Rattle.netlink_packet_core.specs.Frames.{IsFrame};
@@ -16,7 +16,7 @@ use link_capture_grammar::laws::faults_stand_at_frames;
 use link_capture_grammar::link_types::is_link_type;
 use netlink_packet_core::{NETLINK_HEADER_LEN, NetlinkBuffer};
 
-/// What stands behind the first bytes.
+/// Returns the bytes after the first `front`.
 fn behind(bytes: &[u8], front: u64) -> &[u8]
     requires { front ≤ length bytes.now }
     ensures { result.now ≡ drop front bytes.now }
@@ -24,8 +24,9 @@ fn behind(bytes: &[u8], front: u64) -> &[u8]
     &bytes[front as usize..]
 }
 
-/// What of the frame in front is refused, which stands at a place of a capture, in bytes, and whose fault is a refused
-/// body. It takes no memory. Whatever follows the frame changes nothing (`refused_frames_stand_alone`).
+/// Returns the reason why the first frame of `frame`, whose fault is a refused body, is refused.
+/// `place` is the frame's offset in the capture, in bytes. Bytes after the frame change nothing
+/// (`refused_frames_stand_alone`). Allocates nothing.
 #[tactic(auto, unfolding(crate::specs::Refusals::frame_refusal))]
 pub fn why_frame(frame: &[u8], place: u64) -> Option<Refusal>
     requires frame { IsFrame frame.now }
@@ -44,9 +45,10 @@ pub fn why_frame(frame: &[u8], place: u64) -> Option<Refusal>
     })
 }
 
-/// What of a capture's first faulty frame is refused, where its fault is a refused body, under a limit on the bytes of a
-/// frame and of its text: the first attribute, in the order of the bytes, that isn't accepted. None where the capture is
-/// legal or its first fault another one. It takes no memory.
+/// Returns the first attribute, in the order of the bytes, that isn't accepted in the capture's
+/// first faulty frame, with the reason and the offset, if the fault is a refused body. Returns None
+/// if the capture is legal or its first fault is another one. `limit` is the greatest length in
+/// bytes of a frame and of its text. Allocates nothing.
 pub fn why(bytes: &[u8], limit: u32) -> Option<Refusal>
     ensures { all_found result ≡ refusal limit bytes.now }
 {

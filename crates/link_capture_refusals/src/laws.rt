@@ -1,4 +1,4 @@
-//! Facts of the definitions. A function here calls nothing but laws of the crates below.
+//! Laws of the definitions. The functions here call only laws of the crates below.
 
 ghost use Rattle.link_capture_refusals.specs.RowRules.{LinksAreTables, RowsAreTheTables};
 ghost use Rattle.link_capture_refusals.specs.RefusalLaws.{LinksAreAccepted, ListsAreAccepted, ListsGoBySteps};
@@ -10,7 +10,7 @@ use attribute_tables_grammar::laws::{
 use link_capture_grammar::laws::captures_go_by_frames;
 use netlink_packet_core_grammar::laws::{first_attributes_are_within, numbers_stand_alone};
 
-/// What the rows say that an attribute holds is what its row in the grammar's table holds.
+/// The content of each row is that of the row in the grammar's table.
 #[tactic(auto, using(crate::proofs::Built::tables))]
 pub fn rows_are_the_tables()
     ensures { RowsAreTheTables }
@@ -27,7 +27,7 @@ pub fn links_are_tables()
     rows_are_looked_up();
 }
 
-/// What is refused of a list is that of its first attribute, or else of what follows it.
+/// The refusal of a list is that of its first attribute, or else that of the attributes after it.
 #[tactic(auto, using(crate::proofs::ListSteps::steps))]
 pub fn lists_go_by_steps()
     ensures { ListsGoBySteps }
@@ -35,7 +35,7 @@ pub fn lists_go_by_steps()
     first_attributes_are_within();
 }
 
-/// Nothing is refused of a list exactly where the rule of its table accepts it.
+/// A list has no refusal if and only if the rule of its table accepts it.
 #[tactic(auto, using(crate::proofs::Accepted::lists))]
 pub fn lists_are_accepted()
     ensures { ListsAreAccepted }
@@ -46,7 +46,7 @@ pub fn lists_are_accepted()
     rows_are_the_tables();
 }
 
-/// Nothing is refused of a link exactly where its rule accepts it.
+/// A link has no refusal if and only if its rule accepts it.
 #[tactic(auto, using(crate::proofs::Accepted::links))]
 pub fn links_are_accepted()
     ensures { LinksAreAccepted }
@@ -58,15 +58,16 @@ pub fn links_are_accepted()
     links_are_tables();
 }
 
-/// Where the first fault of a capture is a refused body, a whole frame stands at its place.
+/// If the first fault of a capture is a refused body, the frame at its offset is whole.
 pub fn refused_frames_are_whole()
     ensures { RefusedFramesAreWhole }
 {
     captures_go_by_frames();
 }
 
-/// Something is refused exactly where the first fault of a capture is a refused body. Of a link it has a place, between
-/// the start of the faulty frame and its end, which may be the end itself; of other messages it has none.
+/// A capture has a refusal if and only if its first fault is a refused body. For a link the refusal
+/// has an offset, from the start of the faulty frame to its end, which is included; for other
+/// messages it has none.
 #[tactic(auto, using(crate::proofs::Captures::told))]
 pub fn refused_bodies_are_told()
     ensures { RefusedBodiesAreTold }
@@ -76,7 +77,7 @@ pub fn refused_bodies_are_told()
     links_are_accepted();
 }
 
-/// What is refused of a frame hangs on its own bytes, whatever follows it.
+/// The refusal of a frame depends only on the frame's bytes, whatever follows.
 #[tactic(auto, using(crate::proofs::Alone::alone))]
 pub fn refused_frames_stand_alone()
     ensures { RefusedFramesStandAlone }

@@ -1,4 +1,4 @@
-// What of a refused body is refused.
+// The reasons of refused bodies: the first attribute that isn't accepted, why, and its offset.
 #![tactic(auto)]
 
 mod capture;

@@ -5,7 +5,7 @@ ghost use Rattle.link_capture_refusals.specs.RefusalTables.{all_said, find, is_n
 
 use crate::rows::NamedRow;
 
-/// The rows at an index.
+/// Returns the rows of the table with an index.
 pub(crate) fn rows_at<'a>(tables: &'a [&'a [NamedRow]], index: u8) -> &'a [NamedRow]
     requires { index < length tables.now }
     ensures { said (λ n. n.now) result.now
@@ -14,7 +14,7 @@ pub(crate) fn rows_at<'a>(tables: &'a [&'a [NamedRow]], index: u8) -> &'a [Named
     tables[index as usize]
 }
 
-/// The row of a kind, which has no flag bits.
+/// Returns the row of a kind, which has no flag bits.
 pub(crate) fn find(rows: &[NamedRow], kind: u16) -> Option<NamedRow>
     ensures { option_map (λ r. (r.0, r.1.now, r.2)) result
         ≡ find kind (said (λ n. n.now) rows.now) }
@@ -28,7 +28,7 @@ pub(crate) fn find(rows: &[NamedRow], kind: u16) -> Option<NamedRow>
     None
 }
 
-/// A name as a text.
+/// Returns a name as a text.
 pub(crate) fn text_of(name: &'static [u8]) -> &'static str
     requires { is_name name.now ≡ true }
     ensures { result.now ≡ name.now }

@@ -11,33 +11,35 @@ use std::fmt;
 /// Why something in a body is refused. Sizes and lengths are in bytes.
 #[derive(Clone, Copy, Debug, PartialEq, Eq, Drop)]
 pub enum Reason {
-    /// The row doesn't take a payload of this size.
+    /// The row doesn't accept a payload of this size.
     PayloadSize(usize),
     /// A text that isn't UTF-8.
     NotUtf8,
     /// An empty list, of IFLA_LINKINFO or IFLA_VF_PORTS.
     EmptyList,
-    /// Data or statistics where no IFLA_INFO_KIND is in force.
+    /// Data or statistics while no IFLA_INFO_KIND is in force.
     NoKind,
-    /// Port data where no IFLA_INFO_SLAVE_KIND is in force.
+    /// Port data while no IFLA_INFO_SLAVE_KIND is in force.
     NoPortKind,
-    /// A payload under a kind of link that takes none.
+    /// A payload under a kind of link that accepts none.
     NoPayload,
-    /// Less than the header of an attribute, of which so much is left.
+    /// Fewer bytes than the header of an attribute: how many are left.
     CutHeader(usize),
-    /// The header of an attribute whose length is under 4, or over what is left: what is left, and the length.
+    /// The header of an attribute whose length is under 4, or over the number of bytes left: that
+    /// number, and the length.
     WrongLength(usize, u16),
-    /// A link's body, or a peer, of this size, which is less than a header of 16.
+    /// A link's body, or a peer, of this size, which is less than its header of 16 bytes.
     CutLink(usize),
-    /// A peer with an IFLA_VF_PORTS of which nothing is kept.
+    /// A peer with an IFLA_VF_PORTS that keeps no entry.
     EmptyPorts,
-    /// A peer in whose normal text an attribute would be longer than 65535.
+    /// A peer whose normal text would have an attribute longer than 65535 bytes.
     Unfit,
-    /// A body of this size, which is less than a code of 4, in an NLMSG_ERROR or NLMSG_DONE.
+    /// The body of an NLMSG_ERROR or NLMSG_DONE of this size, which is less than its code of 4
+    /// bytes.
     CutCode(usize),
 }
 
-/// Why a payload of this size is refused by a shape.
+/// Returns the reason why a payload of this size is refused by a shape.
 pub fn shape_reason(shape: Shape, size: usize) -> Reason
     ensures { result ≡ shape_reason shape size }
 {
@@ -48,7 +50,7 @@ pub fn shape_reason(shape: Shape, size: usize) -> Reason
     }
 }
 
-/// A text alone.
+/// Returns a text without a number.
 fn plain(text: &str) -> ArrayString<160>
     requires { length text.now ≤ 64 }
     ensures text { result.bytes ≡ text.now }
@@ -59,7 +61,7 @@ fn plain(text: &str) -> ArrayString<160>
     words
 }
 
-/// A number in decimal between two texts.
+/// Returns a number in decimal between two texts.
 fn counted(before: &str, count: usize, behind: &str) -> ArrayString<160>
     requires { length before.now + length behind.now ≤ 64 }
     ensures text { result.bytes ≡ counted before.now count behind.now }
@@ -73,7 +75,7 @@ fn counted(before: &str, count: usize, behind: &str) -> ArrayString<160>
     words
 }
 
-/// The words of a length over what is left, or under 4.
+/// Returns the text for a length that is under 4 or over the number of bytes left.
 fn wrong_length(left: usize, length: u16) -> ArrayString<160>
     ensures { result.bytes ≡ words (Reason.WrongLength left length) }
 {
@@ -88,7 +90,7 @@ fn wrong_length(left: usize, length: u16) -> ArrayString<160>
 }
 
 impl Reason {
-    /// What is told of it, in ASCII. It takes no memory.
+    /// Returns the text of this reason, in ASCII. Allocates nothing.
     pub fn text(self) -> ArrayString<160>
         ensures { result.bytes ≡ words self }
     {
@@ -109,7 +111,7 @@ impl Reason {
     }
 }
 
-// Whatever options a format gives, the words are the same.
+// Format options change nothing.
 impl fmt::Display for Reason {
     ghost output = { λ r. Some (words r) };
 

@@ -1,4 +1,4 @@
-//! What is refused, and where.
+//! Refusals: the attribute that isn't accepted, its offset and the reason.
 
 ghost use Rattle.std.specs.Prelude.{◌≡◌, ◌≤◌, ◌<◌, ◌+◌, ◌++◌, length, map, Some};
 ghost use Rattle.link_capture_refusals.specs.ReasonWords.{words};
@@ -12,22 +12,23 @@ use arrayvec::{ArrayString, ArrayVec};
 use itoa::Buffer;
 use std::fmt;
 
-/// As many attributes stand inside one another as this: link info, data and peer, the same of the peer, and an address.
+/// How deeply attributes are nested at most: link info, data and peer, the same three of the peer,
+/// and an address.
 pub const DEPTH: usize = 7;
 
-/// What of a body is refused.
+/// Why a body is refused: the first attribute that isn't accepted, its offset, and the reason.
 #[derive(Clone, Debug, PartialEq, Eq, Drop)]
 pub struct Refusal {
-    /// The names of attributes from outside in (if_link.h and others).
+    /// The names of the attribute and of those around it, outermost first (if_link.h and others).
     pub path: ArrayVec<&'static str, DEPTH>,
-    /// In bytes from the capture's start: where the attribute, or what stands in its place, begins. NLMSG_ERROR and
-    /// NLMSG_DONE have none.
+    /// The offset at which the attribute begins, or the bytes that are no attribute, in bytes from
+    /// the capture's start. NLMSG_ERROR and NLMSG_DONE have none.
     pub place: Option<u64>,
     pub reason: Reason,
 }
 
 impl Refusal {
-    /// What stands in no attribute, at a place.
+    /// Returns a refusal outside of all attributes, at an offset.
     pub(crate) fn at(place: u64, reason: Reason) -> Self
         ensures found { found result ≡ found_at place reason }
         ensures bare { length result.path.items ≡ 0 }
@@ -39,7 +40,7 @@ impl Refusal {
         }
     }
 
-    /// The same in an attribute with a name.
+    /// Returns the same refusal inside an attribute with a name.
     pub(crate) fn inside(mut self, name: &'static str) -> Self
         requires { length self.path.items < 7 }
         ensures found { found result ≡ named name.entry.now (found self) }
@@ -49,7 +50,8 @@ impl Refusal {
         self
     }
 
-    /// What is told behind the names: why, and the place where there is one. It takes no memory.
+    /// Returns the text after the names: the reason, and the offset if there is one. Allocates
+    /// nothing.
     pub fn reason_text(&self) -> ArrayString<256>
         ensures { result.bytes ≡ words self.now.reason ++ place_text self.now.place }
     {
@@ -63,14 +65,14 @@ impl Refusal {
     }
 }
 
-/// What is told behind a name, in front of the names that stand inside it.
+/// Returns the separator after a name, before the names of attributes inside it.
 pub fn behind_name(rest: &[&'static str]) -> &'static str
     ensures { result.now ≡ behind_name (map (λ n. n.now) rest.now) }
 {
     if rest.is_empty() { ": " } else { " > " }
 }
 
-/// Writes names from outside in, and a colon where there are any.
+/// Writes the names, outermost first, and a colon if there are any.
 fn write_path<W: fmt::Write>(f: &mut fmt::Formatter<W>, path: &[&'static str]) -> fmt::Result
     ensures writes { WritesOnOk W.write_str_gives f.old result (path_text (map (λ n. n.now) path.now)) f.new }
     ensures styled { WritesStyledOnOk W.write_str_gives f.old result (path_text (map (λ n. n.now) path.now)) f.new }
@@ -84,7 +86,7 @@ fn write_path<W: fmt::Write>(f: &mut fmt::Formatter<W>, path: &[&'static str]) -
     Ok(())
 }
 
-// Whatever options a format gives, the words are the same.
+// Format options change nothing.
 impl fmt::Display for Refusal {
     ghost output = { λ r. Some (refusal_text (found r)) };
 

@@ -1,4 +1,5 @@
-//! The rows of links' tables with their names, a table after another.
+//! The rows of links' tables with their names, table by table. They are two constants, as one of
+//! all rows is larger than the checker copies (10,000 expressions).
 
 use crate::named_rows;
 use link_tables::Form::{Any, OfKindOne, Ports};
@@ -19,10 +20,10 @@ use link_tables::{
     veth, vf, vf_infos, vf_ports, vf_stats, vf_vlans, vrf, vti, vxcan, vxlan, wwan, xdp, xfrm,
 };
 
-/// A kind, its name, and what its payload holds.
+/// A row: a kind, its name, and what its payload is.
 pub type NamedRow = (u16, &'static [u8], Held);
 
-/// The rows of a list. A kind without one is left out.
+/// Generates the named rows of a list from its table. A kind without a row is left out.
 #[macro_export]
 macro_rules! named_rows {
     ($(
@@ -39,7 +40,7 @@ macro_rules! named_rows {
     };
 }
 
-/// The rows of tables of link messages, at their index.
+/// The rows of the tables of link messages, by the index of the table.
 pub const MESSAGE_ROWS: [&[NamedRow]; 20] = [
     &xdp!(named_rows),
     &props!(named_rows),
@@ -63,7 +64,8 @@ pub const MESSAGE_ROWS: [&[NamedRow]; 20] = [
     &[],
 ];
 
-/// The rows of tables of data, at their index from the first one's on.
+/// The rows of the tables of data, by the index of the table, counted from the first of these
+/// tables.
 pub const DATA_ROWS: [&[NamedRow]; 23] = [
     &amt!(named_rows),
     &bareudp!(named_rows),

@@ -1,4 +1,4 @@
-//! The lists of links, and what their attributes hold.
+//! The lists of links, and the contents of their attributes.
 
 ghost use Rattle.std.specs.Prelude.{◌≡◌, ◌<◌, ◌≤◌, ◌-◌, [], get_or, ℕ, List, option_map, IfSome};
 ghost use Rattle.attribute_tables_grammar.specs.Lists as Lists;
@@ -19,21 +19,21 @@ use link_tables::{
     IFLA_INFO_XSTATS, InForce, NO_KINDS, Shape, Table, info_held, next_force,
 };
 
-/// What an attribute's payload holds.
+/// The content of an attribute's payload.
 #[derive(Clone, Copy)]
 pub enum Inside {
     /// A value of this shape.
     Value(Shape),
     /// The attributes of a table.
     List(Form, Table),
-    /// The other end of a link.
+    /// The other end of a link, as a link's body.
     Peer,
-    /// What is refused wherever it stands there.
+    /// Any payload is refused, for this reason.
     Refused(Reason),
 }
 
-/// A list of the attributes of a table from one on: its form, the kinds in force there, and whether peers inside are
-/// judged.
+/// The rest of a list of the attributes of a table: its list kind, the link kinds in force there,
+/// and whether peers inside are judged.
 #[derive(Clone, Copy)]
 pub struct Listed<'a> {
     pub form: Form,
@@ -43,7 +43,7 @@ pub struct Listed<'a> {
 }
 
 impl<'a> Listed<'a> {
-    /// A list from its first attribute on.
+    /// Returns a list from its first attribute on.
     pub fn new(form: Form, table: Table, judged: bool) -> Self
         ensures { listing result ≡ whole form table judged }
     {
@@ -56,7 +56,7 @@ impl<'a> Listed<'a> {
     }
 }
 
-/// What a payload holds.
+/// Returns the content of a payload.
 fn inside_of(held: Held) -> Inside
     ensures { result ≡ inside_of held }
 {
@@ -68,7 +68,7 @@ fn inside_of(held: Held) -> Inside
     }
 }
 
-/// What an attribute of link info holds.
+/// Returns the content of an attribute of link info.
 fn info_inside(force: InForce<'_>, kind: u16) -> Inside
     ensures inside { result ≡ info_inside kind (held_in_force (in_force force.entry) kind) }
     ensures lower { IsLower LINK_INFO.0 result }
@@ -80,7 +80,7 @@ fn info_inside(force: InForce<'_>, kind: u16) -> Inside
     }
 }
 
-/// The name of a kind in link info, and what its payload holds.
+/// Returns the name of a kind in link info, and the content of its payload.
 fn info_row(force: InForce<'_>, kind: u16) -> Option<(&'static str, Inside)>
     ensures row { option_map (λ x. (x.0.now, x.1)) result ≡ info_row (in_force force.entry) kind }
     ensures lower { IfSome result (λ x. IsLower LINK_INFO.0 x.1) }
@@ -96,7 +96,7 @@ fn info_row(force: InForce<'_>, kind: u16) -> Option<(&'static str, Inside)>
     Some((name, info_inside(force, kind)))
 }
 
-/// The row of a kind in a table of link messages.
+/// Returns the row of a kind in a table of link messages.
 fn message_row(table: Table, kind: u16) -> Option<NamedRow>
     requires { table.0 < AMT.0 }
     ensures { option_map (λ r. (r.0, r.1.now, r.2)) result ≡ find kind (get_or message_rows table.0 []) }
@@ -104,7 +104,7 @@ fn message_row(table: Table, kind: u16) -> Option<NamedRow>
     find(rows_at(&MESSAGE_ROWS, table.0), kind)
 }
 
-/// The row of a kind in a table of data.
+/// Returns the row of a kind in a table of data.
 fn data_row(table: Table, kind: u16) -> Option<NamedRow>
     requires from { AMT.0 ≤ table.0 }
     requires below { table.0 < VLAN.0 }
@@ -113,7 +113,7 @@ fn data_row(table: Table, kind: u16) -> Option<NamedRow>
     find(rows_at(&DATA_ROWS, table.0 - AMT.0), kind)
 }
 
-/// The row of a kind in any table but that of link info.
+/// Returns the row of a kind in any table but that of link info.
 fn named_row(table: Table, kind: u16) -> Option<NamedRow>
     ensures { option_map (λ r. (r.0, r.1.now, r.2)) result ≡ find kind (get_or table_rows table.0 []) }
 {
@@ -126,7 +126,7 @@ fn named_row(table: Table, kind: u16) -> Option<NamedRow>
     }
 }
 
-/// The name of a kind in any table but that of link info, and what its payload holds.
+/// Returns the name of a kind in any table but that of link info, and the content of its payload.
 fn table_row(table: Table, kind: u16) -> Option<(&'static str, Inside)>
     ensures row { option_map (λ x. (x.0.now, x.1)) result
         ≡ table_row (find kind (get_or table_rows table.0 [])) }
@@ -138,7 +138,7 @@ fn table_row(table: Table, kind: u16) -> Option<(&'static str, Inside)>
     }
 }
 
-/// The name of a kind without its flag bits in a list, and what its payload holds.
+/// Returns the name of a kind without flag bits in a list, and the content of its payload.
 #[tactic(auto, unfolding(crate::specs::RefusalTables::row_in))]
 pub fn row_in(list: Listed<'_>, kind: u16) -> Option<(&'static str, Inside)>
     ensures row { option_map (λ x. (x.0.now, x.1)) result
@@ -152,7 +152,7 @@ pub fn row_in(list: Listed<'_>, kind: u16) -> Option<(&'static str, Inside)>
     }
 }
 
-/// Whether a list of this form keeps an attribute of a kind, which may have its flag bits.
+/// Returns whether a list of this kind keeps an attribute of a kind, which may have flag bits.
 pub fn is_kept(form: Form, kind: u16) -> bool
     ensures { (p : List ℕ) → result ≡ Lists.is_kept (form_of form) (record { kind = kind; payload = p }) }
 {
@@ -162,7 +162,7 @@ pub fn is_kept(form: Form, kind: u16) -> bool
     }
 }
 
-/// The list behind an attribute of it, whose kind may have its flag bits.
+/// Returns the rest of a list after an attribute, whose kind may have flag bits.
 #[tactic(auto, unfolding(crate::specs::RowRules::grammar_at))]
 pub fn next_list<'a>(list: Listed<'a>, kind: u16, payload: &'a [u8]) -> Listed<'a>
     ensures { listing result

@@ -22,7 +22,7 @@ use link_tables::{Form, LINK_HEADER_LEN, Shape, family_table};
 use netlink_packet_core::nla_align;
 use netlink_packet_core_attributes::view::read_u16;
 
-/// Why no attribute begins these bytes.
+/// Returns the reason why these bytes don't begin with an attribute.
 fn no_attribute(bytes: &[u8]) -> Reason
     ensures { result ≡ no_attribute bytes.now }
 {
@@ -33,7 +33,7 @@ fn no_attribute(bytes: &[u8]) -> Reason
     }
 }
 
-/// What of a value is refused, where the attribute begins at a place.
+/// Returns the refusal of a value in the attribute at `own`.
 fn value_refusal(shape: Shape, own: u64, payload: &[u8]) -> Option<Refusal>
     ensures found { all_found result ≡ cond (accepts (shape_of shape) payload.now) None
         (Some (found_at own (shape_reason shape (length payload.now)))) }
@@ -46,7 +46,7 @@ fn value_refusal(shape: Shape, own: u64, payload: &[u8]) -> Option<Refusal>
     Some(Refusal::at(own, shape_reason(shape, payload.len())))
 }
 
-/// What of a link is refused, which begins at a place: its header, or one of its attributes.
+/// Returns the refusal of a link's body at `place`: of its header, or of one of its attributes.
 #[cycle(refusal)]
 pub(crate) fn link_refusal(judged: bool, own: u64, place: u64, body: &[u8]) -> Option<Refusal>
     requires near { place + length body.now < 2 ^ 63 }
@@ -60,7 +60,7 @@ pub(crate) fn link_refusal(judged: bool, own: u64, place: u64, body: &[u8]) -> O
     list_refusal(list, place + 16, &body[LINK_HEADER_LEN..])
 }
 
-/// What of a peer is refused, where the attribute begins at a place.
+/// Returns the refusal of a peer in the attribute at `own`.
 #[cycle(refusal)]
 fn peer_refusal(judged: bool, own: u64, payload: &[u8]) -> Option<Refusal>
     requires near { own + 4 + length payload.now < 2 ^ 63 }
@@ -83,7 +83,7 @@ fn peer_refusal(judged: bool, own: u64, payload: &[u8]) -> Option<Refusal>
     Some(Refusal::at(own, Reason::Unfit))
 }
 
-/// What of a list is refused, where the attribute that holds it begins at a place.
+/// Returns the refusal of a list in the attribute at `own`.
 #[cycle(refusal)]
 fn whole_refusal(list: Listed<'_>, own: u64, payload: &[u8]) -> Option<Refusal>
     requires near { own + 4 + length payload.now < 2 ^ 63 }
@@ -102,7 +102,7 @@ fn whole_refusal(list: Listed<'_>, own: u64, payload: &[u8]) -> Option<Refusal>
     }
 }
 
-/// What of a payload is refused, where the attribute begins at a place.
+/// Returns the refusal of a payload in the attribute at `own`.
 #[cycle(refusal)]
 fn inside_refusal(judged: bool, inside: Inside, own: u64, payload: &[u8]) -> Option<Refusal>
     requires near { own + 4 + length payload.now < 2 ^ 63 }
@@ -119,7 +119,7 @@ fn inside_refusal(judged: bool, inside: Inside, own: u64, payload: &[u8]) -> Opt
     }
 }
 
-/// What of an attribute is refused, which begins at a place.
+/// Returns the refusal of an attribute at `place`.
 #[cycle(refusal)]
 fn attribute_refusal(list: Listed<'_>, place: u64, attribute: Attribute<'_>) -> Option<Refusal>
     requires near { place + 4 + length attribute.payload.now < 2 ^ 63 }
@@ -141,7 +141,7 @@ fn attribute_refusal(list: Listed<'_>, place: u64, attribute: Attribute<'_>) -> 
     }
 }
 
-/// The bytes that a list goes on with behind an attribute.
+/// Returns the bytes with which a list continues after an attribute.
 fn goes_on(form: Form, after: &[u8]) -> &[u8]
     ensures { result.now ≡ goes_on form after.now }
 {
@@ -151,7 +151,7 @@ fn goes_on(form: Form, after: &[u8]) -> &[u8]
     }
 }
 
-/// What of a list is refused, whose bytes begin at a place.
+/// Returns the refusal of a list whose bytes begin at `place`.
 #[cycle(refusal)]
 fn list_refusal(list: Listed<'_>, place: u64, bytes: &[u8]) -> Option<Refusal>
     requires near { place + length bytes.now < 2 ^ 63 }

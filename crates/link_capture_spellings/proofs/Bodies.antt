@@ -1,4 +1,4 @@
--- The body of a link, as it is written, has no spelling, and so a peer has none.
+-- The canonical text of a link's body has no encoding quirk, so neither has a peer's.
 use Rattle.std.proofs.Common.{◌≡◌, ℕ, ◌+◌, Bool, true, false, cond, eqb, leb, not, List, [], ◌∷◌, ◌++◌, length, drop, Some, None, refl, ap, ◌∙◌}
 use Rattle.std.specs.Prelude.{◌&&◌, nat_le, slice_index}
 use Rattle.std.proofs.Math.Bool.{and-false}
@@ -18,7 +18,7 @@ use Rattle.link_capture_spellings.proofs.Lists.{Silent}
 use Rattle.link_capture_spellings.proofs.KindData.{PeerHasNone}
 use Rattle.link_capture_spellings.proofs.Links.{attributes-none}
 
--- the list of a family is that of the first byte
+-- the list kind of a family is determined by the first byte
 family-list : (n : ℕ) → family_table n ≡ link_list (family_of n)
 family-list n = by (eqb n 0) (eqb n 7) (eqb n 10)
   where
@@ -42,7 +42,7 @@ header-none t b more h place =
     ∙ ap (λ x. told_at place (told_if x HeaderByte)) (and-false (eqb t 18))
 
 module _ (s : ListsGoBySteps) (w : WrittenAttributesHaveNone) (p : Peer) (j : Bool) (peers : PeerHasNone p j) where
-  -- the attributes of a body that is written
+  -- the attributes of the text of a body
   pub list-none : (b : List ℕ) → (body_rule p).accepted b ≡ true → (place : ℕ) →
       list_told (record { table = family_table (slice_index ((body_rule p).canonical b) 0); judged = j }) place (drop 16 ((body_rule p).canonical b)) ≡ []
   unfolding body_rule

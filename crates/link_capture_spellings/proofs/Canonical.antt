@@ -1,4 +1,4 @@
--- An attribute as it is written has no spelling of its own.
+-- An attribute, as its row writes it, has no encoding quirk itself.
 use Rattle.std.proofs.Common.{◌≡◌, ℕ, zero, suc, ◌+◌, ◌-◌, ◌≤◌, Bool, true, false, cond, eqb, ltb, leb, List, [], ◌∷◌, ◌++◌, length, take, map, Option, option_map, Some, None, refl, sym, ap, subst, ◌∙◌, arith, length-append}
 use Rattle.std.specs.Prelude.{◌&&◌, ◌||◌, not, slice_index}
 use Rattle.std.proofs.Math.Seq.{get_or-append_right}
@@ -98,7 +98,7 @@ both-none false = refl
 low : (k : ℕ) → leb 0x8000 (proper_kind k + 0) ≡ false
 low k = grind arith
 
--- such a kind's row is typed and not nested, so the bit is cleared; other kinds have no spelling of it
+-- the row of such a kind is typed and not nested, so the bit is cleared; the bit of other kinds is no quirk
 cleared : (s : Spelling) (r : Row) (k : ℕ) (c : Bool) → (c ≡ true → (r.is_typed ≡ true) × (r.is_nested ≡ false)) → Untold (cond (leb 0x8000 (written_kind r k)) (told_if c s) None)
 cleared s r k c f =
     bit-no _ c s (λ h.
@@ -203,7 +203,7 @@ programs-bit p k =
     let r = table_row p xdp (proper_kind k) in
     cleared StrayNestedBit r k _ (λ h. at_kind (λ n. IsPlain (table_row p xdp n)) (proper_kind k) 8 (subst (λ n. eqb n 8 ≡ true) (proper_kind-written r k) h) (refl, refl))
 
--- ---- together
+-- ---- all of these
 
 own-none : (l : Listed) (place : ℕ) (r : Row) (e : Attribute) → Untold (bit_spelling l.table (written_kind r e.kind)) → Untold (payload_spelling l.table (proper_kind e.kind) (r.rule.canonical e.payload)) → own_told l place (rewrite r e) ≡ []
 unfolding own_told

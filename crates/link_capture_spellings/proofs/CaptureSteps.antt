@@ -1,4 +1,4 @@
--- The spellings of a capture go frame by frame.
+-- The quirks of a capture, frame by frame.
 use Rattle.std.proofs.Common.{◌≡◌, ℕ, zero, suc, ◌+◌, ◌-◌, List, [], ◌∷◌, ◌++◌, drop, Ok, Err, refl, sym, ap, ◌∙◌, arith}
 use Rattle.netlink_packet_core_grammar.specs.Attributes.{nla_align}
 use Rattle.link_message_grammar.specs.Body.{link_body}

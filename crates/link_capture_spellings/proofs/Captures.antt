@@ -1,4 +1,4 @@
--- The texts of a capture have no spelling, frame by frame.
+-- The texts of a capture have no quirk: proved frame by frame.
 use Rattle.std.proofs.Common.{◌≡◌, ℕ, zero, suc, ◌+◌, ◌-◌, Bool, true, false, cond, List, [], ◌∷◌, ◌++◌, drop, Ok, inl, inr, refl, sym, ap, ◌∙◌, arith}
 use Rattle.netlink_packet_core_grammar.specs.Attributes.{nla_align}
 use Rattle.netlink_packet_core_grammar.specs.Frames.{frame_type, frame_body, frame_text}

@@ -1,4 +1,4 @@
--- A walk begins a frame, and a capture goes on behind it.
+-- A walk begins a frame, and the capture continues after that frame.
 use Rattle.std.proofs.Common.{◌≡◌, ℕ, ◌+◌, true, false, cond, List, [], ◌∷◌, ◌++◌, drop, Option, None, Ok, sym, ap, ◌∙◌}
 use Rattle.std.proofs.lemmas.List.{drop-drop}
 use Rattle.netlink_packet_core_grammar.specs.Attributes.{nla_align}
@@ -28,6 +28,6 @@ entered place t c b first l ls e f link stands header list =
     ∙ ap (link_told (place + 16) (frame_type c)) f
     ∙ ap (λ y. cond y (link_told (place + 16) (frame_type c) (frame_body c)) []) (sym link)
 
--- behind a frame
+-- after a frame
 pub told-behind : SpellingsGoByFrames → (limit at n : ℕ) (c text : List ℕ) → first_frame limit (drop at c) ≡ Ok (n, text) → rest_told limit c at ≡ frame_told at (drop at c) ++ rest_told limit c (at + nla_align n)
 told-behind s limit at n c text h = s.next limit at (drop at c) (n, text) h ∙ ap (λ z. frame_told at (drop at c) ++ told_after limit (at + nla_align n) 0 z) (drop-drop (nla_align n) at c)

@@ -1,4 +1,4 @@
--- A walk goes on by an attribute of its innermost list.
+-- A walk passes an attribute of its innermost list.
 use Rattle.std.proofs.Common.{◌≡◌, ℕ, ◌+◌, ◌-◌, ◌^◌, ◌≤◌, ◌<◌, List, [], ◌∷◌, ◌++◌, length, Option, Some, None, sym, ap, ◌∙◌, append_assoc, length-append, arith}
 use Rattle.netlink_packet_core_grammar.specs.Attributes.{Attribute, nla_align, attribute_length, proper_kind, first_attribute}
 use Rattle.link_capture_spellings.specs.declared.placed.PlacedSpelling.{PlacedSpelling}
@@ -13,7 +13,7 @@ use Rattle.link_capture_spellings.proofs.Stacks.{told-push, weight-push, within-
 glue : (a b i n t : List PlacedSpelling) → ((a ++ b) ++ (i ++ n)) ++ t ≡ a ++ (b ++ (i ++ (n ++ t)))
 glue a b i n t = append_assoc (a ++ b) (i ++ n) t ∙ append_assoc a b ((i ++ n) ++ t) ∙ ap (λ z. a ++ (b ++ z)) (append_assoc i n t)
 
--- an attribute of the list l, which stands last: what follows it is the list m
+-- an attribute of l, the innermost list; the list continues after it as m
 pub record Next (l m : Level) (e : Attribute) : Type 0 where
   pub first : first_attribute l.rest.now ≡ Some (e, m.rest.now)
   pub within : 4 + length e.payload ≤ length l.rest.now
@@ -22,7 +22,7 @@ pub record Next (l m : Level) (e : Attribute) : Type 0 where
   pub deep : depth m.list ≡ depth l.list
   pub place : m.place ≡ l.place + nla_align (attribute_length e)
 
--- and inside it is the list k
+-- and the list k is inside it
 pub record Inner (l k : Level) (e : Attribute) (front : ℕ) : Type 0 where
   pub list : inside_of l.list e ≡ Some (k.list, front)
   pub deep : depth k.list < depth l.list
@@ -84,7 +84,7 @@ module _ (s : ListsGoBySteps) (ls : List Level) (l m : Level) (e : Attribute) (n
       ∙ ap (λ z. ((one_told first ++ one_told second) ++ (z ++ level_told m)) ++ levels_told ls) (i.told ∙ ap (λ o. inside_told list_told (l.place + 4) o e.payload) (sym i.list))
       ∙ sym whole
 
--- where no attribute stands, nothing is left of the list
+-- if no whole attribute follows, the rest of the list has no quirk
 pub told-end : ListsGoBySteps → (ls : List Level) (l : Level) → first_attribute l.rest.now ≡ None → levels_told ls ≡ levels_told (ls ++ l ∷ [])
 told-end s ls l none = ap (λ z. z ++ levels_told ls) (sym (s.none l.list l.place l.rest.now none)) ∙ sym (told-push ls l)
 

@@ -1,4 +1,4 @@
--- What stands inside an attribute, and lists in which nothing is told.
+-- The lists inside attributes, and lists that have no quirk.
 use Rattle.std.proofs.Common.{◌≡◌, ℕ, zero, suc, ◌+◌, Bool, true, false, cond, eqb, leb, List, [], ◌++◌, length, Option, Some, None, refl, sym, ap, subst, ◌∙◌}
 use Rattle.std.specs.Prelude.{◌&&◌, ◌||◌, slice_index}
 use Rattle.std.proofs.Math.Bool.{and-false}
@@ -31,11 +31,11 @@ split P b x y f h = cond_both b x y P f (λ _. h)
 pub nothing-inside : (l : Listed) (q : List ℕ) (o : Option Table) → o ≡ None → Silent (in_front l o) q
 nothing-inside l q o h = subst (λ x. Silent (in_front l x) q) (sym h) (λ place. refl)
 
--- a list that is all of the payload
+-- a list that is the whole payload
 pub whole-list : (t : Table) (j : Bool) (r : Rule) (b : List ℕ) → HasNone (record { table = t; judged = j }) r → r.accepted b ≡ true → (l : Listed) → l.judged ≡ j → Silent (in_front l (Some t)) (r.canonical b)
 whole-list t j r b h a l e place = ap (λ x. list_told (record { table = t; judged = x }) (place + 0) (r.canonical b)) e ∙ h (place + 0) b a
 
--- ---- where no peer is judged
+-- ---- lists in which no peer is judged
 
 unjudged : (a b c : Bool) → (a && (b && (c && false))) ≡ false
 unjudged a b c = and_right a _ (and_right b _ (and-false c))
@@ -47,13 +47,13 @@ without-peer l k q h =
     ap (λ b. cond (eqb k 1 && (l.judged && (leb 16 (length q) && b))) peer (in_front l (inside_table l.table k))) h
     ∙ ap (λ b. cond b peer (in_front l (inside_table l.table k))) (unjudged (eqb k 1) l.judged (leb 16 (length q)))
 
--- of an attribute as it is written
+-- the list inside an attribute, as its row writes it
 pub written-inside : (l : Listed) (r : Row) (e : Attribute) → has_peer l.table ≡ false → Silent (in_front l (inside_table l.table (proper_kind e.kind))) (r.rule.canonical e.payload) → Silent (inside_of l (rewrite r e)) (r.rule.canonical e.payload)
 written-inside l r e h s =
     let q = r.rule.canonical e.payload in
     subst (λ o. Silent o q) (sym (ap (λ k. inside l k q) (proper_kind-written r e.kind) ∙ without-peer l (proper_kind e.kind) q h)) s
 
--- ---- lists in which no attribute has a spelling of its own
+-- ---- lists whose attributes have no quirk themselves
 
 pub record IsDull (t : Table) : Type 0 where
   pub bit : (k : ℕ) → nested_spelling t k ≡ None
@@ -69,7 +69,7 @@ dull-own l place e d =
     ap (λ z. told_at place z ++ told_at place (payload_spelling l.table (proper_kind e.kind) e.payload)) (both-none (leb 0x8000 e.kind) (nested_spelling l.table (proper_kind e.kind)) (d.bit (proper_kind e.kind)))
     ∙ ap (told_at place) (d.payload (proper_kind e.kind) e.payload)
 
--- and holds none either, nor leaves another list behind
+-- if no attribute has a list inside, and the list kind stays the same
 module _ (l : Listed) (d : IsDull l.table) (inner : (e : Attribute) → inside_of l e ≡ None) (same : (e : Attribute) → list_behind l e ≡ l) where
   next-none : (list : Listed → ℕ → List ℕ → List PlacedSpelling) → ((place : ℕ) (b : List ℕ) → list l place b ≡ []) → (place : ℕ) (o : Option (Attribute × List ℕ)) → next_told list l place o ≡ []
   next-none list h place None = refl

@@ -1,4 +1,4 @@
--- The data of each kind of link, as they are written, have no spelling.
+-- The data of each kind of link, as they are written, have no quirk.
 use Rattle.std.proofs.Common.{◌≡◌, ℕ, ◌+◌, Bool, true, false, cond, eqb, leb, List, [], ◌∷◌, ◌++◌, length, Option, Some, None, refl, sym, ap, subst, ◌∙◌}
 use Rattle.std.specs.Prelude.{◌&&◌, slice_index, bytes_eq, codes, option_map}
 use Rattle.std.proofs.lemmas.Bool.{false≢true, and_parts}
@@ -24,23 +24,23 @@ use Rattle.link_capture_spellings.specs.SpellingLaws.{ListsGoBySteps, IsDataTabl
 use Rattle.link_capture_spellings.proofs.Lists.{HasNone, Silent, rows-none}
 use Rattle.link_capture_spellings.proofs.Inside.{at_kind, either, split, nothing-inside, without-peer, written-inside, IsDull, dull-own, none-at-all}
 
--- what stands inside a peer's payload, where peers are judged
+-- the list inside a peer's payload, if peers are judged
 abbrev pub in_peer : Bool → List ℕ → Option (Listed × ℕ)
 in_peer j q = cond (j && (leb 16 (length q) && true)) (Some (record { table = family_table (slice_index q 0); judged = false }, 16)) None
 
--- a peer as it is written has no spelling
+-- a peer, as it is written, has no quirk
 abbrev pub PeerHasNone : Peer → Bool → Type 0
 PeerHasNone p j = (b : List ℕ) → p.accepted b ≡ true → Silent (in_peer j (p.canonical b)) (p.canonical b)
 
 abbrev pub data_list : Bool → Data → Listed
 data_list j d = record { table = OfKind d; judged = j }
 
--- data in which nothing is told
+-- data that have no quirk
 other-dull : IsDull (OfKind Other)
 other-dull = record { bit = λ k. refl; payload = λ k p. refl }
 
 module _ (s : ListsGoBySteps) (w : WrittenAttributesHaveNone) (p : Peer) (j : Bool) (peers : PeerHasNone p j) where
-  -- ---- without a peer
+  -- ---- data without a peer
 
   plain-none : (d : Data) (t : Rows) → IsDataTable d t → has_peer (OfKind d) ≡ false → next_data d ≡ d → HasNone (data_list j d) (list_of p any t)
   plain-none d t i h n = rows-none s p any t (data_list j d) (record {
@@ -51,7 +51,7 @@ module _ (s : ListsGoBySteps) (w : WrittenAttributesHaveNone) (p : Peer) (j : Bo
     behind = λ c e. ap (data_list j) n;
   })
 
-  -- ---- with one
+  -- ---- data with a peer
 
   abbrev IsPeers : Data → Row → ℕ → Type 0
   IsPeers d r k = (b : List ℕ) → r.rule.accepted b ≡ true → Silent (inside (data_list j d) k (r.rule.canonical b)) (r.rule.canonical b)
@@ -117,7 +117,7 @@ module _ (s : ListsGoBySteps) (w : WrittenAttributesHaveNone) (p : Peer) (j : Bo
   unfolding rows_rule
   pair-none = subst (HasNone (data_list j Pair)) (sym (list-rows p first_alone pair)) (λ place b a. pair-by place (first_attribute b) a)
 
-  -- ---- by name
+  -- ---- data by the name of their kind
 
   pub other-none : (r : Rule) → HasNone (data_list j Other) r
   other-none r place b a = none-at-all (data_list j Other) other-dull (λ e. without-peer (data_list j Other) (proper_kind e.kind) e.payload refl) (λ e. refl) place (r.canonical b)
@@ -150,7 +150,7 @@ module _ (s : ListsGoBySteps) (w : WrittenAttributesHaveNone) (p : Peer) (j : Bo
       let l = data_list j Pair in
       either _ _ e (at_name l n (codes "veth") (list first_alone pair) refl pair-none) (at_name l n (codes "vxcan") (list first_alone pair) refl pair-none)
 
-  -- the data under a name in force
+  -- the data of the name in force
   pub named-none : (n : List ℕ) → HasNone (data_list j (data_named n)) (named p kinds n)
   unfolding data_named
   named-none n =

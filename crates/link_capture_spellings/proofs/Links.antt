@@ -1,4 +1,4 @@
--- The attributes of a link, as they are written, have no spelling, at any depth.
+-- The attributes of a link, as they are written, have no quirk at any depth.
 use Rattle.std.proofs.Common.{◌≡◌, ℕ, zero, suc, Bool, true, false, cond, eqb, List, Option, Some, None, refl, sym, ap, subst, ◌∙◌, arith}
 use Rattle.std.proofs.lemmas.Bool.{ne_eqb}
 use Rattle.netlink_packet_core_grammar.specs.Attributes.{proper_kind}
@@ -125,7 +125,7 @@ module _ (s : ListsGoBySteps) (w : WrittenAttributesHaveNone) (p : Peer) (j : Bo
 
   -- ---- links
 
-  -- where the row of the kind n is a list that has none, and k is n
+  -- if the row of the kind n is a list without quirks, and k is n
   at_list : (f : Family) (l : Listed) (t : Table) (r : Rule) (k n : ℕ) (b : List ℕ) → l.judged ≡ j → (attribute_row_under p f n).rule ≡ r → HasNone (list_in t) r → (attribute_row_under p f k).rule.accepted b ≡ true → eqb k n ≡ true →
       Silent (in_front l (Some t)) ((attribute_row_under p f k).rule.canonical b)
   at_list f l t r k n b i is h a e =

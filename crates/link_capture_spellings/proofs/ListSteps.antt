@@ -1,4 +1,4 @@
--- The spellings of a list go by its attributes, however many steps are allowed.
+-- The quirks of a list, attribute by attribute: a larger number of steps yields the same quirks.
 use Rattle.std.proofs.Common.{◌≡◌, ℕ, zero, suc, ◌+◌, ◌≤◌, List, [], ◌∷◌, ◌++◌, length, drop, Option, Some, None, refl, ap, ◌∙◌, arith, length-drop}
 use Rattle.netlink_packet_core_grammar.specs.Attributes.{Attribute, nla_align, attribute_length, first_attribute}
 use Rattle.netlink_packet_core_grammar.specs.Laws.{FirstIsWithin}
@@ -6,7 +6,7 @@ use Rattle.link_capture_spellings.specs.declared.tables.Listed.{Listed}
 use Rattle.link_capture_spellings.specs.SpellingLists.{own_told, inside_of, list_behind, inside_told, next_told, told_within, list_told}
 use Rattle.link_capture_spellings.specs.SpellingLaws.{ListsGoBySteps}
 
--- so many steps are as good as so many
+-- two numbers of steps that are both enough for the bytes yield the same quirks
 abbrev Agree : ℕ → ℕ → Type 0
 Agree m n = (l : Listed) (place : ℕ) (bytes : List ℕ) → length bytes ≤ m → length bytes ≤ n → told_within m l place bytes ≡ told_within n l place bytes
 

@@ -1,4 +1,4 @@
--- The text of a list has no spelling where no attribute of it has one.
+-- The text of a list has no quirk if no attribute in it has one.
 use Rattle.std.proofs.Common.{◌≡◌, ℕ, ◌+◌, Bool, true, false, cond, List, [], ◌∷◌, ◌++◌, Option, refl, sym, ap, subst, ◌∙◌}
 use Rattle.std.specs.Prelude.{filter}
 use Rattle.std.proofs.lemmas.Bool.{and_parts}
@@ -15,15 +15,16 @@ use Rattle.link_capture_spellings.specs.declared.tables.Listed.{Listed}
 use Rattle.link_capture_spellings.specs.SpellingLists.{own_told, inside_of, list_behind, inside_told, list_told}
 use Rattle.link_capture_spellings.specs.SpellingLaws.{ListsGoBySteps}
 
--- what a list's rule writes has no spelling in such a list
+-- what a list's rule writes has no quirk as a list of this kind
 abbrev pub HasNone : Listed → Rule → Type 0
 HasNone l r = (place : ℕ) (b : List ℕ) → r.accepted b ≡ true → list_told l place (r.canonical b) ≡ []
 
--- nor has what stands inside an attribute of this payload
+-- the list inside an attribute with this payload has no quirk, if there is one
 abbrev pub Silent : Option (Listed × ℕ) → List ℕ → Type 0
 Silent o q = (place : ℕ) → inside_told list_told place o q ≡ []
 
--- An attribute of a list, as its row writes it, has none and holds none, and the list behind it goes with the context.
+-- An attribute, as its row writes it, has no quirk, neither itself nor inside, and the context determines the kind of
+-- list after it.
 pub record Quiet (g : Grammar) (form : ListForm) (listed : Context → Listed) : Type 0 where
   pub own : (c : Context) (e : Attribute) (place : ℕ) → is_kept form e ≡ true → (row_of g c e).rule.accepted e.payload ≡ true → own_told (listed c) place (rewrite (row_of g c e) e) ≡ []
   pub inner : (c : Context) (e : Attribute) → (row_of g c e).rule.accepted e.payload ≡ true → Silent (inside_of (listed c) (rewrite (row_of g c e) e)) ((row_of g c e).rule.canonical e.payload)
@@ -72,7 +73,7 @@ module _ (s : ListsGoBySteps) where
         let k = accepted_list form g b a in
         ap (λ t. list_told (listed nothing) place t) k.canonical ∙ text-none nothing place (kept form k.es) (all-kept form k.es) k.accepted
 
-  -- a list whose rows are the same wherever an attribute stands
+  -- a list whose rows are the same for every position
   pub rows-none : (p : Peer) (form : ListForm) (t : Table) (l : Listed) → Quiet (without_context (table_row p t)) form (λ c. l) → HasNone l (list_of p form t)
   unfolding rows_rule
   rows-none p form t l q = subst (HasNone l) (sym (list-rows p form t)) (list-none (without_context (table_row p t)) form (λ c. l) q)

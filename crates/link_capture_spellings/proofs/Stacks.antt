@@ -1,4 +1,4 @@
--- Lists that stand inside one another, with one more at their end.
+-- Stacks of nested lists, with one more list at the end.
 use Rattle.std.proofs.Common.{◌≡◌, ℕ, suc, ◌+◌, List, [], ◌∷◌, ◌++◌, length, refl, sym, ap, subst, ◌∙◌, append_assoc, append-nil, arith}
 use Rattle.link_capture_spellings.specs.declared.walk.Level.{Level}
 use Rattle.link_capture_spellings.specs.SpellingWalks.{level_told, levels_told, IsWithin, AreWithin, weight}

@@ -1,4 +1,4 @@
--- The laws of spellings, as the functions of `laws` state them.
+-- The laws of encoding quirks, as the functions of `laws` state them.
 use Rattle.std.specs.Prelude.{◌≡◌, ℕ, Bool, true, false, ◌+◌, List, [], ◌++◌, drop, Some, None, Ok, Err}
 use Rattle.netlink_packet_core_grammar.specs.Attributes.{Attribute, proper_kind, nla_align, attribute_length, first_attribute}
 use Rattle.link_capture_grammar.specs.declared.fault.FaultKind.{FaultKind}
@@ -21,13 +21,15 @@ use Rattle.link_capture_spellings.specs.declared.tables.Listed.{Listed}
 use Rattle.link_capture_spellings.specs.SpellingLists.{own_told, inside_of, list_behind, inside_told, list_told}
 use Rattle.link_capture_spellings.specs.Spellings.{frame_told, told_after}
 
--- The spellings of a list are those of its first attribute, of what it holds, and of the rest. Where no whole attribute stands, there are none.
+-- The quirks of a list are those of its first attribute, of the list inside that, and of the rest. If no whole
+-- attribute is left, there are none.
 pub record ListsGoBySteps : Type 0 where
   pub next : (l : Listed) (place : ℕ) (bytes : List ℕ) (e : Attribute) (after : List ℕ) → first_attribute bytes ≡ Some (e, after) →
       list_told l place bytes ≡ own_told l place e ++ (inside_told list_told (place + 4) (inside_of l e) e.payload ++ list_told (list_behind l e) (place + nla_align (attribute_length e)) after)
   pub none : (l : Listed) (place : ℕ) (bytes : List ℕ) → first_attribute bytes ≡ None → list_told l place bytes ≡ []
 
--- The spellings of a capture are those of the frame in front, and of what follows it and its padding. A faulty frame has none, and nothing behind it has.
+-- The quirks of a capture are those of its first frame, and of the bytes after it and its padding. From a faulty frame
+-- on there are none.
 pub record SpellingsGoByFrames : Type 0 where
   pub next : (limit place : ℕ) (c : List ℕ) (frame : ℕ × List ℕ) → first_frame limit c ≡ Ok frame →
       told_after limit place 0 c ≡ frame_told place c ++ told_after limit (place + nla_align frame.0) 0 (drop (nla_align frame.0) c)
@@ -36,14 +38,14 @@ pub record SpellingsGoByFrames : Type 0 where
 
 -- ---- what is written
 
--- the list of a family's attributes
+-- The list kind of the attributes of a link of an address family.
 abbrev pub link_list : Family → Table
 link_list unspec = Unspec
 link_list bridge = Bridge
 link_list inet_6 = Link
 link_list other = Link
 
--- the tables of the data in which spellings stand
+-- The table with the rows of each kind of data in which quirks occur.
 abbrev pub IsDataTable : Data → Rows → Type 0
 IsDataTable Vxlan t = t ≡ vxlan
 IsDataTable Geneve t = t ≡ geneve
@@ -55,9 +57,10 @@ IsDataTable Batadv t = t ≡ batadv
 IsDataTable Netkit t = t ≡ netkit
 IsDataTable _ t = ⊥
 
--- An accepted attribute, as its row writes it, has no spelling of its own, nor has a header as it is written, under every rule of peers.
+-- An accepted attribute, as its row writes it, has no quirk itself, under every rule of peers; neither has a header, as
+-- it is written.
 pub record WrittenAttributesHaveNone : Type 0 where
-  -- of a link
+  -- attributes of a link
   pub link : (p : Peer) (f : Family) (judged : Bool) (place : ℕ) (e : Attribute) → (attribute_row_under p f (proper_kind e.kind)).rule.accepted e.payload ≡ true →
       own_told (record { table = link_list f; judged = judged }) place (rewrite (attribute_row_under p f (proper_kind e.kind)) e) ≡ []
   -- of the data of a kind of link
@@ -66,10 +69,10 @@ pub record WrittenAttributesHaveNone : Type 0 where
   -- of the settings of IPv4, and of programs
   pub settings : (p : Peer) (judged : Bool) (place : ℕ) (e : Attribute) → own_told (record { table = Inet; judged = judged }) place (rewrite (table_row p inet (proper_kind e.kind)) e) ≡ []
   pub programs : (p : Peer) (judged : Bool) (place : ℕ) (e : Attribute) → own_told (record { table = Programs; judged = judged }) place (rewrite (table_row p xdp (proper_kind e.kind)) e) ≡ []
-  -- of the virtual functions, as far as they are kept
+  -- of the virtual functions that are kept
   pub functions : (p : Peer) (judged : Bool) (place : ℕ) (e : Attribute) → is_kept of_kind_one e ≡ true →
       own_told (record { table = Functions; judged = judged }) place (rewrite (table_row p vf_infos (proper_kind e.kind)) e) ≡ []
-  -- and in the data of a pair nothing stands behind the first attribute
+  -- the text of a pair's data has no attribute after the first one, and no quirk
   pub pair : (p : Peer) (place : ℕ) (b : List ℕ) → (list_rule first_alone (grammar p pair)).accepted b ≡ true →
       list_told (record { table = OfKind Pair; judged = false }) place ((list_rule first_alone (grammar p pair)).canonical b) ≡ []
   pub header : (t : ℕ) (b : List ℕ) → header_spelling t (header_text b) ≡ None

@@ -1,4 +1,5 @@
--- Which spelling an attribute has that kernels tell apart, and the form takes away: by its list, its kind, and its payload.
+-- Which encoding quirk an attribute has, by its list, its kind and its payload: an encoding that some kernels treat
+-- differently from its normal text.
 use Rattle.std.specs.Prelude.{ℕ, ◌==◌, ◌&&◌, ◌||◌, not, nat_le, nat_lt, Bool, false, cond, List, length, slice_index, Option, Some, None}
 use Rattle.std.specs.List.{list_any}
 use Rattle.netlink_packet_core_grammar.specs.Attributes.{proper_kind}
@@ -10,26 +11,29 @@ use Rattle.link_capture_spellings.specs.declared.tables.Data.TheVariants.{Vxlan,
 use Rattle.link_capture_spellings.specs.declared.tables.Table.{Table}
 use Rattle.link_capture_spellings.specs.declared.tables.Table.TheVariants.{Unspec, Bridge, Link, Inet, Programs, Functions, OfKind}
 
+-- The quirk, if the condition holds.
 abbrev pub told_if : Bool → Spelling → Option Spelling
 told_if stands s = cond stands (Some s) None
 
 -- ---- payloads
 
--- one byte, or a number of 4 bytes, over 1
+-- One byte over 1.
 abbrev pub over_one_byte : List ℕ → Bool
 over_one_byte p = (length p == 1) && nat_lt 1 (slice_index p 0)
 
+-- A number of 4 bytes over 1.
 abbrev pub over_one_word : List ℕ → Bool
 over_one_word p = (length p == 4) && nat_lt 1 (u32_at 0 p)
 
+-- The payload has a NUL.
 abbrev pub has_nul : List ℕ → Bool
 has_nul p = list_any (λ b. b == 0) p
 
--- 255 bytes that become 256 by a NUL
+-- An alias of 255 bytes that has 256 in the normal text, since a NUL is appended.
 abbrev pub is_long_alias : List ℕ → Bool
 is_long_alias p = (length p == 255) && not (slice_index p 254 == 0)
 
--- IFLA_IFNAME, IFLA_MAP, IFLA_IFALIAS, IFLA_PARENT_DEV_NAME
+-- The quirk of a payload of a link's attribute: IFLA_IFNAME, IFLA_MAP, IFLA_IFALIAS, IFLA_PARENT_DEV_NAME.
 unfoldable pub link_spelling : ℕ → List ℕ → Option Spelling
 link_spelling k p =
     cond (k == 3) (told_if (length p == 0) NameWithoutNul)
@@ -37,8 +41,9 @@ link_spelling k p =
     (cond (k == 20) (told_if (is_long_alias p) LongAlias)
     (cond (k == 56) (told_if (not (has_nul p)) NameWithoutNul) None)))
 
--- IFLA_VXLAN_GBP, _REMCSUM_NOPARTIAL and _GPE; IFLA_GENEVE_COLLECT_METADATA and _INNER_PROTO_INHERIT; IFLA_GRE_COLLECT_METADATA;
--- IFLA_IPTUN_COLLECT_METADATA; IFLA_BAREUDP_MULTIPROTO_MODE
+-- The kinds of flags, which are set by being present: IFLA_VXLAN_GBP, _REMCSUM_NOPARTIAL and _GPE;
+-- IFLA_GENEVE_COLLECT_METADATA and _INNER_PROTO_INHERIT; IFLA_GRE_COLLECT_METADATA; IFLA_IPTUN_COLLECT_METADATA;
+-- IFLA_BAREUDP_MULTIPROTO_MODE.
 abbrev pub is_flag : Data → ℕ → Bool
 is_flag Vxlan k = (k == 23) || ((k == 24) || (k == 27))
 is_flag Geneve k = (k == 6) || (k == 14)
@@ -48,7 +53,8 @@ is_flag IpTunnel k = k == 19
 is_flag BareUdp k = k == 4
 is_flag _ k = false
 
--- IFLA_VXLAN_LOCALBYPASS and _MC_ROUTE, IFLA_GRE_PMTUDISC, IFLA_BATADV_ALGO_NAME, IFLA_NETKIT_SCRUB and _PEER_SCRUB, the peer of a pair
+-- The quirk of a payload of another kind: IFLA_VXLAN_LOCALBYPASS and _MC_ROUTE, IFLA_GRE_PMTUDISC,
+-- IFLA_BATADV_ALGO_NAME, IFLA_NETKIT_SCRUB and _PEER_SCRUB, the peer of a pair.
 abbrev pub value_spelling : Data → ℕ → List ℕ → Option Spelling
 value_spelling Vxlan k p = cond ((k == 31) || (k == 34)) (told_if (over_one_byte p) TruthOverOne) None
 value_spelling Gre k p = cond (k == 10) (told_if (over_one_byte p) PathDiscoveryOverOne) None
@@ -57,10 +63,11 @@ value_spelling Netkit k p = cond ((k == 6) || (k == 7)) (told_if (over_one_word 
 value_spelling Behind k p = told_if (k == 1) LaterPeer
 value_spelling _ k p = None
 
+-- The quirk of a payload in the data of a kind of link.
 abbrev pub data_spelling : Data → ℕ → List ℕ → Option Spelling
 data_spelling d k p = cond (is_flag d k) (told_if (not (length p == 0)) FlagWithPayload) (value_spelling d k p)
 
--- of a kind without its flag bits
+-- The quirk of a payload in a list, by its kind without flag bits.
 abbrev pub payload_spelling : Table → ℕ → List ℕ → Option Spelling
 payload_spelling Unspec k p = link_spelling k p
 payload_spelling Bridge k p = link_spelling k p
@@ -72,25 +79,26 @@ payload_spelling _ k p = None
 
 -- ---- the nested bit
 
--- kinds that are checked strictly and aren't nested
+-- The kinds that are checked strictly and aren't nested.
 abbrev pub is_strict : Data → ℕ → Bool
 is_strict Vxlan k = nat_le 31 k && nat_le k 34
 is_strict Geneve k = k == 14
 is_strict _ k = false
 
--- IFLA_PROTINFO of a bridge, IFLA_XDP_EXPECTED_FD, and those
+-- The quirk of the nested bit on a kind of a list: IFLA_PROTINFO of a bridge, IFLA_XDP_EXPECTED_FD, and the strict
+-- kinds.
 abbrev pub nested_spelling : Table → ℕ → Option Spelling
 nested_spelling Bridge k = told_if (k == 12) NestedPortSettings
 nested_spelling Programs k = told_if (k == 8) StrayNestedBit
 nested_spelling (OfKind d) k = told_if (is_strict d k) StrayNestedBit
 nested_spelling _ k = None
 
--- of a kind with its flag bits
+-- The quirk of the flag bits of a kind.
 abbrev pub bit_spelling : Table → ℕ → Option Spelling
 bit_spelling t k = cond (nat_le 0x8000 k) (nested_spelling t (proper_kind k)) None
 
 -- ---- the header
 
--- the second byte of the header of RTM_GETLINK, which is type 18
+-- The quirk of a link's header: its second byte in an RTM_GETLINK, which is type 18.
 abbrev pub header_spelling : ℕ → List ℕ → Option Spelling
 header_spelling t b = told_if ((t == 18) && not (slice_index b 1 == 0)) HeaderByte

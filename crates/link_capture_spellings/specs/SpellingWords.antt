@@ -1,10 +1,11 @@
--- The words of spellings.
+-- The texts of encoding quirks, as programs print them.
 use Rattle.std.specs.Prelude.{ℕ, List, ◌++◌, codes}
 use Rattle.std.specs.Fmt.{decimal}
 use Rattle.link_capture_spellings.specs.declared.placed.Spelling.{Spelling}
 use Rattle.link_capture_spellings.specs.declared.placed.Spelling.TheVariants.{NestedPortSettings, ResizedSettings, PathDiscoveryOverOne, LaterPeer, LongAlias, NameWithoutNul, FlagWithPayload, TruthOverOne, StrayNestedBit, ForeignFunction, HeaderByte, ShortMap}
 use Rattle.link_capture_spellings.specs.declared.placed.PlacedSpelling.{PlacedSpelling}
 
+-- The text of each quirk.
 abbrev pub words : Spelling → List ℕ
 words NestedPortSettings = codes "IFLA_PROTINFO with the nested bit"
 words ResizedSettings = codes "IFLA_INET_CONF not of 132 bytes"
@@ -19,6 +20,6 @@ words ForeignFunction = codes "foreign entry in IFLA_VFINFO_LIST"
 words HeaderByte = codes "second byte of the header of RTM_GETLINK"
 words ShortMap = codes "IFLA_MAP under 32 bytes"
 
--- the words, and the place in decimal
+-- The text of a quirk: its name, ` at `, and the offset in decimal.
 abbrev pub placed_text : PlacedSpelling → List ℕ
 placed_text x = words x.spelling ++ (codes " at " ++ decimal x.offset)

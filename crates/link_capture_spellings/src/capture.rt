@@ -1,4 +1,4 @@
-//! The spellings of a capture, one after the other.
+//! The encoding quirks of a capture, as an iterator.
 
 ghost use Rattle.std.specs.Prelude.{◌≡◌, ◌≤◌, ◌<◌, ◌+◌, ◌^◌, ◌∷◌, ◌++◌, [], ℕ, drop, length, Some, None, Ok, Err, MatchOption, MatchResult};
 ghost use Rattle.std.specs.Iterator.{YieldsFirst, item_count};
@@ -17,8 +17,9 @@ use link_capture_grammar::laws::{
 use netlink_packet_core::nla_align;
 use std::marker::Model;
 
-/// What a capture has that kernels tell apart and its normal text doesn't, in the order of the bytes, each with its
-/// place; then its first fault where it isn't legal; then `None` for good. It takes no memory.
+/// An iterator over the encoding quirks of a capture: each encoding that some kernels treat
+/// differently from its normal text, with its offset, in the order of the bytes. If the capture
+/// isn't legal, its first fault follows as an Err; then `None` for ever. Allocates nothing.
 #[derive(Drop)]
 pub struct Spellings<'a> {
     limit: u32,
@@ -40,8 +41,8 @@ impl<'a> Model for Spellings<'a> {
         × AreWithin 0 m.walk.levels.items };
 }
 
-/// The spellings of a capture under a limit on the bytes of a frame and of its text, and then its first fault. It takes
-/// no memory.
+/// Returns an iterator over the encoding quirks of a capture, and its first fault, if it has one.
+/// `limit` is the greatest length in bytes of a frame and of its text. Allocates nothing.
 pub fn spelling(bytes: &[u8], limit: u32) -> Spellings<'_>
     ensures told { result.told ≡ spellings limit bytes.now }
     ensures fault { result.fault ≡ first_fault limit bytes.now }
@@ -54,7 +55,7 @@ pub fn spelling(bytes: &[u8], limit: u32) -> Spellings<'_>
     }
 }
 
-/// What comes next of a capture, and the place behind the frames that were begun.
+/// Returns the next item, and the offset after the frames begun so far.
 fn advance<'a>(
     limit: u32,
     bytes: &'a [u8],

@@ -1,4 +1,4 @@
-//! Facts of the definitions. A function here calls nothing but laws of the crates below.
+//! Laws of the definitions. The functions here call only laws of the crates below.
 
 ghost use Rattle.link_capture_spellings.specs.SpellingLaws.{ListsGoBySteps, SpellingsGoByFrames, WrittenAttributesHaveNone};
 ghost use Rattle.link_capture_spellings.specs.TextLaws.{TextsHaveNoSpelling};
@@ -8,7 +8,7 @@ use netlink_packet_core_grammar::laws::{
     first_attributes_are_within, written_attributes_come_first,
 };
 
-/// The spellings of a list are those of its first attribute, of what that holds, and of the rest.
+/// The quirks of a list are those of its first attribute, of the list inside that, and of the rest.
 #[tactic(auto, using(crate::proofs::ListSteps::steps))]
 pub fn lists_go_by_steps()
     ensures { ListsGoBySteps }
@@ -16,7 +16,8 @@ pub fn lists_go_by_steps()
     first_attributes_are_within();
 }
 
-/// The spellings of a capture are those of the frame in front, and of what follows it. A faulty frame has none.
+/// The quirks of a capture are those of its first frame, and of the bytes after it. From a faulty
+/// frame on there are none.
 #[tactic(auto, using(crate::proofs::CaptureSteps::steps))]
 pub fn spellings_go_by_frames()
     ensures { SpellingsGoByFrames }
@@ -24,9 +25,10 @@ pub fn spellings_go_by_frames()
     frames_stand_alone();
 }
 
-/// An accepted attribute of a link, of the data of a kind of link, of the settings of IPv4, of programs or of virtual
-/// functions, as its row writes it, has no spelling of its own, nor has a link's header as it is written; and in the data
-/// of a pair nothing stands behind the first attribute. Lists inside lists, and so whole texts, aren't spoken of.
+/// An accepted attribute of a link, of the data of a kind of link, of the settings of IPv4, of
+/// programs or of virtual functions, as its row writes it, has no quirk itself, and neither has a
+/// link's header, as it is written. The text of a pair's data has no attribute after the first one.
+/// This law isn't about lists inside lists, nor about whole texts.
 #[tactic(auto, using(crate::proofs::Canonical::written))]
 pub fn written_attributes_have_none()
     ensures { WrittenAttributesHaveNone }
@@ -35,8 +37,8 @@ pub fn written_attributes_have_none()
     written_attributes_come_first();
 }
 
-/// The texts of any bytes, under a limit of 32 bits, have no spelling that kernels tell apart: not in an attribute of a
-/// link, at any depth of its lists, nor inside a judged peer, nor in a header. So a normal text has none.
+/// The texts of any bytes, under a limit of 32 bits, have no quirk: not in an attribute of a link,
+/// at any depth of its lists, nor inside a judged peer, nor in a header. So a normal text has none.
 #[tactic(auto, using(crate::proofs::Captures::texts_have_no_spelling))]
 pub fn texts_have_no_spelling()
     ensures { TextsHaveNoSpelling }

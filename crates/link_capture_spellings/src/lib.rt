@@ -1,4 +1,5 @@
-// The spellings of a capture that kernels tell apart and its normal text doesn't.
+// The encoding quirks of captures: encodings that some kernels treat differently from their normal
+// text.
 #![tactic(auto)]
 
 mod capture;

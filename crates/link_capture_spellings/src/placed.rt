@@ -1,4 +1,4 @@
-//! Spellings: which there are, their places and their words.
+//! Encoding quirks: their kinds, offsets and texts.
 
 ghost use Rattle.std.specs.Prelude.{◌≡◌, ◌≤◌, ◌<◌, Some, length};
 ghost use Rattle.link_capture_spellings.specs.SpellingWords.{words, placed_text};
@@ -7,37 +7,40 @@ use arrayvec::ArrayString;
 use itoa::Buffer;
 use std::fmt;
 
-/// What the form takes away of a legal capture, and some kernel tells apart (if_link.h and rtnetlink.h name the kinds).
+/// An encoding quirk of a legal capture: some kernel treats it differently from its normal text,
+/// which doesn't have it (if_link.h and rtnetlink.h name the kinds).
 #[derive(Clone, Copy, Debug, PartialEq, Eq, Drop)]
 pub enum Spelling {
-    /// IFLA_PROTINFO of a bridge with the nested bit: a list of settings, where one without is an old port state.
+    /// IFLA_PROTINFO of a bridge with the nested bit, which is a list of settings; without the bit
+    /// it is an old port state.
     NestedPortSettings,
-    /// IFLA_INET_CONF that isn't 132 bytes long: a request's is a list of attributes.
+    /// IFLA_INET_CONF whose length isn't 132 bytes, as in requests, which have a list of attributes
+    /// here.
     ResizedSettings,
     /// IFLA_GRE_PMTUDISC over 1.
     PathDiscoveryOverOne,
-    /// The peer of `veth` or `vxcan` behind another attribute of the data.
+    /// The peer of `veth` or `vxcan` after another attribute of the data.
     LaterPeer,
-    /// IFLA_IFALIAS of 255 bytes whose last isn't a NUL.
+    /// IFLA_IFALIAS of 255 bytes without a NUL at the end.
     LongAlias,
-    /// An empty IFLA_IFNAME; IFLA_PARENT_DEV_NAME or IFLA_BATADV_ALGO_NAME that holds no NUL.
+    /// An empty IFLA_IFNAME; IFLA_PARENT_DEV_NAME or IFLA_BATADV_ALGO_NAME without a NUL.
     NameWithoutNul,
-    /// A flag, which is there or not, with a payload.
+    /// A flag, which is set by being present, with a payload.
     FlagWithPayload,
-    /// A truth over 1 where a kernel asks for 0 or 1.
+    /// A boolean over 1 that some kernels accept only as 0 or 1.
     TruthOverOne,
     /// The nested bit on a kind that is checked strictly and isn't nested.
     StrayNestedBit,
-    /// An entry of another kind than 1 in IFLA_VFINFO_LIST.
+    /// An entry of a kind other than 1 in IFLA_VFINFO_LIST.
     ForeignFunction,
-    /// The second byte of the link header of an RTM_GETLINK, where it isn't 0.
+    /// A second byte of the link header of an RTM_GETLINK that isn't 0.
     HeaderByte,
     /// IFLA_MAP of less than 32 bytes.
     ShortMap,
 }
 
-/// A spelling and its place: the start of the attribute that has it, or the byte itself of a header, in bytes from the
-/// capture's start.
+/// An encoding quirk with its offset: the start of the attribute that has it, or the byte of the
+/// header, in bytes from the capture's start.
 #[derive(Clone, Copy, Debug, PartialEq, Eq, Drop)]
 pub struct PlacedSpelling {
     pub spelling: Spelling,
@@ -46,7 +49,7 @@ pub struct PlacedSpelling {
 }
 
 impl Spelling {
-    /// What is told of it, in ASCII.
+    /// Returns the text of this quirk, in ASCII.
     pub fn words(self) -> &'static str
         ensures words { result.now ≡ words self }
         ensures short { length result.now ≤ 44 }
@@ -69,7 +72,7 @@ impl Spelling {
 }
 
 impl PlacedSpelling {
-    /// The words of its spelling, ` at `, and the place in decimal. It takes no memory.
+    /// Returns the text of the quirk, ` at `, and the offset in decimal. Allocates nothing.
     pub fn text(self) -> ArrayString<96>
         ensures text { result.bytes ≡ placed_text self }
         ensures room { length result.bytes < 96 }
@@ -83,7 +86,7 @@ impl PlacedSpelling {
     }
 }
 
-// Whatever options a format gives, the words are the same.
+// Format options change nothing.
 impl fmt::Display for Spelling {
     ghost output = { λ s. Some (words s) };
 

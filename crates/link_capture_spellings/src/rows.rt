@@ -1,4 +1,5 @@
-//! Which spelling an attribute has, by its list, its kind and its payload.
+//! Which encoding quirk an attribute has, by its list, its kind and its payload. The type and the
+//! flags of the message count only for the second byte of the header.
 
 ghost use Rattle.std.specs.Prelude.{◌≡◌, ◌≤◌, length};
 ghost use Rattle.netlink_packet_core_grammar.specs.Attributes.{proper_kind};
@@ -11,42 +12,43 @@ use crate::placed::Spelling;
 use crate::tables::{Data, Table};
 use netlink_packet_core_attributes::view::read_u32;
 
-/// A spelling where it stands.
+/// Returns a quirk if the condition holds.
 fn told_if(stands: bool, spelling: Spelling) -> Option<Spelling>
     ensures { result ≡ told_if stands spelling }
 {
     if stands { Some(spelling) } else { None }
 }
 
-/// Whether a payload is one byte over 1.
+/// Returns whether a payload is one byte over 1.
 fn over_one_byte(payload: &[u8]) -> bool
     ensures { result ≡ over_one_byte payload.now }
 {
     payload.len() == 1 && payload[0] > 1
 }
 
-/// Whether a payload is a number of 4 bytes, lowest byte first, over 1.
+/// Returns whether a payload is a little-endian number of 4 bytes over 1.
 fn over_one_word(payload: &[u8]) -> bool
     ensures { result ≡ over_one_word payload.now }
 {
     payload.len() == 4 && read_u32(payload, 0) > 1
 }
 
-/// Whether a payload holds a NUL.
+/// Returns whether a payload has a NUL.
 fn has_nul(payload: &[u8]) -> bool
     ensures { result ≡ has_nul payload.now }
 {
     payload.contains(&0)
 }
 
-/// Whether a payload is an alias that grows to 256 bytes by its NUL.
+/// Returns whether a payload is an alias that has 256 bytes in the normal text, since a NUL is
+/// appended.
 fn is_long_alias(payload: &[u8]) -> bool
     ensures { result ≡ is_long_alias payload.now }
 {
     payload.len() == 255 && payload[254] != 0
 }
 
-/// The spelling of a payload of a link's attribute.
+/// Returns the quirk of a payload of a link's attribute.
 #[tactic(auto, unfolding(crate::specs::SpellingRows::link_spelling))]
 fn link_spelling(kind: u16, payload: &[u8]) -> Option<Spelling>
     ensures { result ≡ link_spelling kind payload.now }
@@ -60,7 +62,7 @@ fn link_spelling(kind: u16, payload: &[u8]) -> Option<Spelling>
     }
 }
 
-/// Whether a kind of these data is a flag, which is there or not.
+/// Returns whether a kind of these data is a flag, which is set by being present.
 fn is_flag(held: Data, kind: u16) -> bool
     ensures { result ≡ is_flag held kind }
 {
@@ -74,7 +76,7 @@ fn is_flag(held: Data, kind: u16) -> bool
     }
 }
 
-/// The spelling of a payload of a kind that isn't a flag.
+/// Returns the quirk of a payload of a kind that isn't a flag.
 fn value_spelling(held: Data, kind: u16, payload: &[u8]) -> Option<Spelling>
     ensures { result ≡ value_spelling held kind payload.now }
 {
@@ -94,7 +96,7 @@ fn value_spelling(held: Data, kind: u16, payload: &[u8]) -> Option<Spelling>
     }
 }
 
-/// The spelling of a payload in the data of a kind of link.
+/// Returns the quirk of a payload in the data of a kind of link.
 fn data_spelling(held: Data, kind: u16, payload: &[u8]) -> Option<Spelling>
     ensures { result ≡ data_spelling held kind payload.now }
 {
@@ -105,7 +107,7 @@ fn data_spelling(held: Data, kind: u16, payload: &[u8]) -> Option<Spelling>
     }
 }
 
-/// The spelling of a payload in a list, of a kind without its flag bits.
+/// Returns the quirk of a payload in a list, by its kind without flag bits.
 fn payload_spelling(table: Table, kind: u16, payload: &[u8]) -> Option<Spelling>
     ensures { result ≡ payload_spelling table kind payload.now }
 {
@@ -118,7 +120,7 @@ fn payload_spelling(table: Table, kind: u16, payload: &[u8]) -> Option<Spelling>
     }
 }
 
-/// Whether a kind in these data is checked strictly and isn't nested.
+/// Returns whether a kind in these data is checked strictly and isn't nested.
 fn is_strict(held: Data, kind: u16) -> bool
     ensures { result ≡ is_strict held kind }
 {
@@ -129,7 +131,7 @@ fn is_strict(held: Data, kind: u16) -> bool
     }
 }
 
-/// The spelling of the nested bit on a kind of a list.
+/// Returns the quirk of the nested bit on a kind of a list.
 fn nested_spelling(table: Table, kind: u16) -> Option<Spelling>
     ensures { result ≡ nested_spelling table kind }
 {
@@ -141,7 +143,7 @@ fn nested_spelling(table: Table, kind: u16) -> Option<Spelling>
     }
 }
 
-/// The spelling of a kind in a list, flag bits and all.
+/// Returns the quirk of the flag bits of a kind in a list.
 fn bit_spelling(table: Table, kind: u16) -> Option<Spelling>
     ensures { result ≡ bit_spelling table kind }
 {
@@ -152,7 +154,8 @@ fn bit_spelling(table: Table, kind: u16) -> Option<Spelling>
     }
 }
 
-/// The spellings of an attribute of a list, whose kind has its flag bits: that of the nested bit, and that of the payload.
+/// Returns the quirks of an attribute of a list, by its kind with flag bits: that of the nested
+/// bit, and that of the payload.
 pub fn attribute_spellings(
     table: Table,
     kind: u16,
@@ -166,7 +169,7 @@ pub fn attribute_spellings(
     (nested, held)
 }
 
-/// The spelling of the second byte of a link's header in a message of a type.
+/// Returns the quirk of the second byte of a link's header in a message of a type.
 pub fn header_spelling(message_type: u16, body: &[u8]) -> Option<Spelling>
     requires { 16 ≤ length body.now }
     ensures { result ≡ header_spelling message_type body.now }

@@ -1,4 +1,4 @@
-//! The lists in which such spellings stand, as far as they are told apart.
+//! The lists in which encoding quirks occur, as far as their quirks differ.
 
 ghost use Rattle.std.specs.Prelude.{◌≡◌, ◌≤◌, ◌<◌, length, IfSome};
 ghost use Rattle.link_capture_spellings.specs.SpellingTables.{is_gre, is_gre6, is_ip_tunnel, is_pair, data_named};
@@ -7,10 +7,10 @@ ghost use Rattle.link_capture_spellings.specs.SpellingTables.{has_peer, inside, 
 
 use netlink_packet_core_numbers::without_nul;
 
-/// The data of a kind of link, by the table that the name of the kind tells.
+/// The data of a kind of link, as far as their quirks differ.
 #[derive(Clone, Copy)]
 pub enum Data {
-    /// Those in which no spelling stands.
+    /// Data in which no quirk occurs.
     Other,
     Vxlan,
     Geneve,
@@ -23,26 +23,26 @@ pub enum Data {
     BareUdp,
     Batadv,
     Netkit,
-    /// Of `veth` and `vxcan`, where their first attribute stands.
+    /// Of `veth` and `vxcan`, before their first attribute.
     Pair,
-    /// What follows that attribute.
+    /// Of `veth` and `vxcan`, after their first attribute.
     Behind,
 }
 
-/// A list of attributes.
+/// A kind of list of attributes.
 #[derive(Clone, Copy)]
 pub enum Table {
-    /// Of a link of the family AF_UNSPEC.
+    /// The attributes of a link of the family AF_UNSPEC.
     Unspec,
-    /// Of AF_BRIDGE.
+    /// The attributes of a link of AF_BRIDGE.
     Bridge,
-    /// Of any other family.
+    /// The attributes of a link of any other family.
     Link,
     /// IFLA_LINKINFO, with the data of the kind in force.
     Info(Data),
     /// IFLA_AF_SPEC of AF_UNSPEC.
     Families,
-    /// AF_INET in it.
+    /// AF_INET in IFLA_AF_SPEC.
     Inet,
     /// IFLA_XDP.
     Programs,
@@ -52,7 +52,7 @@ pub enum Table {
     OfKind(Data),
 }
 
-/// A list, and whether peers inside are judged.
+/// A list kind, and whether peers inside the list are judged.
 #[derive(Clone, Copy)]
 pub struct Listed {
     pub table: Table,
@@ -85,7 +85,7 @@ fn is_pair(name: &[u8]) -> bool
     name == b"veth".as_slice() || name == b"vxcan".as_slice()
 }
 
-/// The data of the kind of link that has a name.
+/// Returns the data of the kind of link with a name.
 #[tactic(auto, unfolding(crate::specs::SpellingTables::data_named))]
 fn data_named(name: &[u8]) -> Data
     ensures { result ≡ data_named name.now }
@@ -113,7 +113,7 @@ fn data_named(name: &[u8]) -> Data
     }
 }
 
-/// The attributes of a link of an address family.
+/// Returns the list kind of the attributes of a link of an address family.
 pub fn family_table(family: u8) -> Table
     ensures { result ≡ family_table family }
 {
@@ -124,7 +124,8 @@ pub fn family_table(family: u8) -> Table
     }
 }
 
-/// The list behind an attribute of it: the same one, with the kind that is in force there.
+/// Returns the list kind of the attributes after an attribute: the same one, with the kind in force
+/// there.
 fn next_table(table: Table, kind: u16, payload: &[u8]) -> Table
     ensures next { result ≡ next_table table kind payload.now }
     ensures as_deep { table_depth result ≡ table_depth table }
@@ -136,7 +137,7 @@ fn next_table(table: Table, kind: u16, payload: &[u8]) -> Table
     }
 }
 
-/// The same, with what is judged in it.
+/// Returns the list kind of the attributes after an attribute, with whether peers are judged.
 pub fn next_list(list: Listed, kind: u16, payload: &[u8]) -> Listed
     ensures next { result ≡ next_list list kind payload.now }
     ensures as_deep { depth result ≡ depth list }
@@ -147,7 +148,7 @@ pub fn next_list(list: Listed, kind: u16, payload: &[u8]) -> Listed
     }
 }
 
-/// The list in an attribute of a link.
+/// Returns the list in an attribute of a link.
 fn inside_link(kind: u16) -> Option<Table>
     ensures { result ≡ inside_table Table.Link kind }
 {
@@ -159,7 +160,7 @@ fn inside_link(kind: u16) -> Option<Table>
     }
 }
 
-/// The list in an attribute, where it isn't a peer.
+/// Returns the list in an attribute, unless it is a peer.
 fn inside_table(table: Table, kind: u16) -> Option<Table>
     ensures { result ≡ inside_table table kind }
 {
@@ -172,14 +173,15 @@ fn inside_table(table: Table, kind: u16) -> Option<Table>
     }
 }
 
-/// Whether an attribute of kind 1 is a peer.
+/// Returns whether an attribute of kind 1 is a peer.
 fn has_peer(table: Table) -> bool
     ensures { result ≡ has_peer table }
 {
     matches!(table, Table::OfKind(Data::Netkit | Data::Pair))
 }
 
-/// The list in an attribute, and the bytes in front of it: 16 of a peer's header, which is a link's.
+/// Returns the list in an attribute, and the number of bytes before it: 16 for a peer's header,
+/// which is a link's.
 #[tactic(auto, unfolding(crate::specs::SpellingTables::inside))]
 pub fn inside(list: Listed, kind: u16, payload: &[u8]) -> Option<(Listed, usize)>
     ensures inside { result ≡ inside list kind payload.now }

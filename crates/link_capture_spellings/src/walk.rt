@@ -1,4 +1,4 @@
-//! A walk through the lists of a frame.
+//! A walk through the nested lists of a frame.
 
 ghost use Rattle.std.specs.Prelude.{◌≡◌, ◌≤◌, ◌<◌, ◌+◌, ◌^◌, ◌∷◌, ◌++◌, [], true, drop, length, IfSome, IfNone};
 ghost use Rattle.netlink_packet_core.specs.Frames.{IsFrame, frame_type, frame_body};
@@ -19,10 +19,11 @@ use link_tables::LINK_HEADER_LEN;
 use netlink_packet_core::{NETLINK_HEADER_LEN, NetlinkBuffer, nla_align};
 use std::default::Default;
 
-/// As many lists stand inside one another as this: a link's attributes, its link info, the data, and the same of a peer.
+/// How deeply lists are nested: a link's attributes, its link info, the data, and the same three of
+/// a peer. So a walk holds its lists itself, and needs no allocation.
 const DEPTH: usize = 6;
 
-/// What is left of a list, and its place in bytes from the capture's start.
+/// The rest of a list, and its offset in bytes from the capture's start.
 #[derive(Clone, Copy, Drop)]
 pub(crate) struct Level<'a> {
     pub list: Listed,
@@ -43,8 +44,8 @@ impl Default for Level<'_> {
     }
 }
 
-/// What is left of a frame: two spellings that were found, and then the lists, of which each stands inside the one
-/// before it.
+/// The rest of a frame: up to two quirks that were found already, and then nested lists, each
+/// inside the one before it.
 #[derive(Drop)]
 pub(crate) struct Walk<'a> {
     pub first: Option<PlacedSpelling>,
@@ -52,7 +53,7 @@ pub(crate) struct Walk<'a> {
     pub levels: ArrayVec<Level<'a>, DEPTH>,
 }
 
-/// A spelling at a place.
+/// Returns a quirk with its offset.
 fn placed(place: usize, spelling: Option<Spelling>) -> Option<PlacedSpelling>
     ensures { one_told result ≡ told_at place spelling }
 {
@@ -65,7 +66,7 @@ fn placed(place: usize, spelling: Option<Spelling>) -> Option<PlacedSpelling>
     }
 }
 
-/// What stands behind the first bytes.
+/// Returns the bytes after the first `front`.
 fn behind(bytes: &[u8], front: usize) -> &[u8]
     requires { front ≤ length bytes.now }
     ensures { result.now ≡ drop front bytes.now }
@@ -74,7 +75,7 @@ fn behind(bytes: &[u8], front: usize) -> &[u8]
 }
 
 impl<'a> Walk<'a> {
-    /// Nothing is left.
+    /// Returns a walk with nothing left.
     pub(crate) fn new() -> Self
         ensures within { AreWithin 0 result.levels.items }
         ensures told { walk_told result.first result.second result.levels.items ≡ [] }
@@ -86,7 +87,7 @@ impl<'a> Walk<'a> {
         }
     }
 
-    /// Begins the frame in front of some bytes, which stand at a place.
+    /// Begins the first frame of `bytes`, which are at `place`.
     pub(crate) fn enter(&mut self, bytes: &'a [u8], place: usize)
         requires frame { IsFrame bytes.now }
         requires body { is_link_type (frame_type bytes.now) ≡ true → 16 ≤ length (frame_body bytes.now) }
@@ -114,7 +115,7 @@ impl<'a> Walk<'a> {
         });
     }
 
-    /// Goes on in the innermost list by an attribute.
+    /// Passes an attribute of the innermost list, and enters the list inside it.
     fn step(&mut self, level: Level<'a>)
         requires { AreWithin 0 (self.old.levels.items ++ level ∷ []) }
         ensures within { AreWithin 0 self.new.levels.items }
@@ -151,7 +152,7 @@ impl<'a> Walk<'a> {
         }
     }
 
-    /// The next spelling of the frame.
+    /// Returns the next quirk of the frame.
     pub(crate) fn next(&mut self) -> Option<PlacedSpelling>
         requires { AreWithin 0 self.old.levels.items }
         ensures within { AreWithin 0 self.new.levels.items }

@@ -1,5 +1,5 @@
-// linkcap: the normal text of a netlink link capture, from standard input to standard output; or whether two captures
-// mean the same.
+// linkcap: writes the normal text of a netlink link capture from standard input to standard output,
+// or reports whether two captures mean the same.
 #![tactic(auto)]
 
 use linkcap_program::outcome;

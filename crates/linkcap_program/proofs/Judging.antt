@@ -1,4 +1,4 @@
--- What is told of two files that were read.
+-- The result of comparing two files that were read.
 use Rattle.std.proofs.Common.{◌≡◌, ℕ, List, Bool, true, Option, Some, Result, Ok, Err, IfOk, IfErr, OnOk, cond, inl, inr, false, subst}
 use Rattle.std.specs.Prelude.{◌↔◌}
 use Rattle.link_capture_grammar.specs.declared.fault.CaptureFault.{CaptureFault}
@@ -18,6 +18,6 @@ compared Unread first second before after left right limit r a b n j = inl (left
 pub first_unread : (Unread : Option (List ℕ) → CaptureFault → Type 0) (first second : Option (List ℕ)) (before after : Counts) (limit : ℕ) (e : SideFault) → e.second ≡ false → CannotRead (Unread first) before after e.fault → Compares Unread first second before after limit (Err e)
 first_unread Unread first second before after limit e s h = inr (inl (s, h))
 
--- or the second, when the first had been
+-- the second file couldn't be read, after the first was read
 pub second_unread : (Unread : Option (List ℕ) → CaptureFault → Type 0) (first second : Option (List ℕ)) (before then after : Counts) (left : List ℕ) (limit : ℕ) (e : SideFault) → Holds first left → then ≡ opened before → e.second ≡ true → CannotRead (Unread second) then after e.fault → Compares Unread first second before after limit (Err e)
 second_unread Unread first second before then after left limit e a n s h = inr (inr (s, (left, a), subst (λ m. CannotRead (Unread second) m after e.fault) n h))

@@ -1,4 +1,4 @@
--- What has come to a sink.
+-- What was printed and reported.
 use Rattle.std.proofs.Common.{◌≡◌, ℕ, Bool, false, List, [], ◌∷◌, ◌++◌, Result, Ok, sym, ap, subst, ◌∙◌}
 use Rattle.link_capture_grammar.specs.declared.fault.FaultKind.TheVariants.{Write}
 use Rattle.link_capture_grammar.specs.Faults.{fault_text}
@@ -6,11 +6,11 @@ use Rattle.link_capture_checks.specs.declared.sameness.SideFault.{SideFault}
 use Rattle.link_capture_reader.specs.States.{IsTold, SinkState, Tells}
 use Rattle.linkcap_program.specs.Runs.{same_line, same_error}
 
--- the answer of a comparison couldn't be printed
+-- the result of a comparison couldn't be printed
 pub unprinted : (before after : SinkState) (line : List ℕ) (o : Result Bool SideFault) (is_same : Bool) → IsTold before after line false → line ≡ same_line (Ok is_same) → o ≡ Ok is_same → IsTold before after (same_line o) false
 unprinted before after line o is_same h l q = subst (λ t. IsTold before after t false) (l ∙ sym (ap same_line q)) h
 
--- and that is told
+-- and the error writer gets a line that says so
 pub unprinted_told : (before after : SinkState) (line text : List ℕ) (told : Bool) (o : Result Bool SideFault) (is_same : Bool) → IsTold before after line told → line ≡ text ++ 10 ∷ [] → text ≡ fault_text (record { kind = Write; offset = 0 }) → o ≡ Ok is_same → Tells before after (same_error false o)
 unprinted_told before after line text told o is_same h e t q =
     (told, subst (λ x. IsTold before after x told) (e ∙ ap (λ x. x ++ 10 ∷ []) t ∙ sym (ap (same_error false) q)) h)

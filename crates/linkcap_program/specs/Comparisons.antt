@@ -1,4 +1,4 @@
--- What files hold, and what is answered of two of them.
+-- The contents of files, and the result of comparing two of them.
 use Rattle.std.specs.Prelude.{◌≡◌, ℕ, ⊤, Bool, true, false, List, length, cond, Option, None, Some, Result, Ok, Err, ◌⊎◌, ◌↔◌}
 use Rattle.std.specs.Io.KnownBytes.{Consumes}
 use Rattle.link_capture_grammar.specs.declared.fault.CaptureFault.{CaptureFault}
@@ -9,48 +9,51 @@ use Rattle.link_capture_reader.specs.Devices.{risen}
 use Rattle.link_capture_reader.specs.Outcomes.{ReadFault}
 use Rattle.link_capture_grammar.specs.Same.{SameCapture}
 
--- a file holds these bytes, as far as its bytes are known
+-- A file has these bytes, if its contents are known.
 abbrev pub Holds : Option (List ℕ) → List ℕ → Type 0
 Holds None bytes = ⊤
 Holds (Some known) bytes = bytes ≡ known
 
--- A file, of which these bytes are known, was opened and read to the place of this fault, and no further: there its reading failed, or memory was
--- wanting for what was read.
+-- A file, whose contents may be known, was opened, and read up to the offset of this fault, where reading it failed, or
+-- an allocation for its bytes did.
 abbrev pub IsUnread : {File : Type 0} → (File → Option (List ℕ)) → (File → ℕ) → Option (List ℕ) → CaptureFault → Type 0
 IsUnread {File} to_come failures known fault =
     (file after : File) × (bytes : List ℕ) × (to_come file ≡ known) × Consumes (to_come file) (to_come after) bytes
     × ReadFault (failures file) (failures after) bytes fault.kind × (fault.offset ≡ length bytes)
 
--- how often a file system was asked to open a file, and how often it couldn't
+-- How often a file system was asked to open a file, and how often that failed.
 pub record Counts : Type 0 where
   pub asked : ℕ
   pub failures : ℕ
 
--- the same once one file more was opened, or couldn't be
+-- The counts after one more file was opened.
 abbrev pub opened : Counts → Counts
 opened n = record { asked = risen n.asked; failures = n.failures }
 
+-- The counts after one more file couldn't be opened.
 abbrev pub unopened : Counts → Counts
 unopened n = record { asked = risen n.asked; failures = risen n.failures }
 
--- the captures of two files were read, and this was told of them
+-- The captures of two files were read, and comparing them yielded this result.
 abbrev pub Judges : List ℕ → List ℕ → ℕ → Result Bool SideFault → Type 0
 Judges left right limit (Ok is_same) = IsLegal limit left × IsLegal limit right × ((is_same ≡ true) ↔ SameCapture limit left right)
 Judges left right limit (Err e) = (first_fault limit (cond e.second right left) ≡ Some e.fault) × (e.second ≡ true → IsLegal limit left)
 
--- the file that is opened next couldn't be, or couldn't be read, and this was told of it
+-- The next file couldn't be opened, or couldn't be read, and this is its fault.
 abbrev pub CannotRead : (CaptureFault → Type 0) → Counts → Counts → CaptureFault → Type 0
 CannotRead Unread before after fault =
     ((after ≡ unopened before) × (fault ≡ record { kind = Read; offset = 0 })) ⊎ ((after ≡ opened before) × Unread fault)
 
--- One of two files couldn't be read: the first, and then the second wasn't asked for; or the second, when the first had been read.
+-- One of two files couldn't be read: the first, and then the second wasn't opened; or the second, after the first was
+-- read.
 abbrev pub ReadsOne : (Option (List ℕ) → CaptureFault → Type 0) → Option (List ℕ) → Option (List ℕ) → Counts → Counts → Result Bool SideFault → Type 0
 ReadsOne Unread first second before after (Ok is_same) = ⊥
 ReadsOne Unread first second before after (Err e) =
     ((e.second ≡ false) × CannotRead (Unread first) before after e.fault)
     ⊎ ((e.second ≡ true) × ((left : List ℕ) × Holds first left) × CannotRead (Unread second) (opened before) after e.fault)
 
--- Two files, of which these bytes are known, are compared: each was opened once and read, and then they were judged; or one couldn't be read.
+-- Two files, whose contents may be known, are compared: each was opened once and read, and then they were judged; or
+-- one couldn't be read.
 abbrev pub Compares : (Option (List ℕ) → CaptureFault → Type 0) → Option (List ℕ) → Option (List ℕ) → Counts → Counts → ℕ → Result Bool SideFault → Type 0
 Compares Unread first second before after limit result =
     ((left right : List ℕ) × Holds first left × Holds second right × (after ≡ opened (opened before)) × Judges left right limit result)

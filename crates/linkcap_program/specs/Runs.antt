@@ -1,4 +1,4 @@
--- What the program's words ask for, what it tells, and its status.
+-- The program's commands, what it prints and reports, and its exit status.
 use Rattle.std.specs.Prelude.{◌≡◌, ℕ, Bool, true, false, List, [], ◌∷◌, ◌++◌, codes, cond, Option, None, Some, Result, Ok, Err, ⊤}
 use Rattle.link_capture_grammar.specs.declared.fault.CaptureFault.{CaptureFault}
 use Rattle.link_capture_grammar.specs.declared.fault.FaultKind.TheVariants.{Write}
@@ -12,7 +12,7 @@ use Rattle.link_capture_reader.specs.States.{IsTold, SinkState, SourceState, Tel
 use Rattle.link_capture_commands.specs.declared.command.Command.{Command}
 use Rattle.link_capture_commands.specs.declared.command.Command.TheVariants.{Norm, Same}
 
--- One run: the source before and after it; the sink of what is printed; and that of what is told.
+-- One run: the states of the source, of the sink for output, and of the sink for error messages, before and after it.
 pub record Run : Type 0 where
   pub from : SourceState
   pub left : SourceState
@@ -21,6 +21,7 @@ pub record Run : Type 0 where
   pub told : SinkState
   pub tells : SinkState
 
+-- The states of a run, by the devices before and after it.
 abbrev pub run_of : {S K E : Type 0} → (S → SourceState) → (K → SinkState) → (E → SinkState) → S → S → K → K → E → E → Run
 run_of source sink errors from left held holds told tells = record {
   from = source from;
@@ -31,16 +32,16 @@ run_of source sink errors from left held holds told tells = record {
   tells = errors tells;
 }
 
--- wrong words: this is told, with this status
+-- A run with a usage error: the usage line is reported, with status 3.
 abbrev pub UsageAnswer : SinkState → SinkState → ℕ → Type 0
 UsageAnswer told tells status = Tells told tells (codes "usage: linkcap norm [LIMIT] or linkcap same FILE FILE [LIMIT]" ++ 10 ∷ []) × (status ≡ 3)
 
--- what is told of a normalised capture: a line of the fault, or nothing
+-- The error message for a normalised capture: a line with the fault, or nothing.
 abbrev pub norm_line : Result ⊤ CaptureFault → List ℕ
 norm_line (Ok x) = []
 norm_line (Err fault) = fault_text fault ++ 10 ∷ []
 
--- the source's capture was normalised to the sink, and this is told of it, with this status
+-- A run of `norm`: the source's capture was normalised to the sink, and the fault is reported, with this status.
 abbrev pub NormAnswer : Run → ℕ → ℕ → Type 0
 NormAnswer r limit status =
     (outcome : Result ⊤ CaptureFault)
@@ -48,41 +49,43 @@ NormAnswer r limit status =
     (Rises r.from.failures r.left.failures) (Rises r.held.failures r.holds.failures) limit outcome
     × Tells r.told r.tells (norm_line outcome) × (status ≡ status_of outcome)
 
--- what is printed of two captures: a line of whether they mean the same, or nothing after a fault
+-- The output for two captures: a line that says whether they mean the same, or nothing after a fault.
 abbrev pub same_line : Result Bool SideFault → List ℕ
 same_line (Ok true) = codes "same" ++ 10 ∷ []
 same_line (Ok false) = codes "different" ++ 10 ∷ []
 same_line (Err e) = []
 
--- what is told of two captures: a line of the fault, or that the answer couldn't be printed, or nothing
+-- The error message for two captures: a line with the fault, or one that says that the output couldn't be printed, or
+-- nothing.
 abbrev pub same_error : Bool → Result Bool SideFault → List ℕ
 same_error printed (Err e) = side_text e ++ 10 ∷ []
 same_error true (Ok is_same) = []
 same_error false (Ok is_same) = fault_text (record { kind = Write; offset = 0 }) ++ 10 ∷ []
 
--- a comparison is printed in its line where it can be, and told of where it or the printing failed, with this status
+-- The result of a comparison is printed as its line, if that is possible; a fault, or that printing failed, is
+-- reported, with this status.
 abbrev pub SameTold : SinkState → SinkState → SinkState → SinkState → Result Bool SideFault → ℕ → Type 0
 SameTold held holds told tells outcome status =
     (printed : Bool) × IsTold held holds (same_line outcome) printed × Tells told tells (same_error printed outcome) × (status ≡ cond printed (status_of_same outcome) 2)
 
--- two captures were compared, and this is printed and told of them, with this status
+-- A run of `same`: two captures were compared, and the result is printed or reported, with this status.
 abbrev pub SameAnswer : (Result Bool SideFault → Type 0) → SinkState → SinkState → SinkState → SinkState → ℕ → Type 0
 SameAnswer Compared held holds told tells status = (outcome : Result Bool SideFault) × Compared outcome × SameTold held holds told tells outcome status
 
--- the words ask for a command, or no command fits them
+-- The arguments ask for this command, or for none.
 abbrev pub Asks : List (List ℕ) → Option Command → Type 0
 Asks words None = (command : Command) → IsCommand words command → ⊥
 Asks words (Some command) = IsCommand words command
 
--- What holds after such a command. Where the words ask for nothing, nothing is opened, read or printed; for a normal text no file is opened; and where two
--- files are compared, the source isn't read.
+-- What holds after a run of this command. Without a command nothing is opened, read or printed; for a normal text no
+-- file is opened; and when two files are compared, the source isn't read.
 abbrev pub Does : Type 0 → Type 0 → Type 0 → Run → (List ℕ → List ℕ → ℕ → Result Bool SideFault → Type 0) → ℕ → Option Command → Type 0
 Does unopened unread unwritten r Compared status None = unopened × unread × unwritten × UsageAnswer r.told r.tells status
 Does unopened unread unwritten r Compared status (Some (Norm limit)) = unopened × NormAnswer r limit status
 Does unopened unread unwritten r Compared status (Some (Same first second limit)) =
     unread × SameAnswer (Compared first.now second.now limit) r.held r.holds r.told r.tells status
 
--- what the words ask for was done
+-- What holds after a run with these arguments: they ask for a command, and a run of it was done.
 abbrev pub Answers : List (List ℕ) → Type 0 → Type 0 → Type 0 → Run → (List ℕ → List ℕ → ℕ → Result Bool SideFault → Type 0) → ℕ → Type 0
 Answers words unopened unread unwritten r Compared status =
     (asked : Option Command) × Asks words asked × Does unopened unread unwritten r Compared status asked

@@ -1,4 +1,4 @@
-//! Whether the captures in two files mean the same.
+//! Compares the captures in two files.
 
 ghost use Rattle.std.specs.Prelude.{◌≡◌, Ok, IfOk, IfErr, OnOk};
 ghost use Rattle.std.specs.Process.{exit_status};
@@ -15,19 +15,20 @@ use link_capture_reader::{Sink, read_all, tell};
 use std::alloc::Global;
 use std::process::ExitCode;
 
-/// What is told of a file that can't be opened.
+/// The fault of a file that can't be opened.
 const NOT_OPENED: CaptureFault = CaptureFault {
     kind: FaultKind::Read,
     offset: 0,
 };
 
-/// What is told where the answer can't be printed.
+/// The fault that is reported if the result can't be printed.
 const NOT_PRINTED: CaptureFault = CaptureFault {
     kind: FaultKind::Write,
     offset: 0,
 };
 
-/// All bytes of the first or the second of two files. A file that can't be opened is one whose reading failed at 0.
+/// Returns all bytes of the first or the second of two files. If the file can't be opened, the
+/// fault is a failed read at 0.
 fn read_side<F: FileSystem>(
     alloc: Global,
     files: &mut F,
@@ -54,12 +55,15 @@ fn read_side<F: FileSystem>(
     }
 }
 
-/// Whether the captures in the files of two names mean the same under a limit. Each is opened once and read, the first
-/// one first, before one is judged.
+/// Returns whether the captures in two files mean the same under a limit. Each file is opened once
+/// and read, the first one first, before their captures are judged; so a missing file is reported
+/// before a fault of the other capture.
 ///
-/// Else the first thing that went wrong: a file that couldn't be opened, at 0, or read, at the number of bytes that
-/// were, or for whose bytes memory was wanting; or the first fault of the first capture, or of the second where the
-/// first is legal.
+/// # Errors
+///
+/// The first of these faults, with the file that has it: `Read` at 0 if the file can't be opened;
+/// `Read` or `Memory` at the number of bytes read if reading it or an allocation fails; the first
+/// fault of the first capture, or that of the second if the first is legal.
 pub fn compare<F: FileSystem>(
     alloc: Global,
     files: &mut F,
@@ -76,15 +80,15 @@ pub fn compare<F: FileSystem>(
     same(left.as_slice(), right.as_slice(), limit)
 }
 
-// The line that is printed of two captures.
+// Returns the line that is printed for two captures.
 fn line_of(is_same: bool) -> &'static str
     ensures { result.now ≡ same_line (Ok is_same) }
 {
     if is_same { "same\n" } else { "different\n" }
 }
 
-/// Prints in one line whether two captures mean the same, or tells in one line what went wrong. The answer is the
-/// program's status.
+/// Prints a line that says whether two captures mean the same, or reports a fault in a line.
+/// Returns the exit status.
 fn report<K: Sink, E: Sink>(
     sink: &mut K,
     errors: &mut E,
@@ -109,8 +113,8 @@ fn report<K: Sink, E: Sink>(
     }
 }
 
-/// Prints in one line whether the captures in the files of two names mean the same, and tells on the error writer what
-/// went wrong. The answer is the program's status.
+/// Prints a line that says whether the captures in two files mean the same, and reports a fault on
+/// the error writer. Returns the exit status.
 pub fn answer_same<F: FileSystem, K: Sink, E: Sink>(
     alloc: Global,
     files: &mut F,

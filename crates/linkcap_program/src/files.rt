@@ -6,21 +6,28 @@ ghost use Rattle.linkcap_program.specs.Comparisons.{Counts, opened, unopened};
 use link_capture_reader::{DeviceFailed, ReadSource, Source};
 use std::fs::File;
 
-/// What opens files by their names.
+/// Opens files by their names.
 ///
-/// It counts how often it was asked to, and how often it couldn't: each of these numbers is held by it, and stays at
-/// `u64::MAX` once it is there.
+/// It is a trait of this crate, so that contracts can state the contents of two files by their
+/// names.
+///
+/// It counts how often it was asked to, and how often that failed. It holds both numbers; each
+/// stays at `u64::MAX` once it is there.
 pub trait FileSystem {
     /// An open file.
     type File: Source + Drop;
 
-    /// The bytes of the file of a name, where they are known.
+    /// The bytes of the file with a name, if they are known.
     ghost contents: { Self → List ℕ → Option (List ℕ) };
 
     /// How often it was asked for a file, and how often it failed.
     ghost counts: { Self → Counts };
 
-    /// Opens a file, to be read from its first byte on. What other files hold stays.
+    /// Opens a file, to be read from its first byte on. The contents of files are unchanged.
+    ///
+    /// # Errors
+    ///
+    /// [`DeviceFailed`] if the file can't be opened; it is counted.
     fn open(&mut self, name: &str) -> Result<Self::File, DeviceFailed>
         ensures bytes { IfOk result (λ file. Self.File.to_come file ≡ contents self.old name.now) }
         ensures opened { IfOk result (λ _. counts self.new ≡ opened (counts self.old)) }
@@ -28,7 +35,7 @@ pub trait FileSystem {
         ensures contents { contents self.new ≡ contents self.old };
 }
 
-/// The file system of the process. What its files hold isn't known.
+/// The file system of the process. The contents of its files aren't known.
 #[derive(Drop)]
 pub(crate) struct HostFiles<'a> {
     rt: &'a HostRuntime,
@@ -37,6 +44,7 @@ pub(crate) struct HostFiles<'a> {
 }
 
 impl<'a> HostFiles<'a> {
+    /// Returns the file system of the process, which wasn't asked to open a file yet.
     pub fn new(rt: &'a HostRuntime) -> HostFiles<'a> {
         HostFiles {
             rt,

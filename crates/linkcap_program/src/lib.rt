@@ -1,5 +1,6 @@
-//! What the program `linkcap` does: the normal text of a netlink link capture, from standard input
-//! to standard output; or whether the captures in two files mean the same.
+//! The program `linkcap`: writes the normal text of a netlink link capture from standard input to
+//! standard output, or reports whether the captures in two files mean the same. It is a library
+//! under five programs, since a crate has one stored run.
 #![tactic(auto)]
 
 ghost use Rattle.std.specs.Prelude.{◌≡◌, map, string_bytes};
@@ -23,10 +24,10 @@ use std::alloc::Global;
 use std::io;
 use std::process::ExitCode;
 
-/// What is told of wrong words, as a line.
+/// The error message for a usage error, as a line.
 const USAGE: &str = "usage: linkcap norm [LIMIT] or linkcap same FILE FILE [LIMIT]\n";
 
-/// Tells on the error writer how the program is used. The answer is the program's status.
+/// Reports on the error writer how the program is used. Returns the exit status.
 fn answer_usage<E: Sink>(errors: &mut E) -> ExitCode
     ensures { UsageAnswer (sink_state E.holds E.failures errors.old)
         (sink_state E.holds E.failures errors.new) (exit_status result) }
@@ -35,9 +36,9 @@ fn answer_usage<E: Sink>(errors: &mut E) -> ExitCode
     ExitCode::from(3)
 }
 
-/// The program: does what the words behind its name ask for, tells on the error writer what went wrong, and answers
-/// with its status. Where the words ask for nothing, nothing is opened, read or printed; for a normal text no file is
-/// opened; and where they ask whether two files mean the same, the source isn't read.
+/// Runs the program: does what the arguments ask for, reports faults on the error writer, and
+/// returns the exit status. If the arguments are a usage error, nothing is opened, read or printed;
+/// for a normal text no file is opened; to compare two files, the source isn't read.
 pub fn answer<F: FileSystem, S: Source, K: Sink, E: Sink>(
     alloc: Global,
     words: &[String],
@@ -67,7 +68,8 @@ pub fn answer<F: FileSystem, S: Source, K: Sink, E: Sink>(
     }
 }
 
-/// Runs on standard input, output and error, the process's files and its words. It hands them on, and does nothing else.
+/// Runs the program on the process's standard input, output and error, files and arguments, which
+/// it only passes.
 pub fn outcome(rt: &HostRuntime) -> ExitCode {
     let words = words(rt).unwrap_or(Vec::new(rt.alloc()));
     let mut source = ReadSource::new(rt.reader());

@@ -4,7 +4,8 @@ ghost use Rattle.std.specs.Prelude.{◌≡◌, ◌≤◌, ◌++◌, ◌∷◌, [
 
 use arrayvec::ArrayString;
 
-/// A text as a line.
+/// Returns a text as a line. It is on the stack, so no allocation can fail while a fault is
+/// reported.
 pub(crate) fn line(text: &str) -> ArrayString<129>
     requires { length text.now ≤ 128 }
     ensures { result.bytes ≡ text.now ++ 10 ∷ [] }

@@ -1,4 +1,4 @@
-//! The normal text of what a source has.
+//! Normalises the capture of a source.
 
 ghost use Rattle.std.specs.Prelude.{◌≡◌, ◌≤◌};
 ghost use Rattle.std.specs.Process.{exit_status};
@@ -13,7 +13,7 @@ use link_capture_reader::{Sink, Source, normalize, tell};
 use std::alloc::Global;
 use std::process::ExitCode;
 
-/// Tells in one line what went wrong, and nothing where nothing did. The answer is the program's status.
+/// Reports a fault in a line, and writes nothing if there is none. Returns the exit status.
 fn report<E: Sink>(errors: &mut E, outcome: Result<(), CaptureFault>) -> ExitCode
     ensures status { exit_status result ≡ status_of outcome }
     ensures told { Tells (sink_state E.holds E.failures errors.old)
@@ -28,8 +28,8 @@ fn report<E: Sink>(errors: &mut E, outcome: Result<(), CaptureFault>) -> ExitCod
     }
 }
 
-/// Writes the normal text of all that a source has, as its frames come, and tells what went wrong: a failed write in
-/// place of any other fault. The answer is the program's status.
+/// Writes the normal text of a source's capture, as its frames come, and reports the fault. If a
+/// write fails, that is the fault that is reported. Returns the exit status.
 pub fn answer_norm<S: Source, K: Sink, E: Sink>(
     alloc: Global,
     source: &mut S,

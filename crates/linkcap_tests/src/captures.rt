@@ -1,4 +1,4 @@
-//! Captures, and what their normalisation gives.
+//! Captures and the results of normalising them.
 
 use super::devices::{Giver, Plan};
 use hex::{decode, encode};
@@ -9,7 +9,7 @@ use link_capture::{
 use std::alloc::Global;
 use std::test::Fail;
 
-/// Texts in hex, and behind them the display of a fault, if there is one.
+/// Returns texts in hex, followed by the display of the fault, if there is one.
 fn shown(alloc: Global, texts: &[u8], outcome: Result<(), CaptureFault>) -> Result<String, Fail> {
     let mut text = encode(alloc, texts)?;
     if let Err(fault) = outcome {
@@ -18,7 +18,7 @@ fn shown(alloc: Global, texts: &[u8], outcome: Result<(), CaptureFault>) -> Resu
     Ok(text)
 }
 
-/// What a capture in hex gives.
+/// Returns the result for a capture in hex.
 fn normalized(alloc: Global, capture: &str, limit: u32) -> Result<String, Fail> {
     let bytes = decode(alloc, capture).map_err(|_| Fail::from("not hex"))?;
     let mut out = Vec::new(alloc);
@@ -26,7 +26,7 @@ fn normalized(alloc: Global, capture: &str, limit: u32) -> Result<String, Fail> 
     shown(alloc, out.as_slice(), outcome)
 }
 
-/// What it gives in pieces of this size.
+/// Returns the result for a capture in hex that is read in pieces of this size.
 fn normalized_in_pieces(
     alloc: Global,
     capture: &str,
@@ -43,7 +43,7 @@ fn normalized_in_pieces(
     shown(alloc, sink.bytes(), outcome)
 }
 
-/// A capture in hex, and what its normalisation is to give.
+/// A capture in hex, and the expected result.
 struct Case {
     name: &'static str,
     capture: &'static str,
@@ -71,7 +71,7 @@ const VETH_TWICE_TEXT: &str =
     7665746800000000400002003c000100000000000000000000000000000000002800120009000100\
     7665746800000000180002001300010000000000000000000000000000000000";
 
-/// Cases worked by hand.
+/// Cases worked out by hand.
 const WORKED: [Case; 18] = [
     Case {
         name: "no bytes are legal and have no text",
@@ -212,7 +212,7 @@ fn worked_captures(rt: HostRuntime) -> Result<(), Fail> {
     Ok(())
 }
 
-/// The attributes of a peer count, and a capture and its normal text mean the same.
+/// The attributes of a peer are counted, and a capture and its normal text mean the same.
 #[test]
 fn peers_are_measured_and_compared(rt: HostRuntime) -> Result<(), Fail> {
     for (capture, text, attributes, text_len) in [
@@ -232,7 +232,7 @@ fn peers_are_measured_and_compared(rt: HostRuntime) -> Result<(), Fail> {
     Ok(())
 }
 
-/// Two messages, byte by byte as netlink.h has them.
+/// Two messages, with each byte as netlink.h has it.
 #[test]
 fn numbers_are_zero_in_every_message(rt: HostRuntime) -> Result<(), Fail> {
     let mut capture = [

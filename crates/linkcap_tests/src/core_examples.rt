@@ -8,7 +8,7 @@ ghost use Rattle.netlink_packet_core.specs.Numbers.{le4, u32_at};
 use netlink_packet_core::laws::numbers_have_sizes;
 use netlink_packet_core::{DecodeError, Emitable, NetlinkBuffer, Nla, fill_u32};
 
-/// The kind of the attribute that holds a link's greatest packet size (if_link.h).
+/// The kind of the attribute with a link's greatest packet size (if_link.h).
 const IFLA_MTU: u16 = 4;
 
 /// The greatest size of a packet on a link, in bytes.
@@ -39,7 +39,7 @@ impl Nla for Mtu {
     }
 }
 
-/// The attribute of this packet size, as it stands in a message.
+/// Returns the attribute of this packet size, as it is in a message.
 fn mtu_attribute(mtu: u32) -> [u8; 8]
     ensures { result ≡ attribute_text (record { kind = 4; payload = le4 mtu }) }
 {
@@ -48,7 +48,7 @@ fn mtu_attribute(mtu: u32) -> [u8; 8]
     bytes
 }
 
-/// The sequence number of the message in front, where the bytes hold that message whole.
+/// Returns the sequence number of the first message, if the bytes have it whole.
 fn sequence_number(bytes: &[u8]) -> Result<u32, DecodeError>
     ensures ok { IfOk result (λ number. IsFrame bytes.now × (number ≡ u32_at 8 bytes.now)) }
 {

@@ -1,9 +1,10 @@
-//! Devices that give or take few bytes a call. At one call they may fail, or give or take none; they go on after it.
+//! Devices that read or write a few bytes at each call. At one call they may fail, or read or write
+//! nothing; they continue after it.
 
 use std::io::{self, ErrorKind, Read, Write};
 
-/// What a device does: at most `size` bytes a call, but none at the call that `calls` others came before, which may
-/// fail.
+/// The behaviour of a device: it reads or writes at most `size` bytes at each call, but none at the
+/// call after the first `calls`, which fails if `fails` is set.
 #[derive(Clone, Copy, Drop)]
 pub(crate) struct Plan {
     pub size: usize,
@@ -12,7 +13,8 @@ pub(crate) struct Plan {
 }
 
 impl Plan {
-    /// At most so many bytes at each call.
+    /// Returns the behaviour of a device that reads or writes at most `size` bytes at each call,
+    /// and never fails.
     pub fn steady(size: usize) -> Plan {
         Plan {
             size,
@@ -21,7 +23,7 @@ impl Plan {
         }
     }
 
-    /// At most how many bytes this call gives or takes.
+    /// Returns how many bytes this call reads or writes at most.
     fn next(&mut self) -> io::Result<usize> {
         let Some(calls) = self.calls.checked_sub(1) else {
             self.calls = usize::MAX;
@@ -35,7 +37,7 @@ impl Plan {
     }
 }
 
-/// Gives bytes.
+/// A reader of the bytes `rest`.
 #[derive(Drop)]
 pub(crate) struct Giver<'a> {
     pub rest: &'a [u8],
@@ -52,7 +54,7 @@ impl Read for Giver<'_> {
     }
 }
 
-/// Takes bytes.
+/// A writer that keeps the bytes in `taken`.
 #[derive(Drop)]
 pub(crate) struct Taker {
     pub taken: Vec<u8>,

@@ -1,11 +1,11 @@
-//! How faults are displayed.
+//! The displays of faults.
 
 use link_capture::{CaptureFault, FaultKind};
 use std::alloc::Global;
 use std::fmt::Display;
 use std::test::Fail;
 
-/// Each kind with its words, and a fault of that kind with its display.
+/// Each kind with its text, and a fault of that kind with its display.
 const TEXTS: [(FaultKind, &str, u64, &str); 12] = [
     (FaultKind::Cut, "cut frame", 0, "cut frame at 0"),
     (
@@ -56,12 +56,12 @@ const TEXTS: [(FaultKind, &str, u64, &str); 12] = [
     ),
 ];
 
-/// Whether a value is displayed as this text.
+/// Returns whether a value is displayed as this text.
 pub(crate) fn is_displayed<T: Display>(alloc: Global, value: &T, text: &str) -> Result<bool, Fail> {
     Ok(format!(in alloc; "{value}")?.as_str() == text)
 }
 
-/// An answer: `ok`, or the display of its fault.
+/// Returns a result as a text: `ok`, or the display of its fault.
 pub(crate) fn shown(alloc: Global, answer: &Result<(), CaptureFault>) -> Result<String, Fail> {
     Ok(match answer {
         Ok(()) => "ok".to_string(alloc)?,

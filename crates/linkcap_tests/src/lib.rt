@@ -1,4 +1,5 @@
-// Worked cases across the crates, as tests. The wanted values come from outside this project's code.
+// Worked cases across the crates, as tests. The expected values come from outside this project's
+// code. Tests are in a crate of their own, since a crate with tests is proved twice.
 #![tactic(auto)]
 
 #[cfg(test)]

@@ -1,4 +1,5 @@
-//! Messages of captures: which are read back as they are written, and how they come one after the other.
+//! Messages of captures: which are read back equal from what they are written as, and in which
+//! order they come.
 
 use super::fault_texts::is_displayed;
 use super::requests::name_of;
@@ -12,13 +13,13 @@ use netlink_packet_core::{DefaultNla, NetlinkMessage};
 use std::alloc::Global;
 use std::test::Fail;
 
-/// A body with the name `lo`, as it is written.
+/// A canonical body with the name `lo`.
 const PEER: &[u8] = b"\0\0\0\0\0\0\0\0\0\0\0\0\0\0\0\0\x07\0\x03\0lo\0\0";
 
-/// The same without the NUL behind its name.
+/// The same body without the NUL after its name.
 const PEER_SHORTER: &[u8] = b"\0\0\0\0\0\0\0\0\0\0\0\0\0\0\0\0\x06\0\x03\0lo";
 
-/// An attribute of each case, made anew.
+/// Returns a new attribute of each case.
 fn attribute(alloc: Global, case: usize) -> Result<LinkAttribute, Fail> {
     match case {
         0 => Ok(LinkAttribute::IfName(name_of(alloc, 65531)?)),
@@ -49,7 +50,7 @@ fn attribute(alloc: Global, case: usize) -> Result<LinkAttribute, Fail> {
     }
 }
 
-/// Link info of a veth with this peer.
+/// Returns link info of a veth with this peer.
 fn veth(alloc: Global, peer: &[u8]) -> Result<LinkAttribute, Fail> {
     let data = InfoData::Veth(InfoVeth::Peer(Vec::from_slice(alloc, peer)?));
     let infos = vec![in alloc; LinkInfo::Kind(InfoKind::Veth), LinkInfo::Data(data)]?;
@@ -115,8 +116,8 @@ fn refusals_have_their_words(rt: HostRuntime) -> Result<(), Fail> {
     Ok(())
 }
 
-/// A request for the link `lo`, a message of type 20 with a body of one byte, and what stands behind them; and the
-/// types of the messages, with the fault.
+/// The bytes after a request for the link `lo` and a message of type 20 with a body of one byte, in
+/// hex; and the types of all messages, with the fault.
 const CAPTURES: [(&str, &str); 4] = [
     ("", "18 20 "),
     ("ffffff", "18 20 "),
@@ -130,7 +131,7 @@ const CAPTURES: [(&str, &str); 4] = [
     ),
 ];
 
-/// The type of a message, or the fault in its place.
+/// Returns the type of a message, or the fault.
 fn word_of(
     alloc: Global,
     message: Result<NetlinkMessage<RouteLink>, CaptureFault>,
@@ -144,7 +145,7 @@ fn word_of(
     }
 }
 
-/// The types of the messages of a capture, with the fault.
+/// Returns the types of the messages of a capture, with the fault.
 fn words_of(alloc: Global, capture: &[u8]) -> Result<String, Fail> {
     let mut messages = Messages::new(alloc, capture, 1000);
     let mut told = String::new(alloc);

@@ -1,4 +1,4 @@
-//! The program's words, and what it tells, in full.
+//! The program's arguments, and its complete output and error messages.
 
 ghost use Rattle.std.specs.Prelude.{None};
 
@@ -10,14 +10,15 @@ use linkcap_program::{FileSystem, answer, answer_same};
 use std::alloc::Global;
 use std::test::Fail;
 
-/// Files by their names, how often one was asked for, and how often one of another name.
+/// Files by their names; how often one was opened, and how often that failed as no file has the
+/// name.
 #[derive(Drop)]
 struct SampleFiles {
     asked: u64,
     failures: u64,
 }
 
-/// Files that nobody has asked for yet.
+/// Files of which none was opened yet.
 const FILES: SampleFiles = SampleFiles {
     asked: 0,
     failures: 0,
@@ -54,7 +55,8 @@ impl FileSystem for SampleFiles {
 
 const USAGE_LINE: &str = "usage: linkcap norm [LIMIT] or linkcap same FILE FILE [LIMIT]\n";
 
-/// Words behind the program's name, what is written of the capture and of such files, and what is told.
+/// Arguments after the program's name, the output for the capture and these files, and the error
+/// message.
 const WORDS: [(&[&str], &[u8], &str); 15] = [
     (&["norm"], &TEXT, ""),
     (&["norm", "48"], &TEXT, ""),
@@ -85,7 +87,7 @@ const WORDS: [(&[&str], &[u8], &str); 15] = [
     (&["same", "text"], b"", USAGE_LINE),
 ];
 
-/// What is written of the capture and of such files, and what is told.
+/// Returns the output for the capture and these files, and the error message.
 fn answers(alloc: Global, words: &[String]) -> (Vec<u8>, Vec<u8>) {
     let mut source = ReadSource::new(CAPTURE.as_slice());
     let mut text = Vec::new(alloc);
@@ -116,7 +118,7 @@ fn words_are_followed(rt: HostRuntime) -> Result<(), Fail> {
     Ok(())
 }
 
-/// An answer that the writer takes but in part.
+/// A result of which the writer takes only a part.
 #[test]
 fn an_answer_that_is_not_printed_is_told(rt: HostRuntime) {
     let mut writer = Taker {

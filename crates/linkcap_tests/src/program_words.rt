@@ -1,4 +1,4 @@
-//! The words and the statuses of the program.
+//! The arguments and the exit statuses of the program.
 
 use link_capture::{
     CaptureFault, Command, FaultKind, SideFault, read_words, status_norm, status_same,
@@ -6,7 +6,7 @@ use link_capture::{
 use std::alloc::Global;
 use std::test::Fail;
 
-/// Words behind the program's name, and what they ask for; None where they are wrong.
+/// Arguments after the program's name, and the command that they ask for; None for a usage error.
 const WORDS: [(&[&str], Option<Command<'static>>); 21] = [
     (&["norm"], Some(Command::Norm { limit: 1048576 })),
     (&["norm", "16"], Some(Command::Norm { limit: 16 })),
@@ -48,7 +48,7 @@ const WORDS: [(&[&str], Option<Command<'static>>); 21] = [
     (&[], None),
 ];
 
-/// The words as the program has them.
+/// Returns the arguments as the program gets them.
 pub(crate) fn strings(alloc: Global, words: &[&str]) -> Result<Vec<String>, Fail> {
     let mut strings = Vec::new(alloc);
     for word in words {

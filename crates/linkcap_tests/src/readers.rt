@@ -1,11 +1,11 @@
-//! Captures that come in pieces: what each piece adds, and what is kept of it.
+//! Captures that come in pieces: what is written for each piece, and how many bytes are kept.
 
 use super::fault_texts::shown;
 use hex::{decode, encode};
 use link_capture::CaptureReader;
 use std::test::Fail;
 
-/// A piece in hex; what its feed answers; and how many bytes are then written, and kept.
+/// A piece in hex, the result of feeding it, and how many bytes are written and kept then.
 struct Step {
     piece: &'static str,
     answer: &'static str,
@@ -13,7 +13,7 @@ struct Step {
     kept: usize,
 }
 
-/// The pieces of a capture, the text that they are written as, and what the end answers.
+/// The pieces of a capture, the text that is written for them, and the result of `finish`.
 struct Case {
     name: &'static str,
     steps: &'static [Step],

@@ -1,4 +1,5 @@
-//! Requests as bytes, written by hand from the kernel's headers, and why a request isn't written.
+//! Requests as bytes, written by hand from the kernel's headers, and the faults of requests that
+//! can't be written.
 
 use super::fault_texts::is_displayed;
 use examples::{RequestFault, new_link_request, request, vxlan_request};
@@ -7,9 +8,10 @@ use link_message::{LinkAttribute, LinkHeader, LinkMessage};
 use std::alloc::Global;
 use std::test::Fail;
 
-/// A header: length, `RTM_NEWLINK`, flags 0x605, the sequence number 1, and the kernel's port. 16 zeros. `IFLA_IFNAME`
-/// and `IFLA_MTU`, of 1450 bytes. `IFLA_LINKINFO`: `IFLA_INFO_KIND`, and `IFLA_INFO_DATA`: `IFLA_VXLAN_ID` 42,
-/// `IFLA_VXLAN_LEARNING` 0, and `IFLA_VXLAN_PORT` 4789, big-endian.
+/// A header: length, `RTM_NEWLINK`, flags 0x605, the sequence number 1, and the kernel's port. 16
+/// zeros. `IFLA_IFNAME` and `IFLA_MTU`, of 1450 bytes. `IFLA_LINKINFO`: `IFLA_INFO_KIND`, and
+/// `IFLA_INFO_DATA`: `IFLA_VXLAN_ID` 42, `IFLA_VXLAN_LEARNING` 0, and `IFLA_VXLAN_PORT` 4789,
+/// big-endian.
 const VXLAN: [u8; 96] = *b"\x60\0\0\0\x10\0\x05\x06\x01\0\0\0\0\0\0\0\
     \0\0\0\0\0\0\0\0\0\0\0\0\0\0\0\0\
     \x0b\0\x03\0vxlan7\0\0\x08\0\x04\0\xaa\x05\0\0\
@@ -25,13 +27,13 @@ const LINK: [u8; 40] = *b"\x28\0\0\0\x10\0\x05\x06\x02\0\0\0\0\0\0\0\
 const DUMP: [u8; 32] = *b"\x20\0\0\0\x12\0\x01\x03\x02\x01\0\0\0\0\0\0\
     \0\0\0\0\0\0\0\0\0\0\0\0\0\0\0\0";
 
-/// A message of a header of zeros and these attributes.
+/// Returns a message with a header of zeros and these attributes.
 fn message(attributes: Vec<LinkAttribute>) -> Result<LinkMessage, Fail> {
     let header = LinkHeader::parse(&[0; 16])?;
     Ok(LinkMessage { header, attributes })
 }
 
-/// A name of this many bytes.
+/// Returns a name of `size` bytes.
 pub(crate) fn name_of(alloc: Global, size: usize) -> Result<String, Fail> {
     match String::from_utf8(Vec::from_elem(alloc, b'a', size)?) {
         Ok(name) => Ok(name),

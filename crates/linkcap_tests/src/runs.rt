@@ -1,5 +1,6 @@
-//! Runs of `normalize` between devices. No clause says that a run succeeds where no device fails, tells a failure where one
-//! does, and then neither reads nor writes.
+//! Runs of `normalize` between devices. No contract says that a run succeeds if no device fails, or
+//! that it reports the failure of a device and then neither reads nor writes; these tests check
+//! that.
 
 use super::devices::{Giver, Plan, Taker};
 use super::fault_texts::shown;
@@ -9,22 +10,22 @@ use link_capture::{
 use std::alloc::Global;
 use std::test::Fail;
 
-/// A request for the link `lo` whose name has a flag bit and a last padding byte that isn't zero, and a DONE message
-/// without a body.
+/// A request for the link `lo` whose name has a flag bit and a last padding byte that isn't zero,
+/// and a DONE message without a body.
 pub(crate) const CAPTURE: [u8; 64] = [
     48, 0, 0, 0, 18, 0, 1, 3, 52, 14, 249, 90, 0, 0, 0, 0, 0, 0, 0, 0, 0, 0, 0, 0, 0, 0, 0, 0, 0,
     0, 0, 0, 8, 0, 29, 0, 9, 0, 0, 0, 7, 0, 3, 128, 108, 111, 0, 255, 16, 0, 0, 0, 3, 0, 2, 0, 1,
     0, 0, 0, 0, 0, 0, 0,
 ];
 
-/// Its normal text: a clean name, and a code of 0.
+/// The normal text of that capture: a clean name, and a code of 0.
 pub(crate) const TEXT: [u8; 68] = [
     48, 0, 0, 0, 18, 0, 1, 3, 52, 14, 249, 90, 0, 0, 0, 0, 0, 0, 0, 0, 0, 0, 0, 0, 0, 0, 0, 0, 0,
     0, 0, 0, 8, 0, 29, 0, 9, 0, 0, 0, 7, 0, 3, 0, 108, 111, 0, 0, 20, 0, 0, 0, 3, 0, 2, 0, 1, 0, 0,
     0, 0, 0, 0, 0, 0, 0, 0, 0,
 ];
 
-/// The same request in its normal text, and the first bytes of another.
+/// The normal text of that request, and the first bytes of another message.
 const BEGUN: [u8; 58] = [
     48, 0, 0, 0, 18, 0, 1, 3, 52, 14, 249, 90, 0, 0, 0, 0, 0, 0, 0, 0, 0, 0, 0, 0, 0, 0, 0, 0, 0,
     0, 0, 0, 8, 0, 29, 0, 9, 0, 0, 0, 7, 0, 3, 0, 108, 111, 0, 0, 48, 0, 0, 0, 18, 0, 1, 3, 52, 14,
@@ -38,7 +39,7 @@ const SHORT: [u8; 32] = [
 /// The text of that message.
 const SHORT_TEXT: [u8; 20] = [20, 0, 0, 0, 3, 0, 2, 0, 1, 0, 0, 0, 0, 0, 0, 0, 0, 0, 0, 0];
 
-/// What came of a run: its outcome, what was written, and how many bytes of the capture weren't read.
+/// A run: its result, the bytes written, and how many bytes of the capture weren't read.
 #[derive(Drop)]
 struct Run {
     outcome: Result<(), CaptureFault>,
@@ -46,7 +47,7 @@ struct Run {
     unread: usize,
 }
 
-/// A run of `normalize` under the limit 1000.
+/// Returns a run of `normalize` under the limit 1000.
 fn norm_between(alloc: Global, capture: &[u8], reads: Plan, writes: Plan) -> Run {
     let mut reader = Giver {
         rest: capture,
@@ -67,7 +68,7 @@ fn norm_between(alloc: Global, capture: &[u8], reads: Plan, writes: Plan) -> Run
     }
 }
 
-/// A run, and what is wanted of it: `ok` or the display of its fault, and the bytes written.
+/// A run and its expected result: `ok` or the display of its fault, and the bytes written.
 struct Case {
     name: &'static str,
     capture: &'static [u8],
@@ -205,7 +206,7 @@ fn devices_are_followed(rt: HostRuntime) -> Result<(), Fail> {
     Ok(())
 }
 
-/// However the bytes are cut, by reads or by writes.
+/// The sizes of reads and writes make no difference.
 #[test]
 fn pieces_make_no_difference(rt: HostRuntime) {
     let under_16 = Err(CaptureFault {
@@ -234,7 +235,8 @@ fn pieces_make_no_difference(rt: HostRuntime) {
     }
 }
 
-/// What a run answers where its source fails, or tells its end, behind so many bytes of the capture.
+/// Returns the expected result of a run whose source fails, or reports its end, after the first
+/// `read` bytes of the capture.
 fn answer_behind(read: usize, fails: bool) -> Result<(), CaptureFault> {
     let (kind, offset) = match read {
         _ if fails => (FaultKind::Read, read),
@@ -248,7 +250,7 @@ fn answer_behind(read: usize, fails: bool) -> Result<(), CaptureFault> {
     })
 }
 
-/// The texts of the frames that lie in so many bytes of the capture.
+/// Returns the texts of the whole frames in the first `read` bytes of the capture.
 fn text_of(read: usize) -> &'static [u8] {
     match read {
         0..=47 => b"",
@@ -257,7 +259,8 @@ fn text_of(read: usize) -> &'static [u8] {
     }
 }
 
-/// Whether a run of the capture ends so behind so many bytes, with the texts of the frames there.
+/// Returns whether a run over the capture has this result after the first `read` bytes, and has
+/// written the texts of the frames there.
 fn is_run_behind(
     alloc: Global,
     reads: Plan,
@@ -270,7 +273,8 @@ fn is_run_behind(
         && Some(run.unread) == CAPTURE.len().checked_sub(read)
 }
 
-/// Whether `read_all` gives so many bytes of the capture, or the fault of a source that fails there.
+/// Returns whether `read_all` returns the first `read` bytes of the capture, or the fault of a
+/// source that fails there.
 fn is_all_behind(alloc: Global, reads: Plan, read: usize, fails: bool) -> bool {
     let mut source = ReadSource::new(Giver {
         rest: &CAPTURE,
@@ -282,14 +286,14 @@ fn is_all_behind(alloc: Global, reads: Plan, read: usize, fails: bool) -> bool {
     }
 }
 
-/// The source fails or tells its end at each call in turn, and would go on after it.
+/// The source fails or reports its end at each call in turn, and would continue after it.
 #[test]
 fn a_run_ends_with_its_source(rt: HostRuntime) {
     for size in 1..10usize {
         for calls in 0..65usize {
             for fails in [true, false] {
                 let read = size.saturating_mul(calls).min(64);
-                // The call behind the last byte may be another one, which tells the end.
+                // The call after the last byte may be a later one, which reports the end.
                 let fails_there = fails && size.saturating_mul(calls.saturating_sub(1)) < 64;
                 let plan = Plan { size, calls, fails };
                 let wanted = answer_behind(read, fails_there);
@@ -306,7 +310,7 @@ fn a_run_ends_with_its_source(rt: HostRuntime) {
     }
 }
 
-/// The sink fails or takes nothing at each call in turn, and would go on after it.
+/// The sink fails or takes nothing at each call in turn, and would continue after it.
 #[test]
 fn a_run_ends_with_its_sink(rt: HostRuntime) {
     for size in 1..10usize {
@@ -332,7 +336,8 @@ fn a_run_ends_with_its_sink(rt: HostRuntime) {
     }
 }
 
-/// More bytes than a piece has, and more calls than a device might count: a megabyte byte by byte, and as much at once.
+/// More bytes than a piece has, and more calls than a device might count: a megabyte byte by byte,
+/// and all of it at once.
 #[test]
 fn large_captures_are_read_and_written(rt: HostRuntime) -> Result<(), Fail> {
     let capture = vec![in rt.alloc(); 0u8; 1_000_100]?;

@@ -1,4 +1,5 @@
-//! Values that the calls give. The wanted ones come from outside this project's code.
+//! Values that the calls of `examples` return. The expected ones come from outside this project's
+//! code.
 
 use bitflags::Flags;
 use examples::{Finding, Interfaces, NotStored, Store, hold_against, learn_all};
@@ -6,13 +7,14 @@ use link_capture::{CaptureFault, FaultKind};
 use std::collections::BTreeMap;
 use std::test::Fail;
 
-/// A request for the link `lo`, which is its own normal text.
+/// A request for the link `lo`, which is already canonical.
 const ASKED: [u8; 40] = [
     40, 0, 0, 0, 18, 0, 1, 0, 7, 0, 0, 0, 0, 0, 0, 0, 0, 0, 0, 0, 0, 0, 0, 0, 0, 0, 0, 0, 0, 0, 0,
     0, 7, 0, 3, 0, 108, 111, 0, 0,
 ];
 
-/// The same request: its second header byte isn't zero, its name has a flag bit and no NUL, and its padding is missing.
+/// The same request: its second header byte isn't zero, its name has a flag bit and no NUL, and its
+/// padding is missing.
 const ALIKE: [u8; 38] = [
     38, 0, 0, 0, 18, 0, 1, 0, 7, 0, 0, 0, 0, 0, 0, 0, 0, 255, 0, 0, 0, 0, 0, 0, 0, 0, 0, 0, 0, 0,
     0, 0, 6, 0, 3, 128, 108, 111,
@@ -103,8 +105,8 @@ fn captures_are_held_against_a_golden_file(rt: HostRuntime) -> Result<(), Fail> 
     Ok(())
 }
 
-/// The link 1 is there, `lo`, up and running; 2 is there, `eth0`, and goes again; 3 is there, `dummy`; and a message
-/// is cut.
+/// The link 1, `lo`, exists and is up and running; 2, `eth0`, exists, and is deleted later; 3,
+/// `dummy`, exists; and the last message is cut.
 const LINKS: [u8; 200] = [
     0x28, 0, 0, 0, 0x10, 0, 0, 0, 0, 0, 0, 0, 0, 0, 0, 0, 0, 0, 1, 0, 1, 0, 0, 0, 0x49, 0, 0, 0, 0,
     0, 0, 0, 7, 0, 3, 0, 0x6c, 0x6f, 0, 0, 0x34, 0, 0, 0, 0x10, 0, 0, 0, 0, 0, 0, 0, 0, 0, 0, 0, 0,

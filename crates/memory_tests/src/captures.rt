@@ -1,4 +1,4 @@
-//! Captures: want of memory is told at a frame, and whole texts alone are written.
+//! Captures: running out of memory is reported at a frame, and only whole texts are written.
 
 use super::requests::tell_fault;
 use link_capture::{
@@ -7,7 +7,8 @@ use link_capture::{
 };
 use std::test::Fail;
 
-/// A request for a link of the name `lo`, with its mask of statistics, twice. Its normal text is itself.
+/// Two requests for a link with the name `lo`, with a mask of statistics. The capture is already
+/// canonical.
 const CAPTURE: [u8; 96] = [
     48, 0, 0, 0, 18, 0, 1, 3, 52, 14, 249, 90, 0, 0, 0, 0, 0, 0, 0, 0, 0, 0, 0, 0, 0, 0, 0, 0, 0,
     0, 0, 0, 8, 0, 29, 0, 9, 0, 0, 0, 7, 0, 3, 0, 108, 111, 0, 0, 48, 0, 0, 0, 18, 0, 1, 3, 52, 14,
@@ -15,7 +16,8 @@ const CAPTURE: [u8; 96] = [
     7, 0, 3, 0, 108, 111, 0, 0,
 ];
 
-/// Whether texts are all of the capture's, or those of the frames before a fault of one of these kinds.
+/// Returns whether the texts are those of the whole capture, or those of the frames before a fault
+/// of one of these kinds.
 fn are_texts(out: &[u8], answer: Result<(), CaptureFault>, kinds: &[FaultKind]) -> bool {
     let Err(CaptureFault { kind, offset }) = answer else {
         return out == CAPTURE.as_slice();
@@ -35,7 +37,7 @@ fn a_whole_capture(rt: HostRuntime) -> Result<(), Fail> {
     Ok(())
 }
 
-/// It ends the reader for good.
+/// Running out of memory is final for the reader.
 #[test]
 fn a_capture_in_pieces(rt: HostRuntime) -> Result<(), Fail> {
     let mut reader = CaptureReader::new(rt.alloc(), 1000);
@@ -56,7 +58,7 @@ fn a_capture_in_pieces(rt: HostRuntime) -> Result<(), Fail> {
     Ok(())
 }
 
-/// Where the growth of the sink is refused, it has failed; else the texts before the fault are written.
+/// If the sink can't grow, it has failed; otherwise the texts before the fault are written.
 #[test]
 fn a_source_and_a_sink(rt: HostRuntime) -> Result<(), Fail> {
     let mut sink = VecSink::new(rt.alloc());
@@ -68,7 +70,7 @@ fn a_source_and_a_sink(rt: HostRuntime) -> Result<(), Fail> {
     Ok(())
 }
 
-/// It is told at the number of bytes read.
+/// Running out of memory is reported at the number of bytes read.
 #[test]
 fn all_of_a_source(rt: HostRuntime) -> Result<(), Fail> {
     let answer = match read_all(rt.alloc(), &mut SliceSource::new(&CAPTURE)) {

@@ -1,5 +1,6 @@
-// Calls that take memory, where a request for it may be refused. With ample memory each gives its value. Run with each
-// request refused in turn, by `tools/refused/run.py`, each answers that or want of memory, and leaves what its page says.
+// Calls that allocate, with allocations that may be refused. With enough memory each call returns
+// its value. `tools/refused/run.py` runs them with each allocation refused in turn: a call then
+// returns that value or out of memory, and leaves the state that its documentation says.
 #![tactic(auto)]
 
 #[cfg(test)]

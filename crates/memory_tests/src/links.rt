@@ -1,4 +1,5 @@
-//! Link messages and link info: want of memory is told as such, and never of an input that is refused.
+//! Link messages and link info: running out of memory is reported as such, and never for an input
+//! that is refused.
 
 use super::requests::{is_refused, tell, tell_last};
 use link_capture::{NotReadable, ReadableLink};
@@ -8,11 +9,11 @@ use netlink_packet_core::{DecodeError, Emitable, emit_all, fits_all, len_all};
 use std::alloc::Global;
 use std::test::Fail;
 
-/// A link of IPsec, with its data.
+/// Link info of the kind `xfrm` (IPsec), with its data.
 pub(crate) const XFRM: [u8; 32] = *b"\x09\0\x01\0xfrm\0\0\0\0\
     \x14\0\x02\0\x08\0\x01\0\x02\0\0\0\x08\0\x02\0\x0a\0\0\0";
 
-/// A VXLAN of the name `lo`: it learns, and has group policies. It is its own text.
+/// A VXLAN with the name `lo`, which learns and has group policies. It is already canonical.
 pub(crate) const VXLAN: [u8; 56] = *b"\0\0\0\0\0\0\0\0\0\0\0\0\0\0\0\0\
     \x07\0\x03\0lo\0\0\
     \x20\0\x12\0\x0a\0\x01\0vxlan\0\0\0\x10\0\x02\0\x05\0\x07\0\x01\0\0\0\x04\0\x17\0";
@@ -22,25 +23,25 @@ const VETH: [u8; 62] = *b"\0\0\0\0\0\0\0\0\0\0\0\0\0\0\0\0\
     \x2e\0\x12\0\x09\0\x01\0veth\0\0\0\0\x1e\0\x02\0\x1a\0\x01\0\
     \0\0\0\0\0\0\0\0\0\0\0\0\0\0\0\0\x06\0\x03\0lo";
 
-/// The same as it is written.
+/// The canonical text of that.
 const VETH_TEXT: [u8; 64] = *b"\0\0\0\0\0\0\0\0\0\0\0\0\0\0\0\0\
     \x30\0\x12\0\x09\0\x01\0veth\0\0\0\0\x20\0\x02\0\x1c\0\x01\0\
     \0\0\0\0\0\0\0\0\0\0\0\0\0\0\0\0\x07\0\x03\0lo\0\0";
 
-/// A link of IPsec, and behind its kind data with a number of one byte.
+/// Link info of the kind `xfrm`, whose data have a number of one byte after the kind.
 const REFUSED_LIST: [u8; 24] = *b"\x09\0\x01\0xfrm\0\0\0\0\
     \x0c\0\x02\0\x05\0\x01\0\x02\0\0\0";
 
-/// The name `lo`, and behind it a name that isn't UTF-8.
+/// The name `lo`, followed by a name that isn't UTF-8.
 const REFUSED_BODY: [u8; 32] = *b"\0\0\0\0\0\0\0\0\0\0\0\0\0\0\0\0\
     \x07\0\x03\0lo\0\0\x06\0\x03\0\xff\0\0\0";
 
-/// A veth whose peer has the name `lo`, and behind it ports without an entry.
+/// A veth whose peer has the name `lo`, followed by ports without an entry.
 const REFUSED_PEER: [u8; 72] = *b"\0\0\0\0\0\0\0\0\0\0\0\0\0\0\0\0\
     \x38\0\x12\0\x09\0\x01\0veth\0\0\0\0\x28\0\x02\0\x24\0\x01\0\
     \0\0\0\0\0\0\0\0\0\0\0\0\0\0\0\0\x07\0\x03\0lo\0\0\x08\0\x18\0\x04\0\x07\0";
 
-/// Whether a list is written as that of IPsec.
+/// Returns whether a list is written as `XFRM`.
 fn is_xfrm(list: &Vec<LinkInfo>) -> bool {
     let mut buffer = [0xffu8; 32];
     if !fits_all(list) || len_all(list) != buffer.len() {
@@ -50,7 +51,7 @@ fn is_xfrm(list: &Vec<LinkInfo>) -> bool {
     buffer == XFRM
 }
 
-/// Whether a message is written as this text, of 64 bytes at most.
+/// Returns whether a message is written as this text, of 64 bytes at most.
 fn is_written_as(message: &LinkMessage, text: &[u8]) -> bool {
     let mut buffer = [0xffu8; 64];
     let size = message.buffer_len();
@@ -61,7 +62,8 @@ fn is_written_as(message: &LinkMessage, text: &[u8]) -> bool {
     &buffer[..size] == text
 }
 
-/// What reading answers, where what is read is written as it should be.
+/// Returns the result of a read as a text; fails if the value that was read isn't written as
+/// expected.
 fn answer(is_written: Result<bool, DecodeError>) -> Result<&'static str, Fail> {
     match is_written {
         Ok(true) => Ok("ok"),
@@ -76,17 +78,17 @@ fn answer(is_written: Result<bool, DecodeError>) -> Result<&'static str, Fail> {
     }
 }
 
-/// Whether the list of IPsec is written as it is read.
+/// Returns whether `XFRM` is written as it is read.
 fn keeps_xfrm(alloc: Global) -> Result<bool, DecodeError> {
     Ok(is_xfrm(&LinkInfo::parse_list(alloc, &XFRM)?))
 }
 
-/// Whether a body is written as this text.
+/// Returns whether a body is written as this text.
 fn has_text(alloc: Global, bytes: &[u8], text: &[u8]) -> Result<bool, DecodeError> {
     Ok(is_written_as(&LinkMessage::parse(alloc, bytes)?, text))
 }
 
-/// Why a message isn't made readable, where it is or comes back unchanged.
+/// Returns why a message isn't made readable; fails unless it is returned unchanged.
 fn making_readable(alloc: Global, message: LinkMessage) -> Result<Option<NotReadable>, Fail> {
     let (is_unchanged, why) = match ReadableLink::new(alloc, message) {
         Ok(link) => (is_written_as(link.message(), &VXLAN), None),
@@ -101,7 +103,7 @@ fn making_readable(alloc: Global, message: LinkMessage) -> Result<Option<NotRead
 
 #[test]
 fn a_list_of_link_info(rt: HostRuntime) -> Result<(), Fail> {
-    // The first request may be refused: a listed name asks for none.
+    // The first allocation may be refused: a listed name needs none.
     assert!(rt; InfoKind::from_name(rt.alloc(), "xfrm").is_ok());
     let answer = answer(keeps_xfrm(rt.alloc()))?;
     tell(&rt, rt.alloc(), "parse_list", answer)?;
@@ -122,7 +124,7 @@ fn a_link_message_with_a_peer(rt: HostRuntime) -> Result<(), Fail> {
     Ok(())
 }
 
-/// A message that isn't taken comes back unchanged.
+/// A message that isn't readable is returned unchanged.
 #[test]
 fn a_readable_link(rt: HostRuntime) -> Result<(), Fail> {
     if let Ok(message) = LinkMessage::parse(rt.alloc(), &VXLAN) {
@@ -138,7 +140,7 @@ fn a_readable_link(rt: HostRuntime) -> Result<(), Fail> {
     Ok(())
 }
 
-/// What is refused behind an attribute that takes memory is refused where that is wanting, too.
+/// An attribute that is refused after one that allocates is refused even if that allocation fails.
 #[test]
 fn a_refused_input(rt: HostRuntime) -> Result<(), Fail> {
     assert!(rt; is_refused(LinkInfo::parse_list(rt.alloc(), &REFUSED_LIST)));

@@ -1,4 +1,4 @@
-//! Measures and comparisons: none asks for memory, so with each request refused they answer as ever.
+//! Measures and comparisons: none allocates, so they return the same with each allocation refused.
 
 use super::links::{VXLAN, XFRM};
 use super::requests::tell;
@@ -7,8 +7,8 @@ use link_info::{BytesPeer, ListMeasure, check_list, check_list_with, same_list, 
 use link_message::BodyMeasure;
 use std::test::Fail;
 
-/// Captures that are legal under a limit of 1000, each with the numbers of its frames, its attributes and the bytes of
-/// its normal text.
+/// Captures that are legal under a limit of 1000, each with its number of frames, of attributes,
+/// and of bytes of its normal text.
 const LEGAL: [(&[u8], [u64; 3]); 12] = [
     // No bytes.
     (b"", [0, 0, 0]),
@@ -49,7 +49,7 @@ const LEGAL: [(&[u8], [u64; 3]); 12] = [
         \x01\0vxlan\0\0\0\x14\0\x02\0\x05\0\x07\0\x05\0\0\0\x05\0\x17\0\xaa\0\0\0",
         [1, 5, 64],
     ),
-    // A veth whose data go on behind the first attribute.
+    // A veth whose data continue after the first attribute.
     (
         b"@\0\0\0\x10\0\0\0\0\0\0\0\0\0\0\0\0\0\0\0\0\0\0\0\0\0\0\0\0\0\0\0 \0\x12\0\x09\0\
         \x01\0veth\0\0\0\0\x0d\0\x02\0\x05\0\x02\0a\0\0\0\xff\0\0\0",
@@ -78,9 +78,9 @@ const LEGAL: [(&[u8], [u64; 3]); 12] = [
     ),
 ];
 
-/// Captures with a fault, each with its kind and place.
+/// Captures with a fault, each with its kind and offset.
 const FAULTY: [(&[u8], FaultKind, u64); 3] = [
-    // A DONE without a code, and behind it a frame that tells 8 bytes.
+    // A DONE without a code, followed by a frame whose header has the length 8.
     (
         b"\x10\0\0\0\x03\0\x02\0\x01\0\0\0\0\0\0\0\x08\0\0\0\x03\0\0\0\0\0\0\0\0\0\0\0",
         FaultKind::ShortLength,
@@ -103,15 +103,16 @@ const FAULTY: [(&[u8], FaultKind, u64); 3] = [
     ),
 ];
 
-/// What the settings stand behind: a message of 888 bytes, its link header, IFLA_AF_SPEC, and the family 10 in it.
+/// The bytes before the settings: the header of a message of 888 bytes, its link header,
+/// IFLA_AF_SPEC, and the family 10 in it.
 const FRONT: [u8; 40] =
     *b"x\x03\0\0\x10\0\0\0\0\0\0\0\0\0\0\0\0\0\0\0\0\0\0\0\0\0\0\0\0\0\0\0X\x03\x1a\0T\x03\x0a\0";
 
-/// The same of 880 bytes.
+/// The same bytes for a message of 880 bytes.
 const SHORTER_FRONT: [u8; 40] =
     *b"p\x03\0\0\x10\0\0\0\0\0\0\0\0\0\0\0\0\0\0\0\0\0\0\0\0\0\0\0\0\0\0\0P\x03\x1a\0L\x03\x0a\0";
 
-/// Settings of IPv6 that are absent, 212 of them behind these bytes.
+/// Returns these bytes, followed by 212 settings of IPv6 that are absent.
 fn absent_settings(front: &[u8; 40]) -> [u8; 888] {
     let mut bytes = [0u8; 888];
     bytes[..40].copy_from_slice(front);
@@ -127,7 +128,8 @@ fn absent_settings(front: &[u8; 40]) -> [u8; 888] {
     bytes
 }
 
-/// Whether a capture is measured and checked so under a limit, and means what it means itself.
+/// Returns whether a capture has these numbers under a limit, is legal, and means the same as
+/// itself.
 fn is_measured(capture: &[u8], limit: u32, [frames, attributes, size]: [u64; 3]) -> bool {
     let wanted = Measure {
         frames,
@@ -140,7 +142,7 @@ fn is_measured(capture: &[u8], limit: u32, [frames, attributes, size]: [u64; 3])
         && same(capture, capture, limit) == Ok(true)
 }
 
-/// Captures are counted, or refused at their first fault.
+/// Captures are counted, or refused with their first fault.
 #[test]
 fn captures_are_measured(rt: HostRuntime) -> Result<(), Fail> {
     for (capture, numbers) in LEGAL {
@@ -173,7 +175,8 @@ fn a_body_is_measured(rt: HostRuntime) -> Result<(), Fail> {
     Ok(())
 }
 
-/// Lists of link info are counted, the longest name too, whose text is longer than a length can tell.
+/// Lists of link info are counted, including the longest name, whose text is longer than a length
+/// field can hold.
 #[test]
 fn lists_are_measured(rt: HostRuntime) -> Result<(), Fail> {
     let mut name = [0x61u8; 65535];

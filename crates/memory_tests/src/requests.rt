@@ -1,12 +1,12 @@
-//! What the runs are counted by.
+//! Reports the results of calls, and of an allocation after each.
 
 use link_capture::CaptureFault;
 use netlink_packet_core::DecodeError;
 use std::alloc::Global;
 use std::io;
 
-/// Asks for one byte, and tells the answer. That this request is refused tells that the call before it was granted all
-/// of its own.
+/// Allocates one byte, and prints the result. `tools/refused/run.py` refuses one allocation of a
+/// run: if it is this one, all allocations of the call before were granted.
 pub(crate) fn tell_last(rt: &impl Print, alloc: Global) -> io::Result<()> {
     match Vec::from_elem(alloc, 0u8, 1) {
         Ok(_) => println!(rt; "last request: granted"),
@@ -14,13 +14,13 @@ pub(crate) fn tell_last(rt: &impl Print, alloc: Global) -> io::Result<()> {
     }
 }
 
-/// Tells what a call answered, and behind it the last request.
+/// Prints the result of a call, followed by that of the last allocation.
 pub(crate) fn tell(rt: &impl Print, alloc: Global, call: &str, answer: &str) -> io::Result<()> {
     println!(rt; "{call}: {answer}")?;
     tell_last(rt, alloc)
 }
 
-/// The same of a call that goes over a capture.
+/// Prints the result of a call that reads a capture, followed by that of the last allocation.
 pub(crate) fn tell_fault(
     rt: &impl Print,
     alloc: Global,
@@ -34,7 +34,7 @@ pub(crate) fn tell_fault(
     tell_last(rt, alloc)
 }
 
-/// Whether something is refused, and not for want of memory.
+/// Returns whether an input is refused, for another reason than out of memory.
 pub(crate) fn is_refused<V: Drop>(read: Result<V, DecodeError>) -> bool {
     match read {
         Ok(_) => false,

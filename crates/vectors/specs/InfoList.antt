@@ -1,9 +1,9 @@
--- How a link info list is answered.
+-- The expected result for a link info list.
 use Rattle.std.specs.Prelude.{ℕ, List, codes, cond}
 use Rattle.hex.specs.Hex.{encode_lower}
 use Rattle.link_info.specs.InfoGrammar.{info_rule}
 
--- its canonical text in hex, where it is legal and fits
+-- The result for a list: its canonical text in hex, `unfit` if an attribute of that is too long, or `refused`.
 abbrev pub answer : List ℕ → List ℕ
 answer list =
     cond (info_rule.accepted list)

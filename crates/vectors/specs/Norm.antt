@@ -1,4 +1,4 @@
--- How a capture is answered by its texts.
+-- The expected result for a capture by its texts.
 use Rattle.std.specs.Prelude.{ℕ, List, ◌++◌, codes, length, Option, None, Some}
 use Rattle.std.specs.Fmt.{decimal}
 use Rattle.hex.specs.Hex.{encode_lower}
@@ -7,15 +7,16 @@ use Rattle.link_capture_grammar.specs.Captures.{first_fault, texts}
 use Rattle.link_capture_grammar.specs.Faults.{fault_text}
 use Rattle.link_capture_grammar.specs.Numbers.{attributes, frames}
 
--- the words behind the texts
+-- The text after the texts of a capture: its numbers, or its first fault.
 abbrev pub outcome_text : ℕ → List ℕ → Option CaptureFault → List ℕ
 outcome_text limit capture None = decimal (frames limit capture) ++ (codes " " ++ (decimal (attributes limit capture) ++ (codes " " ++ decimal (length (texts limit capture)))))
 outcome_text limit capture (Some fault) = fault_text fault
 
--- the numbers of a legal capture, or the first fault
+-- The numbers of a legal capture, or the first fault.
 abbrev pub measure_text : ℕ → List ℕ → List ℕ
 measure_text limit capture = outcome_text limit capture (first_fault limit capture)
 
--- the texts of the frames before the first fault in hex, a space, and what is measured
+-- The result for a capture: the texts of the frames before the first fault in hex, a space, and the numbers or the
+-- fault.
 abbrev pub answer : ℕ → List ℕ → List ℕ
 answer limit capture = encode_lower (texts limit capture) ++ (codes " " ++ measure_text limit capture)

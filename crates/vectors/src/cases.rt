@@ -5,7 +5,7 @@ ghost use Rattle.std.specs.Prelude.{◌≤◌, IfSome};
 use hex::decode;
 use std::alloc::Global;
 
-/// A capture, and the greatest length in bytes that a message in it may have.
+/// A capture, and the greatest length in bytes of a message in it.
 #[derive(Drop)]
 pub struct Case {
     pub limit: u32,
@@ -18,7 +18,8 @@ pub const LEAST_LIMIT: u32 = 16;
 /// The sizes in bytes of the pieces that a capture is read in.
 pub const PIECES: [usize; 3] = [1, 7, 100];
 
-/// Reads a limit in decimal, from the least one to 4294967295. None where it is anything else.
+/// Returns the limit that a word writes in decimal, from `least` to 4294967295. Returns None for
+/// any other word.
 pub fn read_limit(word: &str, least: u32) -> Option<u32>
     ensures { IfSome result (λ limit. least ≤ limit) }
 {
@@ -29,8 +30,8 @@ pub fn read_limit(word: &str, least: u32) -> Option<u32>
     Some(limit)
 }
 
-/// Reads a limit in decimal, from the least one to 4294967295, and a capture in hex. None where one is anything else, or
-/// memory runs out.
+/// Returns the case of a limit in decimal, from `least` to 4294967295, and a capture in hex.
+/// Returns None if one of them is anything else, or if an allocation fails.
 pub fn read_words(alloc: Global, limit: &str, capture: &str, least: u32) -> Option<Case>
     ensures { IfSome result (λ case. least ≤ case.limit) }
 {
@@ -39,7 +40,7 @@ pub fn read_words(alloc: Global, limit: &str, capture: &str, least: u32) -> Opti
     Some(Case { limit, capture })
 }
 
-/// The same of words with a space between.
+/// Returns the case of a limit and a capture with a space between.
 pub fn read_case(alloc: Global, words: &str, least: u32) -> Option<Case>
     ensures { IfSome result (λ case. least ≤ case.limit) }
 {

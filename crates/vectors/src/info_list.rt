@@ -9,8 +9,8 @@ use netlink_packet_core::{emit_all, fits_all, len_all};
 use std::alloc::{AllocError, Global};
 use std::io::{self, ErrorKind, Write};
 
-/// The canonical text of a list in hex, `unfit` where an attribute of it would be longer than 65535 bytes, `refused`
-/// where there is none.
+/// Returns the canonical text of a list in hex, `unfit` if an attribute of it would be longer than
+/// 65535 bytes, or `refused` if there is none.
 fn answer_list(alloc: Global, bytes: &[u8]) -> Result<String, AllocError>
     ensures { IfOk result (λ line. string_bytes line ≡ answer bytes.now) }
 {
@@ -28,7 +28,11 @@ fn answer_list(alloc: Global, bytes: &[u8]) -> Result<String, AllocError>
     encode(alloc, text.as_slice())
 }
 
-/// Answers a case: a list in hex.
+/// Writes the result of a case: a list in hex.
+///
+/// # Errors
+///
+/// `InvalidInput` if `words` isn't a case; otherwise an allocation or a write failed.
 pub fn write_answer<W: Write>(alloc: Global, words: &str, out: &mut W) -> io::Result<()> {
     let list = decode(alloc, words).map_err(|_| ErrorKind::InvalidInput)?;
     let answer = answer_list(alloc, list.as_slice())?;

@@ -1,5 +1,6 @@
-// vectors: computes the results of cases on standard input, one a line after the word of its kind, in groups that each
-// follow a line with their label. A case with another result by another call, or in pieces, ends the program.
+// vectors: computes the results of cases on standard input, one case a line after the name of its
+// kind, in groups that each follow a line with their label. If another call, or the same call in
+// pieces, has another result, the program ends with an error.
 #![tactic(auto)]
 
 mod cases;
@@ -13,7 +14,7 @@ mod spelling;
 use std::alloc::Global;
 use std::io::{self, BufRead, BufReader, BufWriter, ErrorKind, Write};
 
-/// Answers a line: the word of a kind, a space, and a case of that kind.
+/// Writes the result of a line: the name of a kind, a space, and a case of that kind.
 fn answer_line<W: Write>(alloc: Global, line: &str, out: &mut W) -> io::Result<()> {
     let (kind, words) = line.split_once(' ').ok_or(ErrorKind::InvalidInput)?;
     match kind {
@@ -27,7 +28,7 @@ fn answer_line<W: Write>(alloc: Global, line: &str, out: &mut W) -> io::Result<(
     }
 }
 
-/// What makes a case fail.
+/// Returns the reason why a case fails.
 fn reason(error: &io::Error) -> &'static str {
     match error.kind() {
         ErrorKind::InvalidInput => "not a case",

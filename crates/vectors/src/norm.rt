@@ -1,5 +1,5 @@
-// The normal texts of a capture, and its numbers or its first fault. Each is read in pieces and between devices too, and
-// checked, and has to be answered alike.
+// The normal texts of a capture, and its numbers or its first fault. Each capture is also read in
+// pieces and between devices, and checked, with the same result.
 
 ghost use Rattle.std.specs.Prelude.{◌≡◌, ◌<◌, ◌≤◌, IfOk, string_bytes};
 ghost use Rattle.link_capture_grammar.specs.Captures.{texts};
@@ -15,8 +15,8 @@ use link_capture_reader::{
 use std::alloc::{AllocError, Global};
 use std::io::{self, ErrorKind, Read, Write};
 
-/// The numbers of a capture, with spaces between: frames, attributes, and the bytes of its normal text. Else its first
-/// fault.
+/// Returns the numbers of a capture, with spaces between: frames, attributes, and the bytes of its
+/// normal text; or its first fault.
 fn measure_case(alloc: Global, case: &Case) -> Result<String, AllocError>
     ensures { IfOk result
         (λ line. string_bytes line ≡ measure_text case.now.limit case.now.capture.items) }
@@ -34,7 +34,7 @@ fn measure_case(alloc: Global, case: &Case) -> Result<String, AllocError>
     }
 }
 
-/// The texts of a capture, up to its first fault.
+/// Returns the texts of a capture, up to its first fault.
 fn texts_of(alloc: Global, case: &Case) -> Result<Vec<u8>, AllocError>
     requires { 16 ≤ case.now.limit }
     ensures { IfOk result (λ text. text.items ≡ texts case.now.limit case.now.capture.items) }
@@ -47,7 +47,7 @@ fn texts_of(alloc: Global, case: &Case) -> Result<Vec<u8>, AllocError>
     Ok(text)
 }
 
-/// The texts of a capture in hex, a space, and its numbers or its first fault.
+/// Returns the texts of a capture in hex, a space, and its numbers or its first fault.
 fn answer_case(alloc: Global, case: &Case) -> Result<String, AllocError>
     requires { 16 ≤ case.now.limit }
     ensures { IfOk result
@@ -58,7 +58,7 @@ fn answer_case(alloc: Global, case: &Case) -> Result<String, AllocError>
     format!(in alloc; "{text} {numbers}")
 }
 
-/// Reads a capture in pieces of this size. Its texts go to `out`.
+/// Reads a capture in pieces of this size, and appends its texts to `out`.
 fn read_pieces(
     alloc: Global,
     case: &Case,
@@ -75,7 +75,7 @@ fn read_pieces(
     reader.finish()
 }
 
-/// Gives bytes, so many a call.
+/// A reader that reads at most a number of bytes at each call.
 #[derive(Drop)]
 struct Giver<'a> {
     rest: &'a [u8],
@@ -91,7 +91,7 @@ impl Read for Giver<'_> {
     }
 }
 
-/// Whether a source's text comes to a sink as this, with this outcome.
+/// Returns whether normalising a source writes this text to a sink and has this result.
 fn flows<S: Source>(
     alloc: Global,
     source: &mut S,
@@ -105,8 +105,8 @@ fn flows<S: Source>(
     normalize(alloc, source, &mut sink, limit) == outcome && sink.bytes() == text
 }
 
-/// Whether a capture is normalised from a slice, and from readers of few bytes a call, as it is in one; and whether all
-/// of it is read.
+/// Returns whether a capture is normalised from a slice, and from readers of few bytes at each
+/// call, with the result of the whole, and whether all of it is read.
 fn agrees_between_devices(
     alloc: Global,
     case: &Case,
@@ -144,7 +144,8 @@ fn agrees_between_devices(
     true
 }
 
-/// Whether a capture is answered in pieces, between devices, and when it is checked, as it is in one.
+/// Returns whether a capture has the same result in pieces, between devices, and when it is
+/// checked.
 fn agrees(alloc: Global, case: &Case) -> bool
     requires { 16 ≤ case.now.limit }
 {
@@ -170,7 +171,13 @@ fn agrees(alloc: Global, case: &Case) -> bool
     agrees_between_devices(alloc, case, text.as_slice(), whole)
 }
 
-/// Answers a case: a limit from 16 to 4294967295 in decimal, a space, and a capture in hex.
+/// Writes the result of a case: a limit from 16 to 4294967295 in decimal, a space, and a capture in
+/// hex.
+///
+/// # Errors
+///
+/// `InvalidInput` if `words` isn't a case; `InvalidData` if another call has another result;
+/// otherwise an allocation or a write failed.
 pub fn write_answer<W: Write>(alloc: Global, words: &str, out: &mut W) -> io::Result<()> {
     let case = read_case(alloc, words, LEAST_LIMIT).ok_or(ErrorKind::InvalidInput)?;
     if !agrees(alloc, &case) {

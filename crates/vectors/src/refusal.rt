@@ -1,11 +1,15 @@
-// What of the first refused body is refused, and where; or `nothing`.
+// Why the first refused body is refused, with the offset; or `nothing`.
 
 use crate::cases::read_case;
 use link_capture_refusals::why;
 use std::alloc::Global;
 use std::io::{self, ErrorKind, Write};
 
-/// Answers a case: a limit in decimal, a space, and a capture in hex.
+/// Writes the result of a case: a limit in decimal, a space, and a capture in hex.
+///
+/// # Errors
+///
+/// `InvalidInput` if `words` isn't a case; otherwise a write failed.
 pub fn write_answer<W: Write>(alloc: Global, words: &str, out: &mut W) -> io::Result<()> {
     let case = read_case(alloc, words, 0).ok_or(ErrorKind::InvalidInput)?;
     match why(case.capture.as_slice(), case.limit) {

@@ -1,5 +1,6 @@
-// Whether two captures mean the same: `same`, `different`, or the first fault and whose it is. Each pair is judged the
-// other way round too, and each legal capture with itself and its normal text.
+// Whether two captures mean the same: `same`, `different`, or the first fault and which capture has
+// it. Each pair is also compared in the other order, and each legal capture with itself and with
+// its normal text.
 
 ghost use Rattle.std.specs.Prelude.{◌≤◌, IfSome};
 
@@ -10,7 +11,7 @@ use link_capture_reader::normalize_bytes;
 use std::alloc::{AllocError, Global};
 use std::io::{self, ErrorKind, Write};
 
-/// Two captures, and the greatest length in bytes that a message in them may have.
+/// Two captures, and the greatest length in bytes of a message in them.
 #[derive(Drop)]
 struct Pair {
     limit: u32,
@@ -18,8 +19,8 @@ struct Pair {
     second: Vec<u8>,
 }
 
-/// Reads a limit from 16 to 4294967295 in decimal, and two captures in hex, with spaces between. None where it is
-/// anything else, or memory runs out.
+/// Returns the case of a limit from 16 to 4294967295 in decimal, and two captures in hex, with
+/// spaces between. Returns None if `words` is anything else, or if an allocation fails.
 fn read_pair(alloc: Global, words: &str) -> Option<Pair>
     ensures { IfSome result (λ pair. 16 ≤ pair.limit) }
 {
@@ -35,7 +36,8 @@ fn read_pair(alloc: Global, words: &str) -> Option<Pair>
     })
 }
 
-/// Whether the answer is the same the other way round. A fault then is the other capture's, where both have one.
+/// Returns whether the captures in the other order have the same result; if both have a fault, that
+/// of the other capture.
 fn agrees_turned(pair: &Pair, answer: Result<bool, SideFault>) -> bool {
     match same(pair.second.as_slice(), pair.first.as_slice(), pair.limit) {
         Ok(is_same) => answer == Ok(is_same),
@@ -43,7 +45,7 @@ fn agrees_turned(pair: &Pair, answer: Result<bool, SideFault>) -> bool {
     }
 }
 
-/// Whether a legal capture means what it means itself, and what its normal text means.
+/// Returns whether a legal capture means the same as itself and as its normal text.
 fn agrees_with_its_text(alloc: Global, capture: &[u8], limit: u32) -> bool
     requires { 16 ≤ limit }
 {
@@ -62,7 +64,12 @@ fn answer_pair(alloc: Global, answer: Result<bool, SideFault>) -> Result<String,
     }
 }
 
-/// Answers a case: a limit in decimal, and two captures in hex, with spaces between.
+/// Writes the result of a case: a limit in decimal, and two captures in hex, with spaces between.
+///
+/// # Errors
+///
+/// `InvalidInput` if `words` isn't a case; `InvalidData` if another comparison has another result;
+/// otherwise an allocation or a write failed.
 pub fn write_answer<W: Write>(alloc: Global, words: &str, out: &mut W) -> io::Result<()> {
     let pair = read_pair(alloc, words).ok_or(ErrorKind::InvalidInput)?;
     let answer = same(pair.first.as_slice(), pair.second.as_slice(), pair.limit);

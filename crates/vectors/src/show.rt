@@ -1,5 +1,5 @@
-// The lines of a capture, and whether it is legal. Each is read from a source and in pieces too, and has to be answered
-// alike.
+// The lines of a capture, and whether it is legal. Each capture is also read from a source and in
+// pieces, with the same result.
 
 ghost use Rattle.std.specs.Prelude.{◌≡◌, ◌<◌, ◌≤◌, ◌++◌, IfOk, IfSome, OnOk};
 ghost use Rattle.link_lines.specs.Options.{choice_of};
@@ -13,7 +13,7 @@ use link_lines::{
 use std::alloc::{AllocError, Global};
 use std::io::{self, ErrorKind, Write};
 
-/// A case, and what is to be shown of it.
+/// A case, with what is to be shown.
 #[derive(Drop)]
 struct Shown {
     case: Case,
@@ -22,7 +22,7 @@ struct Shown {
 }
 
 impl Shown {
-    /// What is to be shown.
+    /// Returns the options of what is to be shown.
     fn options(&self) -> LineOptions<'_>
         ensures { choice_of result ≡ chosen self.now }
     {
@@ -33,7 +33,7 @@ impl Shown {
     }
 }
 
-/// Reads types of messages in decimal, with commas between.
+/// Returns types of messages in decimal, with commas between.
 fn read_types(alloc: Global, words: &str) -> Option<Vec<u16>> {
     let mut types = Vec::new(alloc);
     for word in words.split(',') {
@@ -42,8 +42,9 @@ fn read_types(alloc: Global, words: &str) -> Option<Vec<u16>> {
     Some(types)
 }
 
-/// Reads a limit from 16 to 4294967295 in decimal, and a capture in hex, with a space between; or two, and there
-/// `without-numbers`, or the types of the messages to be shown. None where it is anything else, or memory runs out.
+/// Returns the case of a limit from 16 to 4294967295 in decimal, and a capture in hex, with a space
+/// between; or with `without-numbers`, or the types of the messages to be shown, between them.
+/// Returns None if `words` is anything else, or if an allocation fails.
 fn read_shown(alloc: Global, words: &str) -> Option<Shown>
     ensures { IfSome result (λ shown. 16 ≤ shown.case.limit) }
 {
@@ -63,7 +64,7 @@ fn read_shown(alloc: Global, words: &str) -> Option<Shown>
     })
 }
 
-/// Appends the last line of an answer: `legal`, or the first fault.
+/// Appends the last line of a result: `legal`, or the first fault.
 fn push_outcome(outcome: Result<(), CaptureFault>, out: &mut Vec<u8>) -> Result<(), AllocError>
     ensures { OnOk result (out.new.items ≡ out.old.items ++ outcome_line outcome) }
 {
@@ -76,7 +77,7 @@ fn push_outcome(outcome: Result<(), CaptureFault>, out: &mut Vec<u8>) -> Result<
     }
 }
 
-/// The lines of a capture, and behind them `legal` or its first fault.
+/// Returns the lines of a capture, followed by `legal` or its first fault.
 fn answer_case(alloc: Global, shown: &Shown) -> Result<Vec<u8>, AllocError>
     requires { 16 ≤ shown.now.case.limit }
     ensures { IfOk result
@@ -97,7 +98,7 @@ fn answer_case(alloc: Global, shown: &Shown) -> Result<Vec<u8>, AllocError>
     Ok(lines)
 }
 
-/// Reads a capture in pieces of this size. The lines of each go to `out`.
+/// Reads a capture in pieces of this size, and appends the lines of each to `out`.
 fn read_pieces(
     alloc: Global,
     shown: &Shown,
@@ -120,7 +121,7 @@ fn read_pieces(
     Ok(reader.finish())
 }
 
-/// Whether a capture is answered in pieces, and from a source, as it is in one.
+/// Returns whether a capture has the same result in pieces and from a source.
 fn agrees(alloc: Global, shown: &Shown) -> Result<bool, AllocError>
     requires { 16 ≤ shown.now.case.limit }
 {
@@ -155,7 +156,13 @@ fn agrees(alloc: Global, shown: &Shown) -> Result<bool, AllocError>
     Ok(true)
 }
 
-/// Answers a case: a limit from 16 to 4294967295 in decimal, what is to be shown where it isn't all, and a capture in hex.
+/// Writes the result of a case: a limit from 16 to 4294967295 in decimal, what is to be shown if it
+/// isn't everything, and a capture in hex.
+///
+/// # Errors
+///
+/// `InvalidInput` if `words` isn't a case; `InvalidData` if another call has another result;
+/// otherwise an allocation or a write failed.
 pub fn write_answer<W: Write>(alloc: Global, words: &str, out: &mut W) -> io::Result<()> {
     let shown = read_shown(alloc, words).ok_or(ErrorKind::InvalidInput)?;
     if !agrees(alloc, &shown)? {

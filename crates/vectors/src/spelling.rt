@@ -1,11 +1,11 @@
-// What kernels tell apart in a capture and normal texts don't, each with its place; and then `legal` or the first fault.
+// The encoding quirks of a capture, each with its offset; and then `legal` or the first fault.
 
 use crate::cases::{Case, read_case};
 use link_capture_spellings::spelling;
 use std::alloc::Global;
 use std::io::{self, ErrorKind, Write};
 
-/// Writes what a capture has, in a line.
+/// Writes the quirks of a capture in a line.
 fn write_case<W: Write>(out: &mut W, case: &Case) -> io::Result<()> {
     for found in spelling(case.capture.as_slice(), case.limit) {
         match found {
@@ -16,7 +16,11 @@ fn write_case<W: Write>(out: &mut W, case: &Case) -> io::Result<()> {
     writeln!(out, "legal")
 }
 
-/// Answers a case: a limit in decimal, a space, and a capture in hex.
+/// Writes the result of a case: a limit in decimal, a space, and a capture in hex.
+///
+/// # Errors
+///
+/// `InvalidInput` if `words` isn't a case; otherwise a write failed.
 pub fn write_answer<W: Write>(alloc: Global, words: &str, out: &mut W) -> io::Result<()> {
     let case = read_case(alloc, words, 0).ok_or(ErrorKind::InvalidInput)?;
     write_case(out, &case)

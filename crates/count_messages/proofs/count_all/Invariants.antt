@@ -1,4 +1,4 @@
--- the reader stands for what was read
+-- the reader is consistent with what was read
 use Rattle.std.proofs.Common.{◌-◌, ◌^◌, ℕ, List}
 use Rattle.link_capture.specs.Readers.{StandsFor}
 use Rattle.count_messages.proofs.count_all.Given as goal

@@ -1,4 +1,4 @@
--- a message more, or none
+-- one more message, or none
 use Rattle.std.proofs.Common.{◌≡◌, ◌+◌, Some, drop, refl, sym, ap, subst, ◌∙◌, rules}
 use Rattle.netlink_packet_core.specs.Attributes.{nla_align}
 use Rattle.link_capture.specs.Messages.{IsNext}

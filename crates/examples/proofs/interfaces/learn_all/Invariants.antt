@@ -1,4 +1,4 @@
--- what is before the place is learned
+-- the messages before the offset are learned
 use Rattle.std.proofs.Common.{◌≡◌, ◌-◌, length}
 use Rattle.examples.proofs.Learning.{LearnedTo}
 use Rattle.examples.proofs.interfaces.learn_all.Given as goal

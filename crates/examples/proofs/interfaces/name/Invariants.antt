@@ -1,4 +1,4 @@
--- what was passed tells no name
+-- no attribute so far is a name
 use Rattle.std.proofs.Common.{◌≡◌, drop}
 use Rattle.examples.specs.Interfaces.{name_told}
 use Rattle.examples.proofs.interfaces.name.Given as goal

@@ -1,4 +1,4 @@
--- A first fault is no want of memory.
+-- A first fault isn't out of memory.
 use Rattle.std.proofs.Common.{subst}
 use Rattle.std.proofs.lemmas.Result.{err_from_is_err_and}
 use Rattle.link_capture.specs.Captures.{IsOfFrames}

@@ -1,4 +1,4 @@
--- one frame further, or the fault of the one in front
+-- one frame further, or the fault of the first frame
 use Rattle.std.proofs.Common.{◌≡◌, ℕ, ◌+◌, ◌-◌, ◌≤◌, ◌++◌, List, length, drop, Some, Ok, sym, ap, subst, ◌∙◌, arith, length-append, length-drop}
 use Rattle.std.proofs.lemmas.List.{drop-drop, take_rest}
 use Rattle.netlink_packet_core_grammar.specs.Attributes.{nla_align}

@@ -1,4 +1,4 @@
--- what is left of the capture has the rest of its numbers and the first fault
+-- the rest of the capture has the rest of the numbers, and the first fault
 use Rattle.std.proofs.Common.{◌≡◌, ◌+◌, ◌-◌, ◌≤◌, length, drop}
 use Rattle.link_capture_grammar.specs.Captures.{first_fault, raised, texts}
 use Rattle.link_capture_grammar.specs.Numbers.{attributes, frames}

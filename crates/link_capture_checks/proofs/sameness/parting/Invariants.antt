@@ -1,4 +1,4 @@
--- What is left of both captures means the same exactly where the captures do, and the first fault is what is left's.
+-- The rests of both captures mean the same if and only if the captures do, and the first fault is that of the rest.
 use Rattle.std.proofs.Common.{length}
 use Rattle.link_capture_checks.specs.Partings.{IsAlike}
 use Rattle.link_capture_checks.proofs.sameness.parting.Given as goal

@@ -20,7 +20,7 @@ returns-in-Ok-clause-message c =
       text = law ∙ ap (unpadded_text bytes) (body_written (frame_type bytes) (frame_body bytes) t.body t.judged);
     }
 
--- what has a text is read, so a refusal is want of memory
+-- a body that has a text is read, so an error means that an allocation failed
 pub returns-in-Err-clause-kept : goal.returns-in-Err-clause-kept
 returns-in-Err-clause-kept c =
     let t = c.in_ok-frame.ensures.ok in

@@ -2,7 +2,7 @@ use Rattle.std.proofs.Common.{◌≡◌, ◌≤◌, ◌-◌, ◌++◌, take, dro
 use Rattle.link_capture_numbers.specs.Cleared.{numbers_cleared}
 use Rattle.link_capture_numbers.proofs.clearing.clear_numbers.Given as goal
 
--- what stands before the place is done, and what stands behind it isn't begun
+-- the bytes before the offset are cleared, and those after it are unchanged
 abbrev pub invariant-frames : goal.invariant-frames
 invariant-frames l = record {
   inside : l.at ≤ length l.text;

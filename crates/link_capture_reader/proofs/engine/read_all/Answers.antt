@@ -1,4 +1,4 @@
--- what is said without the first bytes
+-- the contract without the first bytes
 use Rattle.link_capture_reader.proofs.engine.read_all.Goals as goal
 
 pub returns : goal.returns

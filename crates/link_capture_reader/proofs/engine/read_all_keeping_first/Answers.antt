@@ -1,4 +1,4 @@
--- the piece for which there was no memory was read
+-- the piece for which an allocation failed was read
 use Rattle.std.proofs.Common.{◌≡◌, ◌∙◌, ◌++◌, length, take, arith, length-append}
 use Rattle.std.proofs.lemmas.List.{length-take}
 use Rattle.std.proofs.lemmas.Grind.{common_steps}

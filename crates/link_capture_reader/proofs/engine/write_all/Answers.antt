@@ -1,4 +1,4 @@
--- some bytes more
+-- more bytes are written
 use Rattle.std.proofs.Common.{◌≡◌, ◌∙◌, ◌<◌, ◌&&◌, ℕ, eqb, false, Bool, length, ap, arith}
 use Rattle.std.proofs.lemmas.List.{take_rest, length-drop}
 use Rattle.std.proofs.lemmas.Bool.{ne_eqb}
@@ -6,7 +6,7 @@ use Rattle.link_capture_reader.specs.Devices.{counted}
 use Rattle.link_capture_reader.proofs.Known.{Appends-slice}
 use Rattle.link_capture_reader.proofs.engine.write_all.Goals as goal
 
--- a sink that took some has not failed
+-- a sink that took some bytes has not failed
 took : (n : ℕ) (b : Bool) (m : ℕ) → 0 < n → counted (eqb n 0 && b) m ≡ m
 took n b m h = let e : eqb n 0 ≡ false = ne_eqb n 0 (λ z. omega arith) in ap (λ x. counted (x && b) m) e
 

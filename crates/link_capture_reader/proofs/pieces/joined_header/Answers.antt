@@ -1,4 +1,4 @@
--- the front of the place, and then the rest of it
+-- the first part of the header, and then the rest of it
 use Rattle.std.proofs.Common.{[], ◌∷◌, arith}
 use Rattle.link_capture_reader.proofs.CutFrames.{filled}
 use Rattle.link_capture_reader.proofs.pieces.joined_header.Goals as goal

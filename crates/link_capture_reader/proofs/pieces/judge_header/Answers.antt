@@ -1,4 +1,4 @@
--- the header in front of what was kept and what came
+-- the header at the start of the kept bytes followed by the piece
 use Rattle.std.proofs.Common.{◌++◌, Err, sym, ap, ◌∙◌, arith, length-append}
 use Rattle.netlink_packet_core_grammar.specs.Frames.{frame_length}
 use Rattle.link_capture_grammar.specs.Captures.{first_frame}

@@ -1,4 +1,4 @@
--- no memory for the cut frame's bytes: what stands before it is written
+-- no memory for the bytes of the cut frame: the texts of the frames before it are written
 use Rattle.std.proofs.Common.{◌≢◌, ◌++◌, Err, drop, refl, sym, ap, ◌∙◌}
 use Rattle.link_capture_grammar.specs.declared.fault.FaultKind.TheVariants.{Memory}
 use Rattle.link_capture_reader.proofs.Passing.{before_fault, cut_header}

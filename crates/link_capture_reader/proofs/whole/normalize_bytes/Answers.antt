@@ -1,4 +1,4 @@
--- what laws say of the texts
+-- what the laws of the grammar say about the texts
 use Rattle.link_capture_reader.proofs.whole.normalize_bytes.Goals as goal
 
 pub returns-clause-normal : goal.returns-clause-normal

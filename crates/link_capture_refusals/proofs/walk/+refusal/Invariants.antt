@@ -3,7 +3,7 @@ use Rattle.link_capture_refusals.specs.RefusalTables.{listing}
 use Rattle.link_capture_refusals.specs.Refusals.{list_refusal}
 use Rattle.link_capture_refusals.proofs.walk.+refusal.Given as goal
 
--- what is given to an attribute is shorter than its list
+-- the payload of an attribute is shorter than its list
 abbrev pub decreases-attribute_refusal : goal.decreases-attribute_refusal
 decreases-attribute_refusal l = 6 * length l.attribute.payload.now + 5
 

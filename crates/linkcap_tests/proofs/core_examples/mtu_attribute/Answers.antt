@@ -1,4 +1,4 @@
--- an attribute of four bytes takes eight
+-- an attribute with a payload of four bytes has eight bytes
 use Rattle.std.proofs.Common.{refl, ◌∙◌, arith}
 use Rattle.netlink_packet_core.specs.Numbers.{le4}
 use Rattle.netlink_packet_core.specs.Attributes.{attribute_text}

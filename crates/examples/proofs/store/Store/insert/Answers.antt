@@ -1,4 +1,4 @@
--- A capture with another normal text has what it had.
+-- For a capture with another normal text the store has the value that it had.
 use Rattle.std.proofs.Common.{◌∙◌}
 use Rattle.examples.proofs.TextKeys.{other_text_stays}
 use Rattle.examples.proofs.store.Store.insert.Goals as goal

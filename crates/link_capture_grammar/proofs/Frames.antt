@@ -410,8 +410,8 @@ module _ (r : Rule) where
       ∙ ap (λ x. raised n (first_fault_under r limit x)) (drop_all n (take n c) (omega (arith, length-take n c)))
       ∙ ap (raised n) (fault_nil limit 0)
 
-  pub one_text : (limit : ℕ) (c : List ℕ) (frame : ℕ × List ℕ) → first_frame_under r limit c ≡ Ok frame → texts_under r limit (take (nla_align frame.0) c) ≡ frame.1
-  one_text limit c frame h =
+  pub one_frame_text : (limit : ℕ) (c : List ℕ) (frame : ℕ × List ℕ) → first_frame_under r limit c ≡ Ok frame → texts_under r limit (take (nla_align frame.0) c) ≡ frame.1
+  one_frame_text limit c frame h =
       let n : ℕ = nla_align frame.0 in
       texts_step limit (take n c) frame (first_frame-take limit c n frame h (omega arith))
       ∙ ap (λ x. frame.1 ++ texts_under r limit x) (drop_all n (take n c) (omega (arith, length-take n c)))

@@ -5,7 +5,7 @@ use Rattle.attribute_tables_grammar.proofs.Attributes.{renews_itself}
 use Rattle.link_capture_grammar.specs.declared.fault.CaptureFault.{CaptureFault}
 use Rattle.link_capture_grammar.specs.Captures.{raised, first_frame_under, first_fault_under, texts_under, IsLegalUnder}
 use Rattle.link_capture_grammar.specs.Laws.{TextsAreLegal, TextsAreNormal, TextsAreRenewed, JoinedLegal, PrefixTexts, TextsAreSmall, FaultsStand, BodiesAreNormal, FramesStandAlone, CapturesGoByFrames}
-use Rattle.link_capture_grammar.proofs.Frames.{accepted, cut_cases, first_frame-more, one_fault, one_text, fault_stop, texts_stop, stops, place_fits, base, place_legal, reach_place, joined_fault, fault-append, texts-append, fault_inside, fault_kinds}
+use Rattle.link_capture_grammar.proofs.Frames.{accepted, cut_cases, first_frame-more, one_fault, one_frame_text, fault_stop, texts_stop, stops, place_fits, base, place_legal, reach_place, joined_fault, fault-append, texts-append, fault_inside, fault_kinds}
 use Rattle.link_capture_grammar.proofs.Normal.{body_again, texts_again}
 use Rattle.link_capture_grammar.proofs.Same.{not_raised}
 use Rattle.link_capture_grammar.proofs.Small.{texts_small}
@@ -27,7 +27,7 @@ module _ (r : Rule) where
       (i.0, i.1, fault_kinds r limit c fault h)
 
   pub frames_stand_alone : FramesStandAlone r
-  frames_stand_alone = record { accepted = accepted r; cut = cut_cases r; followed = first_frame-more r }
+  frames_stand_alone = record { accepted = accepted r; cut = cut_cases r; unchanged_by_more = first_frame-more r }
 
   -- the frame at the first fault
   there : (limit : ℕ) (c : List ℕ) (fault : CaptureFault) → first_fault_under r limit c ≡ Some fault → first_frame_under r limit (drop fault.offset c) ≡ Err fault.kind
@@ -40,7 +40,7 @@ module _ (r : Rule) where
   pub captures_go_by_frames : CapturesGoByFrames r
   captures_go_by_frames = record {
     one_legal = one_fault r;
-    one_text = one_text r;
+    one_frame_text = one_frame_text r;
     front_fault = fault_stop r;
     front_texts = texts_stop r;
     fault_there = there;

@@ -168,14 +168,14 @@ pub record FramesStandAlone (r : Rule) : Type 0 where
   -- a cut frame has no whole header, or fewer bytes than the length in its header
   pub cut : (limit : ℕ) (c : List ℕ) → first_frame_under r limit c ≡ Err Cut → (length c < 16) ⊎ CutInBody limit c
   -- if a frame isn't cut, appended bytes don't change its result
-  pub followed : (limit : ℕ) (c more : List ℕ) → first_frame_under r limit c ≢ Err Cut → first_frame_under r limit (c ++ more) ≡ first_frame_under r limit c
+  pub unchanged_by_more : (limit : ℕ) (c more : List ℕ) → first_frame_under r limit c ≢ Err Cut → first_frame_under r limit (c ++ more) ≡ first_frame_under r limit c
 
 -- A capture is judged and written frame by frame.
 pub record CapturesGoByFrames (r : Rule) : Type 0 where
   -- an accepted frame with nothing after it but its padding, or a part of that, is legal, and the capture has the
   -- frame's text
   pub one_legal : (limit : ℕ) (c : List ℕ) (frame : ℕ × List ℕ) → first_frame_under r limit c ≡ Ok frame → IsLegalUnder r limit (take (nla_align frame.0) c)
-  pub one_text : (limit : ℕ) (c : List ℕ) (frame : ℕ × List ℕ) → first_frame_under r limit c ≡ Ok frame → texts_under r limit (take (nla_align frame.0) c) ≡ frame.1
+  pub one_frame_text : (limit : ℕ) (c : List ℕ) (frame : ℕ × List ℕ) → first_frame_under r limit c ≡ Ok frame → texts_under r limit (take (nla_align frame.0) c) ≡ frame.1
   -- a fault of the first frame is the first fault, and there is no text before it
   pub front_fault : (limit : ℕ) (c : List ℕ) (kind : FaultKind) → 0 < length c → first_frame_under r limit c ≡ Err kind → first_fault_under r limit c ≡ Some (record { kind = kind; offset = 0 })
   pub front_texts : (limit : ℕ) (c : List ℕ) (kind : FaultKind) → first_frame_under r limit c ≡ Err kind → texts_under r limit c ≡ []

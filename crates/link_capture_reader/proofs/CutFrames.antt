@@ -76,7 +76,7 @@ header_cut numbers frames limit c l h =
 
 pub header_refused : FramesStandAlone link_body → (limit : ℕ) (c : List ℕ) (kind : FaultKind) → kind ≢ Cut → first_frame limit (take 16 c) ≡ Err kind → first_frame limit c ≡ Err kind
 header_refused frames limit c kind n h =
-    ap (first_frame limit) (sym (take-append-drop 16 c)) ∙ frames.followed limit (take 16 c) (drop 16 c) (λ e. n cc) ∙ h
+    ap (first_frame limit) (sym (take-append-drop 16 c)) ∙ frames.unchanged_by_more limit (take 16 c) (drop 16 c) (λ e. n cc) ∙ h
 
 -- the bytes that were moved, and those that weren't
 pub whole : (old piece new : List ℕ) (m : ℕ) → new ≡ old ++ take m piece → old ++ piece ≡ new ++ drop m piece
@@ -98,7 +98,7 @@ completed frames limit old piece new m claimed text e l x h =
     let total : length (old ++ piece) ≡ claimed + (length piece - m) = ap length w ∙ length-append new (drop m piece) ∙ omega (arith, length-drop m piece) in
     let reach : nla_align claimed ≡ length new + (nla_align claimed - claimed) = omega arith in
     record {
-      front_is = ap (first_frame limit) w ∙ frames.followed limit new (drop m piece) (λ q. cc) ∙ h;
+      front_is = ap (first_frame limit) w ∙ frames.unchanged_by_more limit new (drop m piece) (λ q. cc) ∙ h;
       size = size;
       total = total;
       left = ap (drop (nla_align claimed)) w ∙ ap (λ n. drop n (new ++ drop m piece)) reach ∙ drop-append-add new (drop m piece) (nla_align claimed - claimed) ∙ drop-drop (nla_align claimed - claimed) m piece;

@@ -103,7 +103,7 @@ module _ (go : CapturesGoByFrames link_body) where
   only_one_fault limit c frame h l = ap (first_fault limit) (sym (take_all (nla_align frame.0) c l)) ∙ go.one_legal limit c frame h
 
   pub only_one_texts : (limit : ℕ) (c : List ℕ) (frame : ℕ × List ℕ) → first_frame limit c ≡ Ok frame → length c ≤ nla_align frame.0 → texts limit c ≡ frame.1
-  only_one_texts limit c frame h l = ap (texts limit) (sym (take_all (nla_align frame.0) c l)) ∙ go.one_text limit c frame h
+  only_one_texts limit c frame h l = ap (texts limit) (sym (take_all (nla_align frame.0) c l)) ∙ go.one_frame_text limit c frame h
 
   -- Once enough bytes are there, all bytes before that offset are passed.
   pub resume_passed : (limit : ℕ) (s p : List ℕ) → reach limit s ≤ length (s ++ p) → Passed limit (s ++ p) (reach limit s)
@@ -168,7 +168,7 @@ module _ (go : CapturesGoByFrames link_body) where
 
   pub passed_texts : (limit : ℕ) (c : List ℕ) (at : ℕ) (frame : ℕ × List ℕ) → Passed limit c at → first_frame limit (drop at c) ≡ Ok frame → texts limit (take (at + nla_align frame.0) c) ≡ texts limit (take at c) ++ frame.1
   passed_texts limit c at frame w h =
-      left_stop_texts limit c at (nla_align frame.0) w ∙ ap (λ t. texts limit (take at c) ++ t) (go.one_text limit (drop at c) frame h)
+      left_stop_texts limit c at (nla_align frame.0) w ∙ ap (λ t. texts limit (take at c) ++ t) (go.one_frame_text limit (drop at c) frame h)
 
   -- the rest has a fault at its start
   pub passed_stop_fault : (limit : ℕ) (c : List ℕ) (at : ℕ) (kind : FaultKind) → Passed limit c at → at < length c → first_frame limit (drop at c) ≡ Err kind → first_fault limit c ≡ Some (record { kind = kind; offset = at })

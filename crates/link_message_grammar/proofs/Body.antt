@@ -40,16 +40,16 @@ pub record LayerType (k l : ℕ) : Type 0 where
   pub a : ℕ
   pub b : ℕ
   pub is : layer_type_text k l ≡ a ∷ b ∷ []
-  pub again : layer_type_text a b ≡ a ∷ b ∷ []
+  pub idempotent : layer_type_text a b ≡ a ∷ b ∷ []
   pub bytes : k < 256 → l < 256 → AreBytes (a ∷ b ∷ [])
 
 layer_type_by : (k l : ℕ) (t : Bool) → is_listed (k + 256 * l) ≡ t → LayerType k l
 unfolding is_listed
 layer_type_by k l true t =
     let e : layer_type_text k l ≡ k ∷ l ∷ [] = ap (λ b. cond b (k ∷ l ∷ []) (255 ∷ 255 ∷ [])) t in
-    record { a = k; b = l; is = e; again = e; bytes = λ p q. (p, (q, tt)) }
+    record { a = k; b = l; is = e; idempotent = e; bytes = λ p q. (p, (q, tt)) }
 layer_type_by k l false t =
-    record { a = 255; b = 255; is = ap (λ b. cond b (k ∷ l ∷ []) (255 ∷ 255 ∷ [])) t; again = refl; bytes = λ p q. (omega arith, (omega arith, tt)) }
+    record { a = 255; b = 255; is = ap (λ b. cond b (k ∷ l ∷ []) (255 ∷ 255 ∷ [])) t; idempotent = refl; bytes = λ p q. (omega arith, (omega arith, tt)) }
 
 layer_type_of : (k l : ℕ) → LayerType k l
 layer_type_of k l = layer_type_by k l (is_listed (k + 256 * l)) refl
@@ -58,7 +58,7 @@ layer_type_of k l = layer_type_by k l (is_listed (k + 256 * l)) refl
 pub record WrittenHeader (b : List ℕ) : Type 0 where
   pub size : length (header_text b) ≡ 16
   pub first_byte : slice_index (header_text b) 0 ≡ slice_index b 0
-  pub again : (c : List ℕ) → header_text (header_text b ++ c) ≡ header_text b
+  pub idempotent : (c : List ℕ) → header_text (header_text b ++ c) ≡ header_text b
   pub rest : (c : List ℕ) → attribute_bytes (header_text b ++ c) ≡ c
   pub bytes : AreBytes b → AreBytes (header_text b)
 
@@ -71,7 +71,7 @@ written_header_by f x k l tail long =
     record {
       size = ap length h ∙ omega (arith, lt);
       first_byte = refl;
-      again = λ c. ap (λ z. header_text (z ++ c)) h ∙ ap (λ (z : List ℕ). f ∷ 0 ∷ (z ++ take 12 (t ++ c))) y.again ∙ ap (λ (z : List ℕ). f ∷ 0 ∷ y.a ∷ y.b ∷ z) (take_at t c 12 lt) ∙ sym h;
+      idempotent = λ c. ap (λ z. header_text (z ++ c)) h ∙ ap (λ (z : List ℕ). f ∷ 0 ∷ (z ++ take 12 (t ++ c))) y.again ∙ ap (λ (z : List ℕ). f ∷ 0 ∷ y.a ∷ y.b ∷ z) (take_at t c 12 lt) ∙ sym h;
       rest = λ c. ap (λ z. attribute_bytes (z ++ c)) h ∙ drop_at t c 12 lt;
       bytes = λ p. subst AreBytes (sym h) (p.0, (omega arith, AreBytes-append (y.a ∷ y.b ∷ []) t (y.bytes p.1.1.0 p.1.1.1.0) (AreBytes-take 12 tail p.1.1.1.1)));
     }
@@ -139,15 +139,15 @@ module _ (p : Peer) (lawful_peer : LawfulPeer p) where
   unfolding list_rule_of
   law f = table_lawful p lawful_peer f
 
-  itself : Renews (body_rule p) (body_rule p)
-  itself = bodies_renew p p (λ f. renews_itself (list_rule_of p f) (law f))
+  self_migration : Renews (body_rule p) (body_rule p)
+  self_migration = bodies_renew p p (λ f. renews_itself (list_rule_of p f) (law f))
 
   pub body_lawful : Lawful (body_rule p)
   unfolding body_rule
   body_lawful = record {
-    again = λ b a m. (itself.accepted b a a m, itself.empty_ports b a a m);
-    fits_again = λ b a f. itself.fits b a a f;
-    itself = λ b a. itself.canonical b a a;
+    again = λ b a m. (self_migration.accepted b a a m, self_migration.empty_ports b a a m);
+    fits_again = λ b a f. self_migration.fits b a a f;
+    itself = λ b a. self_migration.canonical b a a;
     one_text = λ a b x y e.
         let s = and_parts (nat_le 16 (length a)) ((list_rule_of p (family a)).accepted (attribute_bytes a)) x in
         let t = and_parts (nat_le 16 (length b)) ((list_rule_of p (family b)).accepted (attribute_bytes b)) y in

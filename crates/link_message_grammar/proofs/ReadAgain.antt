@@ -39,7 +39,7 @@ module _ (p : Peer) (lawful_peer : LawfulPeer p) where
       let same : family ((body_rule p).canonical b) ≡ family b = ap family t ∙ family_again b c w in
       let rest : attribute_bytes ((body_rule p).canonical b) ≡ c = ap attribute_bytes t ∙ w.rest c in
       record {
-        header = ap header_text t ∙ w.again c;
+        header = ap header_text t ∙ w.idempotent c;
         family = same;
         attributes = ap (λ g. reading_as any (without_context (attribute_row_under p g)) (attribute_bytes ((body_rule p).canonical b))) same
             ∙ ap (λ x. reading_as any (without_context (attribute_row_under p (family b))) x) rest

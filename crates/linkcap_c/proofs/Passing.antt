@@ -93,7 +93,7 @@ module _ (go : CapturesGoByFrames link_body) (legals : JoinedLegal link_body) (j
   one_text last c used written read n text u l h e =
       ap (λ x. form (texts limit x)) (front c used read n e)
       ∙ ap form (joins limit (take used c) (take (nla_align n) (drop used c)) u.legal (ap (λ k. k % 4) (length_front used c u.inside) ∙ starts form limit last c used written u l)
-      ∙ ap (λ x. texts limit (take used c) ++ x) (go.one_text limit (drop used c) (n, text) h))
+      ∙ ap (λ x. texts limit (take used c) ++ x) (go.one_frame_text limit (drop used c) (n, text) h))
       ∙ shaped.joined (take used c) text
 
   pub used_one : (last : Bool) (c : List ℕ) (used written read wrote n : ℕ) (text : List ℕ) → IsUsed form limit last c used written → used < length c → first_frame limit (drop used c) ≡ Ok (n, text) → read ≡ min (nla_align n) (length (drop used c)) → (last ≡ false → read ≡ nla_align n) → wrote ≡ length (form text) → IsUsed form limit last c (used + read) (written + wrote)
@@ -142,7 +142,7 @@ module _ (faults : JoinedFaults link_body) (joins : JoinedTexts link_body) where
   there : FramesStandAlone link_body → (limit : ℕ) (last : Bool) (rest more : List ℕ) (kind : FaultKind) → (last ≡ true → more ≡ []) → IsFaulty limit last rest kind → first_frame limit (rest ++ more) ≡ Err kind
   there frames limit true rest more kind m bad = ap (first_frame limit) (ap (λ x. rest ++ x) (m refl) ∙ append-nil rest) ∙ bad.is
   there frames limit false rest more kind m bad =
-      frames.followed limit rest more (λ e. bad.for_good refl (let z : Err kind ≡ Err Cut = sym bad.is ∙ e in cc)) ∙ bad.is
+      frames.unchanged_by_more limit rest more (λ e. bad.for_good refl (let z : Err kind ≡ Err Cut = sym bad.is ∙ e in cc)) ∙ bad.is
 
   pub fails : CapturesGoByFrames link_body → FramesStandAlone link_body → (form : Form) (limit : ℕ) → IsForm limit form → (last : Bool) (c : List ℕ) (used written : ℕ) (before more : List ℕ) (kind : FaultKind) → IsUsed form limit last c used written → IsWhole limit before → (last ≡ true → more ≡ []) → IsFaulty limit last (drop used c) kind → Fails form limit kind used c before more
   fails go frames form limit shaped last c used written before more kind u b m bad =

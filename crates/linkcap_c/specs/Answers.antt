@@ -26,9 +26,10 @@ KeepsFault answer old new = (answer ≡ 0) ⊎ (answer ≡ 1) ⊎ (answer ≡ 3)
 abbrev pub KeepsSize : ℕ → ℕ → ℕ → Type 0
 KeepsSize answer old new = (answer ≡ 3) ⊎ (answer ≡ 5) → new ≡ old
 
--- The results of calls that judge a capture.
+-- The results of calls that judge a capture: legal, a fault, or an invalid limit.
 abbrev pub IsJudgement : ℕ → Type 0
 IsJudgement answer = (answer ≡ 0) ⊎ (answer ≡ 2) ⊎ (answer ≡ 3)
 
+-- The results of calls that write a text: those, and a small buffer or out of memory.
 abbrev pub IsAnswer : ℕ → Type 0
 IsAnswer answer = (answer ≡ 0) ⊎ ((2 ≤ answer) × (answer ≤ 5))

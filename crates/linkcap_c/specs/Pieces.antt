@@ -14,12 +14,15 @@ use Rattle.linkcap_c.specs.declared.pieces.Stop.TheVariants.{Ended, Fault, Room,
 abbrev pub Form : Type 0
 Form = List ℕ → List ℕ
 
+-- The text itself.
 abbrev pub as_text : Form
 as_text = λ text. text
 
+-- The lines of a text, by these options.
 abbrev pub as_lines : Choice → Form
 as_lines o = λ text. text_lines o text
 
+-- The text itself without options, else its lines.
 abbrev pub form_of : Option LineOptions → Form
 form_of None = as_text
 form_of (Some o) = as_lines (choice_of o)

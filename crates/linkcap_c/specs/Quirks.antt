@@ -21,8 +21,9 @@ quirk_number ForeignFunction = 10
 quirk_number HeaderByte = 11
 quirk_number ShortMap = 12
 
+-- A quirk as C has it.
 abbrev pub quirk_told : PlacedSpelling → LinkcapQuirk
-quirk_told x = record { offset = x.offset; kind = quirk_number x.spelling }
+quirk_told x = record { offset = x.offset; kind = quirk_number x.quirk }
 
 -- this is one
 abbrev pub IsQuirk : LinkcapQuirk → Type 0

@@ -72,7 +72,7 @@ fn of_placed(found: PlacedSpelling) -> LinkcapQuirk
 {
     LinkcapQuirk {
         offset: found.offset,
-        kind: number(found.spelling),
+        kind: number(found.quirk),
     }
 }
 
@@ -165,7 +165,7 @@ pub extern "C" fn linkcap_quirk_text(quirk: &LinkcapQuirk, out: &mut [u8], size:
         return WRONG;
     };
     let placed = PlacedSpelling {
-        spelling: found,
+        quirk: found,
         offset: quirk.offset,
     };
     hand_over(placed.text().as_str().as_bytes(), OK, out, size)

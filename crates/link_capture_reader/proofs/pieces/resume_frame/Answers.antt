@@ -57,7 +57,7 @@ returns-else-left-owed c =
     let pad = c.padding-owed.ensures in
     let w = passed_one go c.args.limit joined (c.in-Ok-push_frame.size, ok.0) d.front_is (omega (arith, d.total)) in
     let left = take_rest bytes (c.in-Ok.moved + c.padding-owed.result) ∙ ap (λ n. drop (c.in-Ok.moved + n) bytes) pad ∙ sym d.left in
-    let one = go.one_text c.args.limit joined (c.in-Ok-push_frame.size, ok.0) d.front_is in
+    let one = go.one_frame_text c.args.limit joined (c.in-Ok-push_frame.size, ok.0) d.front_is in
     let passed = nla_align c.in-Ok-push_frame.size in
     record {
       ok = IfOk-weaker c.read_frames-in-Ok-push_frame.result
@@ -101,7 +101,7 @@ returns-in_default-kind c =
       fault = λ n.
           let fr : first_frame c.args.limit new ≡ Err c.in-Err-push_frame.kind = ap (first_frame c.args.limit) (sym c.as_slice-2.ensures.value) ∙ c.in-Err-push_frame.ensures.refused n in
           let not_cut : first_frame c.args.limit new ≢ Err Cut = λ e. c.in_default-kind.not-Cut cc in
-          let all : first_frame c.args.limit (old ++ bytes) ≡ Err c.in-Err-push_frame.kind = ap (first_frame c.args.limit) w ∙ c.frames_stand_alone.ensures.followed c.args.limit new (drop c.in-Ok.moved bytes) not_cut ∙ fr in (
+          let all : first_frame c.args.limit (old ++ bytes) ≡ Err c.in-Err-push_frame.kind = ap (first_frame c.args.limit) w ∙ c.frames_stand_alone.ensures.unchanged_by_more c.args.limit new (drop c.in-Ok.moved bytes) not_cut ∙ fr in (
             c.in_default-kind.not-Cut,
             start_fault c.captures_go_by_frames.ensures c.args.limit c.args.start (old ++ bytes) c.in-Err-push_frame.kind some all,
             c.in-Err-push_frame.ensures.err ∙ start_texts c.captures_go_by_frames.ensures c.args.limit (old ++ bytes) c.args.out.now.items c.in-Err-push_frame.kind all,

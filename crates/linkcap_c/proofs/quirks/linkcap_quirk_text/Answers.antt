@@ -6,4 +6,4 @@ use Rattle.linkcap_c.proofs.quirks.linkcap_quirk_text.Goals as goal
 pub returns-clause-right : goal.returns-clause-right
 returns-clause-right c = λ _.
     let as_kind : ℕ → LinkcapQuirk = λ n. record { offset = c.args.quirk.now.offset; kind = n } in
-    (record { spelling = c.in-Some.found; offset = c.args.quirk.now.offset }, ap as_kind (sym c.in-Some.ensures.some))
+    (record { quirk = c.in-Some.found; offset = c.args.quirk.now.offset }, ap as_kind (sym c.in-Some.ensures.some))
